@@ -1,0 +1,37 @@
+//! Laws of plan files: when one is the shadow of a solution, and its verdict.
+
+ghost use Rattle.htn_model.specs.Decoupling.{EarliestShowsAll, NetworksDecouple};
+ghost use Rattle.htn_model.specs.Numbered.{NumberedIsShadow};
+ghost use Rattle.htn_model.specs.PlanFile.{Naming};
+ghost use Rattle.htn_model.specs.Problem.{IsGrounded, Problem};
+ghost use Rattle.htn_model.specs.Shades.{PlacedForestsFit};
+ghost use Rattle.htn_model.specs.Verdict.{VerdictsAreUnique};
+
+/// The leaves and steps of a forest are placed in its inherited order exactly where each network's
+/// children keep to spans of their own, in that network's order.
+pub fn networks_decouple()
+    ensures decouple { (problem : Problem) → IsGrounded problem → NetworksDecouple problem }
+{}
+
+/// Of all that stands below a line only its earliest finish shows, for each gap from which it may
+/// start, and that finish never falls where the start moves on.
+pub fn earliest_shows_all()
+    ensures shows { (naming : Naming) (problem : Problem) → EarliestShowsAll naming problem }
+{}
+
+/// Where a forest of an initial network is placed among the action lines, the lines that it shades
+/// have room by spans.
+pub fn placed_forests_fit()
+    ensures fit { (naming : Naming) (problem : Problem) → IsGrounded problem → PlacedForestsFit naming problem }
+{}
+
+/// The plan file of a solution, with actions numbered in order of execution and then compound nodes,
+/// is a shadow of it, where its words name its actions and tasks.
+pub fn numbered_is_shadow()
+    ensures shadow { (naming : Naming) (problem : Problem) → NumberedIsShadow naming problem }
+{}
+
+/// A plan file has one verdict at most: each denies those that come before it.
+pub fn verdicts_are_unique()
+    ensures unique { (naming : Naming) (problem : Problem) → VerdictsAreUnique naming problem }
+{}
