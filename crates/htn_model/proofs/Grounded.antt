@@ -1,20 +1,19 @@
 -- The ground problem of a well-typed task: its networks are closed, and its actions change what effects name.
-use Rattle.std.proofs.Common.{Bool, List, None, Option, Some, [], cond, false, get_or, length, map, not, refl, slice_get, subst, suc, sym, true, zero, ℕ, ◌++◌, ◌+◌, ◌-◌, ◌<◌, ◌∷◌, ◌≡◌, ◌∙◌, ◌⊎◌, ◌||◌, ap, inl, inr, option_map, option_and_then, arith, nat_lt, nat_eq}
-use Rattle.std.specs.List.{All, AllByRecursion, enumerate_from, filter, flat_map, list_any}
+use Rattle.std.proofs.Common.{Bool, List, None, Option, Some, [], cond, false, get_or, length, map, refl, slice_get, subst, suc, sym, true, zero, ℕ, ◌++◌, ◌+◌, ◌-◌, ◌<◌, ◌∷◌, ◌≡◌, ◌∙◌, ◌⊎◌, ◌||◌, ap, inl, inr, option_and_then, arith, nat_lt, nat_eq}
+use Rattle.std.specs.List.{AllByRecursion, enumerate_from, flat_map, list_any}
 use Rattle.std.specs.Cmp.{unsigned_Decides}
 use Rattle.std.proofs.lemmas.Bool.{both_ways}
 use Rattle.std.proofs.lemmas.List.{length-map}
 use Rattle.std.proofs.lemmas.List.Elements.{recursion_from_All}
 use Rattle.htn_model.specs.Atom.{Atom}
-use Rattle.htn_model.specs.AtomOrder.{both_true}
-use Rattle.htn_model.specs.State.{contains, set_of}
+use Rattle.htn_model.specs.State.{contains}
 use Rattle.htn_model.specs.Literal.{Action}
 use Rattle.htn_model.specs.Problem as ground
 use Rattle.htn_model.specs.Problem.{AreChanged, Child, GroundTask, IsClosed, IsGrounded, IsNetwork, IsSquare, Network, Order, is_before}
 use Rattle.htn_model.specs.Instance.{Instance}
 use Rattle.htn_model.specs.Schema.{AtomSchema, Formula, NetworkSchema}
 use Rattle.htn_model.specs.Task.{ActionSchema, IsMethodSchema, IsWellTyped, MethodSchema, Task}
-use Rattle.htn_model.specs.Instances.{action_at, action_of, action_conditions, child_of, ground_action, ground_atom, ground_task, has_step, initial_instance, initials, instances_of_method, is_instance, literals_of, method_instance, methods_of, network_of, order_with_step, state_formulas, step_first, steps_of}
+use Rattle.htn_model.specs.Instances.{action_at, action_of, action_conditions, child_of, ground_action, ground_atom, ground_task, has_step, initial_instance, initials, instances_of_method, is_instance, literals_of, method_instance, methods_of, network_of, order_with_step, state_formulas, step_first}
 use Rattle.htn_model.specs.Grounding.{TasksAreGrounded, is_changed, problem_of}
 use Rattle.htn_model.proofs.Sets.{contains-set_of, is_same, same_as}
 
@@ -100,11 +99,10 @@ longer_rows n [] f = tt
 longer_rows n (row ∷ order) f = (ap suc f.0, longer_rows n order f.1)
 
 step_square : (n : ℕ) (order : Order) → IsSquare n order → IsSquare (suc n) (step_first order)
-step_square n order square =
-    (
-      ap suc (length-map order (λ row. false ∷ row) ∙ square.0),
-      (ap suc (length-map order (λ row. true) ∙ square.0), longer_rows n order square.1),
-    )
+step_square n order square = (
+  ap suc (length-map order (λ row. false ∷ row) ∙ square.0),
+  (ap suc (length-map order (λ row. true) ∙ square.0), longer_rows n order square.1),
+)
 
 -- ## Networks
 
@@ -113,8 +111,8 @@ network_by : (t : Task) (values : List ℕ) (precondition : List Formula) (n : N
 network_by t values precondition n true e square closed =
     let order : step_first n.order ≡ order_with_step precondition n.order = sym (ap (λ b. cond b (step_first n.order) n.order) e) in
     let children : suc (length n.subtasks) ≡ length (network_of t values precondition n).children =
-        ap suc (sym (length-map n.subtasks (λ s. child_of t (ground_task values s))))
-        ∙ sym (ap (λ b. length (cond b (ground.precondition (literals_of t values (state_formulas precondition)) ∷ []) [] ++ map (λ s. child_of t (ground_task values s)) n.subtasks)) e) in
+    ap suc (sym (length-map n.subtasks (λ s. child_of t (ground_task values s))))
+    ∙ sym (ap (λ b. length (cond b (ground.precondition (literals_of t values (state_formulas precondition)) ∷ []) [] ++ map (λ s. child_of t (ground_task values s)) n.subtasks)) e) in
     record {
       closed = subst IsClosed order (record { irreflexive = step_irreflexive n.order closed; transitive = step_transitive (length n.subtasks) n.order square closed });
       square = subst (λ m. IsSquare m (order_with_step precondition n.order)) children (subst (IsSquare (suc (length n.subtasks))) order (step_square (length n.subtasks) n.order square));
@@ -122,8 +120,8 @@ network_by t values precondition n true e square closed =
 network_by t values precondition n false e square closed =
     let order : n.order ≡ order_with_step precondition n.order = sym (ap (λ b. cond b (step_first n.order) n.order) e) in
     let children : length n.subtasks ≡ length (network_of t values precondition n).children =
-        sym (length-map n.subtasks (λ s. child_of t (ground_task values s)))
-        ∙ sym (ap (λ b. length (cond b (ground.precondition (literals_of t values (state_formulas precondition)) ∷ []) [] ++ map (λ s. child_of t (ground_task values s)) n.subtasks)) e) in
+    sym (length-map n.subtasks (λ s. child_of t (ground_task values s)))
+    ∙ sym (ap (λ b. length (cond b (ground.precondition (literals_of t values (state_formulas precondition)) ∷ []) [] ++ map (λ s. child_of t (ground_task values s)) n.subtasks)) e) in
     record {
       closed = subst IsClosed order closed;
       square = subst (λ m. IsSquare m (order_with_step precondition n.order)) children (subst (IsSquare (length n.subtasks)) order square);
@@ -167,8 +165,8 @@ any_left : {X : Type 0} (test : X → Bool) (xs ys : List X) → list_any test x
 any_left test [] ys h = absurd cc
 any_left test (x ∷ xs) ys h =
     elim (either_so (test x) (list_any test xs) h) [
-      inl here ↦ or_left (test x) (list_any test (xs ++ ys)) here
-    | inr later ↦ or_right (test x) (list_any test (xs ++ ys)) (any_left test xs ys later)
+      | inl here ↦ or_left (test x) (list_any test (xs ++ ys)) here
+      | inr later ↦ or_right (test x) (list_any test (xs ++ ys)) (any_left test xs ys later)
     ]
 
 any_right : {X : Type 0} (test : X → Bool) (xs ys : List X) → list_any test ys ≡ true → list_any test (xs ++ ys) ≡ true
@@ -186,11 +184,11 @@ names_predicate : (values : List ℕ) (effects : List AtomSchema) (a : Atom)
 names_predicate values [] a h = absurd cc
 names_predicate values (e ∷ effects) a h =
     elim (either_so (is_same a (ground_atom values e)) (list_any (is_same a) (map (ground_atom values) effects)) h) [
-      inl here ↦
-        or_left (nat_eq e.predicate a.predicate) (list_any (λ (x : AtomSchema). nat_eq x.predicate a.predicate) effects)
-        ((unsigned_Decides e.predicate a.predicate).1 (sym (ap (λ (x : Atom). x.predicate) (same_as a (ground_atom values e) here))))
-    | inr later ↦
-        or_right (nat_eq e.predicate a.predicate) (list_any (λ (x : AtomSchema). nat_eq x.predicate a.predicate) effects) (names_predicate values effects a later)
+      | inl here ↦
+          or_left (nat_eq e.predicate a.predicate) (list_any (λ (x : AtomSchema). nat_eq x.predicate a.predicate) effects)
+          ((unsigned_Decides e.predicate a.predicate).1 (sym (ap (λ (x : Atom). x.predicate) (same_as a (ground_atom values e) here))))
+      | inr later ↦
+          or_right (nat_eq e.predicate a.predicate) (list_any (λ (x : AtomSchema). nat_eq x.predicate a.predicate) effects) (names_predicate values effects a later)
     ]
 
 action_found : (t : Task) (name : ℕ) (b : Bool) (a : ActionSchema) → cond b None (slice_get t.actions (name - length t.tasks)) ≡ Some a
@@ -229,14 +227,14 @@ names a e = nat_eq e.predicate a.predicate
 adds_changed : (t : Task) (g : GroundTask) (action : Action) → IsActionOf t g action → AreChanged (is_changed t) action.adds
 adds_changed t g action is a h =
     let inside : list_any (is_same a) (map (ground_atom g.arguments) is.schema.adds) ≡ true =
-        sym (contains-set_of (map (ground_atom g.arguments) is.schema.adds) a) ∙ subst (λ (x : Action). contains x.adds a ≡ true) is.same h in
+    sym (contains-set_of (map (ground_atom g.arguments) is.schema.adds) a) ∙ subst (λ (x : Action). contains x.adds a ≡ true) is.same h in
     any_at (λ x. list_any (names a) (x.deletes ++ x.adds)) t.actions is.number is.schema is.declared
     (any_right (names a) is.schema.deletes is.schema.adds (names_predicate g.arguments is.schema.adds a inside))
 
 deletes_changed : (t : Task) (g : GroundTask) (action : Action) → IsActionOf t g action → AreChanged (is_changed t) action.deletes
 deletes_changed t g action is a h =
     let inside : list_any (is_same a) (map (ground_atom g.arguments) is.schema.deletes) ≡ true =
-        sym (contains-set_of (map (ground_atom g.arguments) is.schema.deletes) a) ∙ subst (λ (x : Action). contains x.deletes a ≡ true) is.same h in
+    sym (contains-set_of (map (ground_atom g.arguments) is.schema.deletes) a) ∙ subst (λ (x : Action). contains x.deletes a ≡ true) is.same h in
     any_at (λ x. list_any (names a) (x.deletes ++ x.adds)) t.actions is.number is.schema is.declared
     (any_left (names a) is.schema.deletes is.schema.adds (names_predicate g.arguments is.schema.deletes a inside))
 

@@ -76,9 +76,9 @@ mutual
   primitives_from_stand place k (node n ns) =
       all_join (FromAt IsPrimitive place k (node n ns)) (primitives (place ++ k ∷ []) n) (primitives_from place (suc k) ns)
       (all_map (At IsPrimitive (place ++ k ∷ []) n) (FromAt IsPrimitive place k (node n ns)) (primitives (place ++ k ∷ []) n)
-        (first_child IsPrimitive place k n ns) (primitives_stand (place ++ k ∷ []) n))
+      (first_child IsPrimitive place k n ns) (primitives_stand (place ++ k ∷ []) n))
       (all_map (FromAt IsPrimitive place (suc k) ns) (FromAt IsPrimitive place k (node n ns)) (primitives_from place (suc k) ns)
-        (later_child IsPrimitive place k n ns) (primitives_from_stand place (suc k) ns))
+      (later_child IsPrimitive place k n ns) (primitives_from_stand place (suc k) ns))
 
 abbrev IsCompound : Option Node → Type 0
 IsCompound None = ⊥
@@ -93,7 +93,7 @@ mutual
   compounds_stand place (compound t number nodes) = (
     ([], sym (append-nil place), tt),
     all_map (FromAt IsCompound place 0 nodes) (At IsCompound place (compound t number nodes)) (compounds_from place 0 nodes)
-    (child_below IsCompound place t number nodes) (compounds_from_stand place 0 nodes),
+        (child_below IsCompound place t number nodes) (compounds_from_stand place 0 nodes),
   )
 
   compounds_from_stand : (place : Place) (k : ℕ) (ns : Nodes) → AllByRecursion (FromAt IsCompound place k ns) (compounds_from place k ns)
@@ -101,9 +101,9 @@ mutual
   compounds_from_stand place k (node n ns) =
       all_join (FromAt IsCompound place k (node n ns)) (compounds (place ++ k ∷ []) n) (compounds_from place (suc k) ns)
       (all_map (At IsCompound (place ++ k ∷ []) n) (FromAt IsCompound place k (node n ns)) (compounds (place ++ k ∷ []) n)
-        (first_child IsCompound place k n ns) (compounds_stand (place ++ k ∷ []) n))
+      (first_child IsCompound place k n ns) (compounds_stand (place ++ k ∷ []) n))
       (all_map (FromAt IsCompound place (suc k) ns) (FromAt IsCompound place k (node n ns)) (compounds_from place (suc k) ns)
-        (later_child IsCompound place k n ns) (compounds_from_stand place (suc k) ns))
+      (later_child IsCompound place k n ns) (compounds_from_stand place (suc k) ns))
 
 top : (P : Option Node → Type 0) (trees : Nodes) (q : Place) → FromAt P [] 0 trees q → P (node_at trees q)
 top P trees q (i, r, e, is) = subst (λ p. P (node_at trees p)) (sym (e ∙ shifted [] r (0 + i) i (omega arith))) is
@@ -129,7 +129,7 @@ mutual
   primitive_in_from place k (node n ns) zero r h =
       in_left _ (primitives (place ++ k ∷ []) n) (primitives_from place (suc k) ns)
       (subst (λ q. In q (primitives (place ++ k ∷ []) n)) (append_assoc place (k ∷ []) r ∙ shifted place r k (k + 0) (omega arith))
-        (primitive_in (place ++ k ∷ []) n r h))
+      (primitive_in (place ++ k ∷ []) n r h))
   primitive_in_from place k (node n ns) (suc i) r h =
       in_right _ (primitives (place ++ k ∷ []) n) (primitives_from place (suc k) ns)
       (subst (λ q. In q (primitives_from place (suc k) ns)) (shifted place r (suc k + i) (k + suc i) (omega arith)) (primitive_in_from place (suc k) ns i r h))
@@ -150,7 +150,7 @@ mutual
   compound_in_from place k (node n ns) zero r h =
       in_left _ (compounds (place ++ k ∷ []) n) (compounds_from place (suc k) ns)
       (subst (λ q. In q (compounds (place ++ k ∷ []) n)) (append_assoc place (k ∷ []) r ∙ shifted place r k (k + 0) (omega arith))
-        (compound_in (place ++ k ∷ []) n r h))
+      (compound_in (place ++ k ∷ []) n r h))
   compound_in_from place k (node n ns) (suc i) r h =
       in_right _ (compounds (place ++ k ∷ []) n) (compounds_from place (suc k) ns)
       (subst (λ q. In q (compounds_from place (suc k) ns)) (shifted place r (suc k + i) (k + suc i) (omega arith)) (compound_in_from place (suc k) ns i r h))
@@ -192,7 +192,7 @@ module _ (naming : Naming) (problem : Problem) (s : Solution) (solves : IsSoluti
       by (Some (leaf task)) e g =
           in_left p _ _
           (in_filter (λ q. is_leaf (nodes_at q)) p s.linearisation
-            (in_arranged p s.linearisation _ solves.is_rearrangement (in_primitives s.trees p (subst IsPrimitive (sym e) tt))) (ap is_leaf e))
+          (in_arranged p s.linearisation _ solves.is_rearrangement (in_primitives s.trees p (subst IsPrimitive (sym e) tt))) (ap is_leaf e))
       by (Some (step literals)) e g = absurd g
       by (Some (compound t number nodes)) e g = in_right p _ _ (in_compounds s.trees p (subst IsCompound (sym e) tt))
 
@@ -211,7 +211,7 @@ module _ (naming : Naming) (problem : Problem) (s : Solution) (solves : IsSoluti
       by : (n : Option Node) → nodes_at p ≡ n → IsPrimitive n
           → AreActionLines naming s.trees (id_in s) ps (map (action_line_at naming s) (filter (λ q. is_leaf (nodes_at q)) ps))
           → AreActionLines naming s.trees (id_in s) (p ∷ ps)
-            (map (action_line_at naming s) (cond (is_leaf n) (p ∷ filter (λ q. is_leaf (nodes_at q)) ps) (filter (λ q. is_leaf (nodes_at q)) ps)))
+          (map (action_line_at naming s) (cond (is_leaf n) (p ∷ filter (λ q. is_leaf (nodes_at q)) ps) (filter (λ q. is_leaf (nodes_at q)) ps)))
       by None e is more = absurd is
       by (Some (leaf g)) e is more = action_line p ps g _ _ e refl (names p (subst HasId (sym e) tt) ∙ ap (λ n. Some (task_at n)) e) more
       by (Some (step literals)) e is more = no_line p ps _ (subst IsStep (sym e) tt) more
@@ -233,7 +233,7 @@ module _ (naming : Naming) (problem : Problem) (s : Solution) (solves : IsSoluti
         named = names p (subst HasId (sym e) tt) ∙ ap (λ n. Some (task_at n)) e;
         method = ap (λ n. naming.method_name (task_at n) (number_at n)) e;
         children = subst (IsRearrangementOf (decomposition_line_at naming s p).children) (ap (λ n. ids_of (id_in s) (shown_from p 0 (children_in n))) e)
-          (arranged_itself (decomposition_line_at naming s p).children);
+            (arranged_itself (decomposition_line_at naming s p).children);
       }
 
   are_decomposition_lines : (ps : List Place) → AllByRecursion (λ p. IsCompound (nodes_at p)) ps
@@ -246,8 +246,8 @@ numbered_is_shadow naming problem s solves names = record {
   id_at = id_in s;
   one_to_one = one_to_one naming problem s solves names;
   actions = are_action_lines naming problem s solves names s.linearisation
-    (all_arranged _ s.linearisation _ solves.is_rearrangement (all_map _ _ _ (top IsPrimitive s.trees) (primitives_from_stand [] 0 s.trees)));
+      (all_arranged _ s.linearisation _ solves.is_rearrangement (all_map _ _ _ (top IsPrimitive s.trees) (primitives_from_stand [] 0 s.trees)));
   roots = arranged_itself _;
   decompositions = are_decomposition_lines naming problem s solves names (compounds_from [] 0 s.trees)
-    (all_map _ _ _ (top IsCompound s.trees) (compounds_from_stand [] 0 s.trees));
+      (all_map _ _ _ (top IsCompound s.trees) (compounds_from_stand [] 0 s.trees));
 }

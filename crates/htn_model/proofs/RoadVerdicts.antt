@@ -1,11 +1,11 @@
 -- A road with three places, and plan files for a truck that drives along it.
-use Rattle.std.proofs.Common.{◌≡◌, ℕ, zero, suc, List, [], ◌∷◌, ◌++◌, map, Option, Some, None, Bool, true, false, cond, nat_eq, slice_get, length, ◌⊎◌, inl, inr, sym, refl, ap, ◌∙◌, subst, arith}
+use Rattle.std.proofs.Common.{◌≡◌, ℕ, zero, suc, List, [], ◌∷◌, ◌++◌, map, Option, Some, None, true, false, cond, nat_eq, slice_get, length, ◌⊎◌, inl, inr, sym, refl, ap, ◌∙◌, subst, arith}
 use Rattle.std.specs.List.{flat_map}
 use Rattle.std.proofs.lemmas.List.{length-append}
 use Rattle.htn_model.specs.Atom.{Atom}
 use Rattle.htn_model.specs.State.{set_of}
 use Rattle.htn_model.specs.Literal.{atom, Literal, Action}
-use Rattle.htn_model.specs.Problem.{GroundTask, Child, precondition, action, task, Order, Network, Problem}
+use Rattle.htn_model.specs.Problem.{GroundTask, precondition, action, task, Order, Network, Problem}
 use Rattle.htn_model.specs.PlanFile.{Word, ActionLine, DecompositionLine, PlanFile, Naming, IsForest, IsReached, from_root, from_parent, IsIn, IsRearrangementOf}
 use Rattle.htn_model.specs.Verdict.{structure, no_instance, IsVerdict, action_line, decomposition_line, root_line, HasInstance, AreNamed, subtasks, an_action, a_task}
 use Rattle.htn_model.proofs.Pending.{not_nothing}
@@ -116,10 +116,12 @@ reached_outside id (from_parent _ line stands above below) e = by stands (reache
     other : (a b : ℕ) → InCircle a → a ≡ b → InCircle b
     other a b (inl e) same = inl (sym same ∙ e)
     other a b (inr e) same = inr (sym same ∙ e)
+
     children_outside : (id : ℕ) → InCircle id → (a b : ℕ) → (InCircle a → ⊥) → (InCircle b → ⊥) → IsIn id (a ∷ b ∷ []) → ⊥
     children_outside id e a b not_a not_b (inl same) = not_a (other id a e same)
     children_outside id e a b not_a not_b (inr (inl same)) = not_b (other id b e same)
     children_outside id e a b not_a not_b (inr (inr more)) = more
+
     low : (n : ℕ) → n ≡ 0 ⊎ ◌⊎◌ (n ≡ 1) ((n ≡ 3) ⊎ (n ≡ 4)) → InCircle n → ⊥
     low n (inl a) (inl b) = omega arith
     low n (inl a) (inr b) = omega arith
@@ -129,6 +131,7 @@ reached_outside id (from_parent _ line stands above below) e = by stands (reache
     low n (inr (inr (inl a))) (inr b) = omega arith
     low n (inr (inr (inr a))) (inl b) = omega arith
     low n (inr (inr (inr a))) (inr b) = omega arith
+
     by : IsIn line with_circle.decompositions → (InCircle line.id → ⊥) → IsIn id line.children → InCircle id → ⊥
     by (inl e2) above below e = children_outside id e 0 3 (low 0 (inl refl)) (low 3 (inr (inr (inl refl)))) (subst (λ l. IsIn id l) (ap (λ l. l.children) e2) below)
     by (inr (inl e3)) above below e = children_outside id e 1 4 (low 1 (inr (inl refl))) (low 4 (inr (inr (inr refl)))) (subst (λ l. IsIn id l) (ap (λ l. l.children) e3) below)
@@ -180,8 +183,10 @@ stay_forest = record {
   where
     two : IsReached with_stay 2
     two = from_root 2 (inl refl)
+
     three : IsReached with_stay 3
     three = from_parent 3 (go_line 2 1 (0 ∷ 3 ∷ [])) (inl refl) two (inr (inl refl))
+
     by : (id : ℕ) → IsIn id (0 ∷ 1 ∷ 2 ∷ 3 ∷ 4 ∷ []) → IsReached with_stay id
     by id (inl e) = subst (IsReached with_stay) (sym e) (from_parent 0 (go_line 2 1 (0 ∷ 3 ∷ [])) (inl refl) two (inl refl))
     by id (inr (inl e)) = subst (IsReached with_stay) (sym e) (from_parent 1 (go_line 3 0 (1 ∷ 4 ∷ [])) (inr (inl refl)) three (inl refl))

@@ -5,8 +5,8 @@ use Rattle.htn_model.specs.State.{State}
 use Rattle.htn_model.specs.Literal.{holds}
 use Rattle.htn_model.specs.Problem.{Problem}
 use Rattle.htn_model.specs.PlanFile.{ActionLine, PlanFile, Naming}
-use Rattle.htn_model.specs.Verdict.{Line, lines_of, name_of, perform_line, run_lines, Verdict, structure, no_instance, not_executable, goal_fails, no_arrangement, valid, IsFirstFaulty, IsFirstFailing, AllHave, Ends, Has, IsVerdict, VerdictsAreUnique}
-use Rattle.htn_model.proofs.Pending.{all_parts, not_nothing}
+use Rattle.htn_model.specs.Verdict.{name_of, perform_line, run_lines, structure, no_instance, not_executable, goal_fails, no_arrangement, valid, IsFirstFaulty, IsFirstFailing, AllHave, Ends, Has, VerdictsAreUnique}
+use Rattle.htn_model.proofs.Pending.{all_parts}
 
 -- two splits of one list, each at the first member that lacks a property, are at the same member
 same_first : {X : Type 0} (P : X → Type 0) (xs ys : List X) (x y : X) (more others : List X) → xs ++ x ∷ more ≡ ys ++ y ∷ others
@@ -45,7 +45,7 @@ module _ (naming : Naming) (problem : Problem) where
   none_later z x ys state a b head here fails runs =
       let at_state : perform_line naming problem state x ≡ None = subst (λ s. perform_line naming problem s x ≡ None) (sym here) fails in
       let none : run_lines naming problem state (z ∷ ys) ≡ None =
-          ap (λ s. after_line s ys) (subst (λ l. perform_line naming problem state l ≡ None) head at_state) in
+      ap (λ s. after_line s ys) (subst (λ l. perform_line naming problem state l ≡ None) head at_state) in
       let both : None ≡ Some b = sym none ∙ runs in
       absurd cc
 

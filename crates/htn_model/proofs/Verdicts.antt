@@ -1,7 +1,6 @@
 -- Small plan files and their verdicts.
 use Rattle.std.proofs.Common.{◌<◌, Bool, List, None, Option, Some, [], cond, false, nat_eq, refl, slice_get, subst, suc, true, zero, ℕ, ◌∷◌, ◌≡◌, ◌⊎◌, inl, inr, arith, ap, sym, ◌∙◌, ◌&&◌, ◌||◌, not, option_and_then, option_map}
 use Rattle.std.proofs.lemmas.Bool.{both_ways}
-use Rattle.std.specs.List.{AllByRecursion}
 use Rattle.htn_model.proofs.OneToOne.{one_to_one}
 use Rattle.htn_model.specs.Atom.{Atom}
 use Rattle.htn_model.specs.State.{State, set_of, contains}
@@ -370,7 +369,7 @@ chain_waits : (number : ℕ) → step_by chain (start chain three) number ≡ No
 chain_waits zero =
     needed
     (λ b. option_map (result_of (start chain three))
-      (option_map (λ state. record { position = 0; network = no_network; state = state }) (cond b (Some (after (set_of []) needs)) None)))
+    (option_map (λ state. record { position = 0; network = no_network; state = state }) (cond b (Some (after (set_of []) needs)) None)))
     (set_of []) false none_holds
 chain_waits (suc number) = refl
 

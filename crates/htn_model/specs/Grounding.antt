@@ -1,7 +1,7 @@
 -- The ground problem of a task.
-use Rattle.std.specs.Prelude.{ℕ, Bool, nat_eq, List, [], ◌++◌, map}
+use Rattle.std.specs.Prelude.{ℕ, Bool, nat_eq, [], ◌++◌, map}
 use Rattle.std.specs.List.{list_any}
-use Rattle.htn_model.specs.Problem.{GroundTask, Problem, IsGrounded}
+use Rattle.htn_model.specs.Problem.{Problem, IsGrounded}
 use Rattle.htn_model.specs.Task.{Task, IsWellTyped}
 use Rattle.htn_model.specs.Instances.{initials, methods_of, action_of, literals_of}
 

@@ -2,8 +2,8 @@
 use Rattle.std.specs.Prelude.{◌≡◌, ℕ, suc, List, [], ◌∷◌, ◌++◌, map, Option, Some, None, Bool, true, false, cond, eqb, ◌&&◌}
 use Rattle.std.specs.List.{filter}
 use Rattle.htn_model.specs.Problem.{GroundTask, Problem}
-use Rattle.htn_model.specs.Tree.{Node, leaf, step, compound, Nodes, children_in, Place, node_at, Solution, IsSolution}
-use Rattle.htn_model.specs.PlanFile.{Word, ActionLine, DecompositionLine, PlanFile, Naming}
+use Rattle.htn_model.specs.Tree.{Node, leaf, step, compound, children_in, Place, node_at, Solution, IsSolution}
+use Rattle.htn_model.specs.PlanFile.{ActionLine, DecompositionLine, PlanFile, Naming}
 use Rattle.htn_model.specs.Shadow.{shown_from, compounds_from, ids_of, HasId, IsShadow}
 
 abbrev pub is_leaf : Option Node → Bool

@@ -1,11 +1,11 @@
 -- A checked planning task: what a domain and a problem declare, by numbers.
-use Rattle.std.specs.Prelude.{◌≡◌, ℕ, suc, ◌+◌, ◌-◌, ◌<◌, Bool, true, nat_lt, nat_eq, cond, List, [], ◌∷◌, ◌++◌, length, map, get_or}
-use Rattle.std.specs.List.{list_any, All, AllByRecursion}
+use Rattle.std.specs.Prelude.{◌≡◌, ℕ, ◌+◌, ◌<◌, Bool, true, nat_lt, nat_eq, List, [], ◌++◌, length, map, get_or}
+use Rattle.std.specs.List.{list_any, All}
 use Rattle.std.specs.List.Sorted.{IsStrictlySortedBy}
 use Rattle.std.specs.Ordering.{nat_cmp}
 use Rattle.htn_model.specs.Atom.{Atom}
 use Rattle.htn_model.specs.State.{State, contains}
-use Rattle.htn_model.specs.Problem.{Order, IsClosed, IsSquare}
+use Rattle.htn_model.specs.Problem.{IsClosed, IsSquare}
 use Rattle.htn_model.specs.Schema.{Name, Term, parameter, object, AtomSchema, EqualitySchema, TaskSchema, Formula, literal, equation, for_all, Formulas, no_formulas, formula, NetworkSchema}
 
 -- a type, with the objects that have it, ascending
