@@ -1,0 +1,4 @@
+pub mod Ranks
+pub mod Pieces
+pub mod Home
+pub mod Slots

@@ -1,0 +1,20 @@
+//! One level of a search, expanded by several workers: the answer is that of one worker who goes through it in order.
+#![tactic(auto)]
+
+mod fault;
+mod level;
+mod merge;
+mod order;
+mod piece;
+mod threads;
+mod work;
+mod worker;
+
+pub use fault::LevelFault;
+pub use level::expand_level;
+pub use order::{Expanded, expand_in_order};
+pub use work::{Expand, Gate, NoGate};
+pub use worker::Level;
+
+#[cfg(test)]
+mod tests;
