@@ -1,0 +1,133 @@
+-- What was read of a list, a section or a text so far, and the tree that it completes.
+use Rattle.std.specs.Prelude.{ℕ, false, List, [], ◌∷◌, ◌++◌, Option, Some, None, unwrap_or}
+use Rattle.hddl_words.specs.Names.{Name, Variable}
+use Rattle.hddl_tree.specs.declared.term.AtomText.{AtomText}
+use Rattle.hddl_tree.specs.declared.term.NameGroup.{NameGroup}
+use Rattle.hddl_tree.specs.declared.term.VariableGroup.{VariableGroup}
+use Rattle.hddl_tree.specs.declared.network.NetworkText.{NetworkText}
+use Rattle.hddl_tree.specs.declared.domain.TaskText.{TaskText}
+use Rattle.hddl_tree.specs.declared.domain.ActionText.{ActionText}
+use Rattle.hddl_tree.specs.declared.domain.MethodText.{MethodText}
+use Rattle.hddl_tree.specs.declared.domain.DomainText.{DomainText}
+use Rattle.hddl_tree.specs.declared.problem.HtnText.{HtnText}
+use Rattle.hddl_tree.specs.declared.problem.ProblemText.{ProblemText}
+use Rattle.hddl_text.specs.declared.parts.NameParts.{NameParts}
+use Rattle.hddl_text.specs.declared.parts.VariableParts.{VariableParts}
+use Rattle.hddl_text.specs.declared.parts.NetworkParts.{NetworkParts}
+use Rattle.hddl_text.specs.declared.parts.TaskParts.{TaskParts}
+use Rattle.hddl_text.specs.declared.parts.ActionParts.{ActionParts}
+use Rattle.hddl_text.specs.declared.parts.MethodParts.{MethodParts}
+use Rattle.hddl_text.specs.declared.parts.HtnParts.{HtnParts}
+use Rattle.hddl_text.specs.declared.parts.DomainParts.{DomainParts}
+use Rattle.hddl_text.specs.declared.parts.ProblemParts.{ProblemParts}
+
+-- ---- nothing was read so far
+
+abbrev pub no_name_parts : NameParts
+no_name_parts = record { groups = []; names = [] }
+
+abbrev pub no_variable_parts : VariableParts
+no_variable_parts = record { groups = []; variables = [] }
+
+abbrev pub no_network_parts : NetworkParts
+no_network_parts = record { is_ordered = false; subtasks = None; orderings = None; constraints = None }
+
+abbrev pub no_task_parts : TaskParts
+no_task_parts = record { parameters = None; has_precondition = false; has_effect = false }
+
+abbrev pub no_action_parts : ActionParts
+no_action_parts = record { parameters = None; precondition = None; effect = None }
+
+abbrev pub no_method_parts : MethodParts
+no_method_parts = record { parameters = None; task = None; precondition = None; network = no_network_parts }
+
+abbrev pub no_htn_parts : HtnParts
+no_htn_parts = record { parameters = None; network = no_network_parts }
+
+abbrev pub no_domain_parts : DomainParts
+no_domain_parts = record { requirements = None; types = None; constants = None; predicates = None; tasks = []; methods = []; actions = [] }
+
+abbrev pub no_problem_parts : ProblemParts
+no_problem_parts = record { domain = None; requirements = None; objects = None; init = None; goal = None; htn = None }
+
+-- ---- what the parts complete; what isn't written is empty
+
+abbrev pub name_group : List Name → Option Name → NameGroup
+name_group names of_type = record { names = names; of_type = of_type }
+
+abbrev pub variable_group : List Variable → Option Name → VariableGroup
+variable_group variables of_type = record { variables = variables; of_type = of_type }
+
+-- the names that no type has followed are a last group without one
+abbrev pub grouped_names : List NameGroup → List Name → List NameGroup
+grouped_names groups [] = groups
+grouped_names groups (n ∷ ns) = groups ++ name_group (n ∷ ns) None ∷ []
+
+abbrev pub grouped_variables : List VariableGroup → List Variable → List VariableGroup
+grouped_variables groups [] = groups
+grouped_variables groups (v ∷ vs) = groups ++ variable_group (v ∷ vs) None ∷ []
+
+abbrev pub network_of : NetworkParts → NetworkText
+network_of d = record {
+  is_ordered = d.is_ordered;
+  subtasks = unwrap_or d.subtasks [];
+  orderings = unwrap_or d.orderings [];
+  constraints = unwrap_or d.constraints [];
+}
+
+abbrev pub task_of : Name → TaskParts → TaskText
+task_of name d = record { name = name; parameters = unwrap_or d.parameters [] }
+
+abbrev pub action_of : Name → ActionParts → ActionText
+action_of name d = record {
+  name = name;
+  parameters = unwrap_or d.parameters [];
+  precondition = unwrap_or d.precondition [];
+  effect = unwrap_or d.effect [];
+}
+
+-- a method must have its task
+abbrev pub method_with : ℕ → Name → MethodParts → Option AtomText → Option MethodText
+method_with place name d None = None
+method_with place name d (Some task) = Some (record {
+  place = place;
+  name = name;
+  parameters = unwrap_or d.parameters [];
+  task = task;
+  precondition = unwrap_or d.precondition [];
+  network = network_of d.network;
+})
+
+abbrev pub method_of : ℕ → Name → MethodParts → Option MethodText
+method_of place name d = method_with place name d d.task
+
+abbrev pub htn_of : ℕ → HtnParts → HtnText
+htn_of place d = record { place = place; parameters = unwrap_or d.parameters []; network = network_of d.network }
+
+abbrev pub domain_of : Name → DomainParts → DomainText
+domain_of name d = record {
+  name = name;
+  requirements = unwrap_or d.requirements [];
+  types = unwrap_or d.types [];
+  constants = unwrap_or d.constants [];
+  predicates = unwrap_or d.predicates [];
+  tasks = d.tasks;
+  methods = d.methods;
+  actions = d.actions;
+}
+
+-- a problem must have its domain's name and its network
+abbrev pub problem_with : Name → ProblemParts → Option Name → Option HtnText → Option ProblemText
+problem_with name d (Some domain) (Some htn) = Some (record {
+  name = name;
+  domain = domain;
+  requirements = unwrap_or d.requirements [];
+  objects = unwrap_or d.objects [];
+  init = unwrap_or d.init [];
+  goal = unwrap_or d.goal [];
+  htn = htn;
+})
+problem_with name d _ _ = None
+
+abbrev pub problem_of : Name → ProblemParts → Option ProblemText
+problem_of name d = problem_with name d d.domain d.htn

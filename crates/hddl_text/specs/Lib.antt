@@ -1,0 +1,4 @@
+pub mod Drafts
+pub mod Grammar
+pub mod Readers
+pub mod Spelling

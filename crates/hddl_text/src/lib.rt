@@ -1,0 +1,24 @@
+//! Reads HDDL texts: exactly the domains and problems that the grammar spells, each as its one tree, and every other text
+//! refused with the place of its first fault.
+#![tactic(auto)]
+
+mod conditions;
+mod domain;
+mod lists;
+mod networks;
+mod parts;
+mod problem;
+mod sections;
+mod terms;
+#[cfg(test)]
+mod tests;
+mod text;
+mod words;
+
+pub use hddl_tree::{
+    ActionText, AtomText, Condition, DomainText, EqualityText, HtnText, Items, LiteralText,
+    MethodText, Name, NameGroup, NetworkText, OrderingText, PredicateText, ProblemText,
+    Requirement, SubtaskText, TaskText, Term, Variable, VariableGroup,
+};
+pub use hddl_words::{Kind, TextFault, Token, lex};
+pub use text::{read_domain, read_problem};

@@ -1,0 +1,47 @@
+//! Task networks.
+
+use crate::condition::EqualityText;
+use crate::term::AtomText;
+use hddl_words::{Items, Name};
+
+/// A subtask of a network.
+#[derive(Debug, Drop)]
+pub struct SubtaskText {
+    /// Its name for `:ordering`, as `s1` in `(s1 (go t1 c))`.
+    pub label: Option<Name>,
+    /// The task or action with its arguments.
+    pub task: AtomText,
+}
+
+/// The subtask that has the first name comes before the one that has the second.
+#[derive(Debug, Drop)]
+pub struct OrderingText {
+    pub before: Name,
+    pub after: Name,
+}
+
+/// The network of a method or of `:htn`. What isn't written is empty.
+#[derive(Debug, Drop)]
+pub struct NetworkText {
+    /// Whether the order of the list is an order of the subtasks too, as under `:ordered-subtasks` and `:ordered-tasks`.
+    pub is_ordered: bool,
+    pub subtasks: Items<SubtaskText>,
+    /// The pairs of `:ordering` or `:order`.
+    pub orderings: Items<OrderingText>,
+    pub constraints: Items<EqualityText>,
+}
+
+impl SubtaskText {
+    ghost use Rattle.std.specs.Prelude.{◌≡◌};
+    ghost use Rattle.hddl_tree.specs.Places.{place_of};
+
+    /// The place of the first word in its bracket: its label, or its task's name.
+    pub fn place(&self) -> usize
+        ensures { result ≡ place_of self.now }
+    {
+        match &self.label {
+            Some(label) => label.place(),
+            None => self.task.name.place(),
+        }
+    }
+}

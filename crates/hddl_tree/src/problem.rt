@@ -1,0 +1,29 @@
+//! The tree of a problem's text.
+
+use crate::condition::Condition;
+use crate::network::NetworkText;
+use crate::requirement::Requirement;
+use crate::term::{AtomText, NameGroup, VariableGroup};
+use hddl_words::{Items, Name};
+
+/// The initial task network, `:htn`.
+#[derive(Debug, Drop)]
+pub struct HtnText {
+    /// The byte offset of its opening bracket.
+    pub place: usize,
+    pub parameters: Items<VariableGroup>,
+    pub network: NetworkText,
+}
+
+/// The tree of a problem's text. What isn't written is empty.
+#[derive(Drop)]
+pub struct ProblemText {
+    pub name: Name,
+    /// The name of the domain that it names.
+    pub domain: Name,
+    pub requirements: Items<Requirement>,
+    pub objects: Items<NameGroup>,
+    pub init: Items<AtomText>,
+    pub goal: Items<Condition>,
+    pub htn: HtnText,
+}

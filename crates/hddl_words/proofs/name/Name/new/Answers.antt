@@ -1,0 +1,11 @@
+use Rattle.std.proofs.Common.{◌≡◌, IsTrue}
+use Rattle.hddl_words.specs.Names.{is_name}
+use Rattle.hddl_words.specs.Words.{word_of}
+use Rattle.hddl_words.proofs.Tokens.{name_self}
+use Rattle.hddl_words.proofs.name.Name.new.Goals as goal
+
+pub invariant_of-result : goal.invariant_of-result
+invariant_of-result c =
+    let own : IsTrue (is_name c.args.token.now.text.now) = name_self (word_of c.args.token.now) c.args.token.now.is_word c.requires in
+    let same : c.in_ok-text.text ≡ c.args.token.now.text.now = c.in_ok-text.ensures in
+    rw same own

@@ -1,0 +1,10 @@
+pub mod formers
+pub mod Word
+pub mod Class
+pub mod Names
+pub mod Standing
+pub mod Words
+pub mod Reading
+pub mod Phrase
+pub mod Brackets
+pub mod Faults

@@ -1,0 +1,11 @@
+pub mod Tables
+pub mod Bits
+pub mod Packed
+pub mod Uniting
+pub mod Chains
+pub mod Free
+pub mod Replaced
+pub mod TableRows
+pub mod Joining
+pub mod JoinLoop
+pub mod Successors

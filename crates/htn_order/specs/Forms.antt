@@ -1,0 +1,15 @@
+-- The forms in which an order is kept.
+use Rattle.std.specs.Prelude.{◌≡◌, Bool, false, length}
+use Rattle.htn_model.specs.Problem.{Order, IsClosed, IsSquare, order_eq}
+use Rattle.htn_order.specs.Shapes.{chain}
+use Rattle.htn_order.specs.declared.order.Form.{Form}
+use Rattle.htn_order.specs.declared.order.Form.TheVariants.{Chain, Rows}
+
+abbrev pub order_of : Form → Order
+order_of (Chain size) = chain size
+order_of (Rows rows) = rows
+
+-- rows are kept for a closed order that is no chain
+abbrev pub IsForm : Form → Type 0
+IsForm (Chain size) = Unit {0}
+IsForm (Rows rows) = IsSquare (length rows) rows × IsClosed rows × (order_eq rows (chain (length rows)) ≡ false)
