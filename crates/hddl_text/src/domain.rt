@@ -10,7 +10,7 @@ ghost use Rattle.hddl_text.specs.Readers as spec;
 use crate::lists::names;
 use crate::parts::{DomainParts, no_domain_parts};
 use crate::sections::{action, items_or_none, method, predicates, requirements, task};
-use crate::words::{head_rest, is_close, opening};
+use crate::words::{head_rest, is_close, once, opening};
 use hddl_tree::DomainText;
 use hddl_words::{Class, Cursor, Keyword, Name, Stop, Token, class_of};
 use std::alloc::Global;
@@ -28,30 +28,22 @@ fn domain_section_body(
 {
     match class_of(word) {
         Class::Keyword(Keyword::Requirements) => {
-            if parts.requirements.is_some() {
-                return Err(cursor.refuse(false));
-            }
+            once(cursor, &parts.requirements)?;
             parts.requirements = Some(requirements(alloc, cursor)?);
             Ok(())
         }
         Class::Keyword(Keyword::Types) => {
-            if parts.types.is_some() {
-                return Err(cursor.refuse(false));
-            }
+            once(cursor, &parts.types)?;
             parts.types = Some(names(alloc, cursor, true)?);
             Ok(())
         }
         Class::Keyword(Keyword::Constants) => {
-            if parts.constants.is_some() {
-                return Err(cursor.refuse(false));
-            }
+            once(cursor, &parts.constants)?;
             parts.constants = Some(names(alloc, cursor, false)?);
             Ok(())
         }
         Class::Keyword(Keyword::Predicates) => {
-            if parts.predicates.is_some() {
-                return Err(cursor.refuse(false));
-            }
+            once(cursor, &parts.predicates)?;
             parts.predicates = Some(predicates(alloc, cursor)?);
             Ok(())
         }

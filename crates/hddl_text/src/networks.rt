@@ -9,7 +9,7 @@ ghost use Rattle.hddl_text.specs.Readers as spec;
 use crate::conditions::constraint;
 use crate::parts::NetworkParts;
 use crate::terms::{atom_rest, terms_after};
-use crate::words::{any_name, closing, is_close, less_sign, opening};
+use crate::words::{any_name, closing, is_close, less_sign, once, opening};
 use hddl_tree::{AtomText, OrderingText, SubtaskText, Term};
 use hddl_words::{Class, Cursor, Items, Keyword, Name, Stop, Token, Variable, class_of};
 use std::alloc::{AllocError, Global};
@@ -251,9 +251,7 @@ fn subtasks_part(
     ensures reads { Leaves (run (spec.subtasks_part is_ordered parts.old) cursor.old) result parts.new cursor.new }
     ensures shorter { OnOk result (length cursor.new ≤ length cursor.old) }
 {
-    if parts.subtasks.is_some() {
-        return Err(cursor.refuse(false));
-    }
+    once(cursor, &parts.subtasks)?;
     parts.subtasks = Some(net(alloc, cursor)?);
     parts.is_ordered = is_ordered;
     Ok(())
@@ -273,16 +271,12 @@ pub fn network_part(
         Class::Keyword(Keyword::Subtasks) => subtasks_part(alloc, cursor, false, parts),
         Class::Keyword(Keyword::OrderedSubtasks) => subtasks_part(alloc, cursor, true, parts),
         Class::Keyword(Keyword::Ordering) => {
-            if parts.orderings.is_some() {
-                return Err(cursor.refuse(false));
-            }
+            once(cursor, &parts.orderings)?;
             parts.orderings = Some(orderings(alloc, cursor)?);
             Ok(())
         }
         Class::Keyword(Keyword::Constraints) => {
-            if parts.constraints.is_some() {
-                return Err(cursor.refuse(false));
-            }
+            once(cursor, &parts.constraints)?;
             parts.constraints = Some(constraint(alloc, cursor)?);
             Ok(())
         }

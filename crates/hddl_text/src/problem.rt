@@ -13,7 +13,7 @@ use crate::networks::network_part;
 use crate::parts::{HtnParts, ProblemParts, no_htn_parts, no_problem_parts};
 use crate::sections::{items_or_none, network_of, requirements};
 use crate::terms::atom_rest;
-use crate::words::{any_name, closing, head_rest, is_close, opening};
+use crate::words::{any_name, closing, head_rest, is_close, once, opening};
 use hddl_tree::{AtomText, Condition, HtnText, ProblemText};
 use hddl_words::{Class, Cursor, Items, Keyword, Name, Stop, Token, class_of};
 use std::alloc::Global;
@@ -31,9 +31,7 @@ fn htn_part(
 {
     match class_of(word) {
         Class::Keyword(Keyword::Parameters) => {
-            if parts.parameters.is_some() {
-                return Err(cursor.refuse(false));
-            }
+            once(cursor, &parts.parameters)?;
             parts.parameters = Some(parameters(alloc, cursor)?);
             Ok(())
         }
@@ -168,44 +166,32 @@ fn problem_section_body(
 {
     match class_of(word) {
         Class::Keyword(Keyword::Domain) => {
-            if parts.domain.is_some() {
-                return Err(cursor.refuse(false));
-            }
+            once(cursor, &parts.domain)?;
             parts.domain = Some(closed_name(alloc, cursor)?);
             Ok(())
         }
         Class::Keyword(Keyword::Requirements) => {
-            if parts.requirements.is_some() {
-                return Err(cursor.refuse(false));
-            }
+            once(cursor, &parts.requirements)?;
             parts.requirements = Some(requirements(alloc, cursor)?);
             Ok(())
         }
         Class::Keyword(Keyword::Objects) => {
-            if parts.objects.is_some() {
-                return Err(cursor.refuse(false));
-            }
+            once(cursor, &parts.objects)?;
             parts.objects = Some(names(alloc, cursor, false)?);
             Ok(())
         }
         Class::Keyword(Keyword::Init) => {
-            if parts.init.is_some() {
-                return Err(cursor.refuse(false));
-            }
+            once(cursor, &parts.init)?;
             parts.init = Some(init(alloc, cursor)?);
             Ok(())
         }
         Class::Keyword(Keyword::Goal) => {
-            if parts.goal.is_some() {
-                return Err(cursor.refuse(false));
-            }
+            once(cursor, &parts.goal)?;
             parts.goal = Some(goal(alloc, cursor)?);
             Ok(())
         }
         Class::Keyword(Keyword::Htn) => {
-            if parts.htn.is_some() {
-                return Err(cursor.refuse(false));
-            }
+            once(cursor, &parts.htn)?;
             parts.htn = Some(htn(alloc, cursor, place)?);
             Ok(())
         }

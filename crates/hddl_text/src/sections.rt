@@ -15,7 +15,7 @@ use crate::parts::{
     no_task_parts,
 };
 use crate::terms::atom;
-use crate::words::{any_name, empty, is_close};
+use crate::words::{any_name, empty, is_close, once};
 use hddl_tree::{ActionText, MethodText, NetworkText, PredicateText, Requirement, TaskText};
 use hddl_words::{Class, Cursor, Items, Keyword, Name, Stop, Token, class_of};
 use std::alloc::Global;
@@ -138,9 +138,7 @@ fn task_part(
 {
     match class_of(word) {
         Class::Keyword(Keyword::Parameters) => {
-            if parts.parameters.is_some() {
-                return Err(cursor.refuse(false));
-            }
+            once(cursor, &parts.parameters)?;
             parts.parameters = Some(parameters(alloc, cursor)?);
             Ok(())
         }
@@ -213,23 +211,17 @@ fn action_part(
 {
     match class_of(word) {
         Class::Keyword(Keyword::Parameters) => {
-            if parts.parameters.is_some() {
-                return Err(cursor.refuse(false));
-            }
+            once(cursor, &parts.parameters)?;
             parts.parameters = Some(parameters(alloc, cursor)?);
             Ok(())
         }
         Class::Keyword(Keyword::Precondition) => {
-            if parts.precondition.is_some() {
-                return Err(cursor.refuse(false));
-            }
+            once(cursor, &parts.precondition)?;
             parts.precondition = Some(condition(alloc, cursor)?);
             Ok(())
         }
         Class::Keyword(Keyword::Effect) => {
-            if parts.effect.is_some() {
-                return Err(cursor.refuse(false));
-            }
+            once(cursor, &parts.effect)?;
             parts.effect = Some(effect(alloc, cursor)?);
             Ok(())
         }
@@ -294,23 +286,17 @@ fn method_part(
 {
     match class_of(word) {
         Class::Keyword(Keyword::Parameters) => {
-            if parts.parameters.is_some() {
-                return Err(cursor.refuse(false));
-            }
+            once(cursor, &parts.parameters)?;
             parts.parameters = Some(parameters(alloc, cursor)?);
             Ok(())
         }
         Class::Keyword(Keyword::Task) => {
-            if parts.task.is_some() {
-                return Err(cursor.refuse(false));
-            }
+            once(cursor, &parts.task)?;
             parts.task = Some(atom(alloc, cursor)?);
             Ok(())
         }
         Class::Keyword(Keyword::Precondition) => {
-            if parts.precondition.is_some() {
-                return Err(cursor.refuse(false));
-            }
+            once(cursor, &parts.precondition)?;
             parts.precondition = Some(condition(alloc, cursor)?);
             Ok(())
         }

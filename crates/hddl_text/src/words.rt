@@ -1,6 +1,7 @@
 //! Reads single words of the grammar.
 
-ghost use Rattle.std.specs.Prelude.{◌≡◌, ◌≤◌, length, OnOk};
+ghost use Rattle.std.specs.Prelude.{◌≡◌, ◌≤◌, suc, false, length, OnOk, IsSome, MatchResult};
+ghost use Rattle.hddl_words.specs.declared.cursor.Stop.TheVariants.{Refused};
 ghost use Rattle.hddl_words.specs.Class.{class_of as class};
 ghost use Rattle.hddl_words.specs.Reading.{Reads, is_close as is_closing};
 ghost use Rattle.hddl_words.specs.Words.{word_of};
@@ -13,6 +14,17 @@ pub fn is_close(word: &Token<'_>) -> bool
     ensures { result ≡ is_closing (class (word_of word.now)) }
 {
     matches!(class_of(word), Class::Close)
+}
+
+/// Refuses the word that was read last where its part stands already.
+pub fn once<T>(cursor: &Cursor<'_>, part: &Option<T>) -> Result<(), Stop>
+    ensures { MatchResult result (λ _. part.now ≡ None) (λ stop. IsSome part.now × (stop ≡ Refused false (suc (length cursor.now)))) }
+{
+    if part.is_some() {
+        Err(cursor.refuse(false))
+    } else {
+        Ok(())
+    }
 }
 
 /// An opening bracket.

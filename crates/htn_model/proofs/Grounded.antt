@@ -1,19 +1,20 @@
 -- The ground problem of a well-typed task: its networks are closed, and its actions change what effects name.
-use Rattle.std.proofs.Common.{Bool, List, None, Option, Some, [], cond, false, get_or, length, map, refl, slice_get, subst, suc, sym, true, zero, ℕ, ◌++◌, ◌+◌, ◌-◌, ◌<◌, ◌∷◌, ◌≡◌, ◌∙◌, ◌⊎◌, ◌||◌, ap, inl, inr, option_and_then, arith, nat_lt, nat_eq}
-use Rattle.std.specs.List.{AllByRecursion, enumerate_from, flat_map, list_any}
+use Rattle.std.proofs.Common.{Bool, List, None, Option, Some, [], cond, false, get_or, length, map, not, refl, slice_get, subst, suc, sym, true, zero, ℕ, ◌++◌, ◌+◌, ◌-◌, ◌<◌, ◌∷◌, ◌≡◌, ◌∙◌, ◌⊎◌, ◌||◌, ap, inl, inr, option_map, option_and_then, arith, nat_lt, nat_eq}
+use Rattle.std.specs.List.{All, AllByRecursion, enumerate_from, filter, flat_map, list_any}
 use Rattle.std.specs.Cmp.{unsigned_Decides}
 use Rattle.std.proofs.lemmas.Bool.{both_ways}
 use Rattle.std.proofs.lemmas.List.{length-map}
 use Rattle.std.proofs.lemmas.List.Elements.{recursion_from_All}
 use Rattle.htn_model.specs.Atom.{Atom}
-use Rattle.htn_model.specs.State.{contains}
+use Rattle.htn_model.specs.AtomOrder.{both_true}
+use Rattle.htn_model.specs.State.{contains, set_of}
 use Rattle.htn_model.specs.Literal.{Action}
-use Rattle.htn_model.specs.Problem as ground
+use Rattle.htn_model.specs.Problem as problem
 use Rattle.htn_model.specs.Problem.{AreChanged, Child, GroundTask, IsClosed, IsGrounded, IsNetwork, IsSquare, Network, Order, is_before}
 use Rattle.htn_model.specs.Instance.{Instance}
 use Rattle.htn_model.specs.Schema.{AtomSchema, Formula, NetworkSchema}
 use Rattle.htn_model.specs.Task.{ActionSchema, IsMethodSchema, IsWellTyped, MethodSchema, Task}
-use Rattle.htn_model.specs.Instances.{action_at, action_of, action_conditions, child_of, ground_action, ground_atom, ground_task, has_step, initial_instance, initials, instances_of_method, is_instance, literals_of, method_instance, methods_of, network_of, order_with_step, state_formulas, step_first}
+use Rattle.htn_model.specs.Instances.{action_at, action_of, action_conditions, child_of, ground_action, ground_atom, ground_task, has_step, initial_instance, initials, instances_of_method, is_instance, literals_of, method_instance, methods_of, network_of, order_with_step, state_formulas, step_first, steps_of}
 use Rattle.htn_model.specs.Grounding.{TasksAreGrounded, is_changed, problem_of}
 use Rattle.htn_model.proofs.Sets.{contains-set_of, is_same, same_as}
 
@@ -52,17 +53,17 @@ falses : (row : List Bool) (b : ℕ) → get_or (false ∷ row) (suc b) false �
 falses row b = refl
 
 -- the first row is true at each other position
-first_row : (order : Order) (b : ℕ) → b < length order → get_or (map (λ row. true) order) b false ≡ true
+pub first_row : (order : Order) (b : ℕ) → b < length order → get_or (map (λ row. true) order) b false ≡ true
 first_row [] b h = absurd (omega arith)
 first_row (row ∷ order) zero h = refl
 first_row (row ∷ order) (suc b) h = first_row order b (omega arith)
 
-later_row : (order : Order) (a b : ℕ) → get_or (get_or (map (λ row. false ∷ row) order) a []) (suc b) false ≡ is_before order a b
+pub later_row : (order : Order) (a b : ℕ) → get_or (get_or (map (λ row. false ∷ row) order) a []) (suc b) false ≡ is_before order a b
 later_row [] a b = refl
 later_row (row ∷ order) zero b = refl
 later_row (row ∷ order) (suc a) b = later_row order a b
 
-never_first : (order : Order) (a : ℕ) → get_or (get_or (map (λ row. false ∷ row) order) a []) 0 false ≡ false
+pub never_first : (order : Order) (a : ℕ) → get_or (get_or (map (λ row. false ∷ row) order) a []) 0 false ≡ false
 never_first [] a = refl
 never_first (row ∷ order) zero = refl
 never_first (row ∷ order) (suc a) = never_first order a
@@ -72,7 +73,7 @@ in_row [] b h = absurd cc
 in_row (x ∷ row) zero h = omega arith
 in_row (x ∷ row) (suc b) h = let k : b < length row = in_row row b h in omega arith
 
-in_square : (n : ℕ) (order : Order) (a b : ℕ) → AllByRecursion (λ row. length row ≡ n) order → is_before order a b ≡ true → b < n
+pub in_square : (n : ℕ) (order : Order) (a b : ℕ) → AllByRecursion (λ row. length row ≡ n) order → is_before order a b ≡ true → b < n
 in_square n [] a b f h = absurd cc
 in_square n (row ∷ order) zero b f h = subst (λ m. b < m) f.0 (in_row row b h)
 in_square n (row ∷ order) (suc a) b f h = in_square n order a b f.1 h
@@ -98,7 +99,7 @@ longer_rows : (n : ℕ) (order : Order) → AllByRecursion (λ row. length row �
 longer_rows n [] f = tt
 longer_rows n (row ∷ order) f = (ap suc f.0, longer_rows n order f.1)
 
-step_square : (n : ℕ) (order : Order) → IsSquare n order → IsSquare (suc n) (step_first order)
+pub step_square : (n : ℕ) (order : Order) → IsSquare n order → IsSquare (suc n) (step_first order)
 step_square n order square = (
   ap suc (length-map order (λ row. false ∷ row) ∙ square.0),
   (ap suc (length-map order (λ row. true) ∙ square.0), longer_rows n order square.1),
@@ -112,7 +113,7 @@ network_by t values precondition n true e square closed =
     let order : step_first n.order ≡ order_with_step precondition n.order = sym (ap (λ b. cond b (step_first n.order) n.order) e) in
     let children : suc (length n.subtasks) ≡ length (network_of t values precondition n).children =
     ap suc (sym (length-map n.subtasks (λ s. child_of t (ground_task values s))))
-    ∙ sym (ap (λ b. length (cond b (ground.precondition (literals_of t values (state_formulas precondition)) ∷ []) [] ++ map (λ s. child_of t (ground_task values s)) n.subtasks)) e) in
+    ∙ sym (ap (λ b. length (cond b (problem.precondition (literals_of t values (state_formulas precondition)) ∷ []) [] ++ map (λ s. child_of t (ground_task values s)) n.subtasks)) e) in
     record {
       closed = subst IsClosed order (record { irreflexive = step_irreflexive n.order closed; transitive = step_transitive (length n.subtasks) n.order square closed });
       square = subst (λ m. IsSquare m (order_with_step precondition n.order)) children (subst (IsSquare (suc (length n.subtasks))) order (step_square (length n.subtasks) n.order square));
@@ -121,7 +122,7 @@ network_by t values precondition n false e square closed =
     let order : n.order ≡ order_with_step precondition n.order = sym (ap (λ b. cond b (step_first n.order) n.order) e) in
     let children : length n.subtasks ≡ length (network_of t values precondition n).children =
     sym (length-map n.subtasks (λ s. child_of t (ground_task values s)))
-    ∙ sym (ap (λ b. length (cond b (ground.precondition (literals_of t values (state_formulas precondition)) ∷ []) [] ++ map (λ s. child_of t (ground_task values s)) n.subtasks)) e) in
+    ∙ sym (ap (λ b. length (cond b (problem.precondition (literals_of t values (state_formulas precondition)) ∷ []) [] ++ map (λ s. child_of t (ground_task values s)) n.subtasks)) e) in
     record {
       closed = subst IsClosed order closed;
       square = subst (λ m. IsSquare m (order_with_step precondition n.order)) children (subst (IsSquare (length n.subtasks)) order square);

@@ -1,12 +1,13 @@
 -- Small tasks, whose instances are computed by the definitions.
-use Rattle.std.proofs.Common.{Bool, List, None, Some, [], false, length, refl, slice_get, true, ℕ, ◌∷◌, ◌≡◌}
+use Rattle.std.proofs.Common.{Bool, List, None, Option, Some, [], cond, false, length, map, refl, slice_get, true, ℕ, ◌∷◌, ◌≡◌}
+use Rattle.htn_model.specs.Atom.{Atom}
 use Rattle.htn_model.specs.State.{set_of}
-use Rattle.htn_model.specs.Literal.{Literal, atom, equality}
-use Rattle.htn_model.specs.Problem as ground
+use Rattle.htn_model.specs.Literal.{Action, Literal, atom, equality}
+use Rattle.htn_model.specs.Problem as problem
 use Rattle.htn_model.specs.Problem.{GroundTask, Network}
 use Rattle.htn_model.specs.Instance.{Instance}
-use Rattle.htn_model.specs.Schema.{AtomSchema, Name, TaskSchema, Term, equation, for_all, formulas_of, literal, object, parameter}
-use Rattle.htn_model.specs.Task.{ActionSchema, Declaration, MethodSchema, ObjectType, Task}
+use Rattle.htn_model.specs.Schema.{AtomSchema, EqualitySchema, Formula, Name, NetworkSchema, TaskSchema, Term, equation, for_all, formulas_of, literal, object, parameter}
+use Rattle.htn_model.specs.Task.{ActionSchema, Declaration, InitialSchema, MethodSchema, ObjectType, Task}
 use Rattle.htn_model.specs.Instances.{action_of, initials, methods_of}
 
 abbrev called : ℕ → List ℕ → Declaration
@@ -99,7 +100,7 @@ abbrev staying : Instance
 staying = record {
   method = Some 0;
   values = 3 ∷ 2 ∷ [];
-  network = record { children = ground.precondition (fact 1 (3 ∷ 2 ∷ []) ∷ []) ∷ []; order = (false ∷ []) ∷ [] };
+  network = record { children = problem.precondition (fact 1 (3 ∷ 2 ∷ []) ∷ []) ∷ []; order = (false ∷ []) ∷ [] };
 }
 
 road_first : slice_get (methods_of road go_to_c) 0 ≡ Some staying
@@ -111,7 +112,7 @@ stepping from to = record {
   method = Some 1;
   values = 3 ∷ from ∷ to ∷ 2 ∷ [];
   network = record {
-    children = ground.precondition (fact 1 (3 ∷ from ∷ []) ∷ fact 0 (from ∷ to ∷ []) ∷ []) ∷ ground.action (ground_at 1 (3 ∷ from ∷ to ∷ [])) ∷ ground.task (ground_at 0 (3 ∷ 2 ∷ [])) ∷ [];
+    children = problem.precondition (fact 1 (3 ∷ from ∷ []) ∷ fact 0 (from ∷ to ∷ []) ∷ []) ∷ problem.action (ground_at 1 (3 ∷ from ∷ to ∷ [])) ∷ problem.task (ground_at 0 (3 ∷ 2 ∷ [])) ∷ [];
     order = (false ∷ true ∷ true ∷ []) ∷ (false ∷ false ∷ true ∷ []) ∷ (false ∷ false ∷ false ∷ []) ∷ [];
   };
 }
@@ -167,7 +168,7 @@ touching names numbers = record only_objects {
 }
 
 abbrev touched : ℕ → Instance
-touched o = record { method = None; values = o ∷ []; network = record { children = ground.action (ground_at 0 (o ∷ [])) ∷ []; order = (false ∷ []) ∷ [] } }
+touched o = record { method = None; values = o ∷ []; network = record { children = problem.action (ground_at 0 (o ∷ [])) ∷ []; order = (false ∷ []) ∷ [] } }
 
 touching_three : initials (touching ((0 ∷ []) ∷ (1 ∷ []) ∷ (2 ∷ []) ∷ []) (0 ∷ 1 ∷ 2 ∷ [])) ≡ touched 1 ∷ touched 2 ∷ []
 touching_three = refl
@@ -195,7 +196,7 @@ needing = record only_objects {
 }
 
 abbrev needed : ℕ → Instance
-needed o = record { method = Some 0; values = o ∷ []; network = record { children = ground.precondition (fact 0 (o ∷ []) ∷ []) ∷ []; order = (false ∷ []) ∷ [] } }
+needed o = record { method = Some 0; values = o ∷ []; network = record { children = problem.precondition (fact 0 (o ∷ []) ∷ []) ∷ []; order = (false ∷ []) ∷ [] } }
 
 needing_both : methods_of needing (ground_at 0 []) ≡ needed 0 ∷ needed 1 ∷ []
 needing_both = refl
@@ -233,7 +234,7 @@ abbrev two_boxes : Task
 two_boxes = boxes ((0 ∷ []) ∷ (1 ∷ []) ∷ []) (0 ∷ 1 ∷ [])
 
 abbrev all_done : List Literal → Instance
-all_done literals = record { method = Some 0; values = []; network = record { children = ground.precondition literals ∷ []; order = (false ∷ []) ∷ [] } }
+all_done literals = record { method = Some 0; values = []; network = record { children = problem.precondition literals ∷ []; order = (false ∷ []) ∷ [] } }
 
 boxes_two : methods_of two_boxes (ground_at 0 []) ≡ all_done (fact 0 (0 ∷ []) ∷ fact 0 (1 ∷ []) ∷ []) ∷ []
 boxes_two = refl

@@ -1,11 +1,11 @@
 -- The instances of a task's schemas: which objects its parameters may stand for, and what a schema is then.
-use Rattle.std.specs.Prelude.{ℕ, ◌-◌, Bool, true, false, not, ◌&&◌, cond, nat_eq, nat_lt, List, [], ◌∷◌, ◌++◌, length, map, Option, Some, None, option_and_then, slice_get, slice_index}
+use Rattle.std.specs.Prelude.{ℕ, ◌+◌, ◌-◌, Bool, true, false, not, ◌&&◌, cond, nat_eq, nat_lt, List, [], ◌∷◌, ◌++◌, length, map, Option, Some, None, option_and_then, slice_get, slice_index}
 use Rattle.std.specs.Bool.{beq}
 use Rattle.std.specs.List.{filter, list_all, list_any, flat_map, enumerate_from, zip}
 use Rattle.htn_model.specs.Atom.{Atom}
 use Rattle.htn_model.specs.State.{set_of}
 use Rattle.htn_model.specs.Literal.{Literal, atom, equality, Action}
-use Rattle.htn_model.specs.Problem as ground
+use Rattle.htn_model.specs.Problem as problem
 use Rattle.htn_model.specs.Problem.{GroundTask, Child, Order, Network, ground_task_eq}
 use Rattle.htn_model.specs.Instance.{Instance}
 use Rattle.htn_model.specs.Schema.{Term, parameter, object, AtomSchema, EqualitySchema, TaskSchema, Formula, literal, equation, for_all, Formulas, no_formulas, formula, NetworkSchema}
@@ -146,7 +146,7 @@ is_instance t c values = have_types t c.parameters values && meets t c values
 
 -- a subtask as a child of a network
 abbrev pub child_of : Task → GroundTask → Child
-child_of t g = cond (is_compound t g.name) (ground.task g) (ground.action g)
+child_of t g = cond (is_compound t g.name) (problem.task g) (problem.action g)
 
 -- whether a precondition takes a step: it has more than equalities
 abbrev pub has_step : List Formula → Bool
@@ -154,7 +154,7 @@ has_step precondition = list_any (λ f. not (is_equation f)) precondition
 
 -- the precondition step, where there is one
 abbrev pub steps_of : Task → List ℕ → List Formula → List Child
-steps_of t values precondition = cond (has_step precondition) (ground.precondition (literals_of t values (state_formulas precondition)) ∷ []) []
+steps_of t values precondition = cond (has_step precondition) (problem.precondition (literals_of t values (state_formulas precondition)) ∷ []) []
 
 -- the order with a first position before all others
 abbrev pub step_first : Order → Order

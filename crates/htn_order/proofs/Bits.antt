@@ -1,8 +1,8 @@
 -- Bits of words.
-use Rattle.std.proofs.Common.{◌≡◌, ℕ, zero, suc, ◌+◌, ◌-◌, ◌*◌, ◌/◌, ◌%◌, ◌^◌, ◌<◌, ◌≤◌, Bool, true, false, cond, eqb, max, ◌||◌, ◌⊎◌, inl, inr, refl, sym, ap, ap₂, ◌∙◌, subst, arith, bit_or, bit_and}
+use Rattle.std.proofs.Common.{◌≡◌, ℕ, zero, suc, ◌+◌, ◌-◌, ◌*◌, ◌/◌, ◌%◌, ◌^◌, ◌<◌, Bool, true, false, cond, eqb, max, ◌||◌, ◌⊎◌, inl, inr, refl, sym, ap, ap₂, ◌∙◌, subst, arith, bit_or, bit_and}
 use Rattle.std.specs.Int.{bit_at, w64}
 use Rattle.std.proofs.lemmas.Bool.{cases_lt, cases_eq, eq-eqb, ne_eqb, both_ways}
-use Rattle.std.proofs.lemmas.Nat.Bits.{bit_at-lt, bit_at_or, bit_at_set_same, bit_at_set_other, bit_at-zero, bit_at_cat_low, bit_at_cat_high, bit_at_above, shr_and_one}
+use Rattle.std.proofs.lemmas.Nat.Bits.{bit_at-lt, bit_at_or, bit_at_set_same, bit_at_set_other, bit_at-zero, bit_at_cat_low, bit_at_cat_high, shr_and_one}
 use Rattle.htn_order.specs.BitRows.{is_set, number_of}
 
 low_bit : (a : ℕ) → a < 2 → (a ≡ 0) ⊎ (a ≡ 1)

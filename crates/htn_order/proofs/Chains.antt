@@ -1,15 +1,15 @@
 -- Orders that are total in the sequence of the list.
 use Rattle.std.proofs.Common.{◌≡◌, ℕ, zero, suc, ◌+◌, ◌-◌, ◌<◌, ◌≤◌, Bool, true, false, cond, ltb, eqb, ◌⊎◌, ◌↔◌, inl, inr, length, refl, sym, ap, ◌∙◌, subst, arith}
-use Rattle.std.proofs.lemmas.Bool.{cases_lt, cases_Bool, lt-ltb, le-ltb, both_ways, ltb-true, false_from_ne_true, eqb-true, eq-eqb}
+use Rattle.std.proofs.lemmas.Bool.{cases_lt, lt-ltb, le-ltb, both_ways, ltb-true, false_from_ne_true, eqb-true, eq-eqb}
 use Rattle.htn_model.specs.Problem.{Order, is_before, IsClosed, IsSquare, order_eq}
-use Rattle.htn_model.proofs.Splices.{table_within, table_past_left, table_past_right, table_square, same_order, square_past_left, square_past_right}
+use Rattle.htn_model.proofs.Splices.{table_within, table_past_right, table_square, same_order, square_past_left, square_past_right}
 use Rattle.htn_order.specs.Shapes.{chain, unordered}
 use Rattle.htn_model.specs.Equality.{order_eq-decides}
 use Rattle.htn_order.specs.OrderHash.{order_hash}
 use Rattle.htn_order.specs.BitRows.{rows_hash}
 use Rattle.std.specs.Hash as fed
 use Rattle.std.proofs.lemmas.Bool.Decides.{same_from_decides}
-use Rattle.htn_order.proofs.Tables.{entry, table_size, within}
+use Rattle.htn_order.proofs.Tables.{table_size, within}
 
 pub chain_size : (n : ℕ) → length (chain n) ≡ n
 chain_size n = table_size n ltb

@@ -1,7 +1,7 @@
 -- The loop that puts each position up to one before each from another on.
-use Rattle.std.proofs.Common.{◌≡◌, ◌≢◌, ℕ, ◌+◌, ◌<◌, ◌≤◌, ◌||◌, ◌&&◌, Bool, true, false, eqb, ltb, ◌⊎◌, inl, inr, length, refl, sym, ap, ap₂, ◌∙◌, subst, arith}
-use Rattle.std.proofs.lemmas.Bool.{cases_eq, cases_lt, cases_Bool, eq-eqb, ne_eqb, lt-ltb, le-ltb, both_ways, false_from_ne_true}
-use Rattle.htn_model.specs.Problem.{Order, is_before, IsClosed, IsSquare}
+use Rattle.std.proofs.Common.{◌≡◌, ◌≢◌, ℕ, ◌+◌, ◌<◌, ◌≤◌, ◌||◌, ◌&&◌, Bool, true, false, eqb, ltb, inl, inr, length, refl, sym, ap, ap₂, ◌∙◌, subst, arith}
+use Rattle.std.proofs.lemmas.Bool.{cases_eq, cases_lt, eq-eqb, ne_eqb, lt-ltb, le-ltb, both_ways}
+use Rattle.htn_model.specs.Problem.{Order, is_before, IsSquare}
 use Rattle.htn_model.proofs.Splices.{square_past_left}
 use Rattle.htn_order.specs.Closing.{joined}
 use Rattle.htn_order.proofs.Joining.{UpTo, at_or_before}

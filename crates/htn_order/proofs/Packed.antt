@@ -1,17 +1,16 @@
 -- Tables in words.
-use Rattle.std.proofs.Common.{◌≡◌, ◌≢◌, ℕ, ◌+◌, ◌-◌, ◌*◌, ◌/◌, ◌%◌, ◌^◌, ◌<◌, ◌≤◌, Bool, true, false, cond, eqb, ◌||◌, ◌&&◌, ◌⊎◌, inl, inr, List, [], length, get_or, set, map, refl, sym, ap, ap₂, ◌∙◌, subst, arith, bit_or, get_or-set_same, get_or-set_other}
-use Rattle.std.proofs.lemmas.Bool.{cases_lt, cases_eq, cases_Bool, eq-eqb, ne_eqb, eqb-true, and_parts, and_right}
+use Rattle.std.proofs.Common.{◌≡◌, ℕ, ◌+◌, ◌*◌, ◌/◌, ◌%◌, ◌^◌, ◌<◌, Bool, true, false, cond, eqb, ◌||◌, ◌&&◌, inl, inr, List, [], length, get_or, set, map, refl, sym, ap, ap₂, ◌∙◌, subst, arith, bit_or, get_or-set_same, get_or-set_other}
+use Rattle.std.proofs.lemmas.Bool.{cases_lt, cases_eq, eq-eqb, ne_eqb, eqb-true, and_parts, and_right}
 use Rattle.std.proofs.lemmas.Nat.{same_from_place, mul-add-lt, div-add-mod', mod_below, div_below, or_lt}
 use Rattle.std.proofs.lemmas.Nat.Bits.{same_from_bits_below}
 use Rattle.std.proofs.lemmas.List.FromFn.{fill_by_all}
 use Rattle.std.proofs.lemmas.List.{length-set}
 use Rattle.std.specs.List.{range_with_len}
-use Rattle.htn_model.specs.Problem.{Order, is_before}
-use Rattle.htn_model.specs.Machine.{table}
+use Rattle.htn_model.specs.Problem.{is_before}
 use Rattle.htn_model.proofs.Splices.{table_within, table_past_right}
 use Rattle.htn_order.specs.BitRows.{IsPacked, bit, is_set, number_of, rows_of, united, with_bit, word_at, word_of, words_of, words_per_row}
-use Rattle.htn_order.proofs.Tables.{table_size, within, same_tables, more_entries}
-use Rattle.htn_order.proofs.Bits.{is_set-or, is_set-with, is_set-zero, bit_from_set, is_set-number_of, number_of_lt}
+use Rattle.htn_order.proofs.Tables.{table_size, within, more_entries}
+use Rattle.htn_order.proofs.Bits.{is_set-or, is_set-with, bit_from_set, is_set-number_of, number_of_lt}
 
 pub below_width : (n y : ℕ) → y < n → y / 64 < words_per_row n
 below_width n y h = omega arith

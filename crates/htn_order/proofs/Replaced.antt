@@ -1,12 +1,12 @@
 -- The order in which a node is replaced by a network.
-use Rattle.std.proofs.Common.{◌≡◌, ◌≢◌, ℕ, ◌+◌, ◌-◌, ◌<◌, ◌≤◌, Bool, true, false, cond, eqb, ltb, ◌||◌, ◌&&◌, ◌⊎◌, inl, inr, length, refl, sym, ap, ap₂, ◌∙◌, subst, arith}
-use Rattle.std.proofs.lemmas.Bool.{cases_lt, cases_eq, cases_Bool, eq-eqb, ne_eqb, eqb-true, eqb-false, lt-ltb, le-ltb, ltb-true, ltb-false, both_ways, false_from_ne_true, and_parts}
-use Rattle.htn_model.specs.Problem.{Order, is_before, IsClosed, IsSquare}
+use Rattle.std.proofs.Common.{◌≡◌, ◌≢◌, ℕ, ◌+◌, ◌-◌, ◌<◌, ◌≤◌, Bool, true, false, cond, eqb, ltb, ◌&&◌, inl, inr, length, sym, ap, ap₂, ◌∙◌, subst, arith}
+use Rattle.std.proofs.lemmas.Bool.{cases_lt, cases_eq, eq-eqb, ne_eqb, lt-ltb, le-ltb, both_ways, false_from_ne_true}
+use Rattle.htn_model.specs.Problem.{Order, is_before, IsClosed}
 use Rattle.htn_model.specs.Machine.{origin, replaced_order, table}
-use Rattle.htn_model.proofs.Splices.{table_past_left, table_past_right, table_square, table_within, same_order, origin_below, origin_inside, origin_above}
-use Rattle.htn_order.specs.Shapes.{chain, unordered, is_before_with_first, with_first}
-use Rattle.htn_order.proofs.Tables.{entry, table_size, within, same_tables}
-use Rattle.htn_order.proofs.Chains.{before_chain, chain_before, chain_size, not_before_chain}
+use Rattle.htn_model.proofs.Splices.{table_within, origin_below, origin_inside, origin_above}
+use Rattle.htn_order.specs.Shapes.{chain, is_before_with_first, with_first}
+use Rattle.htn_order.proofs.Tables.{within, same_tables}
+use Rattle.htn_order.proofs.Chains.{before_chain, chain_size, not_before_chain}
 
 -- ## Closed
 

@@ -1,7 +1,7 @@
 -- The entries of a table, and tables with more entries.
-use Rattle.std.proofs.Common.{◌≡◌, ℕ, ◌<◌, ◌≤◌, Bool, true, false, ◌&&◌, ◌||◌, ltb, ◌⊎◌, inl, inr, List, [], length, refl, sym, ap, ap₂, ◌∙◌, arith}
-use Rattle.std.proofs.lemmas.Bool.{cases_lt, cases_Bool, lt-ltb, le-ltb, and_parts, ltb-true, both_ways}
-use Rattle.htn_model.specs.Problem.{Order, is_before, IsSquare}
+use Rattle.std.proofs.Common.{◌≡◌, ℕ, ◌<◌, Bool, true, false, ◌&&◌, ◌||◌, ltb, inl, inr, length, refl, sym, ap, ap₂, ◌∙◌, arith}
+use Rattle.std.proofs.lemmas.Bool.{cases_lt, cases_Bool, lt-ltb, le-ltb, and_parts, ltb-true}
+use Rattle.htn_model.specs.Problem.{is_before}
 use Rattle.htn_model.specs.Machine.{table}
 use Rattle.htn_model.proofs.Splices.{table_within, table_past_left, table_past_right, table_square, same_order}
 

@@ -1,8 +1,8 @@
 -- The loop that adds one row of words to another.
-use Rattle.std.proofs.Common.{◌≡◌, ◌≢◌, ℕ, ◌+◌, ◌*◌, ◌/◌, ◌%◌, ◌^◌, ◌<◌, ◌≤◌, Bool, true, false, cond, eqb, ltb, ◌||◌, ◌&&◌, ◌⊎◌, inl, inr, List, length, get_or, set, refl, sym, ap, ap₂, ◌∙◌, subst, arith, bit_or}
+use Rattle.std.proofs.Common.{◌≡◌, ◌≢◌, ℕ, ◌+◌, ◌*◌, ◌/◌, ◌%◌, ◌^◌, ◌<◌, ◌≤◌, Bool, false, cond, eqb, ltb, ◌||◌, ◌&&◌, inl, inr, List, length, get_or, set, sym, ap, ap₂, ◌∙◌, subst, arith, bit_or}
 use Rattle.std.proofs.lemmas.Bool.{cases_lt, cases_eq, eq-eqb, ne_eqb, lt-ltb, le-ltb, and_right}
 use Rattle.std.proofs.lemmas.Nat.{div-add-mod', mod_below, or_lt}
-use Rattle.htn_order.specs.BitRows.{IsPacked, bit, is_set, united, word_at, words_per_row}
+use Rattle.htn_order.specs.BitRows.{IsPacked, bit, united, word_at, words_per_row}
 use Rattle.htn_order.proofs.Packed.{word_at-set_same, word_at-set_other, united_bit}
 
 -- the first k words of row a have the bits of row b too

@@ -1,5 +1,5 @@
 -- The transitive closure of pairs of positions.
-use Rattle.std.specs.Prelude.{◌≡◌, ℕ, ◌+◌, ◌-◌, ◌<◌, Bool, true, ◌↔◌, List, map, Contains, All}
+use Rattle.std.specs.Prelude.{◌≡◌, ℕ, ◌+◌, ◌-◌, ◌<◌, true, ◌↔◌, List, map, Contains, All}
 use Rattle.std.specs.List.{range_with_len}
 use Rattle.htn_model.specs.Problem.{Order, is_before}
 

@@ -1,5 +1,5 @@
 -- The forms in which an order is kept.
-use Rattle.std.specs.Prelude.{◌≡◌, Bool, false, length}
+use Rattle.std.specs.Prelude.{◌≡◌, false, length}
 use Rattle.htn_model.specs.Problem.{Order, IsClosed, IsSquare, order_eq}
 use Rattle.htn_order.specs.Shapes.{chain}
 use Rattle.htn_order.specs.declared.order.Form.{Form}

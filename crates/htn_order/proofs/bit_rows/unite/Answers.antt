@@ -1,4 +1,4 @@
-use Rattle.std.proofs.Common.{◌+◌, ◌*◌, ◌<◌, ◌≡◌, ◌∙◌, length, arith}
+use Rattle.std.proofs.Common.{◌*◌, ◌≡◌, ◌∙◌, length}
 use Rattle.htn_order.proofs.Packed.{place_lt}
 use Rattle.htn_order.proofs.Uniting.{united_start, united_step, united_end}
 use Rattle.htn_order.proofs.bit_rows.unite.Goals as goal

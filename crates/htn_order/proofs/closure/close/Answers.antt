@@ -1,8 +1,7 @@
-use Rattle.std.proofs.Common.{◌≡◌, ◌≤◌, ◌∙◌, ap, length, subst, sym}
+use Rattle.std.proofs.Common.{◌∙◌, ap, length, subst, sym}
 use Rattle.htn_model.specs.Problem.{IsClosed, IsSquare}
 use Rattle.htn_order.specs.Closing.{IsClosing}
-use Rattle.htn_order.specs.Closure.{IsAcyclic, IsClosureOf}
-use Rattle.htn_order.specs.Shapes.{unordered}
+use Rattle.htn_order.specs.Closure.{IsClosureOf}
 use Rattle.htn_order.proofs.Tables.{table_size}
 use Rattle.htn_order.proofs.Joining.{acyclic_of, closing_marks, closing_start, closure_of, has_all, has_more, no_pairs_yet}
 use Rattle.htn_order.proofs.closure.close.Goals as goal

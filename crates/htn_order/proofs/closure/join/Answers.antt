@@ -1,6 +1,6 @@
 use Rattle.std.proofs.Common.{◌≡◌, ◌<◌, ◌≤◌, ◌∙◌, length, sym, subst, arith}
 use Rattle.htn_model.specs.Problem.{IsSquare}
-use Rattle.htn_order.proofs.JoinLoop.{JoinedBelow, alone, below_end, below_put, below_skip, below_start, not_b}
+use Rattle.htn_order.proofs.JoinLoop.{JoinedBelow, below_end, below_put, below_skip, below_start, not_b}
 use Rattle.htn_order.proofs.closure.join.Goals as goal
 use Rattle.htn_order.proofs.closure.join.Goals.{then-is_at_or_before, else-is_at_or_before}
 

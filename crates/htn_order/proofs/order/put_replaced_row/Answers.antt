@@ -1,4 +1,4 @@
-use Rattle.std.proofs.Common.{◌≡◌, ◌≤◌, ◌∙◌, length, sym, subst, arith}
+use Rattle.std.proofs.Common.{◌≡◌, ◌∙◌, length, sym, subst, arith}
 use Rattle.htn_model.specs.Machine.{replaced_order}
 use Rattle.htn_model.specs.Problem.{IsSquare}
 use Rattle.htn_order.specs.Shapes.{IsRowAdded}

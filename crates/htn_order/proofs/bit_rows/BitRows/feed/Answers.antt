@@ -1,6 +1,6 @@
-use Rattle.std.proofs.Common.{◌≡◌, ◌∙◌, ap, ap₂, sym, length, ◌++◌, fold}
+use Rattle.std.proofs.Common.{◌∙◌, ap, ap₂, sym, ◌++◌, fold}
 use Rattle.std.specs.Hash as fed
-use Rattle.htn_order.specs.BitRows.{bit, rows_hash, rows_of, words_of, words_per_row}
+use Rattle.htn_order.specs.BitRows.{bit, rows_hash, words_per_row}
 use Rattle.htn_order.proofs.Tables.{table_size}
 use Rattle.htn_order.proofs.Packed.{words_from_table}
 use Rattle.htn_order.proofs.bit_rows.BitRows.feed.Goals as goal

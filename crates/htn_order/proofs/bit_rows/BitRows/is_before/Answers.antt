@@ -1,4 +1,4 @@
-use Rattle.std.proofs.Common.{◌≡◌, ◌≤◌, ◌+◌, ◌*◌, ◌/◌, ◌%◌, ◌∙◌, ap, ap₂, sym, length, get_or, arith}
+use Rattle.std.proofs.Common.{◌≡◌, ◌+◌, ◌*◌, ◌/◌, ◌%◌, ◌∙◌, ap, sym, get_or, arith}
 use Rattle.std.proofs.lemmas.List.{get_or_read}
 use Rattle.htn_model.specs.Problem.{is_before}
 use Rattle.htn_model.proofs.Splices.{table_past_left, table_past_right, table_within}

@@ -1,4 +1,4 @@
-use Rattle.std.proofs.Common.{◌≡◌, ◌<◌, ◌≤◌, ◌∙◌, sym, subst, length, arith, refl}
+use Rattle.std.proofs.Common.{◌<◌, ◌≤◌, ◌∙◌, sym, length, arith, refl}
 use Rattle.htn_order.proofs.Chains.{chain_from_next, next_more, next_start, no_chain}
 use Rattle.htn_order.proofs.bit_rows.BitRows.is_chain.Goals as goal
 

@@ -1,4 +1,4 @@
-use Rattle.std.proofs.Common.{◌≡◌, ◌<◌, ◌/◌, ◌||◌, ◌&&◌, ◌∙◌, ap, ap₂, sym, eqb, length, subst, arith, List, ℕ}
+use Rattle.std.proofs.Common.{◌≡◌, ◌<◌, ◌/◌, ◌||◌, ◌&&◌, ◌∙◌, ap, ap₂, sym, eqb, length, subst, arith}
 use Rattle.std.proofs.lemmas.List.{with_items_is, length-set}
 use Rattle.std.specs.Vec.{with_items}
 use Rattle.htn_model.specs.Problem.{IsSquare, is_before}

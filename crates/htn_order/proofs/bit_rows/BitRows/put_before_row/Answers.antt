@@ -1,9 +1,9 @@
-use Rattle.std.proofs.Common.{◌≡◌, ◌<◌, ◌&&◌, ◌||◌, ◌∙◌, ap, ap₂, sym, length, subst, eqb, arith}
+use Rattle.std.proofs.Common.{◌≡◌, ◌<◌, ◌&&◌, ◌||◌, ◌∙◌, ap, sym, length, subst, eqb, arith}
 use Rattle.std.proofs.lemmas.List.{with_items_is}
 use Rattle.std.specs.Vec.{with_items}
 use Rattle.htn_model.specs.Problem.{IsSquare, is_before}
 use Rattle.htn_model.proofs.Splices.{table_square}
-use Rattle.htn_order.specs.BitRows.{IsPacked, bit, rows_of, united, word_at, words_per_row}
+use Rattle.htn_order.specs.BitRows.{IsPacked, bit, rows_of, words_per_row}
 use Rattle.htn_order.proofs.Tables.{table_size}
 use Rattle.htn_order.proofs.Packed.{united_entries}
 use Rattle.htn_order.proofs.Uniting.{united_packed, united_words}

@@ -2,7 +2,6 @@ use Rattle.std.proofs.Common.{◌≡◌, ap, sym, subst, ◌∙◌}
 use Rattle.htn_order.specs.Forms.{order_of}
 use Rattle.htn_order.specs.Free.{HasNoneFree}
 use Rattle.htn_order.specs.Shapes.{chain}
-use Rattle.htn_order.proofs.Chains.{chain_size}
 use Rattle.htn_order.proofs.Free.{chain_none_free_from}
 use Rattle.htn_order.proofs.order.Order.free_end.Goals as goal
 

@@ -1,4 +1,3 @@
-use Rattle.std.proofs.Common.{refl}
 use Rattle.htn_order.proofs.Chains.{no_chain_eq}
 use Rattle.htn_order.proofs.order.Order.from_rows.Goals as goal
 

@@ -1,4 +1,4 @@
-use Rattle.std.proofs.Common.{ap, sym, ◌∙◌, inr, nat_lt}
+use Rattle.std.proofs.Common.{ap, sym, ◌∙◌, inr}
 use Rattle.std.proofs.lemmas.Bool.{le-ltb}
 use Rattle.htn_model.specs.Problem as problem
 use Rattle.htn_order.specs.Forms.{order_of}

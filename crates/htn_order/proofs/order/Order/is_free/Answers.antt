@@ -1,4 +1,4 @@
-use Rattle.std.proofs.Common.{◌≡◌, ◌<◌, ap, sym, subst, ◌∙◌, eqb, leb, length}
+use Rattle.std.proofs.Common.{◌≡◌, ap, sym, ◌∙◌, length}
 use Rattle.std.proofs.lemmas.Bool.{eq-eqb}
 use Rattle.htn_model.specs.Choice as choice
 use Rattle.htn_model.specs.Problem as problem

@@ -1,4 +1,4 @@
-use Rattle.std.proofs.Common.{◌<◌, ◌≤◌, ◌∙◌, length, sym, arith}
+use Rattle.std.proofs.Common.{◌∙◌, length, sym, arith}
 use Rattle.htn_model.specs.Choice.{is_free}
 use Rattle.htn_model.specs.Problem.{is_before}
 use Rattle.htn_order.proofs.Free.{none_free_on, one_more_not_free}

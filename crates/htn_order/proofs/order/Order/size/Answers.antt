@@ -1,5 +1,5 @@
 use Rattle.std.proofs.Common.{◌≡◌, ap, sym, ◌∙◌, subst, length}
-use Rattle.htn_model.specs.Problem.{IsClosed, IsSquare, Order}
+use Rattle.htn_model.specs.Problem.{IsClosed, IsSquare}
 use Rattle.htn_order.specs.Forms.{order_of}
 use Rattle.htn_order.specs.Shapes.{chain}
 use Rattle.htn_order.proofs.Chains.{chain_closed, chain_size, chain_square_of}

@@ -1,4 +1,4 @@
-use Rattle.std.proofs.Common.{◌≡◌, ap, sym, ◌∙◌, fold}
+use Rattle.std.proofs.Common.{ap, sym, ◌∙◌, fold}
 use Rattle.htn_order.specs.Forms.{order_of}
 use Rattle.htn_order.specs.OrderHash.{order_hash}
 use Rattle.htn_order.proofs.Chains.{chain_hash}

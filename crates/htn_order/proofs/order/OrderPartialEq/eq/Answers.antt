@@ -1,4 +1,4 @@
-use Rattle.std.proofs.Common.{◌≡◌, ap, ap₂, sym, ◌∙◌, subst}
+use Rattle.std.proofs.Common.{ap, ap₂, sym, ◌∙◌, subst}
 use Rattle.htn_order.specs.Forms.{IsForm, order_of}
 use Rattle.htn_model.specs.Problem.{order_eq}
 use Rattle.htn_order.proofs.Chains.{chain_eq, chain_or_rows, rows_or_chain, same_eq}

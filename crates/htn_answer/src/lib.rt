@@ -1,0 +1,25 @@
+//! A search over the word machine of a ground problem answers the problem. Each function here is a law, with an empty
+//! body.
+#![tactic(auto)]
+
+ghost use Rattle.htn_answer.specs.Answered.{IsAnswered, IsExact};
+ghost use Rattle.htn_answer.specs.Machine.{IsOwn, machine_of};
+ghost use Rattle.htn_model.specs.Problem.{IsGrounded, Problem};
+ghost use Rattle.htn_search.specs.Answer.{IsAnswer};
+ghost use Rattle.htn_search.specs.Machine.{IsLawful};
+ghost use Rattle.htn_search.specs.declared.found.Found.{Found};
+ghost use Rattle.std.specs.Prelude.{ℕ};
+
+/// The word machine of a ground problem keeps to what a search needs of it: a step wants an open node and closes at
+/// most one, nothing is open where it is done, and no finishing word has a dead number.
+pub fn machine_is_lawful()
+    ensures lawful { (problem : Problem) → IsGrounded problem → IsLawful (machine_of problem) (IsOwn problem) }
+{}
+
+/// A word that is found is the least finishing one, and the solution whose code it is answers the problem. None is
+/// found exactly where no solution is within the bound and the bound was met, and unsolvable exactly where there is no
+/// solution and the bound was not met.
+pub fn found_answers()
+    ensures answered { (problem : Problem) (bound : ℕ) (found : Found) → IsGrounded problem → IsAnswer (machine_of problem) bound found → IsAnswered problem bound found }
+    ensures exact { (problem : Problem) (bound : ℕ) (found : Found) → IsGrounded problem → IsAnswer (machine_of problem) bound found → IsExact problem bound found }
+{}

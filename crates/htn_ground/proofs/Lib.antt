@@ -1,0 +1,11 @@
+pub mod Lists
+pub mod FirstStep
+pub mod Bodies
+pub mod Stands
+pub mod Narrowing
+pub mod Completions
+pub mod Counts
+pub mod Classified
+pub mod Steps
+pub mod Pinned
+pub mod Numbered

@@ -1,0 +1,15 @@
+use Rattle.std.proofs.Common.{◌≡◌, ◌++◌, ◌∷◌, [], length, take, ◌-◌, ◌+◌}
+use Rattle.std.specs.List.{flat_map}
+use Rattle.htn_ground.specs.Search.{completions}
+use Rattle.htn_ground.specs.Search.{live_from}
+use Rattle.htn_ground.proofs.search.+complete_live.Given as goal
+
+abbrev pub decreases-complete_live : goal.decreases-complete_live
+decreases-complete_live l = length l.domains.now - length l.values.now
+
+-- the values stand as they did, and the live completions by the objects so far are found and counted
+abbrev pub invariant-loop-object : goal.invariant-loop-object
+invariant-loop-object l =
+    (l.values ≡ l.initial.values)
+    × (l.found.items ≡ l.initial.found.items ++ live_from l.state l.literals l.initial.number (flat_map (λ object. completions l.domains l.relations (l.initial.values ++ object ∷ [])) (take l.object-index l.object-items)))
+    × (l.number ≡ l.initial.number + length (flat_map (λ object. completions l.domains l.relations (l.initial.values ++ object ∷ [])) (take l.object-index l.object-items)))

@@ -1,0 +1,152 @@
+-- The search for the values of an instance: conditions on no parameter, on one and on two, and the completions of a
+-- partial choice.
+use Rattle.std.specs.Prelude.{ℕ, Bool, true, not, max, nat_lt, nat_le, cond, ◌+◌, ◌*◌, ◌≤◌, ◌==◌, ◌&&◌, ◌||◌, ◌≡◌, List, [], ◌∷◌, ◌++◌, map, drop, length, slice_index}
+use Rattle.std.specs.Bool.{beq}
+use Rattle.std.specs.List.{All, enumerate_from, filter, flat_map, list_all, list_any}
+use Rattle.htn_model.specs.Atom.{Atom}
+use Rattle.htn_model.specs.State.{State}
+use Rattle.htn_model.specs.Literal.{atom, literal_holds}
+use Rattle.htn_model.specs.Schema.{Term, parameter, object, EqualitySchema}
+use Rattle.htn_model.specs.Task.{Task, has_type}
+use Rattle.htn_model.specs.Instances.{Conditions, assignments, value_of, is_among}
+use Rattle.htn_task.specs.Views.{terms_of}
+use Rattle.htn_ground.specs.declared.relation.Relation.{Relation}
+use Rattle.htn_ground.specs.declared.relation.Relation.TheVariants.{Same, Different}
+use Rattle.htn_ground.specs.declared.fixed.FixedLiteral.{FixedLiteral}
+
+-- ## Relations between two parameters
+
+abbrev pub relation_holds : Relation → List ℕ → Bool
+relation_holds (Same a b) values = slice_index values a == slice_index values b
+relation_holds (Different a b) values = not (slice_index values a == slice_index values b)
+
+-- how many parameters the relation reaches over
+abbrev pub relation_depth : Relation → ℕ
+relation_depth (Same a b) = max a b + 1
+relation_depth (Different a b) = max a b + 1
+
+abbrev pub relations_hold : List Relation → List ℕ → Bool
+relations_hold relations values = list_all (λ r. relation_holds r values) relations
+
+-- each relation is between the first so many parameters
+abbrev pub AreRelationsOf : List Relation → ℕ → Type 0
+AreRelationsOf relations parameters = All (λ r. relation_depth r ≤ parameters) relations
+
+-- the choices of which all relations hold, in their order
+abbrev pub matches : List (List ℕ) → List Relation → List (List ℕ)
+matches domains relations = filter (relations_hold relations) (assignments domains)
+
+-- ## Conditions by the number of their parameters
+
+-- what an equality says where it names no parameter
+abbrev pub constant_of : Bool → Term → Term → Bool
+constant_of positive (object x) (object y) = beq positive (x == y)
+constant_of positive (object x) (parameter b) = true
+constant_of positive (parameter a) y = true
+
+-- what it says of the object at parameter j where it names one parameter
+abbrev pub single_of : Bool → Term → Term → ℕ → ℕ → Bool
+single_of positive (object x) (object y) j o = true
+single_of positive (object x) (parameter b) j o = not (j == b) || beq positive (o == x)
+single_of positive (parameter a) (object y) j o = not (j == a) || beq positive (o == y)
+single_of positive (parameter a) (parameter b) j o = true
+
+-- the relation that it is where it names two
+abbrev pub relations_of : Bool → Term → Term → List Relation
+relations_of positive (object x) y = []
+relations_of positive (parameter a) (object y) = []
+relations_of positive (parameter a) (parameter b) = cond positive (Same a b) (Different a b) ∷ []
+
+-- what the type of a place says of an object there, and of the object at parameter j
+abbrev pub place_constant : Task → Term × ℕ → Bool
+place_constant t (object o, type) = has_type t type o
+place_constant t (parameter p, type) = true
+
+abbrev pub place_single : Task → Term × ℕ → ℕ → ℕ → Bool
+place_single t (object x, type) j o = true
+place_single t (parameter p, type) j o = not (j == p) || has_type t type o
+
+abbrev pub constants_hold : Task → Conditions → Bool
+constants_hold t c = list_all (λ e. constant_of e.is_positive e.left e.right) c.equalities && list_all (place_constant t) c.places
+
+abbrev pub equality_singles : List EqualitySchema → ℕ → ℕ → Bool
+equality_singles equalities j o = list_all (λ e. single_of e.is_positive e.left e.right j o) equalities
+
+abbrev pub place_singles : Task → List (Term × ℕ) → ℕ → ℕ → Bool
+place_singles t places j o = list_all (λ p. place_single t p j o) places
+
+-- what the conditions on one parameter say of the object at parameter j
+abbrev pub singles_of : Task → Conditions → ℕ → ℕ → Bool
+singles_of t c j o = equality_singles c.equalities j o && place_singles t c.places j o
+
+-- the conditions on two parameters
+abbrev pub all_relations : List EqualitySchema → List Relation
+all_relations equalities = flat_map (λ e. relations_of e.is_positive e.left e.right) equalities
+
+abbrev pub all_relations_of : Conditions → List Relation
+all_relations_of c = all_relations c.equalities
+
+-- all terms are objects or among the parameters
+abbrev pub AreAmong : ℕ → EqualitySchema → Type 0
+AreAmong count e = (is_among count e.left ≡ true) × (is_among count e.right ≡ true)
+
+pub record AreBound (c : Conditions) : Type 0 where
+  pub equalities : All (AreAmong (length c.parameters)) c.equalities
+  pub places : All (λ p. is_among (length c.parameters) p.0 ≡ true) c.places
+
+-- whether each value passes the test of its parameter, from parameter j on
+abbrev pub each_passes : (ℕ → ℕ → Bool) → ℕ → List ℕ → Bool
+each_passes test j [] = true
+each_passes test j (o ∷ values) = test j o && each_passes test (j + 1) values
+
+-- the lists of the objects that pass the tests of their parameters, from parameter j on
+abbrev pub narrowed : (ℕ → ℕ → Bool) → ℕ → List (List ℕ) → List (List ℕ)
+narrowed test j [] = []
+narrowed test j (objects ∷ domains) = filter (test j) objects ∷ narrowed test (j + 1) domains
+
+-- ## Completions
+
+-- whether the relations hold that are between parameters with values
+abbrev pub bound_relations_hold : List Relation → List ℕ → Bool
+bound_relations_hold relations values = list_all (λ r. nat_lt (length values) (relation_depth r) || relation_holds r values) relations
+
+-- the choices that begin with these values and of which all relations hold
+abbrev pub completions : List (List ℕ) → List Relation → List ℕ → List (List ℕ)
+completions domains relations values = filter (relations_hold relations) (map (λ rest. values ++ rest) (assignments (drop (length values) domains)))
+
+-- whether all relations are between the first so many parameters
+abbrev pub are_all_bound : List Relation → ℕ → Bool
+are_all_bound relations depth = list_all (λ r. nat_le (relation_depth r) depth) relations
+
+-- how many choices of one object of each list there are
+abbrev pub product : List (List ℕ) → ℕ
+product [] = 1
+product (objects ∷ domains) = length objects * product domains
+
+-- ## Literals that never change
+
+abbrev pub fixed_atom : List ℕ → FixedLiteral → Atom
+fixed_atom values l = record { predicate = l.predicate; arguments = map (value_of values) (terms_of l.arguments.items) }
+
+abbrev pub fixed_holds : State → List ℕ → FixedLiteral → Bool
+fixed_holds state values l = literal_holds state (atom l.is_positive (fixed_atom values l))
+
+-- whether the first so many parameters are all that the literal names
+abbrev pub is_bound : ℕ → FixedLiteral → Bool
+is_bound count l = list_all (is_among count) (terms_of l.arguments.items)
+
+-- whether some literal is false
+abbrev pub is_ruled_out : State → List FixedLiteral → List ℕ → Bool
+is_ruled_out state literals values = list_any (λ l. not (fixed_holds state values l)) literals
+
+-- whether some literal that has values is false
+abbrev pub is_ruled_out_so_far : State → List FixedLiteral → List ℕ → Bool
+is_ruled_out_so_far state literals values = list_any (λ l. is_bound (length values) l && not (fixed_holds state values l)) literals
+
+-- each literal names parameters
+abbrev pub AreLiteralsOf : List FixedLiteral → ℕ → Type 0
+AreLiteralsOf literals parameters = All (λ l. is_bound parameters l ≡ true) literals
+
+-- the choices that are not ruled out, with their numbers among all from n on
+abbrev pub live_from : State → List FixedLiteral → ℕ → List (List ℕ) → List (ℕ × List ℕ)
+live_from state literals n choices = filter (λ p. not (is_ruled_out state literals p.1)) (enumerate_from n choices)

@@ -1,0 +1,295 @@
+//! The values of a schema's instances.
+ghost use Rattle.std.specs.Prelude.{◌≡◌, ◌+◌, IfOk, length};
+ghost use Rattle.std.specs.List.{filter, list_all};
+ghost use Rattle.std.specs.Option.{option_to_list};
+ghost use Rattle.htn_model.specs.Instances as model;
+ghost use Rattle.htn_model.specs.Task.{has_type};
+ghost use Rattle.htn_task.specs.Views.{term_of};
+ghost use Rattle.htn_ground.specs.Places.{place_of, places_of};
+ghost use Rattle.htn_ground.specs.Search as search;
+ghost use Rattle.htn_ground.specs.Search.{AreBound, AreLiteralsOf, live_from};
+
+use crate::conditions::{Conditions, Place};
+use crate::fixed::FixedLiteral;
+use crate::literals::value_of;
+use crate::object_list::ObjectList;
+use crate::relation::Relation;
+use crate::search::live_assignments;
+use htn_task::{EqualitySchema, Task, Term};
+use std::alloc::{AllocError, Global};
+
+/// What an equality says where it names no parameter.
+fn constant_of(positive: bool, left: Term, right: Term) -> bool
+    ensures { result ≡ search.constant_of positive (term_of left) (term_of right) }
+{
+    match (left, right) {
+        (Term::Object(x), Term::Object(y)) => positive == (x == y),
+        (Term::Object(_), Term::Parameter(_)) | (Term::Parameter(_), _) => true,
+    }
+}
+
+/// What an equality says of an object at a parameter, where it names one parameter.
+fn single_of(positive: bool, left: Term, right: Term, place: usize, object: u16) -> bool
+    ensures { result ≡ search.single_of positive (term_of left) (term_of right) place object }
+{
+    match &left {
+        Term::Object(x) => match &right {
+            Term::Object(_) => true,
+            Term::Parameter(b) => place != *b as usize || positive == (object == *x),
+        },
+        Term::Parameter(a) => match &right {
+            Term::Object(y) => place != *a as usize || positive == (object == *y),
+            Term::Parameter(_) => true,
+        },
+    }
+}
+
+/// The relation that an equality is where it names two parameters.
+fn relation_of(positive: bool, left: Term, right: Term) -> Option<Relation>
+    ensures { option_to_list result ≡ search.relations_of positive (term_of left) (term_of right) }
+{
+    match &left {
+        Term::Object(_) => None,
+        Term::Parameter(a) => match &right {
+            Term::Object(_) => None,
+            Term::Parameter(b) => {
+                if positive {
+                    Some(Relation::Same(*a, *b))
+                } else {
+                    Some(Relation::Different(*a, *b))
+                }
+            }
+        },
+    }
+}
+
+/// What the type of a place says of an object there.
+fn place_constant(task: &Task, place: Place) -> bool
+    ensures { result ≡ search.place_constant task.now (place_of place) }
+{
+    match place.term {
+        Term::Object(object) => task.has_type(place.type_number, object),
+        Term::Parameter(_) => true,
+    }
+}
+
+/// What the type of a place says of an object at a parameter.
+fn place_single(task: &Task, place: Place, at: usize, object: u16) -> bool
+    ensures { result ≡ search.place_single task.now (place_of place) at object }
+{
+    match &place.term {
+        Term::Object(_) => true,
+        Term::Parameter(p) => at != *p as usize || task.has_type(place.type_number, object),
+    }
+}
+
+fn equality_constants_hold(equalities: &[EqualitySchema]) -> bool
+    ensures { result ≡ list_all (λ e. search.constant_of e.is_positive e.left e.right) equalities.now }
+{
+    for equality in equalities {
+        if !constant_of(equality.is_positive(), equality.left(), equality.right()) {
+            return false;
+        }
+    }
+    true
+}
+
+fn place_constants_hold(task: &Task, places: &[Place]) -> bool
+    ensures { result ≡ list_all (search.place_constant task.now) (places_of places.now) }
+{
+    for place in places {
+        if !place_constant(task, *place) {
+            return false;
+        }
+    }
+    true
+}
+
+/// Whether the conditions on no parameter hold.
+fn constants_hold(task: &Task, conditions: &Conditions) -> bool
+    ensures { result ≡ search.constants_hold task.now conditions.now }
+{
+    equality_constants_hold(conditions.equalities())
+        && place_constants_hold(task, conditions.places())
+}
+
+fn equality_singles_hold(equalities: &[EqualitySchema], at: usize, object: u16) -> bool
+    ensures { result ≡ search.equality_singles equalities.now at object }
+{
+    for equality in equalities {
+        if !single_of(
+            equality.is_positive(),
+            equality.left(),
+            equality.right(),
+            at,
+            object,
+        ) {
+            return false;
+        }
+    }
+    true
+}
+
+fn place_singles_hold(task: &Task, places: &[Place], at: usize, object: u16) -> bool
+    ensures { result ≡ search.place_singles task.now (places_of places.now) at object }
+{
+    for place in places {
+        if !place_single(task, *place, at, object) {
+            return false;
+        }
+    }
+    true
+}
+
+/// Whether the conditions on one parameter allow an object at a place.
+fn singles_hold(task: &Task, conditions: &Conditions, at: usize, object: u16) -> bool
+    ensures { result ≡ search.singles_of task.now conditions.now at object }
+{
+    equality_singles_hold(conditions.equalities(), at, object)
+        && place_singles_hold(task, conditions.places(), at, object)
+}
+
+/// The objects at a place that the conditions on one parameter allow.
+fn narrow(
+    alloc: Global,
+    task: &Task,
+    conditions: &Conditions,
+    objects: &[u16],
+    at: usize,
+) -> Result<ObjectList, AllocError>
+    ensures { IfOk result (λ l. l ≡ filter (search.singles_of task.now conditions.now at) objects.now) }
+{
+    let mut kept = ObjectList::new(alloc);
+    for object in objects {
+        if singles_hold(task, conditions, at, *object) {
+            kept.push(*object)?;
+        }
+    }
+    Ok(kept)
+}
+
+/// For each parameter the objects of its type that the conditions on one parameter allow.
+fn narrow_all(
+    alloc: Global,
+    task: &Task,
+    conditions: &Conditions,
+) -> Result<Vec<ObjectList>, AllocError>
+    ensures { IfOk result (λ v. v.items ≡ search.narrowed (search.singles_of task.now conditions.now) 0 (model.domains_of task.now conditions.now.parameters)) }
+{
+    let mut lists = Vec::new(alloc);
+    for (at, type_number) in conditions.parameters().iter().enumerate() {
+        lists.push(narrow(alloc, task, conditions, task.objects_of(*type_number), at)?)?;
+    }
+    Ok(lists)
+}
+
+/// The equalities between two parameters.
+fn relations_between(
+    alloc: Global,
+    equalities: &[EqualitySchema],
+) -> Result<Vec<Relation>, AllocError>
+    ensures { IfOk result (λ v. v.items ≡ search.all_relations equalities.now) }
+{
+    let mut relations = Vec::new(alloc);
+    for equality in equalities {
+        if let Some(relation) = relation_of(
+            equality.is_positive(),
+            equality.left(),
+            equality.right(),
+        ) {
+            relations.push(relation)?;
+        }
+    }
+    Ok(relations)
+}
+
+/// The values of a schema's instances that no literal rules out, in lexicographic order, each with
+/// its number among all the instances, from `first` on; and the number after the last.
+pub(crate) fn live_values(
+    alloc: Global,
+    task: &Task,
+    conditions: &Conditions,
+    literals: &[FixedLiteral],
+    first: u64,
+) -> Result<(Vec<(u64, ObjectList)>, u64), AllocError>
+    requires bound { AreBound conditions.now }
+    requires literals { AreLiteralsOf literals.now (length conditions.now.parameters) }
+    ensures found { IfOk result (λ r. r.0.items ≡ live_from task.now.initial_atoms literals.now first (model.instances task.now conditions.now)) }
+    ensures next { IfOk result (λ r. r.1 ≡ first + length (model.instances task.now conditions.now)) }
+{
+    if !constants_hold(task, conditions) {
+        return Ok((Vec::new(alloc), first));
+    }
+    let lists = narrow_all(alloc, task, conditions)?;
+    let relations = relations_between(alloc, conditions.equalities())?;
+    let found = live_assignments(
+        alloc,
+        &lists,
+        &relations,
+        literals,
+        task.initial_atoms(),
+        first,
+    )?;
+    Ok(found)
+}
+
+/// Whether an equality holds of values.
+fn equality_holds(equality: &EqualitySchema, values: &[u16]) -> bool
+    ensures { result ≡ model.equality_holds values.now equality.now }
+{
+    let left = value_of(values, equality.left());
+    let right = value_of(values, equality.right());
+    equality.is_positive() == (left == right)
+}
+
+fn equalities_hold(equalities: &[EqualitySchema], values: &[u16]) -> bool
+    ensures { result ≡ list_all (model.equality_holds values.now) equalities.now }
+{
+    for equality in equalities {
+        if !equality_holds(equality, values) {
+            return false;
+        }
+    }
+    true
+}
+
+fn places_hold(task: &Task, places: &[Place], values: &[u16]) -> bool
+    ensures { result ≡ list_all (λ p. has_type task.now p.1 (model.value_of values.now p.0)) (places_of places.now) }
+{
+    for place in places {
+        if !task.has_type(place.type_number, value_of(values, place.term)) {
+            return false;
+        }
+    }
+    true
+}
+
+/// Whether all equalities hold and all arguments have the types of their places.
+fn meets(task: &Task, conditions: &Conditions, values: &[u16]) -> bool
+    ensures { result ≡ model.meets task.now conditions.now values.now }
+{
+    equalities_hold(conditions.equalities(), values)
+        && places_hold(task, conditions.places(), values)
+}
+
+/// Whether each object has the type of its place.
+fn have_types(task: &Task, types: &[u16], values: &[u16]) -> bool
+    ensures { result ≡ model.have_types task.now types.now values.now }
+{
+    if types.len() != values.len() {
+        return false;
+    }
+    for (place, type_number) in types.iter().enumerate() {
+        if !task.has_type(*type_number, values[place]) {
+            return false;
+        }
+    }
+    true
+}
+
+/// Whether these are the values of an instance.
+pub(crate) fn is_instance(task: &Task, conditions: &Conditions, values: &[u16]) -> bool
+    ensures { result ≡ model.is_instance task.now conditions.now values.now }
+{
+    have_types(task, conditions.parameters(), values) && meets(task, conditions, values)
+}

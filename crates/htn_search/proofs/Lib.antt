@@ -1,0 +1,10 @@
+pub mod Places
+pub mod Order
+pub mod Complete
+pub mod Expanding
+pub mod Merging
+pub mod Levels
+pub mod ReadingBack
+pub mod Answering
+pub mod Searching
+pub mod Walking

@@ -1,0 +1,9 @@
+pub mod Words
+pub mod Machine
+pub mod Contents
+pub mod Closed
+pub mod Expansion
+pub mod Answer
+pub mod Bounds
+pub mod Fault
+pub mod Ranks

@@ -1,0 +1,89 @@
+//! The expansion of a level: the successors of its configurations, in order, or the first rank with a done one.
+ghost use Rattle.std.specs.Prelude.{◌≡◌, ◌<◌, ◌≤◌, length, All, IfOk, IfErr};
+ghost use Rattle.htn_search.specs.Machine.{IsLiveStep, IsDone};
+ghost use Rattle.htn_search.specs.Expansion.{IsExpanded};
+ghost use Rattle.htn_search.specs.declared.found.SearchFault.TheVariants.{NoThread};
+
+use crate::bounds::Bounds;
+use crate::closed::{Origin, Successor};
+use crate::found::SearchFault;
+use crate::machine::Machine;
+use htn_level::{Expand, Expanded, Gate, Level, expand_level};
+use std::alloc::{AllocError, Global};
+use std::sync::Wait;
+use std::thread::Threads;
+
+/// The configurations that a machine's search has kept, by rank.
+#[derive_where(Clone, Copy)]
+pub struct Ranked<'a, M: Machine> {
+    machine: &'a M,
+    configurations: &'a [M::Configuration],
+}
+
+impl<'a, M: Machine> Expand for Ranked<'a, M> {
+    type Successor = Successor<M::Configuration>;
+
+    type Finish = u64;
+
+    ghost use Rattle.htn_search.specs.Ranks.{BelongsAt, HasSuccessorsAt, FinishesAt};
+
+    ghost can_expand = { λ r. BelongsAt (M.belongs r.machine.now) r.configurations.now };
+
+    ghost has_successors = { λ r. HasSuccessorsAt (M.words r.machine.now) r.configurations.now };
+
+    ghost finishes = { λ r. FinishesAt (M.words r.machine.now) r.configurations.now };
+
+    fn expand(
+        &self,
+        rank: usize,
+        successors: &mut Vec<Successor<M::Configuration>>,
+    ) -> Result<Option<u64>, AllocError> {
+        let from = &self.configurations[rank];
+        let choices = self.machine.live_choices(from)?;
+        for choice in choices.iter() {
+            let number = M::number(choice);
+            let configuration = self.machine.step(from, choice)?;
+            if self.machine.is_done(&configuration) {
+                return Ok(Some(number));
+            }
+            let origin = Origin::Step {
+                parent: rank,
+                number,
+            };
+            successors.push(Successor {
+                origin,
+                configuration,
+            })?;
+        }
+        Ok(None)
+    }
+}
+
+/// Expands the configurations from the rank `first` on, cut into pieces that workers draw from a desk: all successors,
+/// none of them done, or the first rank with a done successor and the least number that leads to one.
+pub fn expand_ranks<M: Machine, G: Gate, R: Threads + Wait + Sync>(
+    rt: &R,
+    alloc: Global,
+    machine: &M,
+    configurations: &[M::Configuration],
+    first: usize,
+    bounds: Bounds,
+    gate: &G,
+) -> Result<Expanded<Successor<M::Configuration>, u64>, SearchFault>
+    requires ordered { first ≤ length configurations.now }
+    requires known { All (M.belongs machine.now) configurations.now }
+    ensures expanded { IfOk result (IsExpanded (IsLiveStep (M.words machine.now)) (IsDone (M.words machine.now)) configurations.now first (length configurations.now)) }
+    ensures no_thread { IfErr result (λ e. e ≡ NoThread → 1 < bounds.workers) }
+{
+    let work = Ranked {
+        machine,
+        configurations,
+    };
+    let level = Level {
+        work: &work,
+        first,
+        last: configurations.len(),
+        piece: bounds.piece as usize,
+    };
+    Ok(expand_level(rt, alloc, level, bounds.workers, gate)?)
+}

@@ -1,0 +1,14 @@
+//! Checked planning tasks: what a domain and a problem declare, by numbers.
+#![tactic(auto)]
+
+mod formula;
+mod name;
+mod schema;
+mod task;
+mod term;
+
+pub use formula::{Formula, FormulaList};
+pub use name::Name;
+pub use schema::{ActionSchema, InitialSchema, MethodSchema, NetworkSchema};
+pub use task::{Declaration, ObjectType, Task, TaskParts};
+pub use term::{AtomSchema, EqualitySchema, TaskSchema, Term, TermList};

@@ -1,0 +1,287 @@
+//! Planning tasks.
+ghost use Rattle.std.specs.Prelude.{◌≡◌, MatchOption};
+ghost use Rattle.std.specs.List.Sorted.{IsStrictlySortedBy};
+ghost use Rattle.std.specs.Ordering.{nat_cmp};
+ghost use Rattle.htn_model.specs.Instances.{action_at};
+ghost use Rattle.htn_model.specs.Task.{IsWellTyped, has_type, is_compound, objects_of, predicate_types, task_types};
+
+use crate::formula::FormulaList;
+use crate::name::Name;
+use crate::schema::{ActionSchema, InitialSchema, MethodSchema};
+use htn_state::State;
+use std::marker::Model;
+
+/// A type, with the objects that have it.
+#[derive(Drop)]
+pub struct ObjectType {
+    name: Name,
+    objects: Vec<u16>,
+}
+
+impl Model for ObjectType {
+    ghost use Rattle.htn_model.specs.Task as model;
+    ghost use Rattle.htn_model.specs.TaskCode.{object_type_code};
+
+    ghost Value = { model.ObjectType };
+
+    ghost coded = { object_type_code };
+
+    ghost view = { λ d. record { name = d.name; objects = d.objects.items } };
+}
+
+impl ObjectType {
+    pub fn new(name: Name, objects: Vec<u16>) -> ObjectType
+        ensures { result ≡ record { name = name; objects = objects.items } }
+    {
+        ObjectType { name, objects }
+    }
+
+    pub fn name(&self) -> &Name
+        ensures { result.now ≡ self.now.name }
+    {
+        &self.name
+    }
+
+    /// The objects that have it, ascending.
+    pub fn objects(&self) -> &[u16]
+        ensures { result.now ≡ self.now.objects }
+    {
+        &self.objects
+    }
+}
+
+/// A predicate or a compound task, with the types of its places.
+#[derive(Drop)]
+pub struct Declaration {
+    name: Name,
+    types: Vec<u16>,
+}
+
+impl Model for Declaration {
+    ghost use Rattle.htn_model.specs.Task as model;
+    ghost use Rattle.htn_model.specs.TaskCode.{declaration_code};
+
+    ghost Value = { model.Declaration };
+
+    ghost coded = { declaration_code };
+
+    ghost view = { λ d. record { name = d.name; types = d.types.items } };
+}
+
+impl Declaration {
+    pub fn new(name: Name, types: Vec<u16>) -> Declaration
+        ensures { result ≡ record { name = name; types = types.items } }
+    {
+        Declaration { name, types }
+    }
+
+    pub fn name(&self) -> &Name
+        ensures { result.now ≡ self.now.name }
+    {
+        &self.name
+    }
+
+    /// The types of its places.
+    pub fn types(&self) -> &[u16]
+        ensures { result.now ≡ self.now.types }
+    {
+        &self.types
+    }
+}
+
+/// What a task is made of.
+#[derive(Drop)]
+pub struct TaskParts {
+    /// The objects, by first declaration.
+    pub objects: Vec<Name>,
+    pub types: Vec<ObjectType>,
+    pub predicates: Vec<Declaration>,
+    /// The compound tasks.
+    pub tasks: Vec<Declaration>,
+    pub methods: Vec<MethodSchema>,
+    pub actions: Vec<ActionSchema>,
+    pub initial_network: InitialSchema,
+    /// The atoms that are true at first.
+    pub initial_atoms: State,
+    pub goal: FormulaList,
+}
+
+impl Model for TaskParts {
+    ghost use Rattle.htn_model.specs.Task as model;
+    ghost use Rattle.htn_model.specs.TaskCode.{task_code};
+
+    ghost Value = { model.Task };
+
+    ghost coded = { task_code };
+
+    ghost view = { λ t. record {
+      objects = t.objects.items;
+      types = t.types.items;
+      predicates = t.predicates.items;
+      tasks = t.tasks.items;
+      methods = t.methods.items;
+      actions = t.actions.items;
+      initial_network = t.initial_network;
+      initial_atoms = t.initial_atoms;
+      goal = t.goal;
+    } };
+}
+
+/// A well-typed planning task: each number in it names something, each atom and task has its
+/// declaration's number of arguments, and the orders of its networks are closed.
+#[derive(Drop)]
+pub struct Task {
+    parts: TaskParts,
+}
+
+impl Model for Task {
+    ghost use Rattle.htn_model.specs.Task as model;
+    ghost use Rattle.htn_model.specs.TaskCode.{task_code};
+
+    ghost Value = { model.Task };
+
+    ghost coded = { task_code };
+
+    ghost view = { λ t. t.parts };
+
+    ghost invariant = { λ t. model.IsWellTyped t.parts };
+}
+
+impl Task {
+    /// The task of these parts.
+    pub fn new(parts: TaskParts) -> Task
+        requires { IsWellTyped parts }
+        ensures { result ≡ parts }
+    {
+        Task { parts }
+    }
+
+    /// The objects' names, by first declaration.
+    pub fn objects(&self) -> &[Name]
+        ensures value { result.now ≡ self.now.objects }
+        ensures typed { IsWellTyped self.now }
+    {
+        &self.parts.objects
+    }
+
+    /// The types, each with its objects.
+    pub fn types(&self) -> &[ObjectType]
+        ensures value { result.now ≡ self.now.types }
+        ensures typed { IsWellTyped self.now }
+    {
+        &self.parts.types
+    }
+
+    pub fn predicates(&self) -> &[Declaration]
+        ensures value { result.now ≡ self.now.predicates }
+        ensures typed { IsWellTyped self.now }
+    {
+        &self.parts.predicates
+    }
+
+    /// The compound tasks. Their numbers come before those of the actions.
+    pub fn tasks(&self) -> &[Declaration]
+        ensures value { result.now ≡ self.now.tasks }
+        ensures typed { IsWellTyped self.now }
+    {
+        &self.parts.tasks
+    }
+
+    pub fn methods(&self) -> &[MethodSchema]
+        ensures value { result.now ≡ self.now.methods }
+        ensures typed { IsWellTyped self.now }
+    {
+        &self.parts.methods
+    }
+
+    pub fn actions(&self) -> &[ActionSchema]
+        ensures value { result.now ≡ self.now.actions }
+        ensures typed { IsWellTyped self.now }
+    {
+        &self.parts.actions
+    }
+
+    pub fn initial_network(&self) -> &InitialSchema
+        ensures value { result.now ≡ self.now.initial_network }
+        ensures typed { IsWellTyped self.now }
+    {
+        &self.parts.initial_network
+    }
+
+    /// The atoms that are true at first.
+    pub fn initial_atoms(&self) -> &State
+        ensures value { result.now ≡ self.now.initial_atoms }
+        ensures typed { IsWellTyped self.now }
+    {
+        &self.parts.initial_atoms
+    }
+
+    pub fn goal(&self) -> &FormulaList
+        ensures value { result.now ≡ self.now.goal }
+        ensures typed { IsWellTyped self.now }
+    {
+        &self.parts.goal
+    }
+
+    /// The objects that have a type, ascending; none where no type has the number.
+    pub fn objects_of(&self, type_number: u16) -> &[u16]
+        ensures value { result.now ≡ objects_of self.now type_number }
+        ensures ascending { IsStrictlySortedBy nat_cmp result.now }
+    {
+        match self.parts.types.get(type_number as usize) {
+            Some(declared) => declared.objects(),
+            None => &[],
+        }
+    }
+
+    /// Whether an object has a type.
+    pub fn has_type(&self, type_number: u16, object: u16) -> bool
+        ensures { result ≡ has_type self.now type_number object }
+    {
+        self.objects_of(type_number).binary_search(&object).is_ok()
+    }
+
+    /// The types of a predicate's places; none where no predicate has the number.
+    pub fn predicate_types(&self, predicate: u16) -> &[u16]
+        ensures { result.now ≡ predicate_types self.now predicate }
+    {
+        match self.parts.predicates.get(predicate as usize) {
+            Some(declared) => declared.types(),
+            None => &[],
+        }
+    }
+
+    /// Whether a number is that of a compound task.
+    pub fn is_compound(&self, name: u32) -> bool
+        ensures { result ≡ is_compound self.now name }
+    {
+        (name as usize) < self.parts.tasks.len()
+    }
+
+    /// The types of the places of a compound task or an action; none where neither has the number.
+    pub fn task_types(&self, name: u32) -> &[u16]
+        ensures { result.now ≡ task_types self.now name }
+    {
+        let count = self.parts.tasks.len();
+        let name = name as usize;
+        if name < count {
+            return self.parts.tasks[name].types();
+        }
+        match self.parts.actions.get(name - count) {
+            Some(action) => action.parameters(),
+            None => &[],
+        }
+    }
+
+    /// The action of a number, if it is that of an action.
+    pub fn action_at(&self, name: u32) -> Option<&ActionSchema>
+        ensures { MatchOption result (action_at self.now name ≡ None) (λ a. action_at self.now name ≡ Some a.now) }
+    {
+        let count = self.parts.tasks.len();
+        let name = name as usize;
+        if name < count {
+            return None;
+        }
+        self.parts.actions.get(name - count)
+    }
+}

@@ -1,0 +1,11 @@
+use Rattle.std.proofs.Common.{◌≡◌, take}
+use Rattle.std.specs.List.{flat_map}
+use Rattle.std.specs.Io.KnownBytes.{Appends}
+use Rattle.plan_text.specs.Parts.{decomposition_text}
+use Rattle.plan_text.proofs.writer.put_decompositions.Given as goal
+
+abbrev pub invariant-loop-line : goal.invariant-loop-line
+invariant-loop-line g l = record {
+  taken : Appends (g.O.Out.contents l.initial.out) (g.O.Out.contents l.out) (flat_map decomposition_text (take l.line-index l.lines));
+  works : g.O.Out.has_failed l.out ≡ g.O.Out.has_failed l.initial.out;
+}

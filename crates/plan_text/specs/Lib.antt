@@ -1,0 +1,12 @@
+pub mod Adding
+pub mod Fault
+pub mod FileText
+pub mod Line
+pub mod Out
+pub mod Parts
+pub mod Piece
+pub mod PlanFile
+pub mod Reading
+pub mod Seen
+pub mod Sink
+pub mod Written

@@ -1,0 +1,56 @@
+-- Texts cut into lines, and lines into words.
+use Rattle.std.specs.Prelude.{ℕ, ◌+◌, Bool, true, false, ◌&&◌, ◌||◌, ◌==◌, nat_le, if◌then◌else◌, List, [], ◌∷◌}
+use Rattle.std.specs.List.{filter}
+
+-- the most bytes of a text
+abbrev pub max_bytes : ℕ
+max_bytes = 16777216
+
+-- a part of a text, and where its first byte stands in the text, counted from 0
+pub record Piece : Type 0 where
+  pub place : ℕ
+  pub bytes : List ℕ
+
+abbrev pub piece : ℕ → List ℕ → Piece
+piece place bytes = record { place = place; bytes = bytes }
+
+-- the first of the pieces with one more byte, which stands at the place
+abbrev pub with_front : ℕ → ℕ → List Piece → List Piece
+with_front place b [] = piece place (b ∷ []) ∷ []
+with_front place b (p ∷ ps) = piece place (b ∷ p.bytes) ∷ ps
+
+-- The pieces of the bytes that stand at a place, cut at each byte that passes the test and without these bytes:
+-- one piece more than there are such bytes.
+abbrev pub pieces : (ℕ → Bool) → ℕ → List ℕ → List Piece
+pieces is_cut place [] = piece place [] ∷ []
+pieces is_cut place (b ∷ bytes) =
+    if is_cut b then piece place [] ∷ pieces is_cut (place + 1) bytes
+    else with_front place b (pieces is_cut (place + 1) bytes)
+
+abbrev pub is_line_feed : ℕ → Bool
+is_line_feed b = b == 10
+
+abbrev pub is_blank : ℕ → Bool
+is_blank b = b == 9 || b == 12 || b == 13 || b == 32 || b == 40 || b == 41
+
+abbrev pub is_printable : ℕ → Bool
+is_printable b = nat_le 33 b && nat_le b 126
+
+-- the lines of a text: a line feed ends a line, and so does the end of the text
+abbrev pub lines : List ℕ → List Piece
+lines text = pieces is_line_feed 0 text
+
+abbrev pub is_filled_by : List ℕ → Bool
+is_filled_by [] = false
+is_filled_by (b ∷ bytes) = true
+
+abbrev pub is_filled : Piece → Bool
+is_filled p = is_filled_by p.bytes
+
+-- the words at a place: the longest runs of bytes that are no blanks
+abbrev pub words_at : ℕ → List ℕ → List Piece
+words_at place bytes = filter is_filled (pieces is_blank place bytes)
+
+-- the words of a line
+abbrev pub words : Piece → List Piece
+words line = words_at line.place line.bytes

@@ -1,0 +1,17 @@
+//! Laws of plan texts.
+
+ghost use Rattle.std.specs.Prelude.{◌≡◌, ◌≤◌, ℕ, List, length};
+ghost use Rattle.plan_text.specs.Piece.{max_bytes};
+ghost use Rattle.plan_text.specs.PlanFile.{PlanFile, IsPlanFile};
+ghost use Rattle.plan_text.specs.FileText.{FileText};
+ghost use Rattle.plan_text.specs.Written.{written};
+
+/// A text holds one file at most.
+pub fn one_file()
+    ensures { (text : List ℕ) (file other : PlanFile) → FileText file text → FileText other text → other ≡ file }
+{}
+
+/// What is written reads back as the file that was written, where it is not too long.
+pub fn reads_back()
+    ensures { (file : PlanFile) → IsPlanFile file → length (written file) ≤ max_bytes → FileText file (written file) }
+{}

@@ -1,0 +1,27 @@
+//! Plan texts: the plan of a hierarchical task network as the hierarchical track of the International Planning
+//! Competition 2020 writes it, read and written.
+#![tactic(auto)]
+
+mod cut;
+mod draft;
+mod fault;
+mod laws;
+mod line;
+mod number;
+mod out;
+mod piece;
+mod plan_file;
+mod reader;
+#[cfg(test)]
+mod tests;
+mod word;
+mod writer;
+
+pub use cut::MAX_BYTES;
+pub use fault::PlanFault;
+pub use laws::{one_file, reads_back};
+pub use out::{Out, Sink};
+pub use plan_file::{ActionLine, DecompositionLine, PlanFile};
+pub use reader::read_plan;
+pub use word::Word;
+pub use writer::{WriteFault, write_plan};

@@ -1,0 +1,82 @@
+//! Outputs that tell which bytes they took.
+
+use std::io::Write;
+
+/// An output that takes bytes, and that may fail.
+pub trait Out {
+    ghost use Rattle.std.specs.Prelude.{◌≡◌, ◌≤◌, ◌<◌, ℕ, Bool, true, List, Option, length, take, IfSome, IfNone};
+    ghost use Rattle.std.specs.Io.KnownBytes.{Keeps, Appends};
+
+    /// The bytes that it took so far, where it tells them.
+    ghost contents: { Self → Option (List ℕ) };
+
+    /// Whether it has failed. It then takes no more bytes.
+    ghost has_failed: { Self → Bool };
+
+    /// Takes the first n of the bytes, at least one, and answers n. Or takes none and answers None, and has failed from
+    /// then on.
+    fn put(&mut self, bytes: &[u8]) -> Option<usize>
+        requires { 0 < length bytes.now }
+        ensures count { IfSome result (λ n. (1 ≤ n) × (n ≤ length bytes.now)) }
+        ensures taken { IfSome result (λ n. Appends (contents self.old) (contents self.new) (take n bytes.now)) }
+        ensures works { IfSome result (λ n. has_failed self.new ≡ has_failed self.old) }
+        ensures kept { IfNone result (Keeps (contents self.old) (contents self.new)) }
+        ensures failed { IfNone result (has_failed self.new ≡ true) };
+}
+
+/// An output over a writer of std. It fails where a write answers an error or takes no byte.
+#[derive(Drop)]
+pub struct Sink<W> {
+    writer: W,
+    failed: bool,
+}
+
+impl<W> Sink<W> {
+    ghost use Rattle.std.specs.Prelude.{◌≡◌, false};
+    ghost use Rattle.plan_text.specs.Sink.{sink_writer, sink_failed};
+
+    pub fn new(writer: W) -> Sink<W>
+        ensures writer { sink_writer result ≡ writer }
+        ensures works { sink_failed result ≡ false }
+    {
+        Sink {
+            writer,
+            failed: false,
+        }
+    }
+
+    /// Whether a write has failed.
+    pub fn has_failed(&self) -> bool
+        ensures { result ≡ sink_failed self.now }
+    {
+        self.failed
+    }
+
+    /// The writer, with all that was written to it.
+    pub fn into_inner(self) -> W
+        ensures { result ≡ sink_writer self }
+    {
+        self.writer
+    }
+}
+
+impl<W: Write> Out for Sink<W> {
+    ghost use Rattle.plan_text.specs.Sink.{sink_writer, sink_failed};
+
+    ghost contents = { λ s. W.contents (sink_writer s) };
+
+    ghost has_failed = { sink_failed };
+
+    fn put(&mut self, bytes: &[u8]) -> Option<usize> {
+        if self.failed {
+            return None;
+        }
+        match self.writer.write(bytes) {
+            Ok(0) | Err(_) => {
+                self.failed = true;
+                None
+            }
+            Ok(count) => Some(count),
+        }
+    }
+}

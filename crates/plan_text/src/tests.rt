@@ -1,0 +1,205 @@
+use crate::{PlanFault, Sink, WriteFault, read_plan, write_plan};
+use std::alloc::Global;
+use std::io;
+use std::io::Write;
+use std::test::Fail;
+
+/// A plan of the road domain, as it is written.
+const ROAD: &[u8] =
+    b"==>\n0 drive t1 a b\n1 drive t1 b c\nroot 2\n2 go t1 c -> m-step 0 3\n3 go t1 c -> m-step 1 4\n4 go t1 c -> m-stay\n<==\n";
+
+fn fault(alloc: Global, text: &[u8]) -> Option<PlanFault> {
+    read_plan(alloc, text).err()
+}
+
+/// The text that is written of the file that a text holds.
+fn rewritten(alloc: Global, text: &[u8]) -> Option<Vec<u8>> {
+    let file = read_plan(alloc, text).ok()?;
+    let mut sink = Sink::new(Vec::new(alloc));
+    write_plan(&file, &mut sink).ok()?;
+    Some(sink.into_inner())
+}
+
+#[test]
+fn reads_what_is_written(rt: HostRuntime) -> Result<(), Fail> {
+    assert_eq!(rt; ROAD.len(), 113);
+    let file = read_plan(rt.alloc(), ROAD).ok().ok_or("refused")?;
+    assert_eq!(rt; file.actions().len(), 2);
+    assert_eq!(rt; file.roots(), [2].as_slice());
+    assert_eq!(rt; file.decompositions().len(), 3);
+    let text = rewritten(rt.alloc(), ROAD).ok_or("refused")?;
+    assert_eq!(rt; text.as_slice(), ROAD);
+    Ok(())
+}
+
+#[test]
+fn reads_other_spellings(rt: HostRuntime) -> Result<(), Fail> {
+    let text =
+        b"log\n==>\n0 (drive t1 a b)\n01 DRIVE T1 B C\n\n2 go t1 c -> m-step 3 0\n3 (go t1 c) -> m-step 1 4\n4 go t1 c -> m-stay\nroot 2\n<==\ndone";
+    let expected =
+        b"==>\n0 drive t1 a b\n1 drive t1 b c\nroot 2\n2 go t1 c -> m-step 3 0\n3 go t1 c -> m-step 1 4\n4 go t1 c -> m-stay\n<==\n";
+    let written = rewritten(rt.alloc(), text.as_slice()).ok_or("refused")?;
+    assert_eq!(rt; written.as_slice(), expected.as_slice());
+    let mut returns = Vec::new(rt.alloc());
+    for byte in text.as_slice() {
+        if *byte == b'\n' {
+            returns.push(b'\r')?;
+        }
+        returns.push(*byte)?;
+    }
+    let written = rewritten(rt.alloc(), returns.as_slice()).ok_or("refused")?;
+    assert_eq!(rt; written.as_slice(), expected.as_slice());
+    Ok(())
+}
+
+#[test]
+fn lends_its_lines(rt: HostRuntime) -> Result<(), Fail> {
+    let file = read_plan(rt.alloc(), ROAD).ok().ok_or("refused")?;
+    let action = file.actions().first().ok_or("no action")?;
+    assert_eq!(rt; action.id(), 0);
+    assert_eq!(rt; action.name().as_bytes(), b"drive".as_slice());
+    assert_eq!(rt; action.arguments().len(), 3);
+    let line = file.decompositions().first().ok_or("no decomposition")?;
+    assert_eq!(rt; line.id(), 2);
+    assert_eq!(rt; line.task().as_bytes(), b"go".as_slice());
+    assert_eq!(rt; line.arguments().len(), 2);
+    assert_eq!(rt; line.method().as_bytes(), b"m-step".as_slice());
+    assert_eq!(rt; line.children(), [0, 3].as_slice());
+    Ok(())
+}
+
+#[test]
+fn accepts(rt: HostRuntime) -> Result<(), Fail> {
+    let rows: [(&[u8], &[u8]); 6] = [
+        (b"==>\nroot\n<==\n", b"==>\nroot\n<==\n"),
+        // The greatest id, and leading zeros.
+        (
+            b"==>\n18446744073709551615 a\nroot 018446744073709551615\n<==",
+            b"==>\n18446744073709551615 a\nroot 18446744073709551615\n<==\n",
+        ),
+        // Any bytes stand outside the markers, and blanks round these.
+        (
+            b"\x80\n<==\n (==>)\r\nRoot 0\n0 ROOT 7\n\t<==\n\xff 0\n==>",
+            b"==>\n0 root 7\nroot 0\n<==\n",
+        ),
+        // A number of any size is a word like any other where no number is read.
+        (
+            b"==>\n0 99999999999999999999 00\nroot\n<==\n",
+            b"==>\n0 99999999999999999999 00\nroot\n<==\n",
+        ),
+        (b"==>\n0 t->m\nroot 0\n<==\n", b"==>\n0 t->m\nroot 0\n<==\n"),
+        (
+            b"==>\nroot 0\n0 T -> M\n<==\n",
+            b"==>\nroot 0\n0 t -> m\n<==\n",
+        ),
+    ];
+    for (text, expected) in rows {
+        let written = rewritten(rt.alloc(), text).ok_or("refused")?;
+        assert_eq!(rt; written.as_slice(), expected);
+    }
+    Ok(())
+}
+
+#[test]
+fn refuses(rt: HostRuntime) -> Result<(), Fail> {
+    let rows: [(&[u8], PlanFault); 20] = [
+        (b"", PlanFault::NoStart),
+        (b"==> 1\n<==\n", PlanFault::NoStart),
+        (b"==>\n<==\n", PlanFault::NoRoot),
+        (b"==>\n0\nroot 0\n<==\n", PlanFault::BadLine(4)),
+        (
+            b"==>\nroot 18446744073709551616\n<==\n",
+            PlanFault::NumberTooLarge(9),
+        ),
+        // The end marker is looked for first.
+        (b"<==\n==>\n0\n", PlanFault::NoEnd),
+        (b"==>\nroot\nroot\n<==\n", PlanFault::TwoRoots(9)),
+        (
+            b"==>\nroot\n  ROOT 99999999999999999999\n<==\n",
+            PlanFault::TwoRoots(9),
+        ),
+        (b"==>\nroot\nroot x\n<==\n", PlanFault::BadLine(9)),
+        (b"==>\nroot 0 x\n<==\n", PlanFault::BadLine(4)),
+        (
+            b"==>\n99999999999999999999\nroot\n<==\n",
+            PlanFault::BadLine(4),
+        ),
+        (b"==>\n0 \x80\nroot\n<==\n", PlanFault::NotAscii(6)),
+        (b"==>\nx \x7f\nroot\n<==\n", PlanFault::NotAscii(6)),
+        (b"==>\n0 -> m\nroot\n<==\n", PlanFault::BadLine(4)),
+        (b"==>\n0 t ->\nroot\n<==\n", PlanFault::BadLine(4)),
+        (b"==>\n0 t -> m x\nroot\n<==\n", PlanFault::BadLine(4)),
+        (b"==>\n0 t -> m -> n\nroot\n<==\n", PlanFault::BadLine(4)),
+        (b"==>\n==>\nroot\n<==\n", PlanFault::BadLine(4)),
+        (
+            b"==>\n0 t -> m 7 99999999999999999999\nroot\n<==\n",
+            PlanFault::NumberTooLarge(15),
+        ),
+        (b"==>\n+1 a\nroot\n<==\n", PlanFault::BadLine(4)),
+    ];
+    for (text, expected) in rows {
+        assert_eq!(rt; fault(rt.alloc(), text), Some(expected));
+    }
+    Ok(())
+}
+
+#[test]
+fn refuses_long_texts(rt: HostRuntime) -> Result<(), Fail> {
+    let text = vec![in rt.alloc(); b' '; 16_777_217]?;
+    assert_eq!(rt;
+        fault(rt.alloc(), text.as_slice()),
+        Some(PlanFault::TooLong(16_777_216))
+    );
+    assert_eq!(rt;
+        fault(rt.alloc(), &text.as_slice()[..16_777_216]),
+        Some(PlanFault::NoStart)
+    );
+    Ok(())
+}
+
+#[test]
+fn tells_the_fault(rt: HostRuntime) -> Result<(), Fail> {
+    let text = format!(in rt.alloc(); "{}, {}", PlanFault::BadLine(4), PlanFault::NoRoot)?;
+    assert_eq!(rt; text.as_str(), "BadLine at 4, NoRoot");
+    Ok(())
+}
+
+/// A writer that takes so many bytes in one write, and so many in all.
+#[derive(Drop)]
+struct Narrow {
+    taken: Vec<u8>,
+    step: usize,
+    room: usize,
+}
+
+impl Write for Narrow {
+    fn write(&mut self, bytes: &[u8]) -> io::Result<usize> {
+        let count = bytes.len().min(self.step).min(self.room);
+        self.taken.extend_from_slice(&bytes[..count])?;
+        self.room -= count;
+        Ok(count)
+    }
+
+    fn flush(&mut self) -> io::Result<()> {
+        Ok(())
+    }
+}
+
+#[test]
+fn stops_where_the_output_fails(rt: HostRuntime) -> Result<(), Fail> {
+    let file = read_plan(rt.alloc(), ROAD).ok().ok_or("refused")?;
+    for step in [1, 7, 1000] {
+        for room in 0..114 {
+            let taken = Vec::new(rt.alloc());
+            let mut sink = Sink::new(Narrow { taken, step, room });
+            let result = write_plan(&file, &mut sink);
+            assert_eq!(rt; result.is_ok(), room >= 113);
+            assert_eq!(rt; sink.has_failed(), room < 113);
+            if room < 113 {
+                assert_eq!(rt; result, Err(WriteFault::Device));
+            }
+            assert_eq!(rt; ROAD.starts_with(sink.into_inner().taken.as_slice()), true);
+        }
+    }
+    Ok(())
+}

@@ -1,0 +1,141 @@
+//! Searches over the small machine: each answer for several numbers of workers and sizes of pieces.
+
+use crate::counter::{Counter, Tally};
+use htn_search::{Bounds, Found, Gate, NoGate, find_word, finishes};
+use std::alloc::Global;
+use std::process::Abort;
+use std::sync::Wait;
+use std::sync::atomic::{AtomicU64, Ordering};
+use std::test::Fail;
+use std::thread::Threads;
+
+fn tally(tasks: u64, value: u64) -> Tally {
+    Tally {
+        tasks,
+        value,
+        stuck: false,
+    }
+}
+
+// How often pieces went through.
+#[derive(Drop)]
+struct CountingGate {
+    calls: AtomicU64,
+}
+
+impl Gate for CountingGate {
+    fn at(&self, _piece: u64) {
+        self.calls.fetch_add(1, Ordering::SeqCst);
+    }
+}
+
+// The answer in text.
+fn answer<R: Threads + Wait + Sync, G: Gate>(
+    rt: &R,
+    machine: &Counter,
+    bounds: Bounds,
+    gate: &G,
+) -> Result<String, Fail> {
+    let alloc: Global = machine.alloc;
+    match find_word(rt, alloc, machine, bounds, gate)? {
+        Found::Word(word) => Ok(format!(in alloc; "{word:?}")?),
+        Found::None => Ok(String::from_str(alloc, "none")?),
+        Found::Unsolvable => Ok(String::from_str(alloc, "unsolvable")?),
+    }
+}
+
+// Expects the same answer for each number of workers and each size of the pieces.
+fn expect<R: Threads + Wait + Sync + Abort>(
+    rt: &R,
+    machine: &Counter,
+    nodes: u64,
+    text: &str,
+) -> Result<(), Fail> {
+    for workers in [1, 2, 4, 64] {
+        for piece in [1, 2, 1_000_000] {
+            let bounds = Bounds::new(nodes, workers, piece).ok_or("in range")?;
+            let found = answer(rt, machine, bounds, &NoGate)?;
+            assert_eq!(rt; found.as_str(), text);
+        }
+    }
+    Ok(())
+}
+
+fn counter(alloc: Global, target: u64, first: Tally, second: Tally) -> Counter {
+    Counter {
+        target,
+        first,
+        second,
+        alloc,
+    }
+}
+
+#[test]
+fn the_shortest_word(rt: HostRuntime) -> Result<(), Fail> {
+    let machine = counter(rt.alloc(), 3, tally(2, 0), tally(3, 900));
+    expect(&rt, &machine, 3, "[0, 0, 1, 0]")?;
+    expect(&rt, &machine, 9, "[0, 0, 1, 0]")?;
+    expect(&rt, &machine, 2, "none")
+}
+
+#[test]
+fn the_least_initial(rt: HostRuntime) -> Result<(), Fail> {
+    let alloc: Global = rt.alloc();
+    expect(
+        &rt,
+        &counter(alloc, 3, tally(9, 5), tally(1, 2)),
+        9,
+        "[1, 0]",
+    )?;
+    expect(
+        &rt,
+        &counter(alloc, 3, tally(1, 2), tally(1, 2)),
+        9,
+        "[0, 0]",
+    )?;
+    expect(&rt, &counter(alloc, 3, tally(1, 2), tally(0, 3)), 9, "[1]")
+}
+
+#[test]
+fn nothing_to_find(rt: HostRuntime) -> Result<(), Fail> {
+    let machine = counter(rt.alloc(), 5, tally(1, 0), tally(1, 0));
+    expect(&rt, &machine, 0, "none")?;
+    expect(&rt, &machine, 1, "unsolvable")?;
+    expect(&rt, &machine, 10_000, "unsolvable")
+}
+
+// One task at the value 0: to carry it out gives no wanted value, and to double gives the same tally. So there is one
+// level, whose one piece goes through the gate once, however far the bound.
+#[test]
+fn each_piece_passes_the_gate_once(rt: HostRuntime) -> Result<(), Fail> {
+    let machine = counter(rt.alloc(), 5, tally(1, 0), tally(1, 0));
+    let gate = CountingGate {
+        calls: AtomicU64::new(0),
+    };
+    let bounds = Bounds::new(10_000, 1, 1).ok_or("in range")?;
+    let found = answer(&rt, &machine, bounds, &gate)?;
+    assert_eq!(rt; found.as_str(), "unsolvable");
+    assert_eq!(rt; gate.calls.load(Ordering::SeqCst), 2);
+    Ok(())
+}
+
+#[test]
+fn bounds_in_range(rt: HostRuntime) {
+    assert!(rt; Bounds::new(0, 1, 1).is_some());
+    assert!(rt; Bounds::new(10_000, 64, 1_000_000).is_some());
+    assert!(rt; Bounds::new(10_001, 1, 1).is_none());
+    assert!(rt; Bounds::new(0, 0, 1).is_none());
+    assert!(rt; Bounds::new(0, 65, 1).is_none());
+    assert!(rt; Bounds::new(0, 1, 0).is_none());
+    assert!(rt; Bounds::new(0, 1, 1_000_001).is_none());
+}
+
+#[test]
+fn which_words_finish(rt: HostRuntime) -> Result<(), Fail> {
+    let machine = counter(rt.alloc(), 3, tally(2, 0), tally(3, 900));
+    assert!(rt; finishes(&machine, &[0, 0, 1, 0])?);
+    assert!(rt; !finishes(&machine, &[0, 0, 0, 1])?);
+    assert!(rt; !finishes(&machine, &[])?);
+    assert!(rt; !finishes(&machine, &[2, 0])?);
+    Ok(())
+}
