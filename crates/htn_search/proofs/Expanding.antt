@@ -13,7 +13,7 @@ use Rattle.htn_search.specs.declared.closed.Origin.TheVariants.{Step as Stepped}
 use Rattle.htn_search.specs.declared.closed.Successor.{Successor}
 use Rattle.htn_search.specs.Expansion.{IsEarlier, IsSuccessor, IsExpansionOf, IsLeastDone, IsExpansion, IsFirstDone, IsExpanded}
 use Rattle.htn_search.specs.Machine.{WordMachine, IsStep, IsDone, IsLiveStep, IsLiveNumbers}
-use Rattle.htn_search.specs.Ranks.{BelongsAt, HasSuccessorsAt, FinishesAt}
+use Rattle.htn_search.specs.Ranks.{IsReadyAt, AreReadyFrom, HasSuccessorsAt, FinishesAt}
 use Rattle.htn_search.proofs.Places.{slice_get-append_left, slice_get-append_right, slice_get-append_cases, all_zip_at, all_zip_back}
 
 all_zip_map : {A B X : Type 0} (R : B → X → Type 0) (f : A → B) (xs : List A) (ys : List X) → AllZip (λ x y. R (f x) y) xs ys → AllZip R (map f xs) ys
@@ -195,10 +195,11 @@ module _ {C : Type 0} (m : WordMachine C) where
           none_done q e.1.0 e.0 e.1.2 n d (subst (λ x. IsLiveStep m x n d) same step) done);
     }
 
--- what holds of all configurations holds of the one at each rank
-pub all_belong_at : {C : Type 0} (belongs : C → Type 0) (keys : List C) → All belongs keys → (rank : ℕ) → rank < length keys → BelongsAt belongs keys rank
-all_belong_at belongs keys known rank inside =
+-- each rank from `first` on is ready
+pub all_ready_at : {C : Type 0} (belongs is_ready : C → Type 0) (keys : List C) → All belongs keys → (first : ℕ) → AreReadyFrom is_ready keys first
+    → (rank : ℕ) → first ≤ rank → rank < length keys → IsReadyAt belongs is_ready keys rank
+all_ready_at belongs is_ready keys known first ready rank low inside =
     elim (slice_get_cases keys rank).1 [
-      | inl at ↦ (at.0, at.2, subst belongs at.3 (known rank at.0 at.1))
+      | inl at ↦ (at.0, at.2, subst belongs at.3 (known rank at.0 at.1), ready rank at.0 low at.2)
       | inr past ↦ (let p : length keys ≤ rank = past.0 in absurd (omega arith))
     ]

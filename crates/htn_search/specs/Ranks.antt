@@ -1,13 +1,17 @@
 -- The configurations of a level by their ranks.
-use Rattle.std.specs.Prelude.{◌≡◌, ℕ, List, Some, slice_get}
+use Rattle.std.specs.Prelude.{◌≡◌, ◌≤◌, ℕ, List, Some, slice_get}
 use Rattle.htn_search.specs.Machine.{WordMachine, IsDone, IsLiveStep}
 use Rattle.htn_search.specs.Expansion.{IsExpansionOf, IsLeastDone}
 use Rattle.htn_search.specs.declared.closed.Successor.{Successor}
 
 module _ {C : Type 0} where
-  -- a configuration of the machine's own stands at the rank
-  abbrev pub BelongsAt : (C → Type 0) → List C → ℕ → Type 0
-  BelongsAt belongs keys rank = (c : C) × (slice_get keys rank ≡ Some c) × belongs c
+  -- a configuration of the machine's own stands at the rank, and what its choices need is there
+  abbrev pub IsReadyAt : (C → Type 0) → (C → Type 0) → List C → ℕ → Type 0
+  IsReadyAt belongs is_ready keys rank = (c : C) × (slice_get keys rank ≡ Some c) × belongs c × is_ready c
+
+  -- what the choices at the ranks from `first` on need is there
+  abbrev pub AreReadyFrom : (C → Type 0) → List C → ℕ → Type 0
+  AreReadyFrom is_ready keys first = (rank : ℕ) (c : C) → first ≤ rank → slice_get keys rank ≡ Some c → is_ready c
 
   -- the configuration at the rank has these successors, in order, and none of them is done
   abbrev pub HasSuccessorsAt : WordMachine C → List C → ℕ → List (Successor C) → Type 0

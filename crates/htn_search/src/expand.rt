@@ -1,5 +1,6 @@
 //! The expansion of a level: the successors of its configurations, in order, or the first rank with a done one.
-ghost use Rattle.std.specs.Prelude.{◌≡◌, ◌<◌, ◌≤◌, length, All, IfOk, IfErr};
+ghost use Rattle.std.specs.Prelude.{◌≡◌, ◌<◌, ◌≤◌, length, All, IfOk, IfErr, OnOk};
+ghost use Rattle.htn_search.specs.Ranks.{AreReadyFrom};
 ghost use Rattle.htn_search.specs.Machine.{IsLiveStep, IsDone};
 ghost use Rattle.htn_search.specs.Expansion.{IsExpanded};
 ghost use Rattle.htn_search.specs.declared.found.SearchFault.TheVariants.{NoThread};
@@ -17,6 +18,7 @@ use std::thread::Threads;
 #[derive_where(Clone, Copy)]
 pub struct Ranked<'a, M: Machine> {
     machine: &'a M,
+    cache: &'a M::Cache,
     configurations: &'a [M::Configuration],
 }
 
@@ -25,9 +27,9 @@ impl<'a, M: Machine> Expand for Ranked<'a, M> {
 
     type Finish = u64;
 
-    ghost use Rattle.htn_search.specs.Ranks.{BelongsAt, HasSuccessorsAt, FinishesAt};
+    ghost use Rattle.htn_search.specs.Ranks.{IsReadyAt, HasSuccessorsAt, FinishesAt};
 
-    ghost can_expand = { λ r. BelongsAt (M.belongs r.machine.now) r.configurations.now };
+    ghost can_expand = { λ r. IsReadyAt (M.belongs r.machine.now) (M.is_ready r.machine.now r.cache.now) r.configurations.now };
 
     ghost has_successors = { λ r. HasSuccessorsAt (M.words r.machine.now) r.configurations.now };
 
@@ -39,10 +41,10 @@ impl<'a, M: Machine> Expand for Ranked<'a, M> {
         successors: &mut Vec<Successor<M::Configuration>>,
     ) -> Result<Option<u64>, AllocError> {
         let from = &self.configurations[rank];
-        let choices = self.machine.live_choices(from)?;
+        let choices = self.machine.live_choices(self.cache, from)?;
         for choice in choices.iter() {
             let number = M::number(choice);
-            let configuration = self.machine.step(from, choice)?;
+            let configuration = self.machine.step(self.cache, from, choice)?;
             if self.machine.is_done(&configuration) {
                 return Ok(Some(number));
             }
@@ -59,12 +61,29 @@ impl<'a, M: Machine> Expand for Ranked<'a, M> {
     }
 }
 
+/// Puts into the cache what the choices at the configurations from the rank `first` on need.
+pub fn prepare_ranks<M: Machine>(
+    machine: &M,
+    cache: &mut M::Cache,
+    configurations: &[M::Configuration],
+    first: usize,
+) -> Result<(), AllocError>
+    requires { All (M.belongs machine.now) configurations.now }
+    ensures { OnOk result (AreReadyFrom (M.is_ready machine.now cache.new) configurations.now first) }
+{
+    for rank in first..configurations.len() {
+        machine.prepare(cache, &configurations[rank])?;
+    }
+    Ok(())
+}
+
 /// Expands the configurations from the rank `first` on, cut into pieces that workers draw from a desk: all successors,
 /// none of them done, or the first rank with a done successor and the least number that leads to one.
 pub fn expand_ranks<M: Machine, G: Gate, R: Threads + Wait + Sync>(
     rt: &R,
     alloc: Global,
     machine: &M,
+    cache: &M::Cache,
     configurations: &[M::Configuration],
     first: usize,
     bounds: Bounds,
@@ -72,11 +91,13 @@ pub fn expand_ranks<M: Machine, G: Gate, R: Threads + Wait + Sync>(
 ) -> Result<Expanded<Successor<M::Configuration>, u64>, SearchFault>
     requires ordered { first ≤ length configurations.now }
     requires known { All (M.belongs machine.now) configurations.now }
+    requires ready { AreReadyFrom (M.is_ready machine.now cache.now) configurations.now first }
     ensures expanded { IfOk result (IsExpanded (IsLiveStep (M.words machine.now)) (IsDone (M.words machine.now)) configurations.now first (length configurations.now)) }
     ensures no_thread { IfErr result (λ e. e ≡ NoThread → 1 < bounds.workers) }
 {
     let work = Ranked {
         machine,
+        cache,
         configurations,
     };
     let level = Level {

@@ -20,10 +20,10 @@ pub enum Found {
 #[derive(Clone, Copy, PartialEq, Eq, Debug, Error)]
 pub enum SearchFault {
     /// Memory was refused.
-    #[error("out of memory")]
+    #[error("OutOfMemory")]
     OutOfMemory,
     /// The start of a thread was refused, and no memory was.
-    #[error("no thread could be started")]
+    #[error("NoThread")]
     NoThread,
 }
 

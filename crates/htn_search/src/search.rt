@@ -7,7 +7,7 @@ ghost use Rattle.htn_search.specs.declared.found.SearchFault.TheVariants.{NoThre
 
 use crate::bounds::Bounds;
 use crate::closed::{Closed, Origin, Successor};
-use crate::expand::expand_ranks;
+use crate::expand::{expand_ranks, prepare_ranks};
 use crate::found::{Found, SearchFault};
 use crate::machine::Machine;
 use crate::merge::merge;
@@ -78,17 +78,21 @@ pub fn find_word<M: Machine, G: Gate, R: Threads + Wait + Sync>(
     let mut closed = Closed::new(alloc);
     let start = number_initials(alloc, initials)?;
     merge(machine, &mut closed, start, bounds.nodes)?;
+    let mut cache = machine.new_cache()?;
     let mut low = 0;
     for level in 0..bounds.nodes {
         let high = closed.configurations().len();
         if low == high {
             return Ok(exhausted(&closed));
         }
+        let configurations = closed.configurations();
+        prepare_ranks(machine, &mut cache, configurations, low)?;
         match expand_ranks(
             rt,
             alloc,
             machine,
-            closed.configurations(),
+            &cache,
+            configurations,
             low,
             bounds,
             gate,

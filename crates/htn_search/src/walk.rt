@@ -8,6 +8,7 @@ use std::alloc::AllocError;
 // The configuration that a number leads to, unless it is dead.
 fn next<M: Machine>(
     machine: &M,
+    cache: &mut M::Cache,
     from: &M::Configuration,
     number: u64,
 ) -> Result<Option<M::Configuration>, AllocError>
@@ -15,10 +16,11 @@ fn next<M: Machine>(
     ensures some { IfOk result (λ next. IfSome next (IsLiveStep (M.words machine.now) from.now number)) }
     ensures none { IfOk result (λ next. IfNone next ((to : M.Configuration) → IsLiveStep (M.words machine.now) from.now number to → ⊥)) }
 {
-    let choices = machine.live_choices(from)?;
+    machine.prepare(cache, from)?;
+    let choices = machine.live_choices(cache, from)?;
     for choice in choices.iter() {
         if M::number(choice) == number {
-            return Ok(Some(machine.step(from, choice)?));
+            return Ok(Some(machine.step(cache, from, choice)?));
         }
     }
     Ok(None)
@@ -36,9 +38,10 @@ pub fn finishes<M: Machine>(machine: &M, word: &[u64]) -> Result<bool, AllocErro
     if initial >= initials.len() {
         return Ok(false);
     }
+    let mut cache = machine.new_cache()?;
     let mut at = initials.swap_remove(initial);
     for number in numbers {
-        match next(machine, &at, *number)? {
+        match next(machine, &mut cache, &at, *number)? {
             Some(to) => at = to,
             None => return Ok(false),
         }

@@ -56,13 +56,17 @@ impl Machine for Counter {
 
     type Choice = Way;
 
+    type Cache = ();
+
     ghost words = { λ m. counting m.target (clipped m.first ∷ clipped m.second ∷ []) };
 
     ghost belongs = { λ m c. c.value < 1000 };
 
+    ghost is_ready = { λ m cache c. Unit {0} };
+
     ghost number = { λ w. w.number };
 
-    ghost offers = { λ m c w. (w.number < 2) × (c.stuck ≡ false) × (0 < c.tasks) };
+    ghost offers = { λ m cache c w. (w.number < 2) × (c.stuck ≡ false) × (0 < c.tasks) };
 
     ghost same = { λ c d e. Prim.search rules };
 
@@ -75,7 +79,15 @@ impl Machine for Counter {
         Ok(initials)
     }
 
-    fn live_choices(&self, from: &Tally) -> Result<Vec<Way>, AllocError> {
+    fn new_cache(&self) -> Result<(), AllocError> {
+        Ok(())
+    }
+
+    fn prepare(&self, _cache: &mut (), _at: &Tally) -> Result<(), AllocError> {
+        Ok(())
+    }
+
+    fn live_choices(&self, _cache: &(), from: &Tally) -> Result<Vec<Way>, AllocError> {
         if from.stuck {
             return Ok(Vec::new(self.alloc));
         }
@@ -89,7 +101,7 @@ impl Machine for Counter {
         choice.number
     }
 
-    fn step(&self, from: &Tally, choice: &Way) -> Result<Tally, AllocError> {
+    fn step(&self, _cache: &(), from: &Tally, choice: &Way) -> Result<Tally, AllocError> {
         if choice.number == 0 {
             Ok(Tally {
                 tasks: from.tasks - 1,

@@ -63,10 +63,17 @@ returns-then-low-high g c =
       no_thread = tt;
     }
 
+pub prepare_ranks-requires-after_bounds : goal.prepare_ranks-requires-after_bounds
+prepare_ranks-requires-after_bounds g c = λ _ _.
+    let machine = c.args.machine.now in
+    subst (All (g.M.Machine.belongs machine)) (sym c.configurations-configurations.ensures)
+    (keys_belong (g.M.Machine.words machine) (g.M.Machine.belongs machine) (laws g machine) c.args.bounds.nodes
+    c.loop-level.closed c.loop-level.level c.loop-level.low c.loop-level.invariant)
+
 pub expand_ranks-requires-clause-known : goal.expand_ranks-requires-clause-known
 expand_ranks-requires-clause-known g c = λ _ _.
     let machine = c.args.machine.now in
-    subst (All (g.M.Machine.belongs machine)) (sym c.configurations.ensures)
+    subst (All (g.M.Machine.belongs machine)) (sym c.configurations-configurations.ensures)
     (keys_belong (g.M.Machine.words machine) (g.M.Machine.belongs machine) (laws g machine) c.args.bounds.nodes
     c.loop-level.closed c.loop-level.level c.loop-level.low c.loop-level.invariant)
 
@@ -75,16 +82,16 @@ merge-requires-in-Whole-clause-known g c = λ _ _.
     let machine = c.args.machine.now in
     successors_belong (g.M.Machine.words machine) (g.M.Machine.belongs machine) (laws g machine) c.args.bounds.nodes
     c.loop-level.closed c.loop-level.level c.loop-level.low c.loop-level.invariant (length c.loop-level.closed.keys) c.in-Whole.successors.items
-    (whole (IsLiveStep (g.M.Machine.words machine)) (IsDone (g.M.Machine.words machine)) c.loop-level.closed.keys c.configurations.result.now c.configurations.result.now
-    c.configurations.ensures c.configurations.ensures c.loop-level.low c.in_ok-successors.field-0 c.in_ok-successors.ensures.expanded c.in-Whole.successors c.in-Whole.is)
+    (whole (IsLiveStep (g.M.Machine.words machine)) (IsDone (g.M.Machine.words machine)) c.loop-level.closed.keys c.configurations-configurations.result.now c.configurations-configurations.result.now
+    c.configurations-configurations.ensures c.configurations-configurations.ensures c.loop-level.low c.in_ok-successors.field-0 c.in_ok-successors.ensures.expanded c.in-Whole.successors c.in-Whole.is)
 
 pub merge-requires-in-Whole-clause-within : goal.merge-requires-in-Whole-clause-within
 merge-requires-in-Whole-clause-within g c = λ _ _.
     let machine = c.args.machine.now in
     successors_within (g.M.Machine.words machine) (g.M.Machine.belongs machine) (laws g machine) c.args.bounds.nodes
     c.loop-level.closed c.loop-level.level c.loop-level.low c.loop-level.invariant c.in-Whole.successors.items
-    (whole (IsLiveStep (g.M.Machine.words machine)) (IsDone (g.M.Machine.words machine)) c.loop-level.closed.keys c.configurations.result.now c.configurations.result.now
-    c.configurations.ensures c.configurations.ensures c.loop-level.low c.in_ok-successors.field-0 c.in_ok-successors.ensures.expanded c.in-Whole.successors c.in-Whole.is)
+    (whole (IsLiveStep (g.M.Machine.words machine)) (IsDone (g.M.Machine.words machine)) c.loop-level.closed.keys c.configurations-configurations.result.now c.configurations-configurations.result.now
+    c.configurations-configurations.ensures c.configurations-configurations.ensures c.loop-level.low c.in_ok-successors.field-0 c.in_ok-successors.ensures.expanded c.in-Whole.successors c.in-Whole.is)
 
 pub returns-in-Done : goal.returns-in-Done
 returns-in-Done g c =
@@ -92,8 +99,8 @@ returns-in-Done g c =
     let m = g.M.Machine.words machine in
     let live = IsLiveStep m in
     let first : IsFirstDone live (IsDone m) c.loop-level.closed.keys c.loop-level.low (length c.loop-level.closed.keys) c.in-Done.rank c.in-Done.finish =
-    first_done live (IsDone m) c.loop-level.closed.keys c.configurations.result.now c.configurations.result.now
-    c.configurations.ensures c.configurations.ensures c.loop-level.low c.in_ok-successors.field-0 c.in_ok-successors.ensures.expanded c.in-Done.rank c.in-Done.finish c.in-Done.is in
+    first_done live (IsDone m) c.loop-level.closed.keys c.configurations-configurations.result.now c.configurations-configurations.result.now
+    c.configurations-configurations.ensures c.configurations-configurations.ensures c.loop-level.low c.in_ok-successors.field-0 c.in_ok-successors.ensures.expanded c.in-Done.rank c.in-Done.finish c.in-Done.is in
     let found = answer_found (g.M.Machine.words machine) (g.M.Machine.belongs machine) (laws g machine) c.args.bounds.nodes
     c.loop-level.closed c.loop-level.level c.loop-level.low c.loop-level.invariant c.in-Done.rank c.in-Done.finish c.loop-level-test.true first in
     record {
@@ -112,8 +119,8 @@ loop-level-preserved g c =
     later_level S g.M.Configuration.PartialEq.eq (g.met.M.Machine g.world.𝓛 g.world.𝓜 g.world.𝓡 ((λ s x. x), (λ x. x), (λ x. x), λ x. x)).same (g.met.M.Configuration.Eq g.world.𝓛 g.world.𝓜 g.world.𝓡 ((λ s x. x), (λ x. x), (λ x. x), λ x. x)).laws.refl
     (counts (g.M.Machine.words machine) (g.M.Machine.belongs machine) (laws g machine) c.args.bounds.nodes)
     c.loop-level.closed c.loop-level.level c.loop-level.low c.loop-level.invariant c.in-Whole.successors.items
-    (whole (IsLiveStep (g.M.Machine.words machine)) (IsDone (g.M.Machine.words machine)) c.loop-level.closed.keys c.configurations.result.now c.configurations.result.now
-    c.configurations.ensures c.configurations.ensures c.loop-level.low c.in_ok-successors.field-0 c.in_ok-successors.ensures.expanded c.in-Whole.successors c.in-Whole.is)
+    (whole (IsLiveStep (g.M.Machine.words machine)) (IsDone (g.M.Machine.words machine)) c.loop-level.closed.keys c.configurations-configurations.result.now c.configurations-configurations.result.now
+    c.configurations-configurations.ensures c.configurations-configurations.ensures c.loop-level.low c.in_ok-successors.field-0 c.in_ok-successors.ensures.expanded c.in-Whole.successors c.in-Whole.is)
     (c.args.bounds.nodes - c.loop-level.level - 1) (omega arith) c.merge-in-Whole.new.closed c.in_ok-merge-in-Whole.ensures in
     subst (λ n. IsClosedTo S c.merge-in-Whole.new.closed.keys (words_of c.merge-in-Whole.new.closed.origins) c.merge-in-Whole.new.closed.cut (c.loop-level.level + 1) n) (sym (ap length c.configurations-high.ensures)) later
 

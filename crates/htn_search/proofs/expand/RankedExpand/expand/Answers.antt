@@ -7,7 +7,7 @@ use Rattle.htn_search.specs.declared.closed.Origin.TheVariants.{Step as Stepped}
 use Rattle.htn_search.specs.declared.closed.Successor.{Successor}
 use Rattle.htn_search.specs.Machine.{WordMachine, IsLawful, IsLiveNumbers, IsLiveStep, IsDone}
 use Rattle.htn_search.specs.Expansion.{IsSuccessor, IsLeastDone}
-use Rattle.htn_search.specs.Ranks.{BelongsAt}
+use Rattle.htn_search.specs.Ranks.{IsReadyAt}
 use Rattle.htn_search.proofs.Places.{all_zip_push}
 use Rattle.htn_search.proofs.Expanding.{expansion_of_choices, least_of_choices, one_live_step, is_live}
 use Rattle.htn_search.proofs.expand.RankedExpand.expand.Given as given
@@ -24,17 +24,17 @@ fits_below : (i n size : ℕ) → i < n → n * size < 9223372036854775808 → i
 fits_below i n size inside whole = let h : i * size ≤ n * size = mul-le i size n size (omega arith) (omega arith) in omega arith
 
 -- what stands at the rank
-stands : {C : Type 0} (belongs : C → Type 0) (keys : List C) (rank : ℕ) (d : C) → BelongsAt belongs keys rank → slice_get keys rank ≡ Some (get_or keys rank d)
-stands belongs keys rank d own = slice_get-get_or keys rank d (slice_get_within keys rank own.0 own.1)
+stands : {C : Type 0} (belongs is_ready : C → Type 0) (keys : List C) (rank : ℕ) (d : C) → IsReadyAt belongs is_ready keys rank → slice_get keys rank ≡ Some (get_or keys rank d)
+stands belongs is_ready keys rank d own = slice_get-get_or keys rank d (slice_get_within keys rank own.0 own.1)
 
-own_belongs : {C : Type 0} (belongs : C → Type 0) (keys : List C) (rank : ℕ) (d : C) → BelongsAt belongs keys rank → belongs (get_or keys rank d)
-own_belongs belongs keys rank d own = subst belongs (same_Some own.0 (get_or keys rank d) (sym own.1 ∙ stands belongs keys rank d own)) own.2
+own_belongs : {C : Type 0} (belongs is_ready : C → Type 0) (keys : List C) (rank : ℕ) (d : C) → IsReadyAt belongs is_ready keys rank → belongs (get_or keys rank d)
+own_belongs belongs is_ready keys rank d own = subst belongs (same_Some own.0 (get_or keys rank d) (sym own.1 ∙ stands belongs is_ready keys rank d own)) own.2
 
 pub offset_bounds-self-rank : goal.offset_bounds-self-rank
 offset_bounds-self-rank g c =
     let keys = c.args.self.now.configurations.now in
     let inside = slice_get_within keys c.args.rank c.requires.0 c.requires.1 in
-    let small = fits_below c.args.rank (length keys) _ inside c.type_inv.self.1.0.0.1.1 in
+    let small = fits_below c.args.rank (length keys) _ inside c.type_inv.self.1.1.0.0.1.1 in
     omega arith
 
 pub is_done-requires : goal.is_done-requires
@@ -42,7 +42,7 @@ is_done-requires g c =
     let machine = c.args.self.now.machine.now in
     let from = get_or c.args.self.now.configurations.now c.args.rank c.index-self-rank.result in
     (laws g machine).stays from c.in_ok-configuration.configuration (g.M.Machine.number c.choice-item.result)
-    (own_belongs (g.M.Machine.belongs machine) c.args.self.now.configurations.now c.args.rank c.index-self-rank.result c.requires) c.in_ok-configuration.ensures
+    (own_belongs (g.M.Machine.belongs machine) (g.M.Machine.is_ready machine c.args.self.now.cache.now) c.args.self.now.configurations.now c.args.rank c.index-self-rank.result c.requires) c.in_ok-configuration.ensures
 
 pub returns-then-is_done-clause-done : goal.returns-then-is_done-clause-done
 returns-then-is_done-clause-done g c =
@@ -60,7 +60,7 @@ returns-then-is_done-clause-done g c =
     least_of_choices (IsLiveStep m) (IsDone m) (one_live_step m) g.M.Machine.number c.args.rank from listed live.ascending live.all i kept.0 kept.2
     choice d c.loop-choice-test.true c.choice-item.is step (sym c.is_done.ensures ∙ c.if-is_done.true) in (
       from,
-      stands (g.M.Machine.belongs machine) c.args.self.now.configurations.now c.args.rank c.index-self-rank.result c.requires,
+      stands (g.M.Machine.belongs machine) (g.M.Machine.is_ready machine c.args.self.now.cache.now) c.args.self.now.configurations.now c.args.rank c.index-self-rank.result c.requires,
       subst (IsLeastDone (IsLiveStep m) (IsDone m) from) (sym c.number-number.ensures) found,
     )
 
@@ -100,7 +100,7 @@ returns-clause-whole g c =
       kept.1,
       (
         from,
-        stands (g.M.Machine.belongs machine) c.args.self.now.configurations.now c.args.rank c.index-self-rank.result c.requires,
+        stands (g.M.Machine.belongs machine) (g.M.Machine.is_ready machine c.args.self.now.cache.now) c.args.self.now.configurations.now c.args.rank c.index-self-rank.result c.requires,
         expansion_of_choices (IsLiveStep m) (IsDone m) (one_live_step m) g.M.Machine.number c.args.rank from listed live.ascending live.all kept.0
             (subst (λ l. AllZip (λ k s. IsSuccessor (IsLiveStep m) (IsDone m) c.args.rank from (g.M.Machine.number k) s) l kept.0) (take_all c.loop-choice.choice-index listed c.loop-choice-test.false) kept.2),
       ),
