@@ -6,10 +6,10 @@ use Rattle.htn_model.specs.Exhaustion.{IsUnsolvable}
 use Rattle.htn_model.specs.Machine.{Finishes as FinishesIn}
 use Rattle.htn_model.proofs.OneToOne.{one_to_one}
 use Rattle.htn_model.proofs.Answers.{least_word_answers}
-use Rattle.htn_search.specs.declared.found.Found.{Found}
-use Rattle.htn_search.specs.declared.found.Found.TheVariants.{Word, None as NoWord, Unsolvable}
-use Rattle.htn_search.specs.Words.{step_count}
-use Rattle.htn_search.specs.Answer.{IsLeastFinishing, NoneFinishes, NeverFinishes, IsAnswer}
+use Rattle.word_machine.specs.declared.found.Found.{Found}
+use Rattle.word_machine.specs.declared.found.Found.TheVariants.{Word, None as NoWord, Unsolvable}
+use Rattle.word_machine.specs.Words.{step_count}
+use Rattle.word_machine.specs.Answer.{IsLeastFinishing, NoneFinishes, NeverFinishes, IsAnswer}
 use Rattle.htn_answer.specs.Machine.{machine_of}
 use Rattle.htn_answer.specs.Answered.{IsAnswered, IsExact}
 use Rattle.htn_answer.proofs.Words.{no_later, finishes_from, finishes_back, met_from, met_back}

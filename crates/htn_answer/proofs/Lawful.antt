@@ -7,7 +7,7 @@ use Rattle.htn_model.proofs.Steps.{chosen, step_choice}
 use Rattle.htn_model.proofs.Regrown.{choice_within}
 use Rattle.htn_model.proofs.Configs.{open_step}
 use Rattle.htn_model.proofs.Exhaustion.{chosen_agrees, finishing_alive}
-use Rattle.htn_search.specs.Machine.{IsLawful}
+use Rattle.word_machine.specs.Machine.{IsLawful}
 use Rattle.htn_answer.specs.Machine.{is_dead_choice, machine_of, IsOwn}
 use Rattle.htn_answer.proofs.Words.{slice_get-map_back, done_from, leads_from}
 

@@ -10,8 +10,8 @@ use Rattle.htn_model.specs.Levels.{is_done}
 use Rattle.htn_model.specs.Answer.{IsNoGreater, IsNoLater}
 use Rattle.htn_model.specs.Exhaustion.{is_dead, LeadsLive, Reaches as ReachesIn, IsMet as IsMetIn}
 use Rattle.htn_model.proofs.Steps.{step_choice}
-use Rattle.htn_search.specs.Words.{IsLexicographicallyBefore, Precedes, Leads, Reaches, step_count}
-use Rattle.htn_search.specs.Machine.{IsStep, IsLiveStep, IsFinishing, IsMet}
+use Rattle.word_machine.specs.Words.{IsLexicographicallyBefore, Precedes, Leads, Reaches, step_count}
+use Rattle.word_machine.specs.Machine.{IsStep, IsLiveStep, IsFinishing, IsMet}
 use Rattle.htn_answer.specs.Machine.{is_dead_choice, machine_of}
 
 -- ## Lists

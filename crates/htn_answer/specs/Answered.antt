@@ -5,8 +5,8 @@ use Rattle.htn_model.specs.Tree.{Solution, IsSolution}
 use Rattle.htn_model.specs.Code.{IsCode}
 use Rattle.htn_model.specs.Answer.{IsAnswer, IsLeastWord}
 use Rattle.htn_model.specs.Exhaustion.{IsMet, IsUnsolvable}
-use Rattle.htn_search.specs.declared.found.Found.{Found}
-use Rattle.htn_search.specs.declared.found.Found.TheVariants.{Word, None as NoWord, Unsolvable}
+use Rattle.word_machine.specs.declared.found.Found.{Found}
+use Rattle.word_machine.specs.declared.found.Found.TheVariants.{Word, None as NoWord, Unsolvable}
 
 -- the least finishing word, whose solution is the answer; or no answer within the bound, which was met; or no solution at all, and the bound was not met
 abbrev pub IsAnswered : Problem → ℕ → Found → Type 0

@@ -6,7 +6,7 @@ use Rattle.htn_model.specs.Problem.{Problem}
 use Rattle.htn_model.specs.Machine.{Config, Choice, choose, start, step_by}
 use Rattle.htn_model.specs.Levels.{is_done}
 use Rattle.htn_model.specs.Exhaustion.{is_dead}
-use Rattle.htn_search.specs.Machine.{WordMachine}
+use Rattle.word_machine.specs.Machine.{WordMachine}
 
 abbrev pub is_dead_choice : Problem → Option Choice → Bool
 is_dead_choice problem None = false

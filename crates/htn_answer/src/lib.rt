@@ -5,9 +5,9 @@
 ghost use Rattle.htn_answer.specs.Answered.{IsAnswered, IsExact};
 ghost use Rattle.htn_answer.specs.Machine.{IsOwn, machine_of};
 ghost use Rattle.htn_model.specs.Problem.{IsGrounded, Problem};
-ghost use Rattle.htn_search.specs.Answer.{IsAnswer};
-ghost use Rattle.htn_search.specs.Machine.{IsLawful};
-ghost use Rattle.htn_search.specs.declared.found.Found.{Found};
+ghost use Rattle.word_machine.specs.Answer.{IsAnswer};
+ghost use Rattle.word_machine.specs.Machine.{IsLawful};
+ghost use Rattle.word_machine.specs.declared.found.Found.{Found};
 ghost use Rattle.std.specs.Prelude.{ℕ};
 
 /// The word machine of a ground problem keeps to what a search needs of it: a step wants an open node and closes at

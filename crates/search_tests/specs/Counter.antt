@@ -1,6 +1,6 @@
 -- A small machine: tasks that are open, and a value. A task is carried out (0), which adds one; or replaced by another (1), which doubles; or given up (2), and then nothing more happens.
 use Rattle.std.specs.Prelude.{◌≡◌, ℕ, suc, zero, ◌+◌, ◌-◌, ◌*◌, ◌%◌, ◌<◌, nat_eq, Bool, true, false, not, ◌&&◌, List, [], ◌∷◌, Option, Some, None}
-use Rattle.htn_search.specs.Machine.{WordMachine}
+use Rattle.word_machine.specs.Machine.{WordMachine}
 use Rattle.search_tests.specs.declared.counter.Tally.{Tally}
 
 -- what a number leads to, of tasks of which at least one is open, less that one

@@ -3,8 +3,8 @@ use Rattle.std.proofs.Common.{◌≡◌, ℕ, suc, zero, ◌+◌, ◌-◌, ◌*�
 use Rattle.std.specs.List.Sorted.{IsStrictlyIncreasing}
 use Rattle.std.proofs.lemmas.Bool.{and_parts, eqb-true}
 use Rattle.std.proofs.lemmas.Option.{none-some, same_Some}
-use Rattle.htn_search.specs.Words.{Leads}
-use Rattle.htn_search.specs.Machine.{WordMachine, IsStep, IsDone, IsLiveStep, IsLiveNumbers, IsLawful}
+use Rattle.word_machine.specs.Words.{Leads}
+use Rattle.word_machine.specs.Machine.{WordMachine, IsStep, IsDone, IsLiveStep, IsLiveNumbers, IsLawful}
 use Rattle.search_tests.specs.declared.counter.Tally.{Tally}
 use Rattle.search_tests.specs.Counter.{go_on, go_by, counting, clipped}
 

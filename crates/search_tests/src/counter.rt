@@ -2,7 +2,7 @@
 ghost use Rattle.std.specs.Prelude.{◌≡◌, ◌∷◌, [], IfOk};
 ghost use Rattle.search_tests.specs.Counter.{clipped};
 
-use htn_search::Machine;
+use word_machine::Machine;
 use std::alloc::{AllocError, Global};
 
 /// Tasks that are open, and the value so far.

@@ -1,7 +1,7 @@
 //! Searches over the small machine: each answer for several numbers of workers and sizes of pieces.
 
 use crate::counter::{Counter, Tally};
-use htn_search::{Bounds, Found, Gate, NoGate, find_word, finishes};
+use word_machine::{Bounds, Found, Gate, NoGate, find_word, finishes};
 use std::alloc::Global;
 use std::process::Abort;
 use std::sync::Wait;

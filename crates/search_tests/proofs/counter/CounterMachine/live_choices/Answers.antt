@@ -1,6 +1,6 @@
 use Rattle.std.proofs.Common.{◌≡◌, ◌<◌, ◌∷◌, [], sym, ap, subst, arith, map, List}
 use Rattle.std.proofs.lemmas.Result.{IfOk-weaker}
-use Rattle.htn_search.specs.Machine.{IsLiveNumbers}
+use Rattle.word_machine.specs.Machine.{IsLiveNumbers}
 use Rattle.search_tests.specs.Counter.{clipped, counting}
 use Rattle.search_tests.specs.Laws.{both_numbers}
 use Rattle.search_tests.specs.declared.counter.Way.{Way}

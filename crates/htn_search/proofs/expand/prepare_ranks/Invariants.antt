@@ -1,7 +1,0 @@
-use Rattle.std.proofs.Common.{◌≡◌, ℕ, ◌<◌, ◌≤◌, slice_get, Some}
-use Rattle.htn_search.proofs.expand.prepare_ranks.Given as goal
-
--- what the ranks so far need is there
-abbrev pub invariant-loop-rank : goal.invariant-loop-rank
-invariant-loop-rank g l =
-    (r : ℕ) (c : g.row.M-Configuration.Denot) → l.first ≤ r → r < l.rank → slice_get l.configurations r ≡ Some c → g.M.Machine.is_ready l.machine l.cache c

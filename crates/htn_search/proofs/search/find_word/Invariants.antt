@@ -1,8 +1,0 @@
-use Rattle.htn_search.specs.Contents.{words_of}
-use Rattle.htn_search.specs.Closed.{IsClosedTo, search_of}
-use Rattle.htn_search.proofs.search.find_word.Given as goal
-
--- the levels before this one are expanded
-abbrev pub invariant-loop-level : goal.invariant-loop-level
-invariant-loop-level g l =
-    IsClosedTo (search_of (g.M.Machine.words l.machine) l.bounds.nodes) l.closed.keys (words_of l.closed.origins) l.closed.cut l.level l.low

@@ -1,0 +1,205 @@
+-- The expansion of a configuration, choice by choice, and of a level, rank by rank.
+use Rattle.std.proofs.Common.{◌≡◌, ℕ, suc, true, ◌+◌, ◌<◌, ◌≤◌, List, [], ◌∷◌, ◌++◌, length, refl, sym, ap, subst, ◌∙◌, inl, inr, arith, slice_get, Some, get_or, take, map, Contains, All}
+use Rattle.std.specs.List.{AllZip, flat_map}
+use Rattle.std.specs.List.Sorted.{IsStrictlyIncreasing}
+use Rattle.std.proofs.lemmas.Bool.{cases_lt}
+use Rattle.std.proofs.lemmas.List.{get_or-map, get_or-take, length-map, length-take-le}
+use Rattle.std.proofs.lemmas.Option.{slice_get-get_or, slice_get_cases, slice_get_within, same_Some, none-some, get_or_from_slice_get}
+use Rattle.std.proofs.lemmas.List.Kept.{AllPairs-from_increasing}
+use Rattle.htn_level.specs.Level.{IsExpanded as IsLevelExpanded}
+use Rattle.htn_level.specs.declared.order.Expanded.{Expanded}
+use Rattle.htn_level.specs.declared.order.Expanded.TheVariants.{Whole, Done}
+use Rattle.word_machine.specs.declared.closed.Origin.TheVariants.{Step as Stepped}
+use Rattle.word_machine.specs.declared.closed.Successor.{Successor}
+use Rattle.word_machine.specs.Expansion.{IsEarlier, IsSuccessor, IsExpansionOf, IsLeastDone, IsExpansion, IsFirstDone, IsExpanded}
+use Rattle.word_machine.specs.Machine.{WordMachine, IsStep, IsDone, IsLiveStep, IsLiveNumbers}
+use Rattle.word_machine.specs.Ranks.{IsReadyAt, AreReadyFrom, HasSuccessorsAt, FinishesAt}
+use Rattle.word_machine.proofs.Places.{slice_get-append_left, slice_get-append_right, slice_get-append_cases, all_zip_at, all_zip_back}
+
+all_zip_map : {A B X : Type 0} (R : B → X → Type 0) (f : A → B) (xs : List A) (ys : List X) → AllZip (λ x y. R (f x) y) xs ys → AllZip R (map f xs) ys
+all_zip_map R f [] [] z = tt
+all_zip_map R f [] (y ∷ ys) z = absurd z
+all_zip_map R f (x ∷ xs) [] z = absurd z
+all_zip_map R f (x ∷ xs) (y ∷ ys) z = (z.0, all_zip_map R f xs ys z.1)
+
+module _ {C K : Type 0} (Step : C → ℕ → C → Type 0) (IsDone : C → Type 0) (deterministic : (c d e : C) (n : ℕ) → Step c n d → Step c n e → d ≡ e)
+    (number : K → ℕ) (p : ℕ) (c : C) (choices : List K)
+    (ascending : IsStrictlyIncreasing (map number choices)) (all : (n : ℕ) (d : C) → Step c n d → Contains (map number choices) n) where
+  pub expansion_of_choices : (more : List (Successor C)) → AllZip (λ k s. IsSuccessor Step IsDone p c (number k) s) choices more → IsExpansionOf Step IsDone p c more
+  expansion_of_choices more each = record {
+    numbers = map number choices;
+    ascending = ascending;
+    each = all_zip_map (IsSuccessor Step IsDone p c) number choices more each;
+    all = all;
+  }
+
+  -- where each choice before the i-th gave a successor that is not done, and the i-th gives a done one, its number is the least
+  pub least_of_choices : (i : ℕ) (more : List (Successor C)) → AllZip (λ k s. IsSuccessor Step IsDone p c (number k) s) (take i choices) more
+      → (k : K) (d : C) → i < length choices → k ≡ get_or choices i k → Step c (number k) d → IsDone d → IsLeastDone Step IsDone c (number k)
+  least_of_choices i more each k d inside same_choice step done = record { to = d; step = step; done = done; least = lower }
+    where
+      lower : (m : ℕ) (e : C) → m < number k → Step c m e → IsDone e → ⊥
+      lower m e less leads finish =
+          let place = all m e leads in
+          let many : length (map number choices) ≡ length choices = length-map choices number in
+          let in_list : place.0 < length (map number choices) = place.1 in
+          let in_choices : place.0 < length choices = omega arith in
+          let named : number (get_or choices place.0 k) ≡ m = sym (get_or-map number choices place.0 k m in_choices) ∙ place.2 in
+          elim (cases_lt place.0 i) [
+            | inl early ↦
+                let short : length (take i choices) ≡ i = length-take-le i choices (omega arith) in
+                let taken : place.0 < length (take i choices) = omega arith in
+                let other : K = get_or (take i choices) place.0 k in
+                let s = all_zip_at (λ k s. IsSuccessor Step IsDone p c (number k) s) (take i choices) more place.0 other each (slice_get-get_or (take i choices) place.0 k taken) in
+                let same : number other ≡ m = ap number (get_or-take i choices place.0 k early) ∙ named in
+                s.2.unfinished (subst IsDone (deterministic c e s.0.configuration m leads (subst (λ n. Step c n s.0.configuration) same s.2.step)) finish)
+            | inr late ↦
+                let own : get_or (map number choices) i m ≡ number k = get_or-map number choices i k m inside ∙ ap number (sym same_choice) in
+                elim (cases_lt i place.0) [
+                  | inl past ↦ (let below : get_or (map number choices) i m < get_or (map number choices) place.0 m = AllPairs-from_increasing (map number choices) ascending i place.0 m past in_list in
+                      let found : get_or (map number choices) place.0 m ≡ m = place.2 in omega arith)
+                  | inr here ↦ (let e : i ≡ place.0 = omega arith in
+                      let alike : get_or (map number choices) i m ≡ m = ap (λ j. get_or (map number choices) j m) e ∙ place.2 in omega arith)
+                ]
+          ]
+
+module _ {C : Type 0} (Step : C → ℕ → C → Type 0) (IsDone : C → Type 0) (keys : List C) where
+  pub IsExpansion-none : (p : ℕ) → IsExpansion Step IsDone keys p p []
+  IsExpansion-none p = record {
+    each = λ i s at. absurd (none-some s at);
+    all = λ q n c d from before at step. absurd (omega arith);
+    ascending = λ i j s t less at other. absurd (none-some s at);
+  }
+
+  pub IsExpansion-one : (deterministic : (c d e : C) (n : ℕ) → Step c n d → Step c n e → d ≡ e) (p : ℕ) (c : C) (more : List (Successor C))
+      → slice_get keys p ≡ Some c → IsExpansionOf Step IsDone p c more → IsExpansion Step IsDone keys p (p + 1) more
+  IsExpansion-one deterministic p c more here of = record {
+    each = λ i s at. (let found = all_zip_back (IsSuccessor Step IsDone p c) of.numbers more i s of.each at in
+        (p, found.0, c, omega arith, omega arith, here, found.2));
+    all = λ q n d e from before at step. (
+        let same : p ≡ q = omega arith in
+        let same_key : d ≡ c = same_Some d c (sym at ∙ ap (slice_get keys) (sym same) ∙ here) in
+        let own : Step c n e = subst (λ x. Step x n e) same_key step in
+        let place = of.all n e own in
+        let found = all_zip_at (IsSuccessor Step IsDone p c) of.numbers more place.0 n of.each (slice_get-get_or of.numbers place.0 n place.1 ∙ ap Some place.2) in
+        (place.0, found.0, found.1, found.2.origin ∙ ap (λ r. Stepped r n) same, deterministic c found.0.configuration e n found.2.step own));
+    ascending = λ i j s t less at other. (
+        let first = all_zip_back (IsSuccessor Step IsDone p c) of.numbers more i s of.each at in
+        let second = all_zip_back (IsSuccessor Step IsDone p c) of.numbers more j t of.each other in
+        let below : get_or of.numbers i 0 < get_or of.numbers j 0 = AllPairs-from_increasing of.numbers of.ascending i j 0 less (slice_get_within of.numbers j second.0 second.1) in
+        let m : get_or of.numbers i 0 ≡ first.0 = get_or_from_slice_get of.numbers i first.0 0 first.1 in
+        let n : get_or of.numbers j 0 ≡ second.0 = get_or_from_slice_get of.numbers j second.0 0 second.1 in
+        let rise : first.0 < second.0 = omega arith in
+        let lower : IsEarlier (Stepped p first.0) (Stepped p second.0) = inr (refl, rise) in
+        subst (λ o. IsEarlier o t.origin) (sym first.2.origin) (subst (IsEarlier (Stepped p first.0)) (sym second.2.origin) lower));
+  }
+
+  -- the expansions of two parts, one after the other, are that of the whole
+  pub IsExpansion-append : (first middle last : ℕ) (xs ys : List (Successor C)) → first ≤ middle → middle ≤ last
+      → IsExpansion Step IsDone keys first middle xs → IsExpansion Step IsDone keys middle last ys → IsExpansion Step IsDone keys first last (xs ++ ys)
+  IsExpansion-append first middle last xs ys low high left right = record {
+    each = λ i s at. elim (slice_get-append_cases xs ys i s at) [
+      | inl in_left ↦ (let e = left.each i s in_left in (e.0, e.1, e.2, e.3, (let b : e.0 < middle = e.4 in omega arith), e.5, e.6))
+      | inr in_right ↦ (let e = right.each in_right.0 s in_right.2 in (e.0, e.1, e.2, (let b : middle ≤ e.0 = e.3 in omega arith), e.4, e.5, e.6))
+    ];
+    all = λ p n c d from before at step. elim (cases_lt p middle) [
+      | inl early ↦ (let e = left.all p n c d from early at step in (e.0, e.1, slice_get-append_left xs ys e.0 e.1 e.2, e.3, e.4))
+      | inr late ↦ (let e = right.all p n c d late before at step in (length xs + e.0, e.1, slice_get-append_right xs ys e.0 ∙ e.2, e.3, e.4))
+    ];
+    ascending = λ i j s t less at other. elim (slice_get-append_cases xs ys i s at) [
+      | inl in_left ↦ elim (slice_get-append_cases xs ys j t other) [
+        | inl in_left' ↦ left.ascending i j s t less in_left in_left'
+        | inr in_right ↦ (
+            let e = left.each i s in_left in
+            let f = right.each in_right.0 t in_right.2 in
+            let a : e.0 < middle = e.4 in
+            let b : middle ≤ f.0 = f.3 in
+            let rank : e.0 < f.0 = omega arith in
+            let lower : IsEarlier (Stepped e.0 e.1) (Stepped f.0 f.1) = inl rank in
+            subst (λ o. IsEarlier o t.origin) (sym e.6.origin) (subst (IsEarlier (Stepped e.0 e.1)) (sym f.6.origin) lower))
+      ]
+      | inr in_right ↦ elim (slice_get-append_cases xs ys j t other) [
+        | inl in_left ↦ (let e : i ≡ length xs + in_right.0 = in_right.1 in let b : j < length xs = slice_get_within xs j t in_left in absurd (omega arith))
+        | inr in_right' ↦ (let e : i ≡ length xs + in_right.0 = in_right.1 in let f : j ≡ length xs + in_right'.0 = in_right'.1 in
+            right.ascending in_right.0 in_right'.0 s t (omega arith) in_right.2 in_right'.2)
+      ]
+    ];
+  }
+
+  -- a place after ranks that were expanded, none of whose successors is done, is the first with a done successor
+  pub IsFirstDone-after : (first p n last : ℕ) (xs : List (Successor C)) (c : C) → first ≤ p → p < last → IsExpansion Step IsDone keys first p xs
+      → slice_get keys p ≡ Some c → IsLeastDone Step IsDone c n → IsFirstDone Step IsDone keys first last p n
+  IsFirstDone-after first p n last xs c from before expanded at number = record {
+    from_first = from;
+    before_last = before;
+    configuration = c;
+    at = at;
+    number = number;
+    place = λ q m e d low less here step done. (
+        let found = expanded.all q m e d low less here step in
+        (expanded.each found.0 found.1 found.2).6.unfinished (subst IsDone (sym found.4) done));
+  }
+
+module _ {C : Type 0} (m : WordMachine C) where
+  pub one_live_step : (c d e : C) (n : ℕ) → IsLiveStep m c n d → IsLiveStep m c n e → d ≡ e
+  one_live_step c d e n s t = same_Some d e (sym s.0 ∙ t.0)
+
+  -- a choice of the list is not dead
+  pub is_live : {K : Type 0} (number : K → ℕ) (c : C) (choices : List K) → IsLiveNumbers m c (map number choices) → (i : ℕ) (x : K) (d : C) → i < length choices → x ≡ get_or choices i x
+      → IsStep m c (number x) d → IsLiveStep m c (number x) d
+  is_live number c choices live i x d inside is step =
+      let many : length (map number choices) ≡ length choices = length-map choices number in
+      let own : get_or (map number choices) i (number x) ≡ number x = get_or-map number choices i x (number x) inside ∙ ap number (sym is) in
+      let leads = live.each i (number x) (omega arith) in
+      (step, subst (λ n. m.is_dead c n ≡ true → ⊥) own leads.1.1)
+
+  -- none of the successors of an expanded configuration is done
+  pub none_done : (p : ℕ) (c : C) (successors : List (Successor C)) → IsExpansionOf (IsLiveStep m) (IsDone m) p c successors → (n : ℕ) (d : C) → IsLiveStep m c n d → IsDone m d → ⊥
+  none_done p c successors of n d step done =
+      let place = of.all n d step in
+      let found = all_zip_at (IsSuccessor (IsLiveStep m) (IsDone m) p c) of.numbers successors place.0 n of.each (slice_get-get_or of.numbers place.0 n place.1 ∙ ap Some place.2) in
+      found.2.unfinished (subst (IsDone m) (one_live_step c d found.0.configuration n step found.2.step) done)
+
+  module _ (keys : List C) where
+    -- the ranks were expanded one by one
+    pub level_whole : (first : ℕ) (lists : List (List (Successor C))) → ((i : ℕ) (xs : List (Successor C)) → slice_get lists i ≡ Some xs → HasSuccessorsAt m keys (first + i) xs)
+        → IsExpansion (IsLiveStep m) (IsDone m) keys first (first + length lists) (flat_map (λ xs. xs) lists)
+    level_whole first [] each =
+        let e : first ≡ first + 0 = omega arith in
+        subst (λ last. IsExpansion (IsLiveStep m) (IsDone m) keys first last []) e (IsExpansion-none (IsLiveStep m) (IsDone m) keys first)
+    level_whole first (xs ∷ lists) each =
+        let here = each 0 xs refl in
+        let own : first + 0 ≡ first = omega arith in
+        let last : (first + 1) + length lists ≡ first + suc (length lists) = omega arith in
+        let rest : IsExpansion (IsLiveStep m) (IsDone m) keys (first + 1) (first + suc (length lists)) (flat_map (λ xs. xs) lists) =
+        subst (λ l. IsExpansion (IsLiveStep m) (IsDone m) keys (first + 1) l (flat_map (λ xs. xs) lists)) last
+        (level_whole (first + 1) lists (λ i ys at. (let next : first + suc i ≡ (first + 1) + i = omega arith in subst (λ r. HasSuccessorsAt m keys r ys) next (each (suc i) ys at)))) in
+        IsExpansion-append (IsLiveStep m) (IsDone m) keys first (first + 1) (first + suc (length lists)) xs (flat_map (λ xs. xs) lists) (omega arith) (omega arith)
+        (IsExpansion-one (IsLiveStep m) (IsDone m) keys one_live_step first here.0 xs (ap (slice_get keys) (sym own) ∙ here.1) (subst (λ r. IsExpansionOf (IsLiveStep m) (IsDone m) r here.0 xs) own here.2)) rest
+
+    -- what a level's expansion is by ranks, as one of configurations
+    pub level_expanded : (first last : ℕ) (e : Expanded (Successor C) ℕ) → IsLevelExpanded (HasSuccessorsAt m keys) (FinishesAt m keys) first last e
+        → IsExpanded (IsLiveStep m) (IsDone m) keys first last e
+    level_expanded first last (Whole successors) level =
+        subst (λ l. IsExpansion (IsLiveStep m) (IsDone m) keys first l successors.items) level.count
+        (subst (IsExpansion (IsLiveStep m) (IsDone m) keys first (first + length level.lists)) (sym level.joined) (level_whole first level.lists level.of_rank))
+    level_expanded first last (Done rank number) level = record {
+      from_first = level.from_first;
+      before_last = level.before_last;
+      configuration = level.finishes_so.0;
+      at = level.finishes_so.1;
+      number = level.finishes_so.2;
+      place = λ q n c d low less at step done. (
+          let e = level.before q low less in
+          let same : c ≡ e.1.0 = same_Some c e.1.0 (sym at ∙ e.1.1) in
+          none_done q e.1.0 e.0 e.1.2 n d (subst (λ x. IsLiveStep m x n d) same step) done);
+    }
+
+-- each rank from `first` on is ready
+pub all_ready_at : {C : Type 0} (belongs is_ready : C → Type 0) (keys : List C) → All belongs keys → (first : ℕ) → AreReadyFrom is_ready keys first
+    → (rank : ℕ) → first ≤ rank → rank < length keys → IsReadyAt belongs is_ready keys rank
+all_ready_at belongs is_ready keys known first ready rank low inside =
+    elim (slice_get_cases keys rank).1 [
+      | inl at ↦ (at.0, at.2, subst belongs at.3 (known rank at.0 at.1), ready rank at.0 low at.2)
+      | inr past ↦ (let p : length keys ≤ rank = past.0 in absurd (omega arith))
+    ]
