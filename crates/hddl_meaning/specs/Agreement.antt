@@ -1,0 +1,9 @@
+-- The task of a pair that fits together is well typed.
+use Rattle.hddl_tree.specs.declared.domain.DomainText.{DomainText}
+use Rattle.hddl_tree.specs.declared.problem.ProblemText.{ProblemText}
+use Rattle.htn_model.specs.Task.{Task, IsWellTyped}
+use Rattle.hddl_meaning.specs.Items.{IsWellTypedPair}
+use Rattle.hddl_meaning.specs.Building.{IsTaskOf}
+
+abbrev pub TasksAreWellTyped : Type 0
+TasksAreWellTyped = (d : DomainText) (p : ProblemText) (t : Task) → IsWellTypedPair d p → IsTaskOf d p t → IsWellTyped t

@@ -1,0 +1,60 @@
+-- What a domain and a problem declare, by kind, and the numbers of names.
+use Rattle.std.specs.Prelude.{ℕ, Bool, cond, nat_eq, List, [], ◌∷◌, ◌++◌, map, codes, Option, Some, None}
+use Rattle.std.specs.List.{flat_map, fold, list_any, position}
+use Rattle.std.specs.Cmp.Lexicographic.{pointwise}
+use Rattle.hddl_tree.specs.declared.domain.DomainText.{DomainText}
+use Rattle.hddl_tree.specs.declared.problem.ProblemText.{ProblemText}
+use Rattle.hddl_words.specs.Names.{Name}
+use Rattle.hddl_meaning.specs.Mentions.{Text, Mention, Typed, folded, mention_of, mentions_of, texts, typed_names}
+
+abbrev pub is_same_text : Text → Text → Bool
+is_same_text = pointwise nat_eq
+
+-- the names after one more is named: the first declaration counts
+abbrev pub with_name : List Text → Text → List Text
+with_name names text = cond (list_any (is_same_text text) names) names (names ++ text ∷ [])
+
+-- each text once, in the order in which they come first
+abbrev pub distinct : List Text → List Text
+distinct all = fold with_name [] all
+
+abbrev pub number_or_zero : Option ℕ → ℕ
+number_or_zero None = 0
+number_or_zero (Some number) = number
+
+-- the number of a name: its position
+abbrev pub number_in : List Text → Text → ℕ
+number_in names text = number_or_zero (position (is_same_text text) names)
+
+-- the type of what no type is written for
+abbrev pub object : Text
+object = codes "object"
+
+abbrev pub optional_mention : Option Name → List Mention
+optional_mention None = []
+optional_mention (Some x) = mention_of x ∷ []
+
+-- what `:types` names, in the order of the text: names and their parents
+abbrev pub type_mentions : DomainText → List Mention
+type_mentions d = flat_map (λ g. map mention_of g.names ++ optional_mention g.of_type) d.types
+
+-- `object` first, then the types in the order in which they are named
+abbrev pub type_names : DomainText → List Text
+type_names d = distinct (object ∷ texts (type_mentions d))
+
+-- the domain's constants, then the problem's objects
+abbrev pub object_declarations : DomainText → ProblemText → List Typed
+object_declarations d p = typed_names d.constants ++ typed_names p.objects
+
+abbrev pub object_names : DomainText → ProblemText → List Text
+object_names d p = distinct (texts (mentions_of (object_declarations d p)))
+
+abbrev pub predicate_names : DomainText → List Text
+predicate_names d = map (λ x. folded x.name.text) d.predicates
+
+abbrev pub compound_names : DomainText → List Text
+compound_names d = map (λ x. folded x.name.text) d.tasks
+
+-- the compound tasks, then the actions
+abbrev pub task_names : DomainText → List Text
+task_names d = compound_names d ++ map (λ x. folded x.name.text) d.actions

@@ -1,0 +1,35 @@
+-- Which types are below which, and the types of objects.
+use Rattle.std.specs.Prelude.{◌≡◌, ◌⊎◌, Bool, not, ◌&&◌, List, ◌++◌, map, filter, Option, Some, None, Contains}
+use Rattle.hddl_tree.specs.declared.domain.DomainText.{DomainText}
+use Rattle.hddl_tree.specs.declared.problem.ProblemText.{ProblemText}
+use Rattle.hddl_meaning.specs.Mentions.{Text, Mention, Typed, typed_names, texts}
+use Rattle.hddl_meaning.specs.Names.{is_same_text, object, type_mentions, object_declarations}
+
+-- one or more of the pairs lead from the first text to the second
+pub data Leads (pairs : List (Text × Text)) : Text → Text → Type 0 where
+  Direct : (t u : Text) → Contains pairs (t, u) → Leads pairs t u
+  Through : (t u v : Text) → Contains pairs (t, u) → Leads pairs u v → Leads pairs t v
+
+abbrev pub text_or_object : Option Mention → Text
+text_or_object None = object
+text_or_object (Some m) = m.text
+
+-- each type of `:types` with its parent
+abbrev pub declared_pairs : DomainText → List (Text × Text)
+declared_pairs d = map (λ t. (t.mention.text, text_or_object t.of_type)) (typed_names d.types)
+
+abbrev pub is_object_pair : Text × Text → Bool
+is_object_pair pair = is_same_text pair.0 object && is_same_text pair.1 object
+
+-- the declared pairs, and each type with `object`; `object` with itself is ignored
+abbrev pub parent_pairs : DomainText → List (Text × Text)
+parent_pairs d = filter (λ pair. not (is_object_pair pair)) (declared_pairs d ++ map (λ text. (text, object)) (texts (type_mentions d)))
+
+-- a type is below itself, and below what the pairs lead to
+abbrev pub IsBelow : DomainText → Text → Text → Type 0
+IsBelow d t u = (t ≡ u) ⊎ Leads (parent_pairs d) t u
+
+-- some declaration of the object gives it a type below this one
+abbrev pub HasType : DomainText → ProblemText → Text → Text → Type 0
+HasType d p name type =
+    (t : Typed) × Contains (object_declarations d p) t × (t.mention.text ≡ name) × IsBelow d (text_or_object t.of_type) type
