@@ -11,7 +11,7 @@ use Rattle.hddl_tree.specs.declared.domain.ActionText.{ActionText}
 use Rattle.hddl_tree.specs.declared.domain.DomainText.{DomainText}
 use Rattle.hddl_tree.specs.declared.problem.ProblemText.{ProblemText}
 use Rattle.htn_order.specs.Closure.{IsAcyclic}
-use Rattle.hddl_meaning.specs.Mentions.{IsIn, Mention, Text, folded, mention_of, mentions_of, texts, typed_names, typed_variables}
+use Rattle.hddl_meaning.specs.Mentions.{IsIn, Mention, Text, folded, mention_of, mentions_of, Typed, texts, typed_names, typed_variables}
 use Rattle.hddl_meaning.specs.Names.{distinct, is_same_text, object, object_declarations, object_names, type_mentions, type_names, with_name}
 use Rattle.hddl_meaning.specs.Networks.{order_pairs}
 use Rattle.hddl_meaning.specs.Uses.{Quantifier, Schema, domain_schemas, problem_schemas, schema_of_action, schema_of_method, schema_of_network}
@@ -118,6 +118,12 @@ module _ (d : DomainText) (p : ProblemText) (fits : IsWellTypedPair d p) where
   abbrev at_place : Source → ℕ → At
   at_place text place = record { source = text; place = place }
 
+  method_schema : (m : MethodText) → IsIn m d.methods → IsIn (schema_of_method m) (domain_schemas d)
+  method_schema m h = in_left (schema_of_method m) (map schema_of_method d.methods) (map schema_of_action d.actions) (in_map schema_of_method m d.methods h)
+
+  action_schema : (a : ActionText) → IsIn a d.actions → IsIn (schema_of_action a) (domain_schemas d)
+  action_schema a h = in_right (schema_of_action a) (map schema_of_method d.methods) (map schema_of_action d.actions) (in_map schema_of_action a d.actions h)
+
   -- ### Names
 
   pub types_limit : length (type_names d) ≤ 65536
@@ -201,3 +207,96 @@ module _ (d : DomainText) (p : ProblemText) (fits : IsWellTypedPair d p) where
 
   pub initial_subtasks_limit : length p.htn.network.subtasks ≤ 10000
   initial_subtasks_limit = subtasks_limit source.Problem (p.htn.place, p.htn.network) (at_head (p.htn.place, p.htn.network) [])
+
+  pub predicates_limit : length d.predicates ≤ 65535
+  predicates_limit =
+      let most = declarations_in (map (λ x. mention_of x.name) d.predicates) (0, omega arith, refl) in
+      let same : length (map (λ x. mention_of x.name) d.predicates) ≡ length d.predicates = length-map d.predicates (λ x. mention_of x.name) in
+      omega arith
+
+  pub tasks_limit : length d.tasks ≤ 65535
+  tasks_limit =
+      let most = declarations_in (map (λ x. mention_of x.name) d.tasks) (1, omega arith, refl) in
+      let same : length (map (λ x. mention_of x.name) d.tasks) ≡ length d.tasks = length-map d.tasks (λ x. mention_of x.name) in
+      omega arith
+
+  pub methods_limit : length d.methods ≤ 65535
+  methods_limit =
+      let most = declarations_in (map (λ x. mention_of x.name) d.methods) (2, omega arith, refl) in
+      let same : length (map (λ x. mention_of x.name) d.methods) ≡ length d.methods = length-map d.methods (λ x. mention_of x.name) in
+      omega arith
+
+  pub actions_limit : length d.actions ≤ 65535
+  actions_limit =
+      let most = declarations_in (map (λ x. mention_of x.name) d.actions) (3, omega arith, refl) in
+      let same : length (map (λ x. mention_of x.name) d.actions) ≡ length d.actions = length-map d.actions (λ x. mention_of x.name) in
+      omega arith
+
+  typed_limit : (text : Source) (ts : List Typed) → IsIn (mentions_of ts) (parameter_lists d p text) → length ts ≤ 32
+  typed_limit text ts h =
+      let most = parameters_in text (mentions_of ts) h in
+      let same : length (mentions_of ts) ≡ length ts = length-map ts (λ t. t.mention) in
+      omega arith
+
+  -- the lists of a schema's parameters and of those of each `forall`
+  abbrev lists_of : Schema → List (List Mention)
+  lists_of s = mentions_of (typed_variables s.parameters) ∷ map (λ q. mentions_of (typed_variables q.own)) s.quantifiers
+
+  in_schemas : (text : Source) (s : Schema) (mentions : List Mention) → IsIn s (schemas_in d p text) → IsIn mentions (lists_of s)
+      → IsIn mentions (parameter_lists d p text)
+  in_schemas text s mentions h g =
+      in_right mentions (predicate_parameters d text) (flat_map lists_of (schemas_in d p text)) (in_flat_map lists_of s mentions (schemas_in d p text) h g)
+
+  pub predicate_parameters_limit : (x : PredicateText) → IsIn x d.predicates → length (typed_variables x.parameters) ≤ 32
+  predicate_parameters_limit x h =
+      typed_limit source.Domain (typed_variables x.parameters)
+      (in_left (mentions_of (typed_variables x.parameters)) (predicate_parameters d source.Domain) (flat_map lists_of (domain_schemas d)) (in_map (λ x. mentions_of (typed_variables x.parameters)) x d.predicates h))
+
+  -- the parameters of each schema
+  pub schema_parameters_limit : (text : Source) (s : Schema) → IsIn s (schemas_in d p text) → length (typed_variables s.parameters) ≤ 32
+  schema_parameters_limit text s h =
+      typed_limit text (typed_variables s.parameters)
+      (in_schemas text s (mentions_of (typed_variables s.parameters)) h (0, omega arith, refl))
+
+  pub method_parameters_limit : (m : MethodText) → IsIn m d.methods → length (typed_variables m.parameters) ≤ 32
+  method_parameters_limit m h = schema_parameters_limit source.Domain (schema_of_method m) (method_schema m h)
+
+  pub action_parameters_limit : (a : ActionText) → IsIn a d.actions → length (typed_variables a.parameters) ≤ 32
+  action_parameters_limit a h = schema_parameters_limit source.Domain (schema_of_action a) (action_schema a h)
+
+  pub network_parameters_limit : length (typed_variables p.htn.parameters) ≤ 32
+  network_parameters_limit = schema_parameters_limit source.Problem (schema_of_network p) (0, omega arith, refl)
+
+  -- the variables of each `forall`
+  pub quantifier_limit : (text : Source) (s : Schema) (q : Quantifier) → IsIn s (schemas_in d p text) → IsIn q s.quantifiers → length (typed_variables q.own) ≤ 32
+  quantifier_limit text s q h g =
+      typed_limit text (typed_variables q.own)
+      (in_schemas text s (mentions_of (typed_variables q.own)) h
+      (at_tail (mentions_of (typed_variables s.parameters)) (mentions_of (typed_variables q.own)) (map (λ q. mentions_of (typed_variables q.own)) s.quantifiers)
+      (in_map (λ q. mentions_of (typed_variables q.own)) q s.quantifiers g)))
+
+  -- the variables in force in each `forall`
+  pub variables_limit : (text : Source) (s : Schema) (q : Quantifier) → IsIn s (schemas_in d p text) → IsIn q s.quantifiers
+      → length q.around + length (typed_variables q.own) ≤ 65535
+  variables_limit text s q h g =
+      let most = variables_in text (variable_mentions q.around ++ mentions_of (typed_variables q.own))
+      (in_flat_map (λ s. map (λ q. variable_mentions q.around ++ mentions_of (typed_variables q.own)) s.quantifiers) s
+      (variable_mentions q.around ++ mentions_of (typed_variables q.own)) (schemas_in d p text) h
+      (in_map (λ q. variable_mentions q.around ++ mentions_of (typed_variables q.own)) q s.quantifiers g)) in
+      let both : length (variable_mentions q.around ++ mentions_of (typed_variables q.own)) ≡ length (variable_mentions q.around) + length (mentions_of (typed_variables q.own))
+      = length-append (variable_mentions q.around) (mentions_of (typed_variables q.own)) in
+      let around : length (variable_mentions q.around) ≡ length q.around = length-map q.around (λ v. v.typed.mention) in
+      let own : length (mentions_of (typed_variables q.own)) ≡ length (typed_variables q.own) = length-map (typed_variables q.own) (λ t. t.mention) in
+      omega arith
+
+  -- ### Orders
+
+  -- the order of each network
+  pub order_acyclic : (text : Source) (n : ℕ × NetworkText) → IsIn n (networks_in d p text) → IsAcyclic (order_pairs n.1)
+  order_acyclic text n h a cycle = fits (fault.OrderCycle (at_place text n.0)) (n, a, h, cycle, refl)
+
+  pub method_order_acyclic : (m : MethodText) → IsIn m d.methods → IsAcyclic (order_pairs m.network)
+  method_order_acyclic m h = order_acyclic source.Domain (m.place, m.network) (in_map (λ x. (x.place, x.network)) m d.methods h)
+
+  pub initial_order_acyclic : IsAcyclic (order_pairs p.htn.network)
+  initial_order_acyclic = order_acyclic source.Problem (p.htn.place, p.htn.network) (at_head (p.htn.place, p.htn.network) [])

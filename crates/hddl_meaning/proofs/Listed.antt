@@ -137,7 +137,7 @@ abbrev Covers : List Text → List Text → Type 0
 Covers more less = (t : Text) → list_any (is_same_text t) less ≡ true → list_any (is_same_text t) more ≡ true
 
 last_is : (u t : Text) → list_any (is_same_text u) (t ∷ []) ≡ true → u ≡ t
-last_is u t h = elim (or_cases (is_same_text u t) false h) [ | inl e ↦ (texts_decide u t).0 e | inr e ↦ absurd cc ]
+last_is u t h = elim (or_cases (is_same_text u t) false h) [ inl e ↦ (texts_decide u t).0 e | inr e ↦ absurd cc ]
 
 covers_push : (more less : List Text) (t : Text) → Covers more less → list_any (is_same_text t) more ≡ true → Covers more (less ++ t ∷ [])
 covers_push more less t covers named u h =
@@ -197,7 +197,7 @@ fold_different names (t ∷ ts) apart different =
     further u h g =
         elim (Contains-append_cases names (t ∷ []) u h) [
           | inl before ↦ apart u before (at_tail t u ts g)
-          | inr last ↦ elim (in_cases t u [] last) [ | inl e ↦ different.0 (subst (λ x. IsIn x ts) (sym e) g) | inr none ↦ in_nothing u none ]
+          | inr last ↦ elim (in_cases t u [] last) [ inl e ↦ different.0 (subst (λ x. IsIn x ts) (sym e) g) | inr none ↦ in_nothing u none ]
         ]
 
 -- texts that differ are each kept
