@@ -118,10 +118,10 @@ module _ (d : DomainText) (p : ProblemText) (fits : IsWellTypedPair d p) where
   abbrev at_place : Source → ℕ → At
   at_place text place = record { source = text; place = place }
 
-  method_schema : (m : MethodText) → IsIn m d.methods → IsIn (schema_of_method m) (domain_schemas d)
+  pub method_schema : (m : MethodText) → IsIn m d.methods → IsIn (schema_of_method m) (domain_schemas d)
   method_schema m h = in_left (schema_of_method m) (map schema_of_method d.methods) (map schema_of_action d.actions) (in_map schema_of_method m d.methods h)
 
-  action_schema : (a : ActionText) → IsIn a d.actions → IsIn (schema_of_action a) (domain_schemas d)
+  pub action_schema : (a : ActionText) → IsIn a d.actions → IsIn (schema_of_action a) (domain_schemas d)
   action_schema a h = in_right (schema_of_action a) (map schema_of_method d.methods) (map schema_of_action d.actions) (in_map schema_of_action a d.actions h)
 
   -- ### Names
