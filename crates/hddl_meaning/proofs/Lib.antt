@@ -3,3 +3,4 @@ pub mod Limits
 pub mod Conditions
 pub mod Numbers
 pub mod Unique
+pub mod WellTyped
