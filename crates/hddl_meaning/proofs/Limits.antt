@@ -1,5 +1,5 @@
 -- The limits that a pair keeps that fits together, and its orders, which have no cycle.
-use Rattle.std.proofs.Common.{◌≡◌, ℕ, zero, suc, ◌+◌, ◌<◌, ◌≤◌, Bool, true, false, cond, List, [], ◌∷◌, ◌++◌, length, map, ◌⊎◌, inl, inr, sym, refl, ap, ◌∙◌, subst, arith, append_assoc, append-nil, length-append}
+use Rattle.std.proofs.Common.{◌≡◌, ℕ, zero, suc, ◌+◌, ◌<◌, ◌≤◌, Bool, true, false, cond, List, [], ◌∷◌, ◌++◌, length, map, inl, inr, sym, refl, ap, ◌∙◌, subst, arith, append_assoc, append-nil, length-append}
 use Rattle.std.specs.List.{flat_map, list_any}
 use Rattle.std.proofs.lemmas.Bool.{both_ways, cases_order}
 use Rattle.std.proofs.lemmas.List.{length-map, length_push, map-append}
@@ -11,11 +11,11 @@ use Rattle.hddl_tree.specs.declared.domain.ActionText.{ActionText}
 use Rattle.hddl_tree.specs.declared.domain.DomainText.{DomainText}
 use Rattle.hddl_tree.specs.declared.problem.ProblemText.{ProblemText}
 use Rattle.htn_order.specs.Closure.{IsAcyclic}
-use Rattle.hddl_meaning.specs.Mentions.{IsIn, Mention, Text, folded, mention_of, mentions_of, Typed, texts, typed_names, typed_variables}
+use Rattle.hddl_meaning.specs.Mentions.{IsIn, Mention, folded, mention_of, mentions_of, Typed, texts, typed_names, typed_variables}
 use Rattle.hddl_meaning.specs.Names.{distinct, is_same_text, object, object_declarations, object_names, type_mentions, type_names, with_name}
 use Rattle.hddl_meaning.specs.Networks.{order_pairs}
-use Rattle.hddl_meaning.specs.Uses.{Quantifier, Schema, domain_schemas, problem_schemas, schema_of_action, schema_of_method, schema_of_network}
-use Rattle.hddl_meaning.specs.Items.{IsPast, IsPastDistinct, IsPastObjects, IsTooMany, IsWellTypedPair, declaration_lists, declared_objects, most_declarations, most_parameters, most_subtasks, most_variables, networks_in, parameter_lists, predicate_parameters, schemas_in, subtask_mentions, variable_lists, variable_mentions}
+use Rattle.hddl_meaning.specs.Uses.{Quantifier, Schema, domain_schemas, schema_of_action, schema_of_method, schema_of_network}
+use Rattle.hddl_meaning.specs.Items.{IsPast, IsTooMany, IsWellTypedPair, declaration_lists, declared_objects, most_declarations, most_parameters, most_subtasks, most_variables, networks_in, parameter_lists, predicate_parameters, schemas_in, subtask_mentions, variable_lists, variable_mentions}
 use Rattle.hddl_meaning.specs.declared.fault.Source.{Source}
 use Rattle.hddl_meaning.specs.declared.fault.Source.TheVariants as source
 use Rattle.hddl_meaning.specs.declared.fault.At.{At}

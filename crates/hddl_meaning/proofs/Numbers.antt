@@ -1,11 +1,10 @@
 -- The numbers of names: where they are, and that the first declaration of a name stands at its number.
-use Rattle.std.proofs.Common.{◌≡◌, ℕ, zero, suc, ◌+◌, ◌<◌, Bool, true, false, cond, not, List, [], ◌∷◌, ◌++◌, length, map, get_or, Option, Some, None, inl, inr, sym, refl, ap, ◌∙◌, subst, arith, nat_lt, slice_get, ◌||◌}
+use Rattle.std.proofs.Common.{◌≡◌, ℕ, suc, ◌+◌, ◌<◌, Bool, true, false, cond, not, List, [], ◌∷◌, ◌++◌, length, map, get_or, Some, None, sym, refl, ap, ◌∙◌, subst, arith, nat_lt, ◌||◌}
 use Rattle.std.specs.List.{find, list_any, position_or_len}
 use Rattle.std.proofs.lemmas.Bool.Decides.{Decides-ltb}
-use Rattle.std.proofs.lemmas.List.{get_or-map, length-map, map-append}
+use Rattle.std.proofs.lemmas.List.{get_or-map}
 use Rattle.std.proofs.lemmas.List.Folds.{find_at}
 use Rattle.std.proofs.lemmas.Option.{slice_get-get_or}
-use Rattle.std.proofs.lemmas.Simd.{map-map}
 use Rattle.hddl_meaning.specs.Mentions.{IsIn, Text}
 use Rattle.hddl_meaning.specs.Names.{is_same_text, number_in, number_or_zero}
 use Rattle.hddl_meaning.specs.Items.{Signature}

@@ -1,10 +1,10 @@
 -- In a pair that fits together no two predicates, and no two tasks or actions, have one name.
-use Rattle.std.proofs.Common.{◌≡◌, ℕ, List, [], ◌∷◌, ◌++◌, map, inl, inr, sym, refl, ap, ◌∙◌, subst, arith, max}
+use Rattle.std.proofs.Common.{◌≡◌, List, [], ◌∷◌, ◌++◌, map, inl, inr, sym, refl, ap, ◌∙◌, subst, arith, max}
 use Rattle.std.proofs.lemmas.List.{map-append}
 use Rattle.std.proofs.lemmas.Simd.{map-map}
 use Rattle.hddl_tree.specs.declared.domain.DomainText.{DomainText}
 use Rattle.hddl_tree.specs.declared.problem.ProblemText.{ProblemText}
-use Rattle.hddl_meaning.specs.Mentions.{IsIn, Mention, Text, folded, mention_of, texts}
+use Rattle.hddl_meaning.specs.Mentions.{IsIn, Mention, Text, mention_of, texts}
 use Rattle.hddl_meaning.specs.Names.{compound_names, distinct, predicate_names, task_names}
 use Rattle.hddl_meaning.specs.Items.{IsWellTypedPair, declaration_groups, groups}
 use Rattle.hddl_meaning.specs.declared.fault.Source.{Source}
@@ -49,7 +49,7 @@ module _ (d : DomainText) (p : ProblemText) (fits : IsWellTypedPair d p) where
   different_in text group h =
       different group
       (λ before first middle second after e same.
-          fits (fault.Duplicate (record { source = text; place = max first.place second.place })) (group, before, first, middle, second, after, h, e, same, refl))
+      fits (fault.Duplicate (record { source = text; place = max first.place second.place })) (group, before, first, middle, second, after, h, e, same, refl))
 
   declared_differ : (group : List Mention) → IsIn group (declaration_groups d source.Domain) → AreDifferent (texts group)
   declared_differ group h = different_in source.Domain group (in_left group (declaration_groups d source.Domain) _ h)

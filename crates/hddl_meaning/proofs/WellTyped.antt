@@ -1,15 +1,15 @@
 -- The task of a pair that fits together is well typed.
-use Rattle.std.proofs.Common.{◌≡◌, ℕ, zero, suc, ◌+◌, ◌<◌, Bool, true, false, cond, not, List, [], ◌∷◌, ◌++◌, length, map, get_or, Option, Some, None, ◌⊎◌, inl, inr, sym, refl, ap, ◌∙◌, subst, arith, nat_eq, slice_get, ◌||◌, length-append}
+use Rattle.std.proofs.Common.{◌≡◌, ℕ, ◌+◌, ◌<◌, Bool, true, false, cond, not, List, [], ◌∷◌, ◌++◌, length, map, get_or, Some, inl, inr, sym, refl, ap, ◌∙◌, subst, arith, nat_eq, ◌||◌, length-append}
 use Rattle.std.specs.List.{All, AllByRecursion, AllZip, filter, flat_map, list_any, position_or_len}
 use Rattle.std.specs.Cmp.{unsigned_Decides}
-use Rattle.std.proofs.lemmas.Bool.{both_ways, cases_order}
+use Rattle.std.proofs.lemmas.Bool.{cases_order}
 use Rattle.std.proofs.lemmas.List.{get_or-map, length-map, map-append}
 use Rattle.std.proofs.lemmas.List.Elements.{All-from_recursion}
 use Rattle.std.proofs.lemmas.List.Folds.{list_any-append, list_any_at}
 use Rattle.std.proofs.lemmas.Option.{slice_get-get_or}
 use Rattle.std.proofs.lemmas.Simd.{map-map}
 use Rattle.htn_model.specs.Atom.{Atom}
-use Rattle.htn_model.specs.State.{contains, set_of}
+use Rattle.htn_model.specs.State.{contains}
 use Rattle.htn_model.specs.Problem.{IsClosed, IsSquare, Order, is_before}
 use Rattle.htn_model.specs.Schema as model
 use Rattle.htn_model.specs.Task as model_task
@@ -32,7 +32,7 @@ use Rattle.hddl_tree.specs.declared.problem.ProblemText.{ProblemText}
 use Rattle.hddl_meaning.specs.Mentions.{IsIn, Text, folded, texts, typed_variables}
 use Rattle.hddl_meaning.specs.Names.{compound_names, distinct, is_same_text, number_in, object, object_names, predicate_names, task_names, type_mentions, type_names}
 use Rattle.hddl_meaning.specs.Types.{text_or_object}
-use Rattle.hddl_meaning.specs.Networks.{IsOrderOf, order_pairs}
+use Rattle.hddl_meaning.specs.Networks.{order_pairs}
 use Rattle.hddl_meaning.specs.Uses.{Schema, TermUse, Use, Variable, atoms_in, constraints_in, domain_schemas, parameters_of, schema_of_action, schema_of_method, schema_of_network, schema_of_states, sides, sides_in, subtasks_in}
 use Rattle.hddl_meaning.specs.Items.{IsUnknownTerm, IsWellTypedPair, Signature, arguments_of, declaration_in, predicate_signatures, schemas_in, signature, task_signatures, tasks_in, terms_in}
 use Rattle.hddl_meaning.specs.Building.{IsMethodOf, IsNetworkOf, IsTaskOf, Vocabulary, action_of, atom_of, compound_of, effects_of, equality_of, formula_of, formulas_of, predicate_of, subtask_of, term_of, types_of, variables_of, vocabulary_of}
@@ -44,7 +44,7 @@ use Rattle.hddl_meaning.proofs.Listed.{at_head, at_tail, each_mapped, in_cases, 
 use Rattle.hddl_meaning.proofs.Limits.{action_schema, initial_order_acyclic, method_order_acyclic, method_schema}
 use Rattle.hddl_meaning.proofs.Numbers.{Declared, declared, first_within, is_named, names_in, number_is, number_within, some_pass}
 use Rattle.hddl_meaning.proofs.Unique.{distinct_predicates, distinct_tasks}
-use Rattle.hddl_meaning.proofs.Conditions.{atoms_of, count_with, formula_typed, length-types, names_of, names_of_parameters, sides_of}
+use Rattle.hddl_meaning.proofs.Conditions.{atoms_of, formula_typed, length-types, names_of, names_of_parameters, sides_of}
 
 -- ## Lists
 
@@ -53,7 +53,7 @@ in_filter test x [] h = h
 in_filter test x (y ∷ xs) h = by (test y) h (in_filter test x xs)
   where
     by : (b : Bool) → IsIn x (cond b (y ∷ filter test xs) (filter test xs)) → (IsIn x (filter test xs) → IsIn x xs) → IsIn x (y ∷ xs)
-    by true h later = elim (in_cases y x (filter test xs) h) [ | inl e ↦ subst (λ z. IsIn x (z ∷ xs)) (sym e) (at_head x xs) | inr k ↦ at_tail y x xs (later k) ]
+    by true h later = elim (in_cases y x (filter test xs) h) [ inl e ↦ subst (λ z. IsIn x (z ∷ xs)) (sym e) (at_head x xs) | inr k ↦ at_tail y x xs (later k) ]
     by false h later = at_tail y x xs (later h)
 
 -- what an element of mapped elements comes from
@@ -243,11 +243,11 @@ module _ (d : DomainText) (p : ProblemText) (t : Task) (fits : IsWellTypedPair d
       let same : distinct (predicate_names d) ≡ predicate_names d = distinct_predicates d p fits in
       record {
         declared =
-          subst (λ n. number_in v.predicates name < n) (length-map d.predicates (λ x. folded x.name.text) ∙ sym many_predicates)
-          (number_below (predicate_names d) name same h);
+            subst (λ n. number_in v.predicates name < n) (length-map d.predicates (λ x. folded x.name.text) ∙ sym many_predicates)
+            (number_below (predicate_names d) name same h);
         arity =
-          as_many (predicate_signatures d) u (map (λ x. x.types) t.predicates) (number_in v.predicates name) (predicate_names d) predicate_names_are predicate_types_are
-          (ap (λ xs. number_in xs name) same) h known.arity;
+            as_many (predicate_signatures d) u (map (λ x. x.types) t.predicates) (number_in v.predicates name) (predicate_names d) predicate_names_are predicate_types_are
+            (ap (λ xs. number_in xs name) same) h known.arity;
         arguments = terms_typed u known.terms;
       }
 
@@ -282,8 +282,8 @@ module _ (d : DomainText) (p : ProblemText) (t : Task) (fits : IsWellTypedPair d
       record {
         declared = subst (λ n. number_in v.tasks name < n) many_names (number_below (task_names d) name same h);
         arity =
-          as_many (task_signatures d) u (map (λ x. x.types) t.tasks ++ map (λ x. x.parameters) t.actions) (number_in v.tasks name) (task_names d) task_names_are task_types_are
-          (ap (λ xs. number_in xs name) same) h arity;
+            as_many (task_signatures d) u (map (λ x. x.types) t.tasks ++ map (λ x. x.parameters) t.actions) (number_in v.tasks name) (task_names d) task_names_are task_types_are
+            (ap (λ xs. number_in xs name) same) h arity;
         arguments = terms_typed u terms;
       }
 
@@ -311,3 +311,205 @@ module _ (d : DomainText) (p : ProblemText) (t : Task) (fits : IsWellTypedPair d
       subst (λ n. n < length t.tasks) (sym at)
       (subst (λ n. position_or_len (is_same_text name) (task_names d) < n) (length-map d.tasks (λ x. folded x.name.text) ∙ sym many_tasks)
       (first_within (is_same_text name) (compound_names d) actions h))
+
+  -- ### Conditions and networks, under variables in force
+
+  formulas_typed : (variables : List Variable) (conditions : List Condition)
+      → ((u : Use) → IsIn u (atoms_in variables conditions) → Knows d p (predicate_names d) (predicate_signatures d) u)
+      → ((x : TermUse) → IsIn x (sides_in variables conditions) → KnowsTerm d p x)
+      → All (IsFormula t (length variables)) (formulas_of v (names_of variables) conditions)
+  formulas_typed variables conditions atoms terms =
+      each_mapped (IsFormula t (length variables)) (λ c. formula_of v c (names_of variables)) conditions
+      (λ c h.
+      formula_typed t v (Knows d p (predicate_names d) (predicate_signatures d)) (KnowsTerm d p) atom_typed term_typed types_typed c variables
+      (λ u g. atoms u (in_flat_map (λ c. atoms_of c variables) c u conditions h g))
+      (λ x g. terms x (in_flat_map (λ c. sides_of c variables) c x conditions h g)))
+
+  equality_typed : (variables : List Variable) (e : EqualityText) → ((x : TermUse) → IsIn x (sides variables e) → KnowsTerm d p x)
+      → IsEqualitySchema t (length variables) (equality_of v (names_of variables) e)
+  equality_typed variables e known =
+      let left : TermUse = record { variables = variables; term = e.left } in
+      let right : TermUse = record { variables = variables; term = e.right } in
+      (term_typed left (known left (at_head left (right ∷ []))), term_typed right (known right (at_tail left right (right ∷ []) (at_head right []))))
+
+  constraints_typed : (variables : List Variable) (n : NetworkText) → ((x : TermUse) → IsIn x (constraints_in variables n) → KnowsTerm d p x)
+      → All (IsEqualitySchema t (length variables)) (map (equality_of v (names_of variables)) n.constraints)
+  constraints_typed variables n known =
+      each_mapped (IsEqualitySchema t (length variables)) (equality_of v (names_of variables)) n.constraints
+      (λ e h. equality_typed variables e (λ x g. known x (in_flat_map (sides variables) e x n.constraints h g)))
+
+  network_typed : (variables : List Variable) (n : NetworkText) (network : model.NetworkSchema) → IsNetworkOf v (names_of variables) n network
+      → ((u : Use) → IsIn u (subtasks_in variables n) → Knows d p (task_names d) (task_signatures d) u) → IsAcyclic (order_pairs n) → IsNetworkSchema t (length variables) network
+  network_typed variables n network of known acyclic =
+      let many : length n.subtasks ≡ length network.subtasks = sym (ap length of.subtasks ∙ length-map n.subtasks (λ x. subtask_of v (names_of variables) x.task)) in
+      record {
+        subtasks =
+            subst (All (IsTaskSchema t (length variables))) (sym of.subtasks)
+            (each_mapped (IsTaskSchema t (length variables)) (λ x. subtask_of v (names_of variables) x.task) n.subtasks
+            (λ x h.
+            subtask_typed (record { variables = variables; atom = x.task })
+            (known (record { variables = variables; atom = x.task }) (in_map (λ x. record { variables = variables; atom = x.task }) x n.subtasks h))));
+        square = subst (λ m. IsSquare m network.order) many of.order.square;
+        closed = order_closed (order_pairs n) network.order of.order.closure acyclic;
+      }
+
+  -- from the variables in force, which are the parameters, to the types of these
+  at_parameters : (groups : List VariableGroup) (parameters : List ℕ) → parameters ≡ types_of v groups → (P : ℕ → List Text → Type 0)
+      → P (length (parameters_of groups)) (names_of (parameters_of groups)) → P (length parameters) (variables_of groups)
+  at_parameters groups parameters same P h =
+      let many : length (parameters_of groups) ≡ length parameters =
+      length-map (typed_variables groups) (λ x. record { typed = x; is_quantified = false }) ∙ sym (ap length same ∙ length-types v groups) in
+      subst (λ n. P n (variables_of groups)) many (subst (P (length (parameters_of groups))) (names_of_parameters groups) h)
+
+  -- ### Methods, actions and the initial network
+
+  method_typed : (x : MethodText) → IsIn x d.methods → (m : model_task.MethodSchema) → IsMethodOf v x m → IsMethodSchema t m
+  method_typed x h m of =
+      let s : Schema = schema_of_method x in
+      let is_in : IsIn s (domain_schemas d) = method_schema d p fits x h in
+      let variables : List Variable = parameters_of x.parameters in
+      let decomposed : Use = record { variables = variables; atom = x.task } in
+      let known : Knows d p (compound_names d) (task_signatures d) decomposed = known_decomposed d p fits source.Domain s is_in decomposed (at_head decomposed []) in
+      record {
+        parameters = subst (AreTypes t) (sym of.parameters) (types_typed x.parameters);
+        task =
+            subst (IsTaskSchema t (length m.parameters)) (sym of.task)
+            (at_parameters x.parameters m.parameters of.parameters (λ n names. IsTaskSchema t n (subtask_of v names x.task)) (decomposed_typed decomposed known));
+        compound = subst (λ (z : model.TaskSchema). z.name < length t.tasks) (sym of.task) (decomposed_compound decomposed known);
+        precondition =
+            subst (All (IsFormula t (length m.parameters))) (sym of.precondition)
+            (at_parameters x.parameters m.parameters of.parameters (λ n names. All (IsFormula t n) (formulas_of v names x.precondition))
+            (formulas_typed variables x.precondition
+            (λ u g. known_atom d p fits source.Domain s is_in u g)
+            (λ z g. known_side d p fits source.Domain s is_in z (in_left z (sides_in variables x.precondition) (constraints_in variables x.network) g))));
+        constraints =
+            subst (All (IsEqualitySchema t (length m.parameters))) (sym of.constraints)
+            (at_parameters x.parameters m.parameters of.parameters (λ n names. All (IsEqualitySchema t n) (map (equality_of v names) x.network.constraints))
+            (constraints_typed variables x.network
+            (λ z g. known_side d p fits source.Domain s is_in z (in_right z (sides_in variables x.precondition) (constraints_in variables x.network) g))));
+        network =
+            at_parameters x.parameters m.parameters of.parameters (λ n names. IsNetworkOf v names x.network m.network → IsNetworkSchema t n m.network)
+            (λ network. network_typed variables x.network m.network network (λ u g. known_subtask d p fits source.Domain s is_in u g) (method_order_acyclic d p fits x h))
+            of.network;
+      }
+
+  effects_typed : (variables : List Variable) (kept : Bool → Bool) (effect : List LiteralText)
+      → ((u : Use) → IsIn u (map (λ l. record { variables = variables; atom = l.atom }) effect) → Knows d p (predicate_names d) (predicate_signatures d) u)
+      → All (IsAtomSchema t (length variables)) (effects_of v (names_of variables) kept effect)
+  effects_typed variables kept effect known =
+      each_mapped (IsAtomSchema t (length variables)) (λ l. atom_of v (names_of variables) l.atom) (filter (λ l. kept l.is_positive) effect)
+      (λ l h.
+      atom_typed (record { variables = variables; atom = l.atom })
+      (known (record { variables = variables; atom = l.atom })
+      (in_map (λ l. record { variables = variables; atom = l.atom }) l effect (in_filter (λ l. kept l.is_positive) l effect h))))
+
+  action_typed : (x : ActionText) → IsIn x d.actions → IsActionSchema t (action_of v x)
+  action_typed x h =
+      let s : Schema = schema_of_action x in
+      let is_in : IsIn s (domain_schemas d) = action_schema d p fits x h in
+      let variables : List Variable = parameters_of x.parameters in
+      let effects : List Use = map (λ l. record { variables = variables; atom = l.atom }) x.effect in
+      let of_effect : (kept : Bool → Bool) → All (IsAtomSchema t (length (types_of v x.parameters))) (effects_of v (variables_of x.parameters) kept x.effect) =
+      λ kept.
+      at_parameters x.parameters (types_of v x.parameters) refl (λ n names. All (IsAtomSchema t n) (effects_of v names kept x.effect))
+      (effects_typed variables kept x.effect (λ u g. known_atom d p fits source.Domain s is_in u (in_right u (atoms_in variables x.precondition) effects g))) in
+      record {
+        parameters = types_typed x.parameters;
+        precondition =
+            at_parameters x.parameters (types_of v x.parameters) refl (λ n names. All (IsFormula t n) (formulas_of v names x.precondition))
+            (formulas_typed variables x.precondition
+            (λ u g. known_atom d p fits source.Domain s is_in u (in_left u (atoms_in variables x.precondition) effects g))
+            (λ z g. known_side d p fits source.Domain s is_in z g));
+        deletes = of_effect not;
+        adds = of_effect (λ b. b);
+      }
+
+  initial_typed : IsInitialSchema t t.initial_network
+  initial_typed =
+      let s : Schema = schema_of_network p in
+      let is_in : IsIn s (schemas_in d p source.Problem) = (0, omega arith, refl) in
+      let groups : List VariableGroup = p.htn.parameters in
+      let variables : List Variable = parameters_of groups in
+      record {
+        parameters = subst (AreTypes t) (sym is.parameters) (types_typed groups);
+        constraints =
+            subst (All (IsEqualitySchema t (length t.initial_network.parameters))) (sym is.constraints)
+            (at_parameters groups t.initial_network.parameters is.parameters (λ n names. All (IsEqualitySchema t n) (map (equality_of v names) p.htn.network.constraints))
+            (constraints_typed variables p.htn.network (λ z g. known_side d p fits source.Problem s is_in z g)));
+        network =
+            at_parameters groups t.initial_network.parameters is.parameters (λ n names. IsNetworkOf v names p.htn.network t.initial_network.network → IsNetworkSchema t n t.initial_network.network)
+            (λ network.
+            network_typed variables p.htn.network t.initial_network.network network (λ u g. known_subtask d p fits source.Problem s is_in u g)
+            (initial_order_acyclic d p fits))
+            is.network;
+      }
+
+  -- ### The states
+
+  states_in : IsIn (schema_of_states p) (schemas_in d p source.Problem)
+  states_in = (1, omega arith, refl)
+
+  goal_typed : All (IsFormula t 0) t.goal
+  goal_typed =
+      let s : Schema = schema_of_states p in
+      subst (All (IsFormula t 0)) (sym is.goal)
+      (formulas_typed [] p.goal
+      (λ u g. known_atom d p fits source.Problem s states_in u (in_right u (map (λ a. record { variables = []; atom = a }) p.init) (atoms_in [] p.goal) g))
+      (λ z g. known_side d p fits source.Problem s states_in z g))
+
+  -- a term with no parameter in force is an object
+  ground_term : (x : model.Term) → IsTerm t 0 x → value_of [] x < length t.objects
+  ground_term (model.parameter k) h = absurd (omega arith)
+  ground_term (model.object o) h = h
+
+  ground_typed : (a : model.AtomSchema) → IsAtomSchema t 0 a → IsGroundAtom t (ground_atom [] a)
+  ground_typed a typed = record {
+    declared = typed.declared;
+    arity = length-map a.arguments (value_of []) ∙ typed.arity;
+    arguments = each_mapped (λ o. o < length t.objects) (value_of []) a.arguments (λ x h. ground_term x (subst (IsTerm t 0) h.2 (typed.arguments h.0 x h.1)));
+  }
+
+  initial_atom : (a : AtomText) → IsIn a p.init → IsGroundAtom t (ground_atom [] (atom_of v [] a))
+  initial_atom a h =
+      let s : Schema = schema_of_states p in
+      let here : Use = record { variables = []; atom = a } in
+      ground_typed (atom_of v [] a)
+      (atom_typed here
+      (known_atom d p fits source.Problem s states_in here
+      (in_left here (map (λ a. record { variables = []; atom = a }) p.init) (atoms_in [] p.goal) (in_map (λ a. record { variables = []; atom = a }) a p.init h))))
+
+  initial_atoms_typed : (a : Atom) → contains t.initial_atoms a ≡ true → IsGroundAtom t a
+  initial_atoms_typed a h =
+      let atoms : List Atom = map (λ x. ground_atom [] (atom_of v [] x)) p.init in
+      let from = in_mapped (λ x. ground_atom [] (atom_of v [] x)) p.init a ((set_of-Contains atoms a).0 (subst (λ s. contains s a ≡ true) is.initial_atoms h)) in
+      subst (IsGroundAtom t) from.same (initial_atom from.x from.is_in)
+
+  -- ### Types of objects
+
+  object_type_typed : (k : ℕ) (type : model_task.ObjectType) → k < length t.types → IsObjectType t (get_or t.types k type)
+  object_type_typed k type within =
+      let here : model_task.ObjectType = get_or t.types k type in
+      let same : objects_of t k ≡ here.objects = get_or-map (λ x. x.objects) t.types k type [] within in
+      record {
+        ascending = is.ascending k here (slice_get-get_or t.types k type within);
+        declared = λ j o lt.
+            let number : ℕ = get_or here.objects j o in
+            is.within k number
+            (ap (list_any (nat_eq number)) same ∙ list_any_at (nat_eq number) here.objects j o lt ((unsigned_Decides number number).1 refl));
+      }
+
+  well_typed : IsWellTyped t
+  well_typed = record {
+    types = λ k type within. object_type_typed k type within;
+    predicates =
+        subst (All (λ x. AreTypes t x.types)) (sym is.predicates) (each_mapped (λ x. AreTypes t x.types) (predicate_of v) d.predicates (λ x h. types_typed x.parameters));
+    tasks = subst (All (λ x. AreTypes t x.types)) (sym is.tasks) (each_mapped (λ x. AreTypes t x.types) (compound_of v) d.tasks (λ x h. types_typed x.parameters));
+    methods = All-from_recursion (IsMethodSchema t) t.methods (zipped (IsMethodOf v) (IsMethodSchema t) d.methods t.methods is.methods (λ x m h of. method_typed x h m of));
+    actions = subst (All (IsActionSchema t)) (sym is.actions) (each_mapped (IsActionSchema t) (action_of v) d.actions action_typed);
+    initial_network = initial_typed;
+    initial_atoms = initial_atoms_typed;
+    goal = goal_typed;
+  }
+
+pub tasks_are_well_typed : TasksAreWellTyped
+tasks_are_well_typed d p t fits is = well_typed d p t fits is
