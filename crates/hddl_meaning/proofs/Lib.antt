@@ -1,6 +1,6 @@
 pub mod Listed
-pub mod Limits
-pub mod Conditions
-pub mod Numbers
 pub mod Unique
+pub mod Limits
+pub mod Numbers
+pub mod Conditions
 pub mod WellTyped
