@@ -9,7 +9,6 @@ use Rattle.htn_model.specs.Choice.{child_of, is_free, first_free_compound}
 use Rattle.htn_order.specs.Free.{IsFirstFree, HasNoneFree}
 use Rattle.htn_order.proofs.Free.{first_passing, none_passing}
 
-
 and_false : (p : Bool) → (p && false) ≡ false
 and_false true = refl
 and_false false = refl

@@ -1,1 +1,4 @@
+pub mod Cache
+pub mod Choices
 pub mod Hashes
+pub mod Live

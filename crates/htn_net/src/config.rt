@@ -10,7 +10,7 @@ ghost use Rattle.htn_model.specs.Machine.{IsProper, config_eq};
 ghost use Rattle.htn_model.specs.Problem.{is_before, task};
 
 use crate::splice::splice;
-use htn_ground::{Child, ChildList, GroundTask};
+use htn_ground::{Child, ChildList, GroundTask, Instance};
 use htn_order::Order;
 use htn_state::{LiteralList, State};
 use std::alloc::{AllocError, Global};
@@ -40,6 +40,43 @@ impl Model for Config {
 }
 
 impl Config {
+    /// The configuration in which the nodes of a network are open in a state.
+    pub(crate) fn of(state: Arc<State>, instance: &Instance) -> Result<Config, AllocError>
+        requires { length instance.now.network.order ≡ length instance.now.network.children }
+        ensures { IfOk result (λ c. c ≡ record { state = arc_value state; open_nodes = instance.now.network.children; order = instance.now.network.order }) }
+    {
+        let open_nodes = instance.children().clone()?;
+        let order = instance.order().clone()?;
+        Ok(Config {
+            state,
+            open_nodes,
+            order,
+        })
+    }
+
+    /// The state.
+    pub fn state(&self) -> &State
+        ensures { result.now ≡ self.now.state }
+    {
+        &self.state
+    }
+
+    /// The state, as its owners share it.
+    pub(crate) fn shared_state(&self) -> Result<Arc<State>, AllocError>
+        ensures { IfOk result (λ s. arc_value s ≡ self.now.state) }
+    {
+        Arc::try_clone(&self.state)
+    }
+
+    /// Which open nodes are before which others.
+    pub fn order(&self) -> &Order
+        ensures value { result.now ≡ self.now.order }
+        ensures proper { IsProper self.now }
+    {
+        let _size = self.order.size();
+        &self.order
+    }
+
     /// The number of open nodes. It takes no memory.
     pub fn open_len(&self) -> u64
         ensures value { result ≡ length self.now.open_nodes }
