@@ -1,11 +1,9 @@
 -- The networks of a task's instances have orders on their nodes.
-use Rattle.std.proofs.Common.{◌≡◌, ℕ, List, length, map, Some, Contains, slice_get, sym, ap, ◌∙◌}
+use Rattle.std.proofs.Common.{◌≡◌, length, Some, Contains, slice_get, ap, ◌∙◌}
 use Rattle.std.proofs.lemmas.Option.{slice_get-get_or, slice_get-map}
 use Rattle.std.specs.Option.{option_map}
 use Rattle.htn_model.specs.Instance.{Instance}
 use Rattle.htn_model.specs.Instances.{initials}
-use Rattle.htn_model.specs.Problem.{Problem, IsGrounded}
-use Rattle.htn_model.specs.Grounding.{problem_of}
 use Rattle.htn_model.specs.Task.{Task, IsWellTyped}
 use Rattle.htn_model.proofs.Grounded.{tasks_are_grounded}
 

@@ -1,5 +1,5 @@
 -- What the program's choices are to the model.
-use Rattle.std.specs.Prelude.{◌≡◌, ℕ, List, Option, Some, map}
+use Rattle.std.specs.Prelude.{◌≡◌, ℕ, List, Some, map}
 use Rattle.std.specs.List.{enumerate_from}
 use Rattle.std.specs.Arc.{arc_value}
 use Rattle.htn_model.specs.Choice.{first_free_compound, child_of}

@@ -1,5 +1,5 @@
 -- The numbers of a configuration.
-use Rattle.std.specs.Prelude.{◌≡◌, ℕ, Bool, false, not, List, Option, Some, None, is_some}
+use Rattle.std.specs.Prelude.{ℕ, Bool, false, not, List, Option, Some, None, is_some}
 use Rattle.std.specs.List.{enumerate_from}
 use Rattle.htn_model.specs.Problem.{GroundTask, Problem}
 use Rattle.htn_model.specs.Choice.{passing}

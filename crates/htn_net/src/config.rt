@@ -8,6 +8,7 @@ ghost use Rattle.htn_model.specs.Literal.{holds};
 ghost use Rattle.htn_model.specs.Machine as machine;
 ghost use Rattle.htn_model.specs.Machine.{IsProper, config_eq};
 ghost use Rattle.htn_model.specs.Problem.{is_before, task};
+ghost use Rattle.htn_ground.specs.Views.{child_view};
 
 use crate::splice::splice;
 use htn_ground::{Child, ChildList, GroundTask, Instance};
@@ -93,6 +94,15 @@ impl Config {
         &self.open_nodes
     }
 
+    /// The open node at a position.
+    pub fn node_at(&self, position: usize) -> &Child
+        requires { position < length self.now.open_nodes }
+        ensures { child_view result.now ≡ child_of self.now.open_nodes position }
+    {
+        let nodes = self.open_nodes.as_slice();
+        &nodes[position]
+    }
+
     /// Whether no node is open and the goal holds. It takes no memory.
     pub fn is_done(&self, goal: &LiteralList) -> bool
         ensures { result ≡ (is_empty self.now.open_nodes && holds self.now.state goal.now) }
@@ -136,6 +146,38 @@ impl Config {
             open_nodes,
             order,
         })
+    }
+
+    /// The configuration where the compound task at a position is decomposed by an instance.
+    pub(crate) fn decomposed(
+        &self,
+        alloc: Global,
+        at: usize,
+        instance: &Instance,
+    ) -> Result<Config, AllocError>
+        requires placed { at < length self.now.open_nodes }
+        requires whole { length instance.now.network.order ≡ length instance.now.network.children }
+        ensures { IfOk result (λ c. c ≡ machine.replaced self.now at instance.now.network self.now.state) }
+    {
+        let state = self.shared_state()?;
+        let next = self.replaced(alloc, at, instance.children(), instance.order(), state)?;
+        Ok(next)
+    }
+
+    /// The configuration where the step or action at a position is gone, and the state is this one.
+    pub(crate) fn performed(
+        &self,
+        alloc: Global,
+        at: usize,
+        state: &Arc<State>,
+    ) -> Result<Config, AllocError>
+        requires { at < length self.now.open_nodes }
+        ensures { IfOk result (λ c. c ≡ machine.replaced self.now at machine.no_network (arc_value state.now)) }
+    {
+        let state = Arc::try_clone(state)?;
+        let none = ChildList::new(alloc);
+        let next = self.replaced(alloc, at, &none, &Order::empty(), state)?;
+        Ok(next)
     }
 }
 

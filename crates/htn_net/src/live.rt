@@ -23,11 +23,10 @@ pub(crate) fn performances(
     ensures offered { IfOk result (λ choices. (cache : LiveCache) → All (IsOffered (problem_of task.now) cache config.now) choices.items) }
     ensures numbers { IfOk result (λ choices. map (λ x. x.number) choices.items ≡ live_numbers (problem_of task.now) config.now) }
 {
-    let nodes = config.open_nodes().as_slice();
     let free = config.order().free_positions(alloc)?;
     let mut choices = Vec::new(alloc);
     for (number, position) in free.iter().enumerate() {
-        if let Some(state) = perform(alloc, task, config, &nodes[*position])? {
+        if let Some(state) = perform(alloc, task, config, config.node_at(*position))? {
             choices.push(LiveChoice {
                 number: number as u64,
                 position: *position,
