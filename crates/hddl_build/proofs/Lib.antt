@@ -1,3 +1,4 @@
 pub mod Groups
 pub mod Positions
 pub mod Steps
+pub mod Formulas

@@ -1,2 +1,3 @@
 pub mod Scopes
 pub mod Vocabularies
+pub mod Labels

@@ -5,11 +5,10 @@ ghost use Rattle.hddl_meaning.specs.Mentions.{mention_of};
 ghost use Rattle.hddl_meaning.specs.Names.{number_in};
 ghost use Rattle.hddl_meaning.specs.Types.{text_or_object};
 ghost use Rattle.hddl_meaning.specs.Building.{types_of};
-ghost use Rattle.hddl_build.specs.Vocabularies.{IsNumbered, names_of};
+ghost use Rattle.hddl_build.specs.Vocabularies.{IsNumbered};
 
 use crate::number::number_of_type;
-use crate::vocabulary::Vocabulary;
-use hddl_names::Names;
+use hddl_names::{Names, Vocabulary};
 use hddl_tree::VariableGroup;
 use std::alloc::{AllocError, Global};
 
@@ -37,12 +36,12 @@ pub(crate) fn types_of(
     vocabulary: &Vocabulary,
     groups: &[VariableGroup],
 ) -> Result<Vec<u16>, AllocError>
-    requires { IsNumbered (names_of vocabulary.now) }
-    ensures { IfOk result (λ types. types.items ≡ types_of (names_of vocabulary.now) groups.now) }
+    requires { IsNumbered vocabulary.now }
+    ensures { IfOk result (λ types. types.items ≡ types_of vocabulary.now groups.now) }
 {
     let mut types = Vec::new(alloc);
     for group in groups {
-        push_group(alloc, &vocabulary.types, group, &mut types)?;
+        push_group(alloc, vocabulary.types(), group, &mut types)?;
     }
     Ok(types)
 }

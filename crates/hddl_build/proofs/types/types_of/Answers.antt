@@ -5,7 +5,6 @@ use Rattle.hddl_tree.specs.declared.term.VariableGroup.{VariableGroup}
 use Rattle.hddl_meaning.specs.Mentions.{Text, mention_of}
 use Rattle.hddl_meaning.specs.Names.{number_in}
 use Rattle.hddl_meaning.specs.Types.{text_or_object}
-use Rattle.hddl_build.specs.Vocabularies.{names_of}
 use Rattle.hddl_build.proofs.Groups.{types_by_group}
 use Rattle.hddl_build.proofs.Steps.{flat_step, flat_end}
 use Rattle.hddl_build.proofs.types.types_of.Goals as goal
@@ -25,4 +24,4 @@ returns c =
     flat_end (group_types c.args.vocabulary.now.types) c.new-types.result.items c.loop-group.types.items c.args.groups.now c.loop-group.group-index
     c.loop-group-test.false c.loop-group.invariant
     ∙ ap (λ (l : List ℕ). l ++ flat_map (group_types c.args.vocabulary.now.types) c.args.groups.now) c.new-types.ensures.items
-    ∙ sym (types_by_group (names_of c.args.vocabulary.now) c.args.groups.now)
+    ∙ sym (types_by_group c.args.vocabulary.now c.args.groups.now)
