@@ -2,3 +2,5 @@ pub mod Groups
 pub mod Positions
 pub mod Steps
 pub mod Formulas
+pub mod Labelled
+pub mod Pairs

@@ -1,3 +1,4 @@
 pub mod Scopes
 pub mod Vocabularies
 pub mod Labels
+pub mod Initial

@@ -2,6 +2,7 @@
 ghost use Rattle.std.specs.Prelude.{◌≡◌, cond, Some, None, IfOk, OnOk};
 ghost use Rattle.hddl_meaning.specs.Mentions.{Text, folded};
 ghost use Rattle.hddl_meaning.specs.Names.{is_same_text};
+ghost use Rattle.hddl_meaning.specs.Networks.{is_text};
 ghost use Rattle.hddl_build.specs.Labels.{AreLabelsOf, first_of, position_in};
 
 use hddl_names::fold;
@@ -24,22 +25,43 @@ impl Labels {
             positions: IndexMap::new(alloc),
         };
         for (position, subtask) in subtasks.iter().enumerate() {
-            if let Some(label) = &subtask.label {
-                labels.add(alloc, label, position)?;
-            }
+            labels.add(alloc, subtask, position)?;
         }
         Ok(labels)
     }
 
+    /// Gives the label of a subtask its position, unless it has no label or the label has a position.
+    fn add(
+        &mut self,
+        alloc: Global,
+        subtask: &SubtaskText,
+        position: usize,
+    ) -> Result<(), AllocError>
+        ensures { OnOk result ((text : Text)
+          → position_in self.new text ≡ first_of (position_in self.old text) (cond (is_text text subtask.now.label) (Some position) None)) }
+    {
+        match &subtask.label {
+            Some(label) => self.add_label(alloc, label, position)?,
+            None => {}
+        }
+        Ok(())
+    }
+
     /// Gives a label its position, unless it has one.
-    fn add(&mut self, alloc: Global, label: &Name, position: usize) -> Result<(), AllocError>
+    fn add_label(
+        &mut self,
+        alloc: Global,
+        label: &Name,
+        position: usize,
+    ) -> Result<(), AllocError>
         ensures { OnOk result ((text : Text)
           → position_in self.new text ≡ first_of (position_in self.old text) (cond (is_same_text text (folded label.now.text)) (Some position) None)) }
     {
         let text = fold(alloc, label.text())?;
-        if self.positions.get(text.as_slice()).is_none() {
-            self.positions.insert(text, position)?;
+        if self.positions.contains_key(text.as_slice()) {
+            return Ok(());
         }
+        self.positions.insert(text, position)?;
         Ok(())
     }
 

@@ -5,6 +5,8 @@ mod formula;
 mod labels;
 mod network;
 mod number;
+mod schema;
 mod scope;
+mod state;
 mod term;
 mod types;

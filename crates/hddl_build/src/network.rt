@@ -1,9 +1,10 @@
 //! Task networks with their closed orders.
-ghost use Rattle.std.specs.Prelude.{◌≡◌, map, length, IfOk, OnOk};
-ghost use Rattle.htn_order.specs.Closure.{AreBelow, IsAcyclic};
+ghost use Rattle.std.specs.Prelude.{◌≡◌, ◌++◌, map, IfOk, OnOk};
+ghost use Rattle.htn_model.specs.Problem.{IsSquare};
+ghost use Rattle.htn_order.specs.Closure.{AreBelow, IsAcyclic, IsClosureOf, successors};
 ghost use Rattle.hddl_meaning.specs.Building as building;
 ghost use Rattle.hddl_meaning.specs.Building.{IsNetworkOf};
-ghost use Rattle.hddl_meaning.specs.Networks.{IsOrderOf, order_pairs, written_pairs};
+ghost use Rattle.hddl_meaning.specs.Networks.{IsOrderOf, order_pairs, pair_of, written_pairs};
 ghost use Rattle.hddl_build.specs.Vocabularies.{IsNumbered};
 
 use crate::labels::Labels;
@@ -15,40 +16,75 @@ use htn_order::{Order, OrderFault, close, close_chain};
 use htn_task::{EqualitySchema, NetworkSchema, TaskSchema};
 use std::alloc::{AllocError, Global};
 
+/// Adds a pair of positions where both are known.
+fn push_pair(
+    pairs: &mut Vec<(usize, usize)>,
+    before: Option<usize>,
+    after: Option<usize>,
+) -> Result<(), AllocError>
+    ensures { OnOk result (pairs.new.items ≡ pairs.old.items ++ pair_of before after) }
+{
+    if let (Some(before), Some(after)) = (before, after) {
+        pairs.push((before, after))?;
+    }
+    Ok(())
+}
+
 /// The pairs of positions that the orderings of a network give.
 fn written_pairs(alloc: Global, network: &NetworkText) -> Result<Vec<(usize, usize)>, AllocError>
-    ensures pairs { IfOk result (λ pairs. pairs.items ≡ written_pairs network.now) }
-    ensures below { IfOk result (λ pairs. AreBelow (length network.now.subtasks) pairs.items) }
+    ensures { IfOk result (λ pairs. pairs.items ≡ written_pairs network.now) }
 {
     let labels = Labels::of(alloc, network.subtasks.as_slice())?;
     let mut pairs = Vec::new(alloc);
     for ordering in network.orderings.as_slice() {
         let before = labels.position_of(alloc, &ordering.before)?;
         let after = labels.position_of(alloc, &ordering.after)?;
-        if let (Some(before), Some(after)) = (before, after) {
-            pairs.push((before, after))?;
-        }
+        push_pair(&mut pairs, before, after)?;
     }
     Ok(pairs)
 }
 
+/// The order of a list that is ordered, with pairs of `:ordering`.
+fn chain_of(size: usize, pairs: &[(usize, usize)]) -> Order
+    requires below { AreBelow size pairs.now }
+    requires acyclic { IsAcyclic (successors size ++ pairs.now) }
+    ensures square { IsSquare size result }
+    ensures closure { IsClosureOf (successors size ++ pairs.now) result }
+{
+    match close_chain(size, pairs) {
+        Ok(order) => order,
+        Err(_) => unreachable!(),
+    }
+}
+
+/// The order of pairs.
+fn closure_of(alloc: Global, size: usize, pairs: &[(usize, usize)]) -> Result<Order, AllocError>
+    requires below { AreBelow size pairs.now }
+    requires acyclic { IsAcyclic pairs.now }
+    ensures square { IfOk result (IsSquare size) }
+    ensures closure { IfOk result (IsClosureOf pairs.now) }
+{
+    match close(alloc, size, pairs) {
+        Ok(order) => Ok(order),
+        Err(OrderFault::Cycle(_)) => unreachable!(),
+        Err(OrderFault::OutOfMemory) => Err(AllocError),
+    }
+}
+
 /// The closed order that a network declares.
+#[tactic(auto, using(crate::proofs::Pairs::written_below))]
 fn order_of(alloc: Global, network: &NetworkText) -> Result<Order, AllocError>
     requires { IsAcyclic (order_pairs network.now) }
     ensures { IfOk result (IsOrderOf network.now) }
 {
     let pairs = written_pairs(alloc, network)?;
     let size = network.subtasks.len();
-    let closed = if network.is_ordered {
-        close_chain(size, &pairs)
-    } else {
-        close(alloc, size, &pairs)
-    };
-    match closed {
-        Ok(order) => Ok(order),
-        Err(OrderFault::Cycle(_)) => unreachable!(),
-        Err(OrderFault::OutOfMemory) => Err(AllocError),
+    if network.is_ordered {
+        let chain = chain_of(size, &pairs);
+        return Ok(chain);
     }
+    let order = closure_of(alloc, size, &pairs)?;
+    Ok(order)
 }
 
 fn subtasks_of(

@@ -52,6 +52,15 @@ impl<'a> Scope<'a> {
         }
     }
 
+    /// The variables of these groups, or an error where memory was refused or they are too many.
+    pub(crate) fn of(alloc: Global, groups: &'a [VariableGroup]) -> Result<Scope<'a>, AllocError>
+        ensures { IfOk result (λ scope. scope ≡ variables_of groups.now) }
+    {
+        let none = Scope::empty(alloc);
+        let scope = none.with(alloc, groups)?;
+        Ok(scope)
+    }
+
     /// These variables, and then those of the groups, or an error where memory was refused or they are too many.
     #[tactic(auto, using(crate::proofs::Groups::variables_by_group))]
     pub(crate) fn with(

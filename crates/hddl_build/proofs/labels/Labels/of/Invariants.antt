@@ -3,4 +3,4 @@ use Rattle.hddl_build.specs.Labels.{AreLabelsOf}
 use Rattle.hddl_build.proofs.labels.Labels.of.Given as goal
 
 abbrev pub invariant-loop-position : goal.invariant-loop-position
-invariant-loop-position l = AreLabelsOf (take l.position l.subtask-items) l.labels
+invariant-loop-position l = AreLabelsOf (take l.position l.subtasks) l.labels
