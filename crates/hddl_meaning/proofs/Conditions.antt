@@ -1,17 +1,16 @@
 -- The formulas of a condition are well typed where its atoms, its equalities and its types are.
-use Rattle.std.proofs.Common.{◌≡◌, ℕ, ◌+◌, Bool, true, false, List, [], ◌∷◌, ◌++◌, length, map, sym, refl, ap, ◌∙◌, subst, arith, length-append}
+use Rattle.std.proofs.Common.{◌≡◌, ◌+◌, Bool, true, false, List, [], ◌∷◌, ◌++◌, length, map, sym, refl, ap, ◌∙◌, subst, length-append}
 use Rattle.std.specs.List.{flat_map}
 use Rattle.std.proofs.lemmas.List.{length-map, map-append}
 use Rattle.htn_model.specs.Schema as model
 use Rattle.htn_model.specs.Task.{AreFormulas, AreTypes, IsAtomSchema, IsFormula, IsTerm, Task}
 use Rattle.hddl_tree.specs.declared.term.VariableGroup.{VariableGroup}
-use Rattle.hddl_tree.specs.declared.condition.EqualityText.{EqualityText}
 use Rattle.hddl_tree.specs.declared.condition.Condition.{Condition, fold-Condition, map-Condition, roll-Condition}
 use Rattle.hddl_tree.specs.declared.condition.Condition.TheOpen.{Condition-F}
 use Rattle.hddl_tree.specs.declared.condition.Condition.TheFolds.{fold-roll-Condition, ind-Condition}
 use Rattle.hddl_meaning.specs.Mentions.{IsIn, Text, Typed, mentions_of, texts, typed_variables}
-use Rattle.hddl_meaning.specs.Uses.{TermUse, Use, Variable, atoms_step, parameters_of, quantified_of, sides, sides_step}
-use Rattle.hddl_meaning.specs.Building.{Vocabulary, atom_of, equality_of, formula_of, formula_step, term_of, types_of, variables_of}
+use Rattle.hddl_meaning.specs.Uses.{TermUse, Use, Variable, atoms_step, parameters_of, quantified_of, sides_step}
+use Rattle.hddl_meaning.specs.Building.{Vocabulary, atom_of, formula_of, formula_step, term_of, types_of, variables_of}
 use Rattle.hddl_meaning.proofs.Listed.{at_head, at_tail, in_left, in_right}
 
 -- ## The variables in force as texts
@@ -69,8 +68,7 @@ module _ (t : Task) (v : Vocabulary) (KnowsAtom : Use → Type 0) (KnowsTerm : T
   body_typed [] variables atoms terms = tt
   body_typed (part ∷ parts) variables atoms terms =
       let later_atoms = flat_map (λ part. part variables) (map atoms_of (conditions_in parts)) in
-      let later_sides = flat_map (λ part. part variables) (map sides_of (conditions_in parts)) in
-      (
+      let later_sides = flat_map (λ part. part variables) (map sides_of (conditions_in parts)) in (
         part.1 variables (λ u h. atoms u (in_left u (atoms_of part.0 variables) later_atoms h)) (λ x h. terms x (in_left x (sides_of part.0 variables) later_sides h)),
         body_typed parts variables (λ u h. atoms u (in_right u (atoms_of part.0 variables) later_atoms h)) (λ x h. terms x (in_right x (sides_of part.0 variables) later_sides h)),
       )
@@ -94,22 +92,20 @@ module _ (t : Task) (v : Vocabulary) (KnowsAtom : Use → Type 0) (KnowsTerm : T
   layer_typed (Condition-F.Equality e) variables atoms terms =
       let left : TermUse = record { variables = variables; term = e.left } in
       let right : TermUse = record { variables = variables; term = e.right } in
-      subst (IsFormula t (length variables)) (sym (formula_at (Condition-F.Equality e) (names_of variables)))
-      (
+      subst (IsFormula t (length variables)) (sym (formula_at (Condition-F.Equality e) (names_of variables))) (
         term_typed left (terms left (subst (IsIn left) (sym (sides_at (Condition-F.Equality e) variables)) (at_head left (right ∷ [])))),
         term_typed right (terms right (subst (IsIn right) (sym (sides_at (Condition-F.Equality e) variables)) (at_tail left right (right ∷ []) (at_head right [])))),
       )
   layer_typed (Condition-F.Forall groups body) variables atoms terms =
       let inner : List Variable = variables ++ quantified_of groups in
       let x : Condition-F Condition = Condition-F.Forall groups (conditions_in body) in
-      subst (IsFormula t (length variables)) (sym (formula_at x (names_of variables)))
-      (
+      subst (IsFormula t (length variables)) (sym (formula_at x (names_of variables))) (
         types_typed groups,
         subst (λ n. AreFormulas t n (model.formulas_of (map (λ f. f (names_of variables ++ variables_of groups)) (map (formula_of v) (conditions_in body))))) (count_with v variables groups)
-        (subst (λ names. AreFormulas t (length inner) (model.formulas_of (map (λ f. f names) (map (formula_of v) (conditions_in body))))) (names_with variables groups)
-        (body_typed body inner
-        (λ u h. atoms u (subst (IsIn u) (sym (atoms_at x variables)) h))
-        (λ z h. terms z (subst (IsIn z) (sym (sides_at x variables)) h)))),
+            (subst (λ names. AreFormulas t (length inner) (model.formulas_of (map (λ f. f names) (map (formula_of v) (conditions_in body))))) (names_with variables groups)
+            (body_typed body inner
+            (λ u h. atoms u (subst (IsIn u) (sym (atoms_at x variables)) h))
+            (λ z h. terms z (subst (IsIn z) (sym (sides_at x variables)) h)))),
       )
 
   pub formula_typed : (c : Condition) → IsTyped c

@@ -1,5 +1,5 @@
 -- The limits that a pair keeps that fits together, and its orders, which have no cycle.
-use Rattle.std.proofs.Common.{◌≡◌, ℕ, zero, suc, ◌+◌, ◌<◌, ◌≤◌, Bool, true, false, cond, List, [], ◌∷◌, ◌++◌, length, map, ◌⊎◌, inl, inr, sym, refl, ap, ◌∙◌, subst, arith, append_assoc, append-nil, length-append}
+use Rattle.std.proofs.Common.{◌≡◌, ℕ, zero, suc, ◌+◌, ◌<◌, ◌≤◌, Bool, true, false, cond, List, [], ◌∷◌, ◌++◌, length, map, inl, inr, sym, refl, ap, ◌∙◌, subst, arith, append_assoc, append-nil, length-append}
 use Rattle.std.specs.List.{flat_map, list_any}
 use Rattle.std.proofs.lemmas.Bool.{both_ways, cases_order}
 use Rattle.std.proofs.lemmas.List.{length-map, length_push, map-append}
@@ -11,16 +11,17 @@ use Rattle.hddl_tree.specs.declared.domain.ActionText.{ActionText}
 use Rattle.hddl_tree.specs.declared.domain.DomainText.{DomainText}
 use Rattle.hddl_tree.specs.declared.problem.ProblemText.{ProblemText}
 use Rattle.htn_order.specs.Closure.{IsAcyclic}
-use Rattle.hddl_meaning.specs.Mentions.{IsIn, Mention, Text, folded, mention_of, mentions_of, Typed, texts, typed_names, typed_variables}
-use Rattle.hddl_meaning.specs.Names.{distinct, is_same_text, object, object_declarations, object_names, type_mentions, type_names, with_name}
+use Rattle.hddl_meaning.specs.Mentions.{Text, IsIn, Mention, folded, mention_of, mentions_of, Typed, texts, typed_names, typed_variables}
+use Rattle.hddl_meaning.specs.Names.{compound_names, predicate_names, task_names, distinct, is_same_text, object, object_declarations, object_names, type_mentions, type_names, with_name}
 use Rattle.hddl_meaning.specs.Networks.{order_pairs}
-use Rattle.hddl_meaning.specs.Uses.{Quantifier, Schema, domain_schemas, problem_schemas, schema_of_action, schema_of_method, schema_of_network}
-use Rattle.hddl_meaning.specs.Items.{IsPast, IsPastDistinct, IsPastObjects, IsTooMany, IsWellTypedPair, declaration_lists, declared_objects, most_declarations, most_parameters, most_subtasks, most_variables, networks_in, parameter_lists, predicate_parameters, schemas_in, subtask_mentions, variable_lists, variable_mentions}
+use Rattle.hddl_meaning.specs.Uses.{Quantifier, Schema, domain_schemas, schema_of_action, schema_of_method, schema_of_network}
+use Rattle.hddl_meaning.specs.Items.{IsPast, IsTooMany, IsWellTypedPair, declaration_lists, declared_objects, most_declarations, most_parameters, most_subtasks, most_variables, networks_in, parameter_lists, predicate_parameters, schemas_in, subtask_mentions, variable_lists, variable_mentions}
 use Rattle.hddl_meaning.specs.declared.fault.Source.{Source}
 use Rattle.hddl_meaning.specs.declared.fault.Source.TheVariants as source
 use Rattle.hddl_meaning.specs.declared.fault.At.{At}
 use Rattle.hddl_meaning.specs.declared.fault.CheckFault.TheVariants as fault
 use Rattle.hddl_meaning.proofs.Listed.{at_head, at_tail, distinct_cons, distinct_push, in_distinct, in_flat_map, in_left, in_map, in_right}
+use Rattle.hddl_meaning.proofs.Unique.{distinct_predicates, distinct_tasks}
 
 -- ## Longer than a limit
 
@@ -231,6 +232,20 @@ module _ (d : DomainText) (p : ProblemText) (fits : IsWellTypedPair d p) where
       let most = declarations_in (map (λ x. mention_of x.name) d.actions) (3, omega arith, refl) in
       let same : length (map (λ x. mention_of x.name) d.actions) ≡ length d.actions = length-map d.actions (λ x. mention_of x.name) in
       omega arith
+
+  -- the numbers of predicates, and of tasks and actions together
+  pub predicate_names_limit : length (distinct (predicate_names d)) ≤ 65535
+  predicate_names_limit =
+      let same : length (distinct (predicate_names d)) ≡ length d.predicates = ap length (distinct_predicates d p fits) ∙ length-map d.predicates (λ x. folded x.name.text) in
+      omega (arith, predicates_limit)
+
+  pub task_names_limit : length (distinct (task_names d)) ≤ 131070
+  task_names_limit =
+      let actions : List Text = map (λ x. folded x.name.text) d.actions in
+      let same : length (distinct (task_names d)) ≡ length (compound_names d) + length actions = ap length (distinct_tasks d p fits) ∙ length-append (compound_names d) actions in
+      let first : length (compound_names d) ≡ length d.tasks = length-map d.tasks (λ x. folded x.name.text) in
+      let second : length actions ≡ length d.actions = length-map d.actions (λ x. folded x.name.text) in
+      omega (arith, tasks_limit, actions_limit)
 
   typed_limit : (text : Source) (ts : List Typed) → IsIn (mentions_of ts) (parameter_lists d p text) → length ts ≤ 32
   typed_limit text ts h =
