@@ -4,3 +4,5 @@ pub mod Steps
 pub mod Formulas
 pub mod Labelled
 pub mod Pairs
+pub mod TypeObjects
+pub mod Numbered

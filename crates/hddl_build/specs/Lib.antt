@@ -2,3 +2,4 @@ pub mod Scopes
 pub mod Vocabularies
 pub mod Labels
 pub mod Initial
+pub mod ObjectLists

@@ -1,5 +1,5 @@
 //! Preconditions, goals and effects.
-ghost use Rattle.std.specs.Prelude.{◌≡◌, not, map, IfOk};
+ghost use Rattle.std.specs.Prelude.{◌≡◌, [], not, IfOk};
 ghost use Rattle.hddl_meaning.specs.Building as building;
 ghost use Rattle.hddl_build.specs.Vocabularies.{IsNumbered};
 ghost use Rattle.htn_task.specs.Formulas as formulas;
@@ -58,6 +58,20 @@ pub(crate) fn formulas_of<'a>(
         formulas.push(formula_of(alloc, vocabulary, scope, condition)?)?;
     }
     Ok(FormulaList::of(formulas))
+}
+
+/// The goal: a conjunction with no variables in force.
+pub(crate) fn goal_of(
+    alloc: Global,
+    vocabulary: &Vocabulary,
+    conditions: &[Condition],
+) -> Result<FormulaList, AllocError>
+    requires { IsNumbered vocabulary.now }
+    ensures { IfOk result (λ l. l ≡ building.formulas_of vocabulary.now [] conditions.now) }
+{
+    let scope = Scope::empty(alloc);
+    let goal = formulas_of(alloc, vocabulary, &scope, conditions)?;
+    Ok(goal)
 }
 
 /// The atoms under `not` of an effect.

@@ -5,8 +5,12 @@ mod formula;
 mod labels;
 mod network;
 mod number;
+mod objects;
 mod schema;
 mod scope;
 mod state;
+mod task;
 mod term;
 mod types;
+
+pub use task::build;
