@@ -1,10 +1,10 @@
 -- Typed lists, group by group.
-use Rattle.std.proofs.Common.{◌≡◌, ℕ, ◌+◌, Bool, not, List, [], ◌∷◌, ◌++◌, map, Some, None, Option, refl, sym, ap, ap₂, ◌∙◌, cond, nat_lt, length}
+use Rattle.std.proofs.Common.{◌≡◌, ◌+◌, Bool, not, List, [], ◌∷◌, ◌++◌, map, Some, None, refl, ap, ap₂, ◌∙◌, cond, nat_lt}
 use Rattle.std.specs.List.{flat_map, position, position_or_len}
 use Rattle.std.specs.Option.{option_map}
 use Rattle.std.proofs.lemmas.List.{map-append, length-map}
 use Rattle.hddl_tree.specs.declared.term.VariableGroup.{VariableGroup}
-use Rattle.hddl_meaning.specs.Mentions.{Text, Typed, folded, mention_of, variable_mention, typed_variables, mentions_of, texts}
+use Rattle.hddl_meaning.specs.Mentions.{Typed, folded, mention_of, variable_mention, typed_variables}
 use Rattle.hddl_meaning.specs.Names.{number_in}
 use Rattle.hddl_meaning.specs.Types.{text_or_object}
 use Rattle.hddl_meaning.specs.Building as building

@@ -1,5 +1,5 @@
 -- What fits in a pair that fits together.
-use Rattle.std.proofs.Common.{◌≡◌, ℕ, sym, subst, arith, get_or}
+use Rattle.std.proofs.Common.{◌≡◌, sym, subst, arith, get_or}
 use Rattle.std.specs.List.{All}
 use Rattle.htn_order.specs.Closure.{IsAcyclic}
 use Rattle.hddl_tree.specs.declared.domain.DomainText.{DomainText}

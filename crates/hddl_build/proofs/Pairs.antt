@@ -5,9 +5,7 @@ use Rattle.std.specs.List.{All, flat_map, position, position_or_len}
 use Rattle.std.proofs.lemmas.List.Elements.{All-append}
 use Rattle.htn_order.specs.Closure.{AreBelow}
 use Rattle.hddl_tree.specs.declared.network.NetworkText.{NetworkText}
-use Rattle.hddl_tree.specs.declared.network.OrderingText.{OrderingText}
 use Rattle.hddl_tree.specs.declared.network.SubtaskText.{SubtaskText}
-use Rattle.hddl_words.specs.Names.{Name}
 use Rattle.hddl_meaning.specs.Mentions.{folded}
 use Rattle.hddl_meaning.specs.Networks.{is_text, labelled, order_pairs, pair_of, written_pairs}
 use Rattle.htn_order.specs.Closure.{successors}

@@ -1,5 +1,5 @@
 -- The objects of the types of a task.
-use Rattle.std.proofs.Common.{◌≡◌, ℕ, ◌<◌, ◌↔◌, Bool, true, false, List, [], map, length, get_or, Some, None, Option, refl, sym, ap, ◌∙◌, subst, arith, nat_eq, nat_lt, Contains}
+use Rattle.std.proofs.Common.{◌≡◌, ℕ, ◌<◌, ◌↔◌, Bool, true, false, List, [], map, length, get_or, Some, refl, sym, ap, ◌∙◌, subst, nat_eq, nat_lt, Contains}
 use Rattle.std.specs.List.{list_any, slice_get}
 use Rattle.std.specs.List.Sorted.{IsStrictlySortedBy}
 use Rattle.std.specs.Ordering.{nat_cmp}

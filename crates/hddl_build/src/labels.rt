@@ -38,7 +38,7 @@ impl Labels {
         position: usize,
     ) -> Result<(), AllocError>
         ensures { OnOk result ((text : Text)
-          → position_in self.new text ≡ first_of (position_in self.old text) (cond (is_text text subtask.now.label) (Some position) None)) }
+            → position_in self.new text ≡ first_of (position_in self.old text) (cond (is_text text subtask.now.label) (Some position) None)) }
     {
         match &subtask.label {
             Some(label) => self.add_label(alloc, label, position)?,
@@ -48,14 +48,9 @@ impl Labels {
     }
 
     /// Gives a label its position, unless it has one.
-    fn add_label(
-        &mut self,
-        alloc: Global,
-        label: &Name,
-        position: usize,
-    ) -> Result<(), AllocError>
+    fn add_label(&mut self, alloc: Global, label: &Name, position: usize) -> Result<(), AllocError>
         ensures { OnOk result ((text : Text)
-          → position_in self.new text ≡ first_of (position_in self.old text) (cond (is_same_text text (folded label.now.text)) (Some position) None)) }
+            → position_in self.new text ≡ first_of (position_in self.old text) (cond (is_same_text text (folded label.now.text)) (Some position) None)) }
     {
         let text = fold(alloc, label.text())?;
         if self.positions.contains_key(text.as_slice()) {

@@ -68,13 +68,7 @@ fn action_of(
     let precondition = formulas_of(alloc, vocabulary, &scope, action.precondition.as_slice())?;
     let deletes = deletes_of(alloc, vocabulary, &scope, action.effect.as_slice())?;
     let adds = adds_of(alloc, vocabulary, &scope, action.effect.as_slice())?;
-    Ok(ActionSchema::new(
-        name,
-        parameters,
-        precondition,
-        deletes,
-        adds,
-    ))
+    Ok(ActionSchema::new(name, parameters, precondition, deletes, adds))
 }
 
 fn method_of(
@@ -94,14 +88,7 @@ fn method_of(
     let precondition = formulas_of(alloc, vocabulary, &scope, method.precondition.as_slice())?;
     let constraints = constraints_of(alloc, vocabulary, &scope, network.constraints.as_slice())?;
     let network = network_of(alloc, vocabulary, &scope, network)?;
-    Ok(MethodSchema::new(
-        name,
-        parameters,
-        task,
-        precondition,
-        constraints,
-        network,
-    ))
+    Ok(MethodSchema::new(name, parameters, task, precondition, constraints, network))
 }
 
 /// The initial network.

@@ -1,4 +1,4 @@
-use Rattle.std.proofs.Common.{◌≡◌, ◌++◌, ◌∙◌, List, ℕ, Option, [], ap, ap₂, sym, rules}
+use Rattle.std.proofs.Common.{◌≡◌, ◌++◌, ◌∙◌, List, ℕ, Option, ap, ap₂, rules}
 use Rattle.std.specs.List.{flat_map, position}
 use Rattle.hddl_tree.specs.declared.network.NetworkText.{NetworkText}
 use Rattle.hddl_tree.specs.declared.network.OrderingText.{OrderingText}

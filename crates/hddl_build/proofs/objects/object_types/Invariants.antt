@@ -6,5 +6,5 @@ abbrev pub invariant-loop-objects : goal.invariant-loop-objects
 invariant-loop-objects l = record {
   count : length l.found.items ≡ length l.yielded;
   names : map (λ t. t.name) l.found.items ≡ take (length l.yielded) l.names;
-  objects : map (λ t. t.objects) l.found.items ≡ lists_of l.yielded
+  objects : map (λ t. t.objects) l.found.items ≡ lists_of l.yielded;
 }

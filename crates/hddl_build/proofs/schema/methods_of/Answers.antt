@@ -1,6 +1,5 @@
-use Rattle.std.proofs.Common.{rules}
 use Rattle.hddl_meaning.specs.Building.{IsMethodOf}
-use Rattle.hddl_build.proofs.Steps.{zip_end, zip_step}
+use Rattle.hddl_build.proofs.Steps.{zip_step}
 use Rattle.hddl_build.proofs.schema.methods_of.Goals as goal
 
 pub loop-method-preserved : goal.loop-method-preserved

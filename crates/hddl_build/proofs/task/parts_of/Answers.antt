@@ -10,7 +10,6 @@ use Rattle.hddl_tree.specs.declared.domain.ActionText.{ActionText}
 use Rattle.hddl_tree.specs.declared.domain.MethodText.{MethodText}
 use Rattle.hddl_tree.specs.declared.domain.PredicateText.{PredicateText}
 use Rattle.hddl_tree.specs.declared.domain.TaskText.{TaskText}
-use Rattle.hddl_meaning.specs.Mentions.{Text}
 use Rattle.hddl_meaning.specs.Names.{object_names, type_names}
 use Rattle.hddl_meaning.specs.Building.{Vocabulary, IsMethodOf, IsNetworkOf, action_of, atom_of, compound_of, equality_of, formulas_of, predicate_of, types_of, variables_of}
 use Rattle.hddl_build.specs.ObjectLists.{lists_of}
@@ -49,12 +48,12 @@ returns c =
       predicates = c.in_ok-predicates.ensures ∙ ap₂ (λ (w : Vocabulary) (l : List PredicateText). map (predicate_of w) l) is c.as_slice.ensures;
       tasks = c.in_ok-tasks.ensures ∙ ap₂ (λ (w : Vocabulary) (l : List TaskText). map (compound_of w) l) is c.as_slice-2.ensures;
       methods = subst (λ (w : Vocabulary). AllZip (IsMethodOf w) d.methods c.in_ok-methods.methods.items) is
-      (subst (λ (l : List MethodText). AllZip (IsMethodOf v) l c.in_ok-methods.methods.items) c.as_slice-3.ensures c.in_ok-methods.ensures);
+          (subst (λ (l : List MethodText). AllZip (IsMethodOf v) l c.in_ok-methods.methods.items) c.as_slice-3.ensures c.in_ok-methods.ensures);
       actions = c.in_ok-actions.ensures ∙ ap₂ (λ (w : Vocabulary) (l : List ActionText). map (action_of w) l) is c.as_slice-4.ensures;
       parameters = c.in_ok-initial_network.ensures.parameters ∙ ap (λ (w : Vocabulary). types_of w htn.parameters) is;
       constraints = c.in_ok-initial_network.ensures.constraints ∙ ap (λ (w : Vocabulary). map (equality_of w (variables_of htn.parameters)) htn.network.constraints) is;
       network = subst (λ (w : Vocabulary). IsNetworkOf w (variables_of htn.parameters) htn.network first.network) is c.in_ok-initial_network.ensures.network;
       initial_atoms = c.in_ok-initial_atoms.ensures
-      ∙ ap₂ (λ (w : Vocabulary) (l : List AtomText). set_of (map (λ a. ground_atom [] (atom_of w [] a)) l)) is c.as_slice-5.ensures;
+          ∙ ap₂ (λ (w : Vocabulary) (l : List AtomText). set_of (map (λ a. ground_atom [] (atom_of w [] a)) l)) is c.as_slice-5.ensures;
       goal = c.in_ok-goal.ensures ∙ ap₂ (λ (w : Vocabulary) (l : List Condition). formulas_of w [] l) is c.as_slice-6.ensures;
     }

@@ -1,4 +1,4 @@
-use Rattle.std.proofs.Common.{◌≡◌, ◌++◌, ◌∙◌, List, ℕ, [], map, ap, sym, rules}
+use Rattle.std.proofs.Common.{◌++◌, ◌∙◌, List, ℕ, map, ap, sym, rules}
 use Rattle.std.specs.List.{flat_map}
 use Rattle.std.specs.Option.{option_map}
 use Rattle.hddl_tree.specs.declared.term.VariableGroup.{VariableGroup}

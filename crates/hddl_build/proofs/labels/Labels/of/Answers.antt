@@ -1,4 +1,4 @@
-use Rattle.std.proofs.Common.{◌≡◌, ◌∙◌, Option, ℕ, Some, None, ap, cond, rules}
+use Rattle.std.proofs.Common.{◌∙◌, Option, ℕ, Some, None, ap, cond}
 use Rattle.hddl_tree.specs.declared.network.SubtaskText.{SubtaskText}
 use Rattle.hddl_meaning.specs.Networks.{is_text}
 use Rattle.hddl_build.specs.Labels.{first_of}

@@ -1,4 +1,4 @@
-use Rattle.std.proofs.Common.{◌≡◌, ◌∙◌, ◌<◌, List, Bool, true, false, ap, sym, rules, arith, length, Bor}
+use Rattle.std.proofs.Common.{◌≡◌, ◌∙◌, List, true, false, ap, sym, rules, Bor}
 use Rattle.std.specs.List.{position, list_any}
 use Rattle.std.proofs.lemmas.List.{take_all}
 use Rattle.hddl_words.specs.Names.{Variable}

@@ -1,4 +1,4 @@
-use Rattle.std.proofs.Common.{rules, arith}
+use Rattle.std.proofs.Common.{arith}
 use Rattle.std.proofs.lemmas.Grind.{common_steps}
 use Rattle.hddl_build.proofs.Groups.{variables_by_group}
 use Rattle.hddl_build.proofs.scope.Scope.with.Goals as goal
