@@ -1,2 +1,3 @@
 pub mod Moves
 pub mod ChildPlaces
+pub mod Way

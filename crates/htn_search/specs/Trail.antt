@@ -1,7 +1,9 @@
 -- The trees before the moves of a word, from those after them.
-use Rattle.std.specs.Prelude.{ℕ, ◌+◌, ◌≤◌, List, [], ◌∷◌, ◌++◌, drop, length, take, ⊤}
+use Rattle.std.specs.Prelude.{◌≡◌, ℕ, ◌+◌, ◌≤◌, List, [], ◌∷◌, ◌++◌, drop, length, take, ⊤}
 use Rattle.htn_model.specs.Problem.{Child, precondition, action, task}
 use Rattle.htn_model.specs.Tree.{Node, leaf, step, compound, nodes_of}
+use Rattle.htn_model.specs.Choice.{child_of}
+use Rattle.htn_model.specs.Machine.{Config, Choice}
 use Rattle.htn_ground.specs.Views.{child_view}
 use Rattle.htn_search.specs.declared.trail.Move.{Move}
 
@@ -24,3 +26,10 @@ before_moves (m ∷ moves) trees = before_move m (before_moves moves trees)
 abbrev pub AreWithin : List Move → List Node → Type 0
 AreWithin [] trees = ⊤
 AreWithin (m ∷ moves) trees = (m.position + m.children ≤ length (before_moves moves trees)) × AreWithin moves trees
+
+-- the move records what a number chooses at a configuration
+pub record IsMove (c : Config) (number : ℕ) (choice : Choice) (m : Move) : Type 0 where
+  pub position : m.position ≡ choice.position
+  pub node : child_view m.node ≡ child_of c.open_nodes choice.position
+  pub chosen_by : m.number ≡ number
+  pub children : m.children ≡ length choice.network.children
