@@ -25,7 +25,7 @@ same_node (precondition literals) number children = refl
 same_node (action g) number children = refl
 same_node (task t) number children = refl
 
-same_places : (place : Place) (position count : ℕ) → child_places place position count ≡ theory.child_places place position count
+pub same_places : (place : Place) (position count : ℕ) → child_places place position count ≡ theory.child_places place position count
 same_places place position zero = refl
 same_places place position (suc count) = ap (λ l. (place ++ position ∷ []) ∷ l) (same_places place (suc position) count)
 
