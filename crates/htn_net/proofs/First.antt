@@ -1,5 +1,5 @@
 -- The first free compound task, found by going from one free position to the next.
-use Rattle.std.proofs.Common.{◌≡◌, ℕ, ◌<◌, ◌≤◌, inl, inr, Bool, true, false, ◌&&◌, List, length, slice_get, get_or, [], Some, None, refl, sym, ap, ◌∙◌, subst, arith}
+use Rattle.std.proofs.Common.{◌≡◌, ℕ, ◌<◌, inl, inr, Bool, true, false, ◌&&◌, List, length, get_or, [], Some, None, refl, sym, ap, ◌∙◌, arith}
 use Rattle.std.proofs.lemmas.Bool.{cases_lt, and_from}
 use Rattle.std.proofs.lemmas.List.{length-map, get_or-map}
 use Rattle.htn_ground.specs.declared.child.Child.{Child as Node}
@@ -8,7 +8,6 @@ use Rattle.htn_model.specs.Problem.{Child, precondition, GroundTask, task, is_co
 use Rattle.htn_model.specs.Choice.{child_of, is_free, first_free_compound}
 use Rattle.htn_order.specs.Free.{IsFirstFree, HasNoneFree}
 use Rattle.htn_order.proofs.Free.{first_passing, none_passing}
-
 
 and_false : (p : Bool) → (p && false) ≡ false
 and_false true = refl

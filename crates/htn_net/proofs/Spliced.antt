@@ -1,5 +1,5 @@
 -- A list of nodes with others in the place of one, put together from its parts.
-use Rattle.std.proofs.Common.{◌≡◌, ℕ, suc, ◌+◌, ◌-◌, List, [], ◌++◌, length, take, drop, map, sym, ap, ap₂, ◌∙◌, append_assoc, arith}
+use Rattle.std.proofs.Common.{◌≡◌, ℕ, suc, ◌+◌, ◌-◌, List, [], ◌++◌, length, take, drop, sym, ap, ap₂, ◌∙◌, append_assoc, arith}
 use Rattle.std.proofs.lemmas.List.{take-map, drop-map, take_rest}
 use Rattle.htn_ground.specs.declared.child.Child.{Child as Node}
 use Rattle.htn_ground.specs.Views.{child_view, children_of}

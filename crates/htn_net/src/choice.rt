@@ -1,5 +1,4 @@
 //! What a number of a configuration stands for.
-ghost use Rattle.std.specs.Prelude.{◌≡◌};
 
 use htn_ground::Instance;
 use htn_state::State;
@@ -24,4 +23,21 @@ pub struct Choice {
     /// The position of the node among the open ones.
     pub position: usize,
     pub change: Change,
+}
+
+/// What becomes of the node that a number chooses in a search, which keeps the instances in its cache.
+#[derive(Drop)]
+pub enum LiveChange {
+    /// A compound task is decomposed by an instance in the cache: its entry, and its place there.
+    Decomposed(usize, usize),
+    /// A step or an action is carried out: it is gone, and this is the state then.
+    Performed(Arc<State>),
+}
+
+/// What a number of a configuration stands for in a search.
+#[derive(Drop)]
+pub struct LiveChoice {
+    pub(crate) number: u64,
+    pub(crate) position: usize,
+    pub(crate) change: LiveChange,
 }

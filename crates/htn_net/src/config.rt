@@ -8,9 +8,10 @@ ghost use Rattle.htn_model.specs.Literal.{holds};
 ghost use Rattle.htn_model.specs.Machine as machine;
 ghost use Rattle.htn_model.specs.Machine.{IsProper, config_eq};
 ghost use Rattle.htn_model.specs.Problem.{is_before, task};
+ghost use Rattle.htn_ground.specs.Views.{child_view};
 
 use crate::splice::splice;
-use htn_ground::{Child, ChildList, GroundTask};
+use htn_ground::{Child, ChildList, GroundTask, Instance};
 use htn_order::Order;
 use htn_state::{LiteralList, State};
 use std::alloc::{AllocError, Global};
@@ -40,6 +41,43 @@ impl Model for Config {
 }
 
 impl Config {
+    /// The configuration in which the nodes of a network are open in a state.
+    pub(crate) fn of(state: Arc<State>, instance: &Instance) -> Result<Config, AllocError>
+        requires { length instance.now.network.order ≡ length instance.now.network.children }
+        ensures { IfOk result (λ c. c ≡ record { state = arc_value state; open_nodes = instance.now.network.children; order = instance.now.network.order }) }
+    {
+        let open_nodes = instance.children().clone()?;
+        let order = instance.order().clone()?;
+        Ok(Config {
+            state,
+            open_nodes,
+            order,
+        })
+    }
+
+    /// The state.
+    pub fn state(&self) -> &State
+        ensures { result.now ≡ self.now.state }
+    {
+        &self.state
+    }
+
+    /// The state, as its owners share it.
+    pub(crate) fn shared_state(&self) -> Result<Arc<State>, AllocError>
+        ensures { IfOk result (λ s. arc_value s ≡ self.now.state) }
+    {
+        Arc::try_clone(&self.state)
+    }
+
+    /// Which open nodes are before which others.
+    pub fn order(&self) -> &Order
+        ensures value { result.now ≡ self.now.order }
+        ensures proper { IsProper self.now }
+    {
+        let _size = self.order.size();
+        &self.order
+    }
+
     /// The number of open nodes. It takes no memory.
     pub fn open_len(&self) -> u64
         ensures value { result ≡ length self.now.open_nodes }
@@ -54,6 +92,15 @@ impl Config {
         ensures { result.now ≡ self.now.open_nodes }
     {
         &self.open_nodes
+    }
+
+    /// The open node at a position.
+    pub fn node_at(&self, position: usize) -> &Child
+        requires { position < length self.now.open_nodes }
+        ensures { child_view result.now ≡ child_of self.now.open_nodes position }
+    {
+        let nodes = self.open_nodes.as_slice();
+        &nodes[position]
     }
 
     /// Whether no node is open and the goal holds. It takes no memory.
@@ -99,6 +146,38 @@ impl Config {
             open_nodes,
             order,
         })
+    }
+
+    /// The configuration where the compound task at a position is decomposed by an instance.
+    pub(crate) fn decomposed(
+        &self,
+        alloc: Global,
+        at: usize,
+        instance: &Instance,
+    ) -> Result<Config, AllocError>
+        requires placed { at < length self.now.open_nodes }
+        requires whole { length instance.now.network.order ≡ length instance.now.network.children }
+        ensures { IfOk result (λ c. c ≡ machine.replaced self.now at instance.now.network self.now.state) }
+    {
+        let state = self.shared_state()?;
+        let next = self.replaced(alloc, at, instance.children(), instance.order(), state)?;
+        Ok(next)
+    }
+
+    /// The configuration where the step or action at a position is gone, and the state is this one.
+    pub(crate) fn performed(
+        &self,
+        alloc: Global,
+        at: usize,
+        state: &Arc<State>,
+    ) -> Result<Config, AllocError>
+        requires { at < length self.now.open_nodes }
+        ensures { IfOk result (λ c. c ≡ machine.replaced self.now at machine.no_network (arc_value state.now)) }
+    {
+        let state = Arc::try_clone(state)?;
+        let none = ChildList::new(alloc);
+        let next = self.replaced(alloc, at, &none, &Order::empty(), state)?;
+        Ok(next)
     }
 }
 

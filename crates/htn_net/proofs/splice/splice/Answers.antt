@@ -1,4 +1,4 @@
-use Rattle.std.proofs.Common.{◌≡◌, ◌++◌, [], ◌∙◌, ap, take, drop}
+use Rattle.std.proofs.Common.{◌++◌, ◌∙◌, ap, take}
 use Rattle.htn_model.specs.Problem.{Child}
 use Rattle.std.proofs.Common.{List}
 use Rattle.htn_ground.specs.Views.{children_of}

@@ -1,4 +1,4 @@
-use Rattle.std.proofs.Common.{◌≡◌, ◌<◌, ◌∙◌, ap, length, subst, arith}
+use Rattle.std.proofs.Common.{◌≡◌, ◌∙◌, ap, length, subst, arith}
 use Rattle.htn_model.specs.Problem.{task}
 use Rattle.htn_model.specs.Choice.{child_of}
 use Rattle.htn_model.specs.Machine.{Config}

@@ -1,5 +1,4 @@
-use Rattle.std.proofs.Common.{◌≡◌, ◌<◌, ◌+◌, ◌-◌, ◌∙◌, ap, sym, length, arith}
-use Rattle.htn_model.specs.Choice.{splice}
+use Rattle.std.proofs.Common.{◌<◌, ◌+◌, ◌-◌, ◌∙◌, ap, length, arith}
 use Rattle.htn_model.specs.Machine.{replaced_order}
 use Rattle.htn_model.proofs.Splices.{length_splice, table_square}
 use Rattle.htn_net.proofs.config.Config.replaced.Goals as goal
