@@ -5,6 +5,8 @@ mod answer;
 mod places;
 mod solution;
 mod solve;
+#[cfg(test)]
+mod tests;
 mod trail;
 mod walk;
 
