@@ -1,2 +1,6 @@
 pub mod Declared
+pub mod Distinct
+pub mod Fronts
+pub mod RowLists
+pub mod Texts
 pub mod Vectors

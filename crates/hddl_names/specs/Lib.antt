@@ -1,1 +1,3 @@
+pub mod Reach
+pub mod Rows
 pub mod Texts

@@ -2,6 +2,8 @@
 #![tactic(auto)]
 
 mod names;
+mod reach;
+mod rows;
 mod text;
 mod vocabulary;
 
