@@ -62,7 +62,7 @@ front_more rows start found new i t square at is front =
       closed = λ j y below small h. ⊎_elim
           (λ less. insert_all-old nat_eq eqb-true found row y (front.closed j y less (omega (arith, less, inside)) (subst (λ x. Contains (get_or rows x []) y) (kept j (omega (arith, less, inside))) h)))
           (λ past. let last : j ≡ i = omega (arith, past, below) in
-              insert_all-new nat_eq eqb-true found row y (subst (λ x. Contains (get_or rows x []) y) (ap (λ k. get_or (insert_all nat_eq found row) k 0) last ∙ kept i inside ∙ read) h))
+          insert_all-new nat_eq eqb-true found row y (subst (λ x. Contains (get_or rows x []) y) (ap (λ k. get_or (insert_all nat_eq found row) k 0) last ∙ kept i inside ∙ read) h))
           (cases_lt j i);
     }
   where

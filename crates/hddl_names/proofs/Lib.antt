@@ -1,6 +1,7 @@
 pub mod Declared
 pub mod Distinct
 pub mod Fronts
+pub mod GroupPairs
 pub mod RowLists
 pub mod Texts
 pub mod Vectors

@@ -2,6 +2,7 @@
 #![tactic(auto)]
 
 mod names;
+mod pairs;
 mod reach;
 mod rows;
 mod text;
