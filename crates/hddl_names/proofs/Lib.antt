@@ -1,5 +1,6 @@
 pub mod Declared
 pub mod Distinct
+pub mod FromPairs
 pub mod Fronts
 pub mod GroupPairs
 pub mod RowLists

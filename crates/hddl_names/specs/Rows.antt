@@ -11,3 +11,10 @@ AreWithin rows = All (All (λ x. x < length rows)) rows
 -- the list of each number has what it is paired with
 abbrev pub AreRows : List (ℕ × ℕ) → List (List ℕ) → Type 0
 AreRows pairs rows = (a b : ℕ) → Contains (get_or rows a []) b ↔ Contains {X = ℕ × ℕ} pairs (a, b)
+
+abbrev pub turned : List (ℕ × ℕ) → List (ℕ × ℕ)
+turned pairs = map (λ p. (p.1, p.0)) pairs
+
+-- the lists have the same pairs
+abbrev pub HasSame : List (ℕ × ℕ) → List (ℕ × ℕ) → Type 0
+HasSame xs ys = (x : ℕ × ℕ) → Contains xs x ↔ Contains ys x

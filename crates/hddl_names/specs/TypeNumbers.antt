@@ -6,7 +6,7 @@ use Rattle.hddl_meaning.specs.Mentions.{Text, Mention, Typed, texts, typed_names
 use Rattle.hddl_meaning.specs.Names.{object, number_in, type_names}
 use Rattle.hddl_meaning.specs.Types.{text_or_object, parent_pairs}
 use Rattle.hddl_names.specs.Texts.{mentions_in}
-use Rattle.hddl_names.specs.Rows.{AreRows}
+use Rattle.hddl_names.specs.Rows.{AreRows, turned}
 
 -- the name of the type of that number
 abbrev pub type_at : DomainText → ℕ → Text
@@ -35,9 +35,6 @@ is_root pair = nat_eq pair.0 0 && nat_eq pair.1 0
 -- the numbers of each type and its parent
 abbrev pub numbered_pairs : DomainText → List (ℕ × ℕ)
 numbered_pairs d = map (number_pair (type_names d)) (parent_pairs d)
-
-abbrev pub turned : List (ℕ × ℕ) → List (ℕ × ℕ)
-turned pairs = map (λ p. (p.1, p.0)) pairs
 
 -- the types' names with, for each, its parents and what it is a parent of
 pub record AreTypesOf (d : DomainText) (names : List Text) (up down : List (List ℕ)) : Type 0 where
