@@ -1,5 +1,5 @@
 -- Texts and their numbers among different names.
-use Rattle.std.proofs.Common.{◌≡◌, ◌≢◌, ℕ, zero, suc, ◌<◌, ◌≤◌, ◌+◌, Bool, true, false, cond, not, List, [], ◌∷◌, ◌++◌, map, Option, Some, None, nat_lt, refl, sym, ap, subst, ◌∙◌, arith, inl, inr, ⊎_elim, length, get_or, nat_eq}
+use Rattle.std.proofs.Common.{◌≡◌, ◌≢◌, ℕ, zero, suc, ◌<◌, ◌+◌, Bool, true, false, cond, not, List, [], ◌∷◌, ◌++◌, Some, None, refl, sym, ap, subst, ◌∙◌, arith, ⊎_elim, length, get_or}
 use Rattle.std.specs.List.{Contains, IsDistinct, AllPairs, fold, list_any, position, position_or_len}
 use Rattle.std.specs.Cmp.Lexicographic.{pointwise_decides}
 use Rattle.std.specs.Cmp.{unsigned_Decides}
@@ -11,10 +11,10 @@ use Rattle.std.proofs.Common.{length-append, append_assoc}
 use Rattle.std.proofs.lemmas.List.{get_or_default, get_or_append_left, append-nil}
 use Rattle.std.proofs.lemmas.List.Quantifiers.{position-Some}
 use Rattle.std.proofs.lemmas.Map.Made.{AllPairs-from_IsDistinct}
-use Rattle.std.proofs.lemmas.Map.Views.{list_any-from_Contains, Contains-from_any}
+use Rattle.std.proofs.lemmas.Map.Views.{Contains-from_any}
 use Rattle.hddl_meaning.specs.Mentions.{Text}
 use Rattle.hddl_meaning.specs.Names.{is_same_text, with_name, distinct, number_in, number_or_zero}
-use Rattle.hddl_names.proofs.Distinct.{insert_all-more, insert_all-old, insert_all-new, insert_all-cases, insert-different, insert_all-different}
+use Rattle.hddl_names.proofs.Distinct.{insert_all-more, insert_all-new, insert_all-cases, insert_all-different}
 
 pub same : (x y : Text) → is_same_text x y ≡ true → x ≡ y
 same x y = (pointwise_decides unsigned_Decides x y).0

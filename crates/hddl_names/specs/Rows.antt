@@ -1,5 +1,5 @@
 -- Pairs of numbers, kept as a list for each first number.
-use Rattle.std.specs.Prelude.{◌≡◌, ℕ, ◌<◌, ◌↔◌, List, [], map, length, get_or, Vec, Contains, All}
+use Rattle.std.specs.Prelude.{ℕ, ◌<◌, ◌↔◌, List, [], map, length, get_or, Vec, Contains, All}
 
 abbrev pub lists_of : {A : Type 0} → List (Vec ℕ A) → List (List ℕ)
 lists_of vectors = map (λ v. v.items) vectors

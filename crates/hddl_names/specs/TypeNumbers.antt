@@ -1,5 +1,5 @@
 -- Types and their parents by number.
-use Rattle.std.specs.Prelude.{◌≡◌, ℕ, Bool, not, ◌&&◌, nat_eq, List, [], map, filter, length, get_or}
+use Rattle.std.specs.Prelude.{◌≡◌, ℕ, Bool, ◌&&◌, nat_eq, List, [], map, length, get_or}
 use Rattle.hddl_tree.specs.declared.term.NameGroup.{NameGroup}
 use Rattle.hddl_tree.specs.declared.domain.DomainText.{DomainText}
 use Rattle.hddl_meaning.specs.Mentions.{Text, Mention, Typed, texts, typed_names}

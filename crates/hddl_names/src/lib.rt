@@ -2,6 +2,7 @@
 #![tactic(auto)]
 
 mod edges;
+mod hierarchy;
 mod names;
 mod pairs;
 mod reach;
@@ -9,6 +10,7 @@ mod rows;
 mod text;
 mod vocabulary;
 
+pub use hierarchy::TypeHierarchy;
 pub use names::Names;
 pub use text::{fold, fold_into};
 pub use vocabulary::Vocabulary;

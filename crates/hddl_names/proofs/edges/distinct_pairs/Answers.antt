@@ -1,4 +1,4 @@
-use Rattle.std.proofs.Common.{◌≡◌, ◌∙◌, ◌+◌, sym, subst, take}
+use Rattle.std.proofs.Common.{◌+◌, sym, subst, take}
 use Rattle.hddl_names.specs.Rows.{HasSame}
 use Rattle.hddl_names.proofs.FromPairs.{same_more, same_end}
 use Rattle.hddl_names.proofs.edges.distinct_pairs.Goals as goal

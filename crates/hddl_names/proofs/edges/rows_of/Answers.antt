@@ -1,4 +1,4 @@
-use Rattle.std.proofs.Common.{◌≡◌, ◌∙◌, sym, subst, List, ℕ}
+use Rattle.std.proofs.Common.{sym, subst, List, ℕ}
 use Rattle.htn_order.specs.Closure.{AreBelow}
 use Rattle.hddl_names.specs.Rows.{AreRows}
 use Rattle.hddl_names.proofs.FromPairs.{rows_same, below_same}

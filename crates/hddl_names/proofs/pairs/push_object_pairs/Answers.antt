@@ -1,4 +1,4 @@
-use Rattle.std.proofs.Common.{◌≡◌, ◌++◌, map, ap, ◌∙◌, append_assoc}
+use Rattle.std.proofs.Common.{◌++◌, map, ap, ◌∙◌, append_assoc}
 use Rattle.hddl_meaning.specs.Mentions.{folded}
 use Rattle.hddl_meaning.specs.Names.{number_in, optional_mention}
 use Rattle.hddl_names.proofs.GroupPairs.{object_group_pairs}

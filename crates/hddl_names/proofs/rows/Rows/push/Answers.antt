@@ -1,4 +1,4 @@
-use Rattle.std.proofs.Common.{◌≡◌, ◌<◌, ap, ◌∙◌, sym, ◌++◌, ◌∷◌, [], length, arith, get_or}
+use Rattle.std.proofs.Common.{◌≡◌, ◌<◌, ap, ◌∙◌, ◌++◌, ◌∷◌, [], length, arith, get_or}
 use Rattle.std.proofs.lemmas.List.Elements.{All-same}
 use Rattle.hddl_names.specs.Rows.{lists_of}
 use Rattle.hddl_names.proofs.RowLists.{set_within, row_within, push_within, pushed}
