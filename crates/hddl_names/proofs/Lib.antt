@@ -1,12 +1,13 @@
+pub mod Ascending
 pub mod Collected
 pub mod Declared
 pub mod Distinct
-pub mod FromPairs
 pub mod Found
+pub mod FromPairs
 pub mod Fronts
 pub mod GroupPairs
-pub mod Members
 pub mod Parents
 pub mod RowLists
 pub mod Texts
 pub mod Vectors
+pub mod Within

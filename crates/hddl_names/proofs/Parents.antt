@@ -18,7 +18,7 @@ use Rattle.hddl_names.specs.Reach.{Reaches}
 use Rattle.hddl_names.specs.TypeNumbers.{type_at, number_pair, pairs_in, object_pairs_in, is_root, numbered_pairs}
 use Rattle.hddl_names.proofs.Texts.{same, same_as_itself, distinct-has, distinct-from, distinct-different, number-small, number-names, number-at, number-first}
 use Rattle.htn_order.proofs.Joining.{follow}
-use Rattle.hddl_names.proofs.Members.{cons_cases, first, later, mapped, unmapped, kept, unkept, in_parts, from_parts}
+use Rattle.hddl_names.proofs.Within.{cons_cases, first, later, mapped, unmapped, kept, unkept, in_parts, from_parts}
 
 -- ## The pairs are of types
 

@@ -1,3 +1,4 @@
+pub mod Members
 pub mod Reach
 pub mod Rows
 pub mod Texts

@@ -11,3 +11,7 @@ Reaches pairs a b = (a ≡ b) ⊎ Precedes pairs a b
 abbrev pub IsReached : List (List ℕ) → ℕ → List ℕ → Type 0
 IsReached rows start found =
     (pairs : List (ℕ × ℕ)) → AreRows pairs rows → (x : ℕ) → Contains found x ↔ Reaches pairs start x
+
+-- the list has exactly what some of the numbers reach
+abbrev pub IsAboveSome : List (ℕ × ℕ) → List ℕ → List ℕ → Type 0
+IsAboveSome pairs starts found = (x : ℕ) → Contains found x ↔ ((t : ℕ) × Contains starts t × Reaches pairs t x)

@@ -1,16 +1,17 @@
 //! Which types of a domain are below which.
-ghost use Rattle.std.specs.Prelude.{◌≡◌, ℕ, ◌<◌, ◌↔◌, IsTrue, IfOk, Contains, option_map, length};
+ghost use Rattle.std.specs.Prelude.{◌≡◌, ℕ, ◌<◌, ◌↔◌, IsTrue, IfOk, Contains, All, option_map, length};
 ghost use Rattle.std.specs.List.{position};
 ghost use Rattle.hddl_meaning.specs.Mentions.{mention_of};
 ghost use Rattle.hddl_meaning.specs.Names.{is_same_text, type_names};
 ghost use Rattle.hddl_meaning.specs.Types.{IsBelow, text_or_object};
 ghost use Rattle.hddl_meaning.specs.Items.{ShareSubtype};
-ghost use Rattle.hddl_names.specs.TypeNumbers.{type_at};
+ghost use Rattle.hddl_names.specs.Reach.{IsAboveSome};
+ghost use Rattle.hddl_names.specs.TypeNumbers.{type_at, numbered_pairs};
 
 use crate::edges::{rows_of, turned};
 use crate::names::Names;
 use crate::pairs::parent_pairs;
-use crate::reach::reached;
+use crate::reach::{add_all, reached};
 use crate::rows::Rows;
 use crate::vocabulary::Vocabulary;
 use hddl_tree::{DomainText, Name};
@@ -79,6 +80,13 @@ impl<'a> TypeHierarchy<'a> {
         })
     }
 
+    /// The domain.
+    pub fn domain(&self) -> &DomainText
+        ensures { result.now ≡ self.now }
+    {
+        self.domain
+    }
+
     /// The number of a type that is written, or of `object` where none is. None where it isn't declared.
     pub fn type_of(&self, alloc: Global, name: &Option<Name>) -> Result<Option<usize>, AllocError>
         ensures { IfOk result (λ number. number ≡ position (is_same_text (text_or_object (option_map mention_of name.now))) (type_names self.now)) }
@@ -115,5 +123,18 @@ impl<'a> TypeHierarchy<'a> {
         let below_t = reached(alloc, &self.children, t)?;
         let below_u = reached(alloc, &self.children, u)?;
         Ok(share(&below_t, &below_u))
+    }
+
+    /// The numbers of the types that some of these are below, each once.
+    pub fn all_above(&self, alloc: Global, starts: &[usize]) -> Result<IndexSet<usize>, AllocError>
+        requires { All (λ t. t < length (type_names self.now)) starts.now }
+        ensures { IfOk result (λ found. IsAboveSome (numbered_pairs self.now) starts.now found.keys) }
+    {
+        let mut found = IndexSet::new(alloc);
+        for start in starts {
+            let above = reached(alloc, &self.parents, *start)?;
+            add_all(&mut found, above.as_slice())?;
+        }
+        Ok(found)
     }
 }

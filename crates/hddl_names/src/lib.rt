@@ -3,6 +3,7 @@
 
 mod edges;
 mod hierarchy;
+mod members;
 mod names;
 mod pairs;
 mod reach;
@@ -11,6 +12,7 @@ mod text;
 mod vocabulary;
 
 pub use hierarchy::TypeHierarchy;
+pub use members::ObjectsByType;
 pub use names::Names;
 pub use text::{fold, fold_into};
 pub use vocabulary::Vocabulary;

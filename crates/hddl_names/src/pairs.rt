@@ -11,7 +11,7 @@ use hddl_tree::{Name, NameGroup};
 use std::alloc::{AllocError, Global};
 
 /// The number of a type as it is written, or that of `object` where none is.
-fn parent_number(
+pub fn parent_number(
     buffer: &mut Vec<u8>,
     names: &Names,
     parent: &Option<Name>,
@@ -25,7 +25,7 @@ fn parent_number(
 }
 
 /// Adds each name's number with a parent's.
-fn push_pairs(
+pub fn push_pairs(
     pairs: &mut Vec<(usize, usize)>,
     buffer: &mut Vec<u8>,
     names: &Names,

@@ -8,7 +8,7 @@ use indexmap::IndexSet;
 use std::alloc::{AllocError, Global};
 
 /// Adds the numbers that are not there.
-fn add_all(found: &mut IndexSet<usize>, numbers: &[usize]) -> Result<(), AllocError>
+pub fn add_all(found: &mut IndexSet<usize>, numbers: &[usize]) -> Result<(), AllocError>
     ensures { OnOk result (found.new.keys ≡ insert_all nat_eq found.old.keys numbers.now) }
 {
     for number in numbers {
