@@ -8,6 +8,8 @@ pub mod Fronts
 pub mod GroupPairs
 pub mod Parents
 pub mod RowLists
+pub mod Searched
 pub mod Texts
+pub mod Typed
 pub mod Vectors
 pub mod Within

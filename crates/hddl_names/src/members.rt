@@ -161,7 +161,8 @@ impl ObjectsByType {
         let count = vocabulary.types().len();
         let objects = vocabulary.objects().len();
         let declared = rows_of(alloc, objects.max(count), &pairs)?;
-        ObjectsByType::filled(alloc, types, count, &declared, objects)
+        let all = ObjectsByType::filled(alloc, types, count, &declared, objects)?;
+        Ok(all)
     }
 
     /// Whether an object has a type, both by number.

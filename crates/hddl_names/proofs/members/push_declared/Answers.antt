@@ -1,4 +1,4 @@
-use Rattle.std.proofs.Common.{◌≡◌, ◌++◌, map, ap, ◌∙◌}
+use Rattle.std.proofs.Common.{◌++◌, map, ap, ◌∙◌}
 use Rattle.hddl_meaning.specs.Mentions.{folded}
 use Rattle.hddl_meaning.specs.Names.{number_in}
 use Rattle.hddl_names.proofs.GroupPairs.{group_declared}

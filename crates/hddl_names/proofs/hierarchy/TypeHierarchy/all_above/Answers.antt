@@ -1,4 +1,4 @@
-use Rattle.std.proofs.Common.{◌≡◌, ◌∙◌, ◌+◌, ℕ, List, ap, sym, subst, take, nat_eq}
+use Rattle.std.proofs.Common.{◌∙◌, ℕ, List, ap, subst, nat_eq}
 use Rattle.std.proofs.lemmas.List.{take_all}
 use Rattle.indexmap.specs.IndexSet.{insert_all}
 use Rattle.hddl_tree.specs.declared.domain.DomainText.{DomainText}
