@@ -3,8 +3,8 @@ use Rattle.std.specs.List.{flat_map}
 use Rattle.std.proofs.lemmas.List.{take_all}
 use Rattle.htn_ground.specs.Search.{bound_relations_hold, completions, are_all_bound, product}
 use Rattle.htn_ground.proofs.Completions.{completions_none, completions_leaf, completions_step}
-use Rattle.htn_ground.proofs.Counts.{completions_free}
-use Rattle.htn_ground.proofs.search.+count_completions.Goals as goal
+use Rattle.htn_ground.proofs.Counting.{completions_free}
+use Rattle.htn_ground.proofs.counts.+count_completions.Goals as goal
 
 pub returns-then-not-bound_relations_hold_of-clause-count :
     goal.returns-then-not-bound_relations_hold_of-clause-count

@@ -169,3 +169,36 @@ popped values longer after item pushed taken =
     let long : length longer - 1 ≡ length values = omega (arith, ap length pushed, length-append values (item ∷ [])) in
     taken ∙ (λ i. take (long i) (pushed i))
     ∙ take-append-le (length values) values (item ∷ []) (omega arith) ∙ take_all (length values) values (omega arith)
+
+-- ## Runs of objects
+
+or_true : (a b : Bool) → b ≡ true → (a || b) ≡ true
+or_true true b e = refl
+or_true false b e = e
+
+-- relations that are read and hold still do
+bound_more : (relations : List Relation) (values rest : List ℕ) → relations_hold relations (values ++ rest) ≡ true → bound_relations_hold relations (values ++ rest) ≡ true
+bound_more [] values rest holds = refl
+bound_more (r ∷ relations) values rest holds =
+    (λ i. or_true (ltb (length (values ++ rest)) (relation_depth r)) (relation_holds r (values ++ rest)) (and_first _ _ holds) i && bound_more relations values rest (and_second _ _ holds) i)
+
+leb_more : (r n m : ℕ) → leb r n ≡ true → n ≤ m → leb r m ≡ true
+leb_more r n m e h = grind (arith, nat_tests)
+
+all_bound_more : (relations : List Relation) (n m : ℕ) → n ≤ m → are_all_bound relations n ≡ true → are_all_bound relations m ≡ true
+all_bound_more [] n m h bound = refl
+all_bound_more (r ∷ relations) n m h bound =
+    (λ i. leb_more (relation_depth r) n m (and_first _ _ bound) h i && all_bound_more relations n m h (and_second _ _ bound) i)
+
+-- the completions by some objects, where all relations are read and hold
+pub run_free : (domains : List (List ℕ)) (relations : List Relation) (values : List ℕ) → are_all_bound relations (length values) ≡ true → bound_relations_hold relations values ≡ true
+    → (run : List ℕ) → length (flat_map (λ object. completions domains relations (values ++ object ∷ [])) run) ≡ length run * product (drop (length values + 1) domains)
+run_free domains relations values bound holds [] = omega arith
+run_free domains relations values bound holds (o ∷ run) =
+    let longer = values ++ o ∷ [] in
+    let pieces : ℕ → List (List ℕ) = λ object. completions domains relations (values ++ object ∷ []) in
+    let count : length longer ≡ length values + 1 = length-append values (o ∷ []) in
+    let one : length (pieces o) ≡ product (drop (length values + 1) domains) =
+    completions_free domains relations longer (all_bound_more relations (length values) (length longer) (omega (arith, count)) bound) (bound_more relations values (o ∷ []) (hold_more relations values (o ∷ []) bound holds))
+    ∙ ap (λ (n : ℕ). product (drop n domains)) count in
+    length-append (pieces o) (flat_map pieces run) ∙ (λ i. one i + run_free domains relations values bound holds run i) ∙ grind arith
