@@ -9,6 +9,7 @@ pub mod Gaps
 pub mod Moved
 pub mod Excluded
 pub mod Skipped
+pub mod Started
 pub mod Classified
 pub mod Steps
 pub mod Pinned

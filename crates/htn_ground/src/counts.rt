@@ -1,7 +1,7 @@
 //! How many choices of objects there are of which all relations hold.
-ghost use Rattle.std.specs.Prelude.{◌≡◌, ◌≤◌, ◌<◌, ◌+◌, ◌*◌, ◌++◌, ◌∷◌, [], length, OnOk, IfOk, IfSome, true};
-ghost use Rattle.std.specs.List.{flat_map};
-ghost use Rattle.htn_ground.specs.Search.{AreRelationsOf, are_all_bound, bound_relations_hold, completions, product};
+ghost use Rattle.std.specs.Prelude.{◌≡◌, ◌≤◌, ◌<◌, ◌+◌, ◌*◌, ◌++◌, ◌∷◌, [], length, drop, OnOk, IfOk, IfSome, true};
+ghost use Rattle.std.specs.List.{filter, flat_map};
+ghost use Rattle.htn_ground.specs.Search.{AreRelationsOf, are_started, bound_relations_hold, completions, narrowed, product, relation_singles};
 
 use crate::object_list::ObjectList;
 use crate::relation::Relation;
@@ -45,7 +45,8 @@ fn product_of(a: u64, b: u64) -> Result<u64, AllocError>
     }
 }
 
-/// The number of the completions of `values`. Once no relation is left to read, they are not enumerated.
+/// The number of the completions of `values`. They are enumerated only while
+/// a relation is left between two parameters without values.
 pub(crate) fn count_completions(
     domains: &[ObjectList],
     relations: &[Relation],
@@ -63,10 +64,8 @@ pub(crate) fn count_completions(
     if depth == domains.len() {
         return Ok(1);
     }
-    if are_all_bound_of(relations, depth) {
-        let Some(count) = count_assignments(&domains[depth..]) else {
-            return Err(AllocError);
-        };
+    if are_started_of(relations, depth) {
+        let count = count_choices(domains, relations, values.as_slice(), depth)?;
         return Ok(count);
     }
     let mut count: u64 = 0;
@@ -79,11 +78,55 @@ pub(crate) fn count_completions(
     Ok(count)
 }
 
-/// Whether all relations are between the first parameters.
-fn are_all_bound_of(relations: &[Relation], depth: usize) -> bool
-    ensures { result ≡ are_all_bound relations.now depth }
+/// Whether each relation has a parameter among the first so many.
+fn are_started_of(relations: &[Relation], depth: usize) -> bool
+    ensures { result ≡ are_started relations.now depth }
 {
-    relations.iter().all(|relation| relation.depth() <= depth)
+    relations.iter().all(|relation| relation.start() < depth)
+}
+
+/// Whether all relations allow an object at a place, where their other parameters have values.
+fn all_allow(relations: &[Relation], values: &[u16], place: usize, object: u16) -> bool
+    ensures { result ≡ relation_singles relations.now values.now place object }
+{
+    for relation in relations {
+        if !relation.allows(values, place, object) {
+            return false;
+        }
+    }
+    true
+}
+
+/// How many objects all relations allow at a place.
+fn count_allowed(relations: &[Relation], values: &[u16], place: usize, objects: &[u16]) -> u64
+    ensures { result ≡ length (filter (relation_singles relations.now values.now place) objects.now) }
+{
+    let mut count: u64 = 0;
+    for object in objects {
+        if all_allow(relations, values, place, *object) {
+            count += 1;
+        }
+    }
+    count
+}
+
+/// The number of choices of an object for each parameter from `from` on, where all relations allow
+/// each.
+fn count_choices(
+    domains: &[ObjectList],
+    relations: &[Relation],
+    values: &[u16],
+    from: usize,
+) -> Result<u64, AllocError>
+    requires { from ≤ length domains.now }
+    ensures { IfOk result (λ n. n ≡ product (narrowed (relation_singles relations.now values.now) from (drop from domains.now))) }
+{
+    let mut count: u64 = 1;
+    for place in from..domains.len() {
+        let objects = domains[place].as_slice();
+        count = product_of(count, count_allowed(relations, values, place, objects))?;
+    }
+    Ok(count)
 }
 
 /// The number of the completions of `values` by one of some objects at the next parameter.
@@ -100,11 +143,10 @@ pub(crate) fn count_run(
     ensures values { OnOk result (values.new ≡ values.old) }
 {
     let depth = values.len();
-    if are_all_bound_of(relations, depth) {
-        let Some(each) = count_assignments(&domains[depth + 1..]) else {
-            return Err(AllocError);
-        };
-        let count = product_of(run.len() as u64, each)?;
+    if are_started_of(relations, depth) {
+        let allowed = count_allowed(relations, values.as_slice(), depth, run);
+        let each = count_choices(domains, relations, values.as_slice(), depth + 1)?;
+        let count = product_of(allowed, each)?;
         return Ok(count);
     }
     let mut count: u64 = 0;

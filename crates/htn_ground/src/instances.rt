@@ -31,7 +31,7 @@ fn constant_of(positive: bool, left: Term, right: Term) -> bool
 }
 
 /// What an equality says of an object at a parameter, where it names one parameter.
-fn single_of(positive: bool, left: Term, right: Term, place: usize, object: u16) -> bool
+pub(crate) fn single_of(positive: bool, left: Term, right: Term, place: usize, object: u16) -> bool
     ensures { result ≡ search.single_of positive (term_of left) (term_of right) place object }
 {
     match &left {
