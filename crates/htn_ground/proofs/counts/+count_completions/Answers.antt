@@ -1,10 +1,10 @@
-use Rattle.std.proofs.Common.{◌≡◌, ◌∙◌, sym, ap, true, false, List, ℕ, ◌++◌, ◌∷◌, [], ◌<◌, ◌-◌, length, take, drop, get_or, arith, length-drop}
+use Rattle.std.proofs.Common.{◌≡◌, ◌∙◌, sym, ap, true, false, List, ℕ, ◌++◌, ◌∷◌, [], ◌<◌, length, drop, get_or, arith}
 use Rattle.std.specs.List.{flat_map}
 use Rattle.std.proofs.lemmas.List.{take_all}
-use Rattle.htn_ground.specs.Search.{bound_relations_hold, completions, are_all_bound, product}
+use Rattle.htn_ground.specs.Search.{bound_relations_hold, completions, are_started, narrowed, product, relation_singles}
 use Rattle.htn_ground.proofs.Completions.{completions_none, completions_leaf, completions_step}
-use Rattle.htn_ground.proofs.Counts.{completions_free}
-use Rattle.htn_ground.proofs.search.+count_completions.Goals as goal
+use Rattle.htn_ground.proofs.Started.{completions_count}
+use Rattle.htn_ground.proofs.counts.+count_completions.Goals as goal
 
 pub returns-then-not-bound_relations_hold_of-clause-count :
     goal.returns-then-not-bound_relations_hold_of-clause-count
@@ -17,18 +17,16 @@ returns-then-depth-domains-clause-count t c =
     let holds : bound_relations_hold c.args.relations.now c.args.values.now ≡ true = cc (c.if-not-bound_relations_hold_of.ensures, c.as_slice.ensures) in
     sym (ap length (completions_leaf c.args.domains.now c.args.relations.now c.args.values.now c.requires.relations (sym c.len-depth.ensures ∙ c.if-depth-domains.true) holds))
 
-pub returns-then-are_all_bound_of-clause-count : goal.returns-then-are_all_bound_of-clause-count
-returns-then-are_all_bound_of-clause-count t c =
+pub returns-then-are_started_of-clause-count : goal.returns-then-are_started_of-clause-count
+returns-then-are_started_of-clause-count t c =
     let domains = c.args.domains.now in
     let relations = c.args.relations.now in
     let values = c.args.values.now in
-    let depth = c.len-depth.result in
     let holds : bound_relations_hold relations values ≡ true = cc (c.if-not-bound_relations_hold_of.ensures, c.as_slice.ensures) in
-    let bound : are_all_bound relations (length values) ≡ true = ap (are_all_bound relations) (sym c.len-depth.ensures) ∙ sym c.if-are_all_bound_of.ensures in
-    let left : take (length domains - depth) (drop depth domains) ≡ drop depth domains = take_all (length domains - depth) (drop depth domains) (omega (arith, length-drop depth domains)) in
-    c.in-Some.ensures ∙ ap product left
-    ∙ ap (λ (n : ℕ). product (drop n domains)) c.len-depth.ensures
-    ∙ sym (completions_free domains relations values bound holds)
+    let started : are_started relations (length values) ≡ true = ap (are_started relations) (sym c.len-depth.ensures) ∙ sym c.if-are_started_of.ensures in
+    c.in_ok-count.ensures
+    ∙ (λ i. product (narrowed (relation_singles relations (c.as_slice-then-are_started_of.ensures i)) (c.len-depth.ensures i) (drop (c.len-depth.ensures i) domains)))
+    ∙ sym (completions_count domains relations values c.requires.small c.requires.relations started holds)
 
 pub returns-clause-count : goal.returns-clause-count
 returns-clause-count t c =

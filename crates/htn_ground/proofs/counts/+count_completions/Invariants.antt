@@ -1,7 +1,7 @@
 use Rattle.std.proofs.Common.{◌≡◌, ◌++◌, ◌∷◌, [], length, take, ◌-◌}
 use Rattle.std.specs.List.{flat_map}
 use Rattle.htn_ground.specs.Search.{completions}
-use Rattle.htn_ground.proofs.search.+count_completions.Given as goal
+use Rattle.htn_ground.proofs.counts.+count_completions.Given as goal
 
 abbrev pub decreases-count_completions : goal.decreases-count_completions
 decreases-count_completions l = length l.domains.now - length l.values.now

@@ -13,10 +13,9 @@ use Rattle.htn_model.specs.Literal.{atom, literal_holds}
 use Rattle.htn_model.specs.Schema.{Term, object, parameter}
 use Rattle.htn_model.specs.Instances.{assignments, is_among, value_of}
 use Rattle.htn_task.specs.Views.{terms_of}
-use Rattle.htn_ground.specs.Search.{relation_depth, relation_holds, relations_hold}
-use Rattle.htn_ground.specs.Search.{bound_relations_hold, completions, are_all_bound, product}
+use Rattle.htn_ground.specs.Search.{relations_hold}
+use Rattle.htn_ground.specs.Search.{product}
 use Rattle.htn_ground.specs.Search.{fixed_holds, is_bound, AreLiteralsOf, is_ruled_out, is_ruled_out_so_far, live_from}
-use Rattle.htn_ground.proofs.Completions.{relation_holds-append}
 
 -- ## counting
 
@@ -27,7 +26,7 @@ length_pieces rests (item ∷ objects) =
     ∙ (λ i. length-map rests (λ (rest : List ℕ). item ∷ rest) i + length_pieces rests objects i)
     ∙ grind arith
 
-length-assignments : (domains : List (List ℕ)) → length (assignments domains) ≡ product domains
+pub length-assignments : (domains : List (List ℕ)) → length (assignments domains) ≡ product domains
 length-assignments [] = refl
 length-assignments (objects ∷ domains) = length_pieces (assignments domains) objects ∙ ap (λ n. length objects * n) (length-assignments domains)
 
@@ -44,30 +43,6 @@ leb_true m n e = grind (arith, nat_tests)
 
 not_below : (m n : ℕ) → n ≤ m → ltb m n ≡ false
 not_below m n h = grind (arith, nat_tests)
-
--- where all relations are read and hold, they hold of all completions
-hold_more : (relations : List Relation) (values rest : List ℕ) → are_all_bound relations (length values) ≡ true → bound_relations_hold relations values ≡ true
-    → relations_hold relations (values ++ rest) ≡ true
-hold_more [] values rest bound holds = refl
-hold_more (r ∷ relations) values rest bound holds =
-    let reads : relation_depth r ≤ length values = leb_true _ _ (and_first _ _ bound) in
-    let here : relation_holds r (values ++ rest) ≡ true =
-    relation_holds-append r values rest reads ∙ sym (ap (λ b. b || relation_holds r values) (not_below (length values) (relation_depth r) reads)) ∙ and_first _ _ holds in
-    (λ i. here i && hold_more relations values rest (and_second _ _ bound) (and_second _ _ holds) i)
-
-filter_all : (p : List ℕ → Bool) (values : List ℕ) → ((rest : List ℕ) → p (values ++ rest) ≡ true) → (rests : List (List ℕ)) → filter p (map (λ rest. values ++ rest) rests) ≡ map (λ rest. values ++ rest) rests
-filter_all p values all [] = refl
-filter_all p values all (rest ∷ rests) =
-    ap (λ b. cond b ((values ++ rest) ∷ filter p (map (λ w. values ++ w) rests)) (filter p (map (λ w. values ++ w) rests))) (all rest)
-    ∙ ap (λ l. (values ++ rest) ∷ l) (filter_all p values all rests)
-
-pub completions_free : (domains : List (List ℕ)) (relations : List Relation) (values : List ℕ) → are_all_bound relations (length values) ≡ true → bound_relations_hold relations values ≡ true
-    → length (completions domains relations values) ≡ product (drop (length values) domains)
-completions_free domains relations values bound holds =
-    let rests = assignments (drop (length values) domains) in
-    ap length (filter_all (relations_hold relations) values (λ rest. hold_more relations values rest bound holds) rests)
-    ∙ length-map rests (λ (rest : List ℕ). values ++ rest)
-    ∙ length-assignments (drop (length values) domains)
 
 -- a loop's step: one more list
 pub product_more : (domains : List (List ℕ)) (i count size next : ℕ) (domain : List ℕ) → i < length domains → domain ≡ get_or domains i domain → size ≡ length domain → next ≡ count * size

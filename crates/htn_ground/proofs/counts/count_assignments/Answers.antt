@@ -1,5 +1,5 @@
-use Rattle.htn_ground.proofs.Counts.{product_more}
-use Rattle.htn_ground.proofs.search.count_assignments.Goals as goal
+use Rattle.htn_ground.proofs.Counting.{product_more}
+use Rattle.htn_ground.proofs.counts.count_assignments.Goals as goal
 
 pub loop-domain-preserved : goal.loop-domain-preserved
 loop-domain-preserved c =
