@@ -7,7 +7,7 @@ use Rattle.htn_model.specs.Schema.{Formula, literal, TaskSchema}
 use Rattle.htn_model.specs.Task.{Declaration, AreTypes, IsWellTyped, IsAtomSchema, IsTaskSchema, IsFormula, IsNetworkSchema, IsMethodSchema, IsActionSchema, IsTerm, IsGroundAtom}
 use Rattle.htn_model.proofs.Sets.{contains-set_of}
 use Rattle.htn_order.proofs.Chains.{chain_closed, chain_square}
-use Rattle.task_tests.specs.Example.{something_done, call, in_turn, method, work, jobs}
+use Rattle.task_tests.specs.Example.{something_done, call, declared, in_turn, method, work, jobs}
 
 fact : IsAtomSchema jobs 0 something_done
 fact = record { declared = omega arith; arity = refl; arguments = All-nil (IsTerm jobs 0) }
@@ -40,14 +40,11 @@ nothing_true a h = absurd (true≢false (sym h ∙ contains-set_of [] a))
 adds_fact : IsActionSchema jobs work
 adds_fact = record { parameters = All-nil _; precondition = All-nil _; deletes = All-nil _; adds = All-cons (IsAtomSchema jobs 0) something_done [] fact (All-nil _) }
 
-abbrev nameless : Declaration
-nameless = record { name = []; types = [] }
-
 pub jobs_typed : IsWellTyped jobs
 jobs_typed = record {
   types = All-nil _;
-  predicates = All-cons (λ d. AreTypes jobs d.types) nameless [] (All-nil {X = ℕ} (λ x. x < 0)) (All-nil _);
-  tasks = All-cons (λ d. AreTypes jobs d.types) nameless [] (All-nil {X = ℕ} (λ x. x < 0)) (All-nil _);
+  predicates = All-cons (λ d. AreTypes jobs d.types) declared [] (All-nil {X = ℕ} (λ x. x < 0)) (All-nil _);
+  tasks = All-cons (λ d. AreTypes jobs d.types) declared [] (All-nil {X = ℕ} (λ x. x < 0)) (All-nil _);
   methods = All-cons (IsMethodSchema jobs) (method (literal true something_done ∷ []) []) (method [] (call 1 ∷ []) ∷ []) (one_method (literal true something_done ∷ []) [] facts (All-nil _))
       (All-cons (IsMethodSchema jobs) (method [] (call 1 ∷ [])) [] (one_method [] (call 1 ∷ []) (All-nil _) (All-cons (IsTaskSchema jobs 0) (call 1) [] labour (All-nil _))) (All-nil (IsMethodSchema jobs)));
   actions = All-cons (IsActionSchema jobs) work [] adds_fact (All-nil _);
