@@ -1,4 +1,5 @@
 pub mod Ascending
+pub mod Circles
 pub mod Collected
 pub mod Declared
 pub mod Distinct

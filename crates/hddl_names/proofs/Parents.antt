@@ -28,7 +28,7 @@ group_mentions g = map mention_of g.names ++ optional_mention g.of_type
 abbrev typed_of : NameGroup → List Typed
 typed_of g = map (λ x. record { mention = mention_of x; of_type = option_map mention_of g.of_type }) g.names
 
-mention-type : (d : DomainText) (m : Mention) → Contains (type_mentions d) m → Contains (type_names d) m.text
+pub mention-type : (d : DomainText) (m : Mention) → Contains (type_mentions d) m → Contains (type_names d) m.text
 mention-type d m h = distinct-has (object ∷ texts (type_mentions d)) m.text (later object m.text (texts (type_mentions d)) (mapped (λ m. m.text) (type_mentions d) m h))
 
 object-type : (d : DomainText) → Contains (type_names d) object

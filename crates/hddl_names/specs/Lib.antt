@@ -1,3 +1,4 @@
+pub mod Cycles
 pub mod Members
 pub mod Reach
 pub mod Rows

@@ -1,13 +1,16 @@
 //! Which types of a domain are below which.
-ghost use Rattle.std.specs.Prelude.{◌≡◌, ℕ, ◌<◌, ◌↔◌, IsTrue, IfOk, Contains, All, option_map, length};
+ghost use Rattle.std.specs.Prelude.{◌≡◌, ℕ, ◌<◌, ◌↔◌, IsTrue, IfOk, Contains, All, MatchOption, option_map, length};
 ghost use Rattle.std.specs.List.{position};
 ghost use Rattle.hddl_meaning.specs.Mentions.{mention_of};
 ghost use Rattle.hddl_meaning.specs.Names.{is_same_text, type_names};
 ghost use Rattle.hddl_meaning.specs.Types.{IsBelow, text_or_object};
 ghost use Rattle.hddl_meaning.specs.Items.{ShareSubtype};
+ghost use Rattle.hddl_meaning.specs.Types.{Leads, parent_pairs as declared_parents};
+ghost use Rattle.hddl_names.specs.Cycles.{HasNoCycle, IsFirstCycle};
 ghost use Rattle.hddl_names.specs.Reach.{IsAboveSome};
 ghost use Rattle.hddl_names.specs.TypeNumbers.{type_at, numbered_pairs};
 
+use crate::cycles::{leads_to, type_places};
 use crate::edges::{rows_of, turned};
 use crate::names::Names;
 use crate::pairs::parent_pairs;
@@ -136,5 +139,29 @@ impl<'a> TypeHierarchy<'a> {
             add_all(&mut found, above.as_slice())?;
         }
         Ok(found)
+    }
+
+    /// Whether a type is below itself along one or more pairs.
+    fn is_on_cycle(&self, alloc: Global, t: usize) -> Result<bool, AllocError>
+        requires { t < length (type_names self.now) }
+        ensures { IfOk result (λ cycle. IsTrue cycle ↔ Leads (declared_parents self.now) (type_at self.now t) (type_at self.now t)) }
+    {
+        let above = reached(alloc, &self.parents, t)?;
+        let cycle = leads_to(&self.parents, above.as_slice(), t);
+        Ok(cycle)
+    }
+
+    /// The place of the first type in the text of `:types` that is below itself along one or more pairs, None where there is
+    /// none, or an error where memory was refused.
+    pub fn cycle_at(&self, alloc: Global) -> Result<Option<usize>, AllocError>
+        ensures { IfOk result (λ found. MatchOption found (HasNoCycle self.now) (IsFirstCycle self.now)) }
+    {
+        let places = type_places(alloc, self.names, self.domain.types.as_slice())?;
+        for place in places.as_slice() {
+            if self.is_on_cycle(alloc, place.0)? {
+                return Ok(Some(place.1));
+            }
+        }
+        Ok(None)
     }
 }
