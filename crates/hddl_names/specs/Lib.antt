@@ -1,1 +1,5 @@
+pub mod Members
+pub mod Reach
+pub mod Rows
 pub mod Texts
+pub mod TypeNumbers
