@@ -1,0 +1,7 @@
+//! Checks that a domain and a problem fit together.
+#![tactic(auto)]
+
+mod findings;
+mod mention;
+mod numbers;
+mod repeated;
