@@ -1,0 +1,5 @@
+pub mod Listed
+pub mod Limits
+pub mod Conditions
+pub mod Numbers
+pub mod Unique
