@@ -18,13 +18,13 @@ fn least(a: Option<usize>, b: Option<usize>) -> Option<usize>
     }
 }
 
-/// Where the later of two names stands, if they stand at different places.
+/// Where the later of two names stands, if there are two.
 fn later(first: Option<usize>, place: usize) -> Option<usize>
     ensures { result ≡ repeat_of first place }
 {
     match first {
-        Some(first) if first != place => Some(first.max(place)),
-        _ => None,
+        Some(first) => Some(first.max(place)),
+        None => None,
     }
 }
 
