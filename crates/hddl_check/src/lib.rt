@@ -2,6 +2,8 @@
 #![tactic(auto)]
 
 mod findings;
+mod limits;
+mod lists;
 mod mention;
 mod numbers;
 mod repeated;
