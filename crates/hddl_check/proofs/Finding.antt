@@ -6,7 +6,11 @@ use Rattle.std.proofs.lemmas.List.Elements.{Contains-append_left, Contains-appen
 use Rattle.hddl_meaning.specs.Mentions.{IsIn}
 use Rattle.std.proofs.lemmas.Grind.{flat_map-append}
 use Rattle.std.proofs.lemmas.List.{append-nil}
+use Rattle.hddl_meaning.specs.declared.fault.Source.{Source}
+use Rattle.hddl_meaning.specs.declared.fault.At.{At}
+use Rattle.hddl_meaning.specs.declared.fault.CheckFault.{CheckFault}
 use Rattle.hddl_check.specs.Findings.{Finds, IsOneOf, AnyOf}
+use Rattle.hddl_check.specs.Parts.{Faulted}
 
 pub Finds-some : {X : Type 0} {P : X → Type 0} (x : X) → P x → Finds P (Some x)
 Finds-some x h = record { sound = h; complete = λ e. cc }
@@ -80,3 +84,11 @@ module _ {X Y : Type 0} (P : X → Y → Type 0) where
   pub Finds-end : {Z : Type 0} (parts : Z → List X) (zs : List Z) (k : ℕ) {found : Option Y} → length zs ≤ k
       → Finds (AnyOf P (flat_map parts (take k zs))) found → Finds (AnyOf P (flat_map parts zs)) found
   Finds-end parts zs k le h = Finds-list (ap (flat_map parts) (take_all k zs le)) h
+
+-- a finding of a place as one of a fault there
+pub found_at : (kind : At → CheckFault) (text : Source) {P : ℕ → Type 0} {place : ℕ} (at : At) → Finds P (Some place) → at ≡ record { source = text; place = place }
+    → Finds (Faulted kind text P) (Some (kind at))
+found_at kind text {P} {place} at h is = Finds-some {P = Faulted kind text P} (kind at) (place, ap kind is, h.sound)
+
+pub none_at : (kind : At → CheckFault) (text : Source) {P : ℕ → Type 0} → Finds P None → Finds (Faulted kind text P) None
+none_at kind text {P} h = Finds-none {P = Faulted kind text P} (λ f (place, is, p). h.complete refl place p)

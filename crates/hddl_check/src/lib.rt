@@ -1,9 +1,11 @@
 //! Checks that a domain and a problem fit together.
 #![tactic(auto)]
 
+mod context;
 mod findings;
 mod limits;
 mod lists;
 mod mention;
+mod mentions;
 mod numbers;
 mod repeated;
