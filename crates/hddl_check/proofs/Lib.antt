@@ -2,3 +2,4 @@ pub mod Cuts
 pub mod Entries
 pub mod Finding
 pub mod Repeating
+pub mod ScopeLists

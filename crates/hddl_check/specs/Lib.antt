@@ -3,3 +3,4 @@ pub mod Numbers
 pub mod Repeats
 pub mod Parts
 pub mod Contexts
+pub mod Scopes

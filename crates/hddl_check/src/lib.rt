@@ -9,3 +9,4 @@ mod mention;
 mod mentions;
 mod numbers;
 mod repeated;
+mod scope;
