@@ -1,9 +1,10 @@
 -- How findings are joined.
-use Rattle.std.proofs.Common.{◌≡◌, ◌⊎◌, ℕ, ◌+◌, ◌<◌, ◌≤◌, List, [], ◌∷◌, ◌++◌, map, Option, Some, None, IfSome, refl, sym, ap, subst, ◌∙◌, inl, inr, take, get_or, length, Contains, arith}
+use Rattle.std.proofs.Common.{◌≡◌, ◌⊎◌, ℕ, ◌+◌, ◌<◌, ◌≤◌, List, [], ◌∷◌, ◌++◌, map, Option, Some, None, IfSome, refl, sym, ap, subst, ◌∙◌, inl, inr, take, get_or, length, Contains, arith, IsSome, is_some, true≢false}
 use Rattle.std.specs.List.{flat_map}
 use Rattle.std.proofs.lemmas.List.{take_more, take_all}
 use Rattle.std.proofs.lemmas.List.Elements.{Contains-append_left, Contains-append_right, Contains-append_cases, Contains-push, Contains-push_cases, Contains-get_or}
 use Rattle.hddl_meaning.specs.Mentions.{IsIn}
+use Rattle.hddl_meaning.proofs.Listed.{at_head, at_tail, in_cases, in_nothing, in_map}
 use Rattle.std.proofs.lemmas.Grind.{flat_map-append}
 use Rattle.std.proofs.lemmas.List.{append-nil}
 use Rattle.hddl_meaning.specs.declared.fault.Source.{Source}
@@ -44,6 +45,22 @@ Finds-either {X} {P} {Q} {a} {b} {found} ha hb one =
       complete = λ e x h. elim h [ inl p ↦ ha.complete (one.none e).0 x p | inr q ↦ hb.complete (one.none e).1 x q ];
     }
 
+-- what is in a mapped list
+pub mapped : {Z X : Type 0} (f : Z → X) (zs : List Z) (x : X) → IsIn x (map f zs) → (z : Z) × IsIn z zs × (x ≡ f z)
+mapped f [] x at = absurd (in_nothing x at)
+mapped f (z ∷ zs) x at = elim (in_cases (f z) x (map f zs) at) [
+  inl is ↦ (z, at_head z zs, sym is)
+  | inr later ↦ let (w, in', is) = mapped f zs x later in (w, at_tail z w zs in', is)
+]
+
+-- what is in the lists of a list's items
+pub flat_mapped : {Z X : Type 0} (f : Z → List X) (zs : List Z) (x : X) → IsIn x (flat_map f zs) → (z : Z) × IsIn z zs × IsIn x (f z)
+flat_mapped f [] x at = absurd (in_nothing x at)
+flat_mapped f (z ∷ zs) x at = elim (Contains-append_cases (f z) (flat_map f zs) x at) [
+  inl here ↦ (z, at_head z zs, here)
+  | inr later ↦ let (w, in', is) = flat_mapped f zs x later in (w, at_tail z w zs in', is)
+]
+
 module _ {X Y : Type 0} (P : X → Y → Type 0) where
   pub AnyOf-left : (xs ys : List X) (y : Y) → AnyOf P xs y → AnyOf P (xs ++ ys) y
   AnyOf-left xs ys y (x, at, h) = (x, Contains-append_left xs ys x at, h)
@@ -81,9 +98,42 @@ module _ {X Y : Type 0} (P : X → Y → Type 0) where
       ∙ ap (flat_map parts) (sym (take_more zs k d lt)))
       (Finds-append (flat_map parts (take k zs)) (parts (get_or zs k d)) ha hb one)
 
+  pub Finds-next : {Z : Type 0} (parts : Z → List X) (zs : List Z) (k : ℕ) (z : Z) {a b found : Option Y} → k < length zs → z ≡ get_or zs k z
+      → Finds (AnyOf P (flat_map parts (take k zs))) a → Finds (AnyOf P (parts z)) b → IsOneOf a b found
+      → Finds (AnyOf P (flat_map parts (take (k + 1) zs))) found
+  Finds-next parts zs k z lt is ha hb one = Finds-more parts zs k z lt ha (Finds-list (ap parts is) hb) one
+
   pub Finds-end : {Z : Type 0} (parts : Z → List X) (zs : List Z) (k : ℕ) {found : Option Y} → length zs ≤ k
       → Finds (AnyOf P (flat_map parts (take k zs))) found → Finds (AnyOf P (flat_map parts zs)) found
   Finds-end parts zs k le h = Finds-list (ap (flat_map parts) (take_all k zs le)) h
+
+  -- in a list of the same items
+  pub Finds-within : (xs ys : List X) {found : Option Y} → ((x : X) → IsIn x xs → IsIn x ys) → ((x : X) → IsIn x ys → IsIn x xs)
+      → Finds (AnyOf P xs) found → Finds (AnyOf P ys) found
+  Finds-within xs ys to back = Finds-same (λ y (x, at, h). (x, to x at, h)) (λ y (x, at, h). (x, back x at, h))
+
+  -- in a list of items, each seen as a part
+  pub Finds-map : {Z : Type 0} (f : Z → X) (zs : List Z) {found : Option Y} → Finds (AnyOf (λ z. P (f z)) zs) found → Finds (AnyOf P (map f zs)) found
+  Finds-map {Z} f zs =
+      Finds-same (λ y (z, at, h). (f z, in_map f z zs at, h))
+      (λ y (x, at, h). let (z, in', is) = mapped f zs x at in (z, in', subst (λ x. P x y) is h))
+
+  pub Finds-mapped : {Z : Type 0} (f : Z → X) (xs ys : List Z) {found : Option Y} → ((z : Z) → IsIn z xs → IsIn z ys) → ((z : Z) → IsIn z ys → IsIn z xs)
+      → Finds (AnyOf P (map f xs)) found → Finds (AnyOf P (map f ys)) found
+  Finds-mapped {Z} f xs ys to back =
+      Finds-within (map f xs) (map f ys)
+      (λ x at. let (z, in', is) = mapped f xs x at in subst (λ x. IsIn x (map f ys)) (sym is) (in_map f z ys (to z in')))
+      (λ x at. let (z, in', is) = mapped f ys x at in subst (λ x. IsIn x (map f xs)) (sym is) (in_map f z xs (back z in')))
+
+  pub Finds-cons : (x : X) (xs : List X) {a b found : Option Y} → Finds (P x) a → Finds (AnyOf P xs) b → IsOneOf a b found → Finds (AnyOf P (x ∷ xs)) found
+  Finds-cons x xs ha hb one = Finds-append (x ∷ []) xs (Finds-single x ha) hb one
+
+  -- a finding in a part of the list is enough
+  pub Finds-enough : (xs ys : List X) {found : Option Y} → ((x : X) → IsIn x xs → IsIn x ys) → IsSome found → Finds (AnyOf P xs) found → Finds (AnyOf P ys) found
+  Finds-enough xs ys {found} to some h = record {
+    sound = IfSome-weaker (AnyOf P xs) (AnyOf P ys) (λ y (x, at, p). (x, to x at, p)) found h.sound;
+    complete = λ none. absurd (true≢false (sym some ∙ ap is_some none));
+  }
 
 -- a finding of a place as one of a fault there
 pub found_at : (kind : At → CheckFault) (text : Source) {P : ℕ → Type 0} {place : ℕ} (at : At) → Finds P (Some place) → at ≡ record { source = text; place = place }

@@ -3,3 +3,4 @@ pub mod Entries
 pub mod Finding
 pub mod Repeating
 pub mod ScopeLists
+pub mod TypeNames

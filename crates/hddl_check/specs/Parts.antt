@@ -3,6 +3,7 @@ use Rattle.std.specs.Prelude.{◌≡◌, ◌⊎◌, ◌<◌, ℕ, List, [], ◌�
 use Rattle.std.specs.List.{flat_map, zip}
 use Rattle.hddl_tree.specs.Places.{place_of}
 use Rattle.hddl_tree.specs.declared.term.Term.{Term}
+use Rattle.hddl_tree.specs.declared.term.NameGroup.{NameGroup}
 use Rattle.hddl_tree.specs.declared.term.VariableGroup.{VariableGroup}
 use Rattle.hddl_tree.specs.declared.condition.Condition.{Condition}
 use Rattle.hddl_tree.specs.declared.network.NetworkText.{NetworkText}
@@ -100,6 +101,13 @@ FailsIn d p text Objects f = Faulted fault.TooMany text (λ place. items.IsPastO
 -- the types that a list names
 abbrev pub type_parts : List Typed → List Part
 type_parts typed = map TypeName (flat_map type_of typed)
+
+-- of one group of a typed list
+abbrev pub variable_group_parts : VariableGroup → List Part
+variable_group_parts g = type_parts (typed_variables (g ∷ []))
+
+abbrev pub name_group_parts : NameGroup → List Part
+name_group_parts g = type_parts (typed_names (g ∷ []))
 
 abbrev pub parameter_parts : List VariableGroup → List Part
 parameter_parts groups =

@@ -10,3 +10,4 @@ mod mentions;
 mod numbers;
 mod repeated;
 mod scope;
+mod types;
