@@ -1,5 +1,5 @@
 -- How findings are joined.
-use Rattle.std.proofs.Common.{◌≡◌, ◌⊎◌, ℕ, ◌+◌, ◌<◌, ◌≤◌, List, [], ◌∷◌, ◌++◌, map, Option, Some, None, IfSome, refl, sym, ap, subst, ◌∙◌, inl, inr, take, get_or, length, Contains, arith, IsSome, is_some, true≢false}
+use Rattle.std.proofs.Common.{◌≡◌, ◌⊎◌, ℕ, ◌+◌, ◌<◌, ◌≤◌, List, [], ◌∷◌, ◌++◌, map, Option, Some, None, IfSome, refl, sym, ap, subst, ◌∙◌, inl, inr, take, get_or, length, Contains, arith, IsSome, is_some, true≢false, false}
 use Rattle.std.specs.List.{flat_map}
 use Rattle.std.proofs.lemmas.List.{take_more, take_all}
 use Rattle.std.proofs.lemmas.List.Elements.{Contains-append_left, Contains-append_right, Contains-append_cases, Contains-push, Contains-push_cases, Contains-get_or}
@@ -142,3 +142,11 @@ found_at kind text {P} {place} at h is = Finds-some {P = Faulted kind text P} (k
 
 pub none_at : (kind : At → CheckFault) (text : Source) {P : ℕ → Type 0} → Finds P None → Finds (Faulted kind text P) None
 none_at kind text {P} h = Finds-none {P = Faulted kind text P} (λ f (place, is, p). h.complete refl place p)
+
+-- nothing was found before
+pub none_from : {X : Type 0} (found : Option X) → is_some found ≡ false → found ≡ None
+none_from None e = refl
+none_from (Some x) e = cc
+
+pub after_none : {X : Type 0} (a b : Option X) → a ≡ None → IsOneOf a b b
+after_none a b e = record { one = inr refl; none = λ none. (e, none) }

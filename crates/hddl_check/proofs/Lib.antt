@@ -4,3 +4,4 @@ pub mod Finding
 pub mod Repeating
 pub mod ScopeLists
 pub mod TypeNames
+pub mod Folding

@@ -8,6 +8,7 @@ mod lists;
 mod mention;
 mod mentions;
 mod numbers;
+mod quantifiers;
 mod repeated;
 mod scope;
 mod types;
