@@ -5,3 +5,4 @@ pub mod Repeating
 pub mod ScopeLists
 pub mod TypeNames
 pub mod Folding
+pub mod Labelling

@@ -4,3 +4,4 @@ pub mod Repeats
 pub mod Parts
 pub mod Contexts
 pub mod Scopes
+pub mod Labels

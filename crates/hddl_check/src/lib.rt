@@ -3,10 +3,12 @@
 
 mod context;
 mod findings;
+mod labels;
 mod limits;
 mod lists;
 mod mention;
 mod mentions;
+mod networks;
 mod numbers;
 mod quantifiers;
 mod repeated;
