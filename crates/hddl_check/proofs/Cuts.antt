@@ -1,7 +1,7 @@
 -- A list cut at a position, and typed lists group by group.
 use Rattle.std.proofs.Common.{◌≡◌, ℕ, ◌+◌, ◌<◌, ◌≤◌, List, [], ◌∷◌, ◌++◌, map, Option, Some, None, refl, sym, ap, ◌∙◌, take, drop, get_or, length, add-one, drop-cons, arith, append-nil, option_map}
 use Rattle.std.specs.List.{flat_map}
-use Rattle.std.proofs.lemmas.List.{take_more, take_all, length-take-le, map-append, take-append-drop}
+use Rattle.std.proofs.lemmas.List.{take_more, take_all, length-take-le, map-append, take-append-drop, length-map}
 use Rattle.std.proofs.lemmas.Grind.{flat_map-append}
 use Rattle.std.proofs.lemmas.Simd.{map-map}
 use Rattle.hddl_tree.specs.declared.term.NameGroup.{NameGroup}
@@ -44,3 +44,12 @@ names_more gs k g lt is =
     sym
     (ap mentions_of (flat_more of gs k g lt is) ∙ map-append (λ t. t.mention) (typed_names (take k gs)) (of g)
     ∙ ap (λ l. mentions_of (typed_names (take k gs)) ++ l) (map-map (λ t. t.mention) (λ x. record { mention = mention_of x; of_type = option_map mention_of g.of_type }) g.names))
+
+-- past a limit, where each item is seen as a mention
+pub past_mapped : {X : Type 0} (limit : ℕ) (mention : X → Mention) (xs : List X) (x : X) (place : ℕ) → limit < length xs → x ≡ get_or xs limit x
+    → place ≡ (mention x).place → Finds (IsPast limit (map mention xs)) (Some place)
+past_mapped limit mention xs x place lt is at =
+    Finds-some place
+    (map mention (take limit xs), mention x, map mention (drop (limit + 1) xs),
+      ap (map mention) (cut_at xs limit x lt is) ∙ map-append mention (take limit xs) (x ∷ drop (limit + 1) xs),
+      length-map (take limit xs) mention ∙ length-take-le limit xs (omega arith), at)

@@ -150,3 +150,11 @@ none_from (Some x) e = cc
 
 pub after_none : {X : Type 0} (a b : Option X) → a ≡ None → IsOneOf a b b
 after_none a b e = record { one = inr refl; none = λ none. (e, none) }
+
+-- something was found in the second
+pub some_of : {X : Type 0} (a b found : Option X) → IsSome b → IsOneOf a b found → IsSome found
+some_of {X} a b found some one = by found refl
+  where
+    by : (o : Option X) → found ≡ o → IsSome o
+    by None e = absurd (true≢false (sym some ∙ ap is_some (one.none e).1))
+    by (Some x) e = refl

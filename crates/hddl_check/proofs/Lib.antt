@@ -6,3 +6,4 @@ pub mod ScopeLists
 pub mod TypeNames
 pub mod Folding
 pub mod Labelling
+pub mod Pairs

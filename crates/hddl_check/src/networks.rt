@@ -3,11 +3,18 @@ ghost use Rattle.std.specs.Prelude.{◌≡◌, ◌++◌, ◌↔◌, length, IfOk
 ghost use Rattle.std.specs.List.{flat_map};
 ghost use Rattle.htn_order.specs.Closure.{AreBelow, successors};
 ghost use Rattle.hddl_meaning.specs.Networks.{order_pairs, written_pairs};
+ghost use Rattle.hddl_meaning.specs.Items.{most_subtasks, subtask_mentions};
+ghost use Rattle.hddl_meaning.specs.declared.fault.CheckFault.TheVariants.{OrderCycle};
+ghost use Rattle.hddl_check.specs.Contexts.{AnyFails, Fails};
+ghost use Rattle.hddl_check.specs.Parts.{Faulted, IsCyclic, Limited, Network, network_parts};
 ghost use Rattle.hddl_check.specs.Findings.{Finds, AnyOf};
-ghost use Rattle.hddl_check.specs.Labels.{IsUnknownLabel, Circles, names_of};
+ghost use Rattle.hddl_check.specs.Labels.{IsNumbering, IsUnknownLabel, Circles, names_of};
 
 use crate::context::Context;
 use crate::findings::first_of;
+use crate::labels::{label_numbers, labels_in, pairs_in};
+use crate::limits::MOST_SUBTASKS;
+use crate::mentions::check_different;
 use crate::numbers::Numbers;
 use hddl_meaning::CheckFault;
 use hddl_names::fold;
@@ -90,4 +97,65 @@ fn has_cycle(
     }
     let cyclic = is_cyclic(alloc, size, pairs)?;
     Ok(cyclic)
+}
+
+/// A cycle of a network's order.
+fn check_cycle(
+    context: &Context<'_>,
+    place: usize,
+    network: &NetworkText,
+    numbers: &Numbers,
+) -> Result<Option<CheckFault>, AllocError>
+    requires { IsNumbering network.now numbers.now }
+    ensures { IfOk result (Finds (Faulted OrderCycle context.now.source (IsCyclic place network.now))) }
+{
+    let pairs = pairs_in(context.alloc, numbers, network.orderings.as_slice())?;
+    let cyclic = has_cycle(context.alloc, network, &pairs)?;
+    if cyclic {
+        return Ok(Some(CheckFault::OrderCycle(context.at(place))));
+    }
+    Ok(None)
+}
+
+/// A cycle of a network's order, or a name in it that no subtask has.
+fn check_order(
+    context: &Context<'_>,
+    place: usize,
+    network: &NetworkText,
+) -> Result<Option<CheckFault>, AllocError>
+    ensures { IfOk result (Finds (Fails context.now (Network place network.now))) }
+{
+    let numbers = label_numbers(context.alloc, network.subtasks.as_slice())?;
+    let cycle = check_cycle(context, place, network, &numbers)?;
+    let unknown = check_labels(context, &numbers, network.orderings.as_slice())?;
+    Ok(first_of(cycle, unknown))
+}
+
+/// The first subtask past the limit.
+fn check_subtasks(context: &Context<'_>, network: &NetworkText) -> Option<CheckFault>
+    ensures { Finds (Fails context.now (Limited most_subtasks (subtask_mentions network.now))) result }
+{
+    match network.subtasks.as_slice().get(MOST_SUBTASKS) {
+        Some(subtask) => Some(CheckFault::TooMany(context.at(subtask.place()))),
+        None => None,
+    }
+}
+
+/// A fault of a network's names or order. The order isn't looked at where there are too many subtasks.
+pub(crate) fn check_network(
+    context: &Context<'_>,
+    place: usize,
+    network: &NetworkText,
+) -> Result<Option<CheckFault>, AllocError>
+    ensures { IfOk result (Finds (AnyFails context.now (network_parts place network.now))) }
+{
+    let labels = labels_in(context.alloc, network.subtasks.as_slice())?;
+    let repeated = check_different(context, &labels)?;
+    let limit = check_subtasks(context, network);
+    let named = first_of(repeated, limit);
+    if limit.is_some() {
+        return Ok(named);
+    }
+    let order = check_order(context, place, network)?;
+    Ok(first_of(named, order))
 }
