@@ -158,3 +158,10 @@ some_of {X} a b found some one = by found refl
     by : (o : Option X) → found ≡ o → IsSome o
     by None e = absurd (true≢false (sym some ∙ ap is_some (one.none e).1))
     by (Some x) e = refl
+
+pub some_of_first : {X : Type 0} (a b found : Option X) → IsSome a → IsOneOf a b found → IsSome found
+some_of_first {X} a b found some one = by found refl
+  where
+    by : (o : Option X) → found ≡ o → IsSome o
+    by None e = absurd (true≢false (sym some ∙ ap is_some (one.none e).0))
+    by (Some x) e = refl

@@ -7,3 +7,4 @@ pub mod TypeNames
 pub mod Folding
 pub mod Labelling
 pub mod Pairs
+pub mod Distinctness

@@ -7,6 +7,10 @@ use Rattle.hddl_tree.specs.declared.term.NameGroup.{NameGroup}
 use Rattle.hddl_tree.specs.declared.term.VariableGroup.{VariableGroup}
 use Rattle.hddl_tree.specs.declared.condition.Condition.{Condition}
 use Rattle.hddl_tree.specs.declared.network.NetworkText.{NetworkText}
+use Rattle.hddl_tree.specs.declared.domain.PredicateText.{PredicateText}
+use Rattle.hddl_tree.specs.declared.domain.TaskText.{TaskText}
+use Rattle.hddl_tree.specs.declared.domain.MethodText.{MethodText}
+use Rattle.hddl_tree.specs.declared.domain.ActionText.{ActionText}
 use Rattle.hddl_tree.specs.declared.domain.DomainText.{DomainText}
 use Rattle.hddl_tree.specs.declared.problem.ProblemText.{ProblemText}
 use Rattle.hddl_words.specs.Names.{Name}
@@ -92,8 +96,7 @@ FailsIn d p text (Decomposed u) f = UseFails d p text (compound_names d) (items.
 FailsIn d p text (Subtask u) f = UseFails d p text (task_names d) (items.task_signatures d) u f
 FailsIn d p text (Side t) f = Faulted fault.UnknownName text (items.IsUnknownTerm (object_names d p) t) f
 FailsIn d p text (Network place n) f = Faulted fault.OrderCycle text (IsCyclic place n) f ⊎ Faulted fault.UnknownSubtask text (HasUnknownLabel n) f
-FailsIn d p text Types f =
-    Faulted fault.TypeCycle text (HasTypeCycle d) f ⊎ Faulted fault.TooMany text (items.IsPastDistinct items.most_declarations (type_mentions d)) f
+FailsIn d p text Types f = Faulted fault.TooMany text (items.IsPastDistinct items.most_declarations (type_mentions d)) f
 FailsIn d p text Objects f = Faulted fault.TooMany text (λ place. items.IsPastObjects d p (record { source = text; place = place })) f
 
 -- ## Parts
@@ -120,31 +123,49 @@ quantifier_parts q =
     let all = variable_mentions q.around ++ own in
     Different all ∷ Limited items.most_parameters own ∷ Limited items.most_variables all ∷ type_parts (typed_variables q.own)
 
+-- the variables that a schema declares
 abbrev pub schema_parts : Schema → List Part
-schema_parts s =
-    parameter_parts s.parameters ++ map Atom s.atoms ++ map Decomposed s.decomposed ++ map Subtask s.subtasks ++ map Side s.sides
-    ++ flat_map quantifier_parts s.quantifiers
+schema_parts s = parameter_parts s.parameters ++ flat_map quantifier_parts s.quantifiers
 
 abbrev pub network_parts : ℕ → NetworkText → List Part
 network_parts place n = Different (label_mentions n) ∷ Limited items.most_subtasks (subtask_mentions n) ∷ Network place n ∷ []
 
+abbrev pub method_network_parts : MethodText → List Part
+method_network_parts m = network_parts m.place m.network
 
+abbrev pub method_parts : MethodText → List Part
+method_parts m = schema_parts (schema_of_method m)
+
+abbrev pub action_parts : ActionText → List Part
+action_parts a = schema_parts (schema_of_action a)
+
+abbrev pub predicate_parts : PredicateText → List Part
+predicate_parts x = Limited items.most_parameters (mentions_of (typed_variables x.parameters)) ∷ type_parts (typed_variables x.parameters)
+
+abbrev pub task_parts : TaskText → List Part
+task_parts x = type_parts (typed_variables x.parameters)
+
+-- declarations of one kind with different names
+abbrev pub name_parts : List Mention → List Part
+name_parts mentions = Different mentions ∷ Limited items.most_declarations mentions ∷ []
+
+-- tasks and actions are named apart
+abbrev pub task_name_parts : DomainText → List Part
+task_name_parts d =
+    let tasks = map (λ x. mention_of x.name) d.tasks in
+    let actions = map (λ x. mention_of x.name) d.actions in
+    Different (tasks ++ actions) ∷ Limited items.most_declarations tasks ∷ Limited items.most_declarations actions ∷ []
+
+-- what a domain declares
 abbrev pub domain_parts : DomainText → List Part
 domain_parts d =
-    let predicates = map (λ x. mention_of x.name) d.predicates in
-    let tasks = map (λ x. mention_of x.name) d.tasks in
-    let methods = map (λ x. mention_of x.name) d.methods in
-    let actions = map (λ x. mention_of x.name) d.actions in
-    (Types ∷ Objects ∷ Different predicates ∷ Different methods ∷ Different (tasks ++ actions) ∷ Limited items.most_declarations predicates
-    ∷ Limited items.most_declarations tasks ∷ Limited items.most_declarations methods ∷ Limited items.most_declarations actions ∷ [])
-    ++ type_parts (typed_names d.constants)
-    ++ flat_map (λ x. Limited items.most_parameters (mentions_of (typed_variables x.parameters)) ∷ type_parts (typed_variables x.parameters)) d.predicates
-    ++ flat_map (λ x. type_parts (typed_variables x.parameters)) d.tasks
-    ++ flat_map (λ m. schema_parts (schema_of_method m)) d.methods
-    ++ flat_map (λ m. network_parts m.place m.network) d.methods
-    ++ flat_map (λ a. schema_parts (schema_of_action a)) d.actions
+    (Types ∷ Objects ∷ []) ++ (type_parts (typed_names d.constants)
+    ++ (name_parts (map (λ x. mention_of x.name) d.predicates) ++ (name_parts (map (λ x. mention_of x.name) d.methods) ++ (task_name_parts d
+    ++ (flat_map predicate_parts d.predicates ++ (flat_map task_parts d.tasks ++ (flat_map method_parts d.methods ++ (flat_map method_network_parts d.methods
+    ++ flat_map action_parts d.actions))))))))
 
+-- what a problem declares
 abbrev pub problem_parts : ProblemText → List Part
 problem_parts p =
-    (Objects ∷ []) ++ type_parts (typed_names p.objects) ++ schema_parts (schema_of_network p) ++ network_parts p.htn.place p.htn.network
-    ++ schema_parts (schema_of_states p)
+    (Objects ∷ []) ++ (type_parts (typed_names p.objects) ++ (schema_parts (schema_of_network p) ++ (network_parts p.htn.place p.htn.network
+    ++ schema_parts (schema_of_states p))))

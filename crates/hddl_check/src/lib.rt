@@ -2,6 +2,8 @@
 #![tactic(auto)]
 
 mod context;
+mod declarations;
+mod distinct;
 mod findings;
 mod labels;
 mod limits;
@@ -12,5 +14,6 @@ mod networks;
 mod numbers;
 mod quantifiers;
 mod repeated;
+mod schemas;
 mod scope;
 mod types;

@@ -1,5 +1,7 @@
 //! The names of typed lists and of declarations, as they are compared.
 ghost use Rattle.std.specs.Prelude.{◌≡◌, ◌++◌, map, IfOk, OnOk};
+ghost use Rattle.std.specs.List.{flat_map};
+ghost use Rattle.hddl_meaning.specs.Names.{optional_mention};
 ghost use Rattle.hddl_meaning.specs.Mentions.{mention_of, mentions_of, typed_names, typed_variables, variable_mention};
 
 use crate::mention::Mention;
@@ -53,6 +55,31 @@ pub(crate) fn names_in(alloc: Global, groups: &[NameGroup]) -> Result<Vec<Mentio
     let mut mentions = Vec::new(alloc);
     for group in groups {
         push_names(alloc, &mut mentions, group.names.as_slice())?;
+    }
+    Ok(mentions)
+}
+
+fn push_parent(
+    alloc: Global,
+    mentions: &mut Vec<Mention>,
+    parent: &Option<Name>,
+) -> Result<(), AllocError>
+    ensures { OnOk result (mentions.new.items ≡ mentions.old.items ++ optional_mention parent.now) }
+{
+    if let Some(name) = parent {
+        mentions.push(Mention::of_name(alloc, name)?)?;
+    }
+    Ok(())
+}
+
+/// The types that a typed list declares, with their parents.
+pub(crate) fn types_in(alloc: Global, groups: &[NameGroup]) -> Result<Vec<Mention>, AllocError>
+    ensures { IfOk result (λ mentions. mentions.items ≡ flat_map (λ g. map mention_of g.names ++ optional_mention g.of_type) groups.now) }
+{
+    let mut mentions = Vec::new(alloc);
+    for group in groups {
+        push_names(alloc, &mut mentions, group.names.as_slice())?;
+        push_parent(alloc, &mut mentions, &group.of_type)?;
     }
     Ok(mentions)
 }

@@ -1,5 +1,5 @@
 //! Texts with numbers.
-ghost use Rattle.std.specs.Prelude.{◌≡◌, [], ◌∷◌, ◌++◌, None, OnOk, OnErr};
+ghost use Rattle.std.specs.Prelude.{◌≡◌, [], ◌∷◌, ◌++◌, None, OnOk, OnErr, length};
 ghost use Rattle.hddl_check.specs.Numbers.{number_at};
 
 use indexmap::IndexMap;
@@ -28,6 +28,13 @@ impl Numbers {
         Numbers {
             entries: IndexMap::new(alloc),
         }
+    }
+
+    /// How many texts there are.
+    pub(crate) fn len(&self) -> usize
+        ensures { result ≡ length self.now }
+    {
+        self.entries.len()
     }
 
     /// The number of a text.

@@ -29,7 +29,7 @@ fn later(first: Option<usize>, place: usize) -> Option<usize>
 }
 
 /// Keeps the place of a name that is new.
-fn note(alloc: Global, known: &mut Numbers, mention: &Mention) -> Result<(), AllocError>
+pub(crate) fn note(alloc: Global, known: &mut Numbers, mention: &Mention) -> Result<(), AllocError>
     ensures { OnOk result (known.new ≡ noted known.old mention.now) }
 {
     if known.get(mention.text()).is_none() {
