@@ -156,16 +156,22 @@ task_name_parts d =
     let actions = map (λ x. mention_of x.name) d.actions in
     Different (tasks ++ actions) ∷ Limited items.most_declarations tasks ∷ Limited items.most_declarations actions ∷ []
 
--- what a domain declares
+-- what a domain declares by name, and then in its declarations
+abbrev pub declared_parts : DomainText → List Part
+declared_parts d =
+    Types ∷ Objects ∷ (type_parts (typed_names d.constants)
+    ++ (name_parts (map (λ x. mention_of x.name) d.predicates) ++ (name_parts (map (λ x. mention_of x.name) d.methods) ++ task_name_parts d)))
+
+abbrev pub body_parts : DomainText → List Part
+body_parts d =
+    flat_map predicate_parts d.predicates ++ (flat_map task_parts d.tasks ++ (flat_map method_parts d.methods ++ (flat_map method_network_parts d.methods
+    ++ flat_map action_parts d.actions)))
+
 abbrev pub domain_parts : DomainText → List Part
-domain_parts d =
-    (Types ∷ Objects ∷ []) ++ (type_parts (typed_names d.constants)
-    ++ (name_parts (map (λ x. mention_of x.name) d.predicates) ++ (name_parts (map (λ x. mention_of x.name) d.methods) ++ (task_name_parts d
-    ++ (flat_map predicate_parts d.predicates ++ (flat_map task_parts d.tasks ++ (flat_map method_parts d.methods ++ (flat_map method_network_parts d.methods
-    ++ flat_map action_parts d.actions))))))))
+domain_parts d = declared_parts d ++ body_parts d
 
 -- what a problem declares
 abbrev pub problem_parts : ProblemText → List Part
 problem_parts p =
-    (Objects ∷ []) ++ (type_parts (typed_names p.objects) ++ (schema_parts (schema_of_network p) ++ (network_parts p.htn.place p.htn.network
+    Objects ∷ (type_parts (typed_names p.objects) ++ (schema_parts (schema_of_network p) ++ (network_parts p.htn.place p.htn.network
     ++ schema_parts (schema_of_states p))))

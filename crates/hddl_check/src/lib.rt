@@ -16,4 +16,5 @@ mod quantifiers;
 mod repeated;
 mod schemas;
 mod scope;
+mod shape;
 mod types;
