@@ -1,0 +1,10 @@
+pub mod Cuts
+pub mod Entries
+pub mod Finding
+pub mod Repeating
+pub mod ScopeLists
+pub mod TypeNames
+pub mod Folding
+pub mod Labelling
+pub mod Pairs
+pub mod Distinctness

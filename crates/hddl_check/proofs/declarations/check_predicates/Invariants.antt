@@ -1,0 +1,9 @@
+use Rattle.std.proofs.Common.{take}
+use Rattle.std.specs.List.{flat_map}
+use Rattle.hddl_check.specs.Contexts.{AnyFails}
+use Rattle.hddl_check.specs.Findings.{Finds}
+use Rattle.hddl_check.specs.Parts.{predicate_parts}
+use Rattle.hddl_check.proofs.declarations.check_predicates.Given as goal
+
+abbrev pub invariant-loop-predicate : goal.invariant-loop-predicate
+invariant-loop-predicate l = Finds (AnyFails l.context (flat_map predicate_parts (take l.predicate-index l.predicates))) l.found

@@ -1,0 +1,9 @@
+use Rattle.std.proofs.Common.{take}
+use Rattle.std.specs.List.{flat_map}
+use Rattle.hddl_check.specs.Contexts.{AnyFails}
+use Rattle.hddl_check.specs.Findings.{Finds}
+use Rattle.hddl_check.specs.Parts.{task_parts}
+use Rattle.hddl_check.proofs.declarations.check_tasks.Given as goal
+
+abbrev pub invariant-loop-task : goal.invariant-loop-task
+invariant-loop-task l = Finds (AnyFails l.context (flat_map task_parts (take l.task-index l.tasks))) l.found

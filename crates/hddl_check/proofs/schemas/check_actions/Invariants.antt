@@ -1,0 +1,9 @@
+use Rattle.std.proofs.Common.{take}
+use Rattle.std.specs.List.{flat_map}
+use Rattle.hddl_check.specs.Contexts.{AnyFails}
+use Rattle.hddl_check.specs.Findings.{Finds}
+use Rattle.hddl_check.specs.Parts.{action_parts}
+use Rattle.hddl_check.proofs.schemas.check_actions.Given as goal
+
+abbrev pub invariant-loop-action : goal.invariant-loop-action
+invariant-loop-action l = Finds (AnyFails l.context (flat_map action_parts (take l.action-index l.actions))) l.found

@@ -1,0 +1,177 @@
+-- What a text says that has to fit, part by part, and how each part fails.
+use Rattle.std.specs.Prelude.{◌≡◌, ◌⊎◌, ◌<◌, ℕ, List, [], ◌∷◌, ◌++◌, map, length, Some}
+use Rattle.std.specs.List.{flat_map, zip}
+use Rattle.hddl_tree.specs.Places.{place_of}
+use Rattle.hddl_tree.specs.declared.term.Term.{Term}
+use Rattle.hddl_tree.specs.declared.term.NameGroup.{NameGroup}
+use Rattle.hddl_tree.specs.declared.term.VariableGroup.{VariableGroup}
+use Rattle.hddl_tree.specs.declared.condition.Condition.{Condition}
+use Rattle.hddl_tree.specs.declared.network.NetworkText.{NetworkText}
+use Rattle.hddl_tree.specs.declared.domain.PredicateText.{PredicateText}
+use Rattle.hddl_tree.specs.declared.domain.TaskText.{TaskText}
+use Rattle.hddl_tree.specs.declared.domain.MethodText.{MethodText}
+use Rattle.hddl_tree.specs.declared.domain.ActionText.{ActionText}
+use Rattle.hddl_tree.specs.declared.domain.DomainText.{DomainText}
+use Rattle.hddl_tree.specs.declared.problem.ProblemText.{ProblemText}
+use Rattle.hddl_words.specs.Names.{Name}
+use Rattle.htn_order.specs.Closure.{Precedes}
+use Rattle.hddl_meaning.specs.Mentions.{Text, Mention, Typed, IsIn, mention_of, mentions_of, texts, typed_names, typed_variables}
+use Rattle.hddl_meaning.specs.Names.{type_mentions, object_names, predicate_names, compound_names, task_names}
+use Rattle.hddl_meaning.specs.Types.{Leads, parent_pairs}
+use Rattle.hddl_meaning.specs.Networks.{order_pairs}
+use Rattle.hddl_meaning.specs.Uses.{Variable, Use, TermUse, Quantifier, Schema, schema_of_method, schema_of_action, schema_of_network, schema_of_states}
+use Rattle.hddl_meaning.specs.Items as items
+use Rattle.hddl_meaning.specs.Items.{Signature, type_of, variable_mentions, label_mentions, subtask_mentions, ordering_names, declared_objects}
+use Rattle.hddl_meaning.specs.declared.fault.Source.{Source}
+use Rattle.hddl_meaning.specs.declared.fault.Source.TheVariants as source
+use Rattle.hddl_meaning.specs.declared.fault.At.{At}
+use Rattle.hddl_meaning.specs.declared.fault.CheckFault.{CheckFault}
+use Rattle.hddl_meaning.specs.declared.fault.CheckFault.TheVariants as fault
+use Rattle.hddl_check.specs.Repeats.{IsRepeat}
+
+pub data Part : Type 0 where
+  -- names that must differ
+  Different : List Mention → Part
+  -- no more mentions than the limit
+  Limited : ℕ → List Mention → Part
+  -- a type that is named
+  TypeName : Mention → Part
+  -- an atom of a predicate, the task of a method, and a subtask
+  Atom : Use → Part
+  Decomposed : Use → Part
+  Subtask : Use → Part
+  -- a side of an equality
+  Side : TermUse → Part
+  -- a network, with the place of its method or of `:htn`
+  Network : ℕ → NetworkText → Part
+  -- all that `:types` names, and all constants or objects of the text
+  Types : Part
+  Objects : Part
+
+-- ## Failures
+
+-- the fault of that kind, at a place in the text
+abbrev pub Faulted : (At → CheckFault) → Source → (ℕ → Type 0) → CheckFault → Type 0
+Faulted kind text P f = (place : ℕ) × (f ≡ kind (record { source = text; place = place })) × P place
+
+abbrev pub IsUndeclaredType : DomainText → Mention → ℕ → Type 0
+IsUndeclaredType d m place = (items.IsDeclaredType d m.text → ⊥) × (place ≡ m.place)
+
+abbrev pub IsWrongCount : List Signature → Use → ℕ → Type 0
+IsWrongCount signatures u place =
+    (s : Signature) × (items.declaration_in signatures u.atom.name ≡ Some s) × (length u.atom.terms ≡ length s.places → ⊥) × (place ≡ u.atom.name.place)
+
+abbrev pub Clashes : DomainText → ProblemText → List Signature → Use → ℕ → Type 0
+Clashes d p signatures u place =
+    (s : Signature) × (argument : Term) × (at_place : Typed) × (items.declaration_in signatures u.atom.name ≡ Some s)
+    × IsIn (argument, at_place) (zip u.atom.terms s.places) × items.IsClash d p u.variables argument at_place place
+
+abbrev pub HasUnknownArgument : DomainText → ProblemText → Use → ℕ → Type 0
+HasUnknownArgument d p u place = (t : TermUse) × IsIn t (items.arguments_of u) × items.IsUnknownTerm (object_names d p) t place
+
+-- the names among which its name has to be, and the declarations that its arguments have to fit
+abbrev pub UseFails : DomainText → ProblemText → Source → List Text → List Signature → Use → CheckFault → Type 0
+UseFails d p text names signatures u f =
+    Faulted fault.UnknownName text (items.IsMissing names u.atom.name) f
+    ⊎ Faulted fault.UnknownName text (HasUnknownArgument d p u) f
+    ⊎ Faulted fault.Arity text (IsWrongCount signatures u) f
+    ⊎ Faulted fault.TypeClash text (Clashes d p signatures u) f
+
+-- the first position of its order that leads to itself, at the place of the whole
+abbrev pub IsCyclic : ℕ → NetworkText → ℕ → Type 0
+IsCyclic at n place = (a : ℕ) × Precedes (order_pairs n) a a × (place ≡ at)
+
+abbrev pub HasUnknownLabel : NetworkText → ℕ → Type 0
+HasUnknownLabel n place = (name : Name) × IsIn name (ordering_names n) × items.IsMissing (texts (label_mentions n)) name place
+
+abbrev pub HasTypeCycle : DomainText → ℕ → Type 0
+HasTypeCycle d place = (m : Mention) × IsIn m (type_mentions d) × Leads (parent_pairs d) m.text m.text × (place ≡ m.place)
+
+abbrev pub FailsIn : DomainText → ProblemText → Source → Part → CheckFault → Type 0
+FailsIn d p text (Different mentions) f = Faulted fault.Duplicate text (IsRepeat mentions) f
+FailsIn d p text (Limited limit mentions) f = Faulted fault.TooMany text (items.IsPast limit mentions) f
+FailsIn d p text (TypeName m) f = Faulted fault.UnknownType text (IsUndeclaredType d m) f
+FailsIn d p text (Atom u) f = UseFails d p text (predicate_names d) (items.predicate_signatures d) u f
+FailsIn d p text (Decomposed u) f = UseFails d p text (compound_names d) (items.task_signatures d) u f
+FailsIn d p text (Subtask u) f = UseFails d p text (task_names d) (items.task_signatures d) u f
+FailsIn d p text (Side t) f = Faulted fault.UnknownName text (items.IsUnknownTerm (object_names d p) t) f
+FailsIn d p text (Network place n) f = Faulted fault.OrderCycle text (IsCyclic place n) f ⊎ Faulted fault.UnknownSubtask text (HasUnknownLabel n) f
+FailsIn d p text Types f = Faulted fault.TooMany text (items.IsPastDistinct items.most_declarations (type_mentions d)) f
+FailsIn d p text Objects f = Faulted fault.TooMany text (λ place. items.IsPastObjects d p (record { source = text; place = place })) f
+
+-- ## Parts
+
+-- the types that a list names
+abbrev pub type_parts : List Typed → List Part
+type_parts typed = map TypeName (flat_map type_of typed)
+
+-- of one group of a typed list
+abbrev pub variable_group_parts : VariableGroup → List Part
+variable_group_parts g = type_parts (typed_variables (g ∷ []))
+
+abbrev pub name_group_parts : NameGroup → List Part
+name_group_parts g = type_parts (typed_names (g ∷ []))
+
+abbrev pub parameter_parts : List VariableGroup → List Part
+parameter_parts groups =
+    let mentions = mentions_of (typed_variables groups) in
+    Different mentions ∷ Limited items.most_parameters mentions ∷ type_parts (typed_variables groups)
+
+abbrev pub quantifier_parts : Quantifier → List Part
+quantifier_parts q =
+    let own = mentions_of (typed_variables q.own) in
+    let all = variable_mentions q.around ++ own in
+    Different all ∷ Limited items.most_parameters own ∷ Limited items.most_variables all ∷ type_parts (typed_variables q.own)
+
+-- the variables that a schema declares
+abbrev pub schema_parts : Schema → List Part
+schema_parts s = parameter_parts s.parameters ++ flat_map quantifier_parts s.quantifiers
+
+abbrev pub network_parts : ℕ → NetworkText → List Part
+network_parts place n = Different (label_mentions n) ∷ Limited items.most_subtasks (subtask_mentions n) ∷ Network place n ∷ []
+
+abbrev pub method_network_parts : MethodText → List Part
+method_network_parts m = network_parts m.place m.network
+
+abbrev pub method_parts : MethodText → List Part
+method_parts m = schema_parts (schema_of_method m)
+
+abbrev pub action_parts : ActionText → List Part
+action_parts a = schema_parts (schema_of_action a)
+
+abbrev pub predicate_parts : PredicateText → List Part
+predicate_parts x = Limited items.most_parameters (mentions_of (typed_variables x.parameters)) ∷ type_parts (typed_variables x.parameters)
+
+abbrev pub task_parts : TaskText → List Part
+task_parts x = type_parts (typed_variables x.parameters)
+
+-- declarations of one kind with different names
+abbrev pub name_parts : List Mention → List Part
+name_parts mentions = Different mentions ∷ Limited items.most_declarations mentions ∷ []
+
+-- tasks and actions are named apart
+abbrev pub task_name_parts : DomainText → List Part
+task_name_parts d =
+    let tasks = map (λ x. mention_of x.name) d.tasks in
+    let actions = map (λ x. mention_of x.name) d.actions in
+    Different (tasks ++ actions) ∷ Limited items.most_declarations tasks ∷ Limited items.most_declarations actions ∷ []
+
+-- what a domain declares by name, and then in its declarations
+abbrev pub declared_parts : DomainText → List Part
+declared_parts d =
+    Types ∷ Objects ∷ (type_parts (typed_names d.constants)
+    ++ (name_parts (map (λ x. mention_of x.name) d.predicates) ++ (name_parts (map (λ x. mention_of x.name) d.methods) ++ task_name_parts d)))
+
+abbrev pub body_parts : DomainText → List Part
+body_parts d =
+    flat_map predicate_parts d.predicates ++ (flat_map task_parts d.tasks ++ (flat_map method_parts d.methods ++ (flat_map method_network_parts d.methods
+    ++ flat_map action_parts d.actions)))
+
+abbrev pub domain_parts : DomainText → List Part
+domain_parts d = declared_parts d ++ body_parts d
+
+-- what a problem declares
+abbrev pub problem_parts : ProblemText → List Part
+problem_parts p =
+    Objects ∷ (type_parts (typed_names p.objects) ++ (schema_parts (schema_of_network p) ++ (network_parts p.htn.place p.htn.network
+    ++ schema_parts (schema_of_states p))))

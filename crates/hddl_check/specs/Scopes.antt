@@ -1,0 +1,32 @@
+-- The variables that a typed list puts in force, and what conditions use under them.
+use Rattle.std.specs.Prelude.{Bool, List, map, option_map}
+use Rattle.hddl_tree.specs.declared.term.VariableGroup.{VariableGroup}
+use Rattle.hddl_meaning.specs.Mentions.{mention_of, variable_mention}
+use Rattle.hddl_meaning.specs.Uses.{Variable, Use, TermUse, Quantifier, quantifiers_step, atoms_step, sides_step}
+use Rattle.std.specs.List.{flat_map}
+use Rattle.hddl_check.specs.Parts.{Part, Atom, Side, quantifier_parts}
+use Rattle.hddl_tree.specs.declared.condition.Condition.{Condition, fold-Condition}
+
+abbrev pub group_variables : Bool → VariableGroup → List Variable
+group_variables quantified g =
+    map (λ x. record { typed = record { mention = variable_mention x; of_type = option_map mention_of g.of_type }; is_quantified = quantified }) g.variables
+
+-- ## What one part of a condition uses
+
+abbrev pub quantifiers_of : List Variable → Condition → List Quantifier
+quantifiers_of variables c = fold-Condition (List Variable → List Quantifier) quantifiers_step c variables
+
+abbrev pub atoms_of : List Variable → Condition → List Use
+atoms_of variables c = fold-Condition (List Variable → List Use) atoms_step c variables
+
+abbrev pub sides_of : List Variable → Condition → List TermUse
+sides_of variables c = fold-Condition (List Variable → List TermUse) sides_step c variables
+
+abbrev pub quantifier_parts_of : List Variable → Condition → List Part
+quantifier_parts_of variables c = flat_map quantifier_parts (quantifiers_of variables c)
+
+abbrev pub atom_parts_of : List Variable → Condition → List Part
+atom_parts_of variables c = map Atom (atoms_of variables c)
+
+abbrev pub side_parts_of : List Variable → Condition → List Part
+side_parts_of variables c = map Side (sides_of variables c)

@@ -1,0 +1,20 @@
+//! Checks that a domain and a problem fit together.
+#![tactic(auto)]
+
+mod context;
+mod declarations;
+mod distinct;
+mod findings;
+mod labels;
+mod limits;
+mod lists;
+mod mention;
+mod mentions;
+mod networks;
+mod numbers;
+mod quantifiers;
+mod repeated;
+mod schemas;
+mod scope;
+mod shape;
+mod types;

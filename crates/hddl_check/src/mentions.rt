@@ -1,0 +1,40 @@
+//! Checks of lists of names.
+ghost use Rattle.std.specs.Prelude.{IfOk};
+ghost use Rattle.hddl_check.specs.Contexts.{Fails};
+ghost use Rattle.hddl_check.specs.Findings.{Finds};
+ghost use Rattle.hddl_check.specs.Parts.{Different, Limited};
+
+use crate::context::Context;
+use crate::limits::first_past;
+use crate::mention::Mention;
+use crate::repeated::first_repeat;
+use hddl_meaning::CheckFault;
+use std::alloc::AllocError;
+
+/// A name that stands twice.
+pub(crate) fn check_different(
+    context: &Context<'_>,
+    mentions: &[Mention],
+) -> Result<Option<CheckFault>, AllocError>
+    ensures { IfOk result (Finds (Fails context.now (Different mentions.now))) }
+{
+    let repeat = first_repeat(context.alloc, mentions)?;
+    match repeat {
+        Some(place) => Ok(Some(CheckFault::Duplicate(context.at(place)))),
+        None => Ok(None),
+    }
+}
+
+/// The first name past a limit.
+pub(crate) fn check_limit(
+    context: &Context<'_>,
+    limit: usize,
+    mentions: &[Mention],
+) -> Option<CheckFault>
+    ensures { Finds (Fails context.now (Limited limit mentions.now)) result }
+{
+    match first_past(limit, mentions) {
+        Some(place) => Some(CheckFault::TooMany(context.at(place))),
+        None => None,
+    }
+}
