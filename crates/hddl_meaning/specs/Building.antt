@@ -23,11 +23,11 @@ use Rattle.hddl_tree.specs.declared.domain.ActionText.{ActionText}
 use Rattle.hddl_tree.specs.declared.domain.DomainText.{DomainText}
 use Rattle.hddl_tree.specs.declared.problem.ProblemText.{ProblemText}
 use Rattle.hddl_meaning.specs.Mentions.{Text, folded, mentions_of, texts, typed_variables}
-use Rattle.hddl_meaning.specs.Names.{number_in, type_names, object_names, predicate_names, task_names}
+use Rattle.hddl_meaning.specs.Names.{number_in, distinct, type_names, object_names, predicate_names, task_names}
 use Rattle.hddl_meaning.specs.Types.{text_or_object, HasType}
 use Rattle.hddl_meaning.specs.Networks.{IsOrderOf}
 
--- what names mean: their numbers
+-- the declared names of each kind, each once: a name's number is its position
 pub record Vocabulary : Type 0 where
   pub types : List Text
   pub objects : List Text
@@ -35,7 +35,8 @@ pub record Vocabulary : Type 0 where
   pub tasks : List Text
 
 abbrev pub vocabulary_of : DomainText → ProblemText → Vocabulary
-vocabulary_of d p = record { types = type_names d; objects = object_names d p; predicates = predicate_names d; tasks = task_names d }
+vocabulary_of d p =
+    record { types = type_names d; objects = object_names d p; predicates = distinct (predicate_names d); tasks = distinct (task_names d) }
 
 -- ## Schemas. Variables in force are a list of texts: the parameters, and then those of each `forall` around
 

@@ -1,5 +1,5 @@
 -- When a domain and a problem fit together: nine items, each with the places at which it fails.
-use Rattle.std.specs.Prelude.{◌≡◌, ℕ, ◌<◌, ◌⊎◌, Bool, true, false, List, [], ◌∷◌, ◌++◌, map, length, Option, Some, None}
+use Rattle.std.specs.Prelude.{◌≡◌, ℕ, max, ◌⊎◌, Bool, true, false, List, [], ◌∷◌, ◌++◌, map, length, Option, Some, None}
 use Rattle.std.specs.List.{flat_map, find, zip}
 use Rattle.hddl_words.specs.Names.{Name}
 use Rattle.hddl_tree.specs.Places.{place_of}
@@ -61,11 +61,12 @@ abbrev pub groups : DomainText → ProblemText → Source → List (List Mention
 groups d p text =
     declaration_groups d text ++ flat_map schema_groups (schemas_in d p text) ++ map (λ n. label_mentions n.1) (networks_in d p text)
 
--- the later of two of one text
+-- two of one text: the place of the later one
 abbrev pub IsDuplicate : DomainText → ProblemText → At → Type 0
 IsDuplicate d p at =
-    (group : List Mention) × (first : Mention) × (second : Mention) × IsIn group (groups d p at.source) × IsIn first group × IsIn second group
-    × (first.text ≡ second.text) × (first.place < second.place) × (at.place ≡ second.place)
+    (group : List Mention) × (before : List Mention) × (first : Mention) × (middle : List Mention) × (second : Mention) × (after : List Mention)
+    × IsIn group (groups d p at.source) × (group ≡ before ++ first ∷ middle ++ second ∷ after) × (first.text ≡ second.text)
+    × (at.place ≡ max first.place second.place)
 
 -- ## 2. Types that are named
 

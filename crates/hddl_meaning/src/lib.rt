@@ -4,4 +4,12 @@
 
 mod fault;
 
+ghost use Rattle.hddl_meaning.specs.Agreement.{TasksAreWellTyped};
+
 pub use fault::{At, CheckFault, Source};
+
+/// The task of a domain and a problem that fit together is well typed: each number in it is that of something declared, each
+/// atom and each task has as many arguments as its declaration has places, and orders are closed and have no cycle.
+pub fn tasks_are_well_typed()
+    ensures typed { TasksAreWellTyped }
+{}

@@ -16,6 +16,7 @@ pub mod Along
 pub mod Exhaustion
 pub mod Levels
 pub mod Met
+pub mod PlanWord
 pub mod PlanFile
 pub mod Shadow
 pub mod Verdict

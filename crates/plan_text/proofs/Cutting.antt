@@ -3,7 +3,8 @@ use Rattle.std.proofs.Common.{◌≡◌, ℕ, zero, suc, ◌+◌, ◌-◌, ◌<�
 use Rattle.std.specs.List.{position, position_or_len}
 use Rattle.std.proofs.lemmas.List.{length-take, take_all, drop_all, drop-drop}
 use Rattle.std.proofs.lemmas.List.Sums.{passes_at_first}
-use Rattle.plan_text.specs.Piece.{Piece, piece, pieces, is_line_feed, is_blank, is_filled, words_at}
+use Rattle.htn_model.specs.PlanWord.{is_blank}
+use Rattle.plan_text.specs.Piece.{Piece, piece, pieces, is_line_feed, is_filled, words_at}
 use Rattle.plan_text.proofs.Cases.{when}
 use Rattle.plan_text.proofs.Positions.{some_position, none_position}
 use Rattle.plan_text.proofs.Pieces.{length-pieces, pieces-cut, pieces-whole, words_at-none, words_at-skip, words_at-word}

@@ -8,7 +8,7 @@ use Rattle.std.proofs.lemmas.List.Folds.{list_all-append}
 use Rattle.plan_text.specs.declared.fault.PlanFault.{PlanFault}
 use Rattle.plan_text.specs.declared.fault.PlanFault.TheVariants.{NoStart, NoEnd, BadLine, TwoRoots, NoRoot, NumberTooLarge, NotAscii, TooLong, OutOfMemory}
 use Rattle.plan_text.specs.Piece.{Piece, words, lines}
-use Rattle.plan_text.specs.PlanFile.{PlanFile}
+use Rattle.htn_model.specs.PlanFile.{PlanFile}
 use Rattle.plan_text.specs.Line.{LineKind, roots, IsOfKind, IsLine, AreLines, IsLegal, is_legal, is_small, numbers_of, Contents, contents_of, actions_of, root_lists_of, decompositions_of}
 use Rattle.plan_text.specs.FileText.{after_start, before_end, body, HoldsFile, FileText}
 use Rattle.plan_text.specs.Fault.{IsFaultOf, HasFaultyLine, IsFaultyBody, IsFaulty, FaultAt}

@@ -8,8 +8,11 @@ use Rattle.std.proofs.lemmas.Bool.{ltb-true, ltb-false}
 use Rattle.std.proofs.lemmas.Bool.Decides.{nat_tests}
 use Rattle.std.specs.declared.alloc.Global.{Global}
 use Rattle.std.specs.declared.vec.Vec.{Vec}
-use Rattle.plan_text.specs.Piece.{Piece, piece, pieces, with_front, is_blank, is_printable, is_filled, is_filled_by, words, words_at}
-use Rattle.plan_text.specs.PlanFile.{Word, ActionLine, DecompositionLine, PlanFile, arrow, is_name_byte, IsName, IsId, IsActionLine, IsDecompositionLine, IsPlanFile}
+use Rattle.htn_model.specs.PlanWord.{is_blank, is_printable}
+use Rattle.plan_text.specs.Piece.{Piece, piece, pieces, with_front, is_filled, is_filled_by, words, words_at}
+use Rattle.htn_model.specs.PlanFile.{Word, ActionLine, DecompositionLine, PlanFile}
+use Rattle.htn_model.specs.PlanWord.{arrow, is_name_byte, IsName}
+use Rattle.plan_text.specs.PlanFile.{IsId, IsActionLine, IsDecompositionLine, IsPlanFile}
 use Rattle.plan_text.specs.Line.{LineKind, blank, roots, action, decomposition, IsOfKind, IsLine, AreLines, IsLegal, is_legal, is_small, is_arrow, is_no_arrow, number, numbers_of, folded, actions_of, root_lists_of, decompositions_of, Contents, contents_of}
 use Rattle.plan_text.specs.FileText.{HoldsFile}
 use Rattle.plan_text.specs.Fault.{NamesNoRoots}

@@ -2,7 +2,8 @@
 use Rattle.std.proofs.Common.{◌≡◌, ℕ, zero, suc, ◌+◌, ◌<◌, ◌≤◌, Bool, true, false, not, cond, List, [], ◌∷◌, ◌++◌, length, refl, sym, ap, ◌∙◌, arith, add-one, one-add, add-zero, take, drop, get_or, drop-cons}
 use Rattle.std.specs.List.{position_or_len, prefix_len, list_all, filter}
 use Rattle.std.proofs.lemmas.List.Sums.{passes_at_first}
-use Rattle.plan_text.specs.Piece.{is_filled_by, Piece, piece, pieces, with_front, is_filled, is_blank, words_at}
+use Rattle.htn_model.specs.PlanWord.{is_blank}
+use Rattle.plan_text.specs.Piece.{is_filled_by, Piece, piece, pieces, with_front, is_filled, words_at}
 use Rattle.plan_text.proofs.Cases.{when}
 
 -- the pieces up to the first cut

@@ -5,7 +5,8 @@ use Rattle.std.specs.Option.{option_map, option_and_then}
 use Rattle.std.proofs.lemmas.List.{append-nil}
 use Rattle.std.proofs.lemmas.Grind.{flat_map-append}
 use Rattle.plan_text.specs.Piece.{Piece, piece, pieces, is_line_feed, max_bytes, lines}
-use Rattle.plan_text.specs.PlanFile.{Word, ActionLine, DecompositionLine, PlanFile, IsId, IsActionLine, IsDecompositionLine, IsPlanFile}
+use Rattle.htn_model.specs.PlanFile.{Word, ActionLine, DecompositionLine, PlanFile}
+use Rattle.plan_text.specs.PlanFile.{IsId, IsActionLine, IsDecompositionLine, IsPlanFile}
 use Rattle.plan_text.specs.Line.{LineKind, IsLine, AreLines, Contents, contents_of, actions_of, root_lists_of, decompositions_of}
 use Rattle.plan_text.specs.FileText.{is_marker, start_marker, end_marker, after_start, before_end, body, FileText}
 use Rattle.plan_text.specs.Written.{line_of, action_words, root_words, decomposition_words, written_lines, written}

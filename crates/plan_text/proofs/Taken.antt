@@ -7,7 +7,8 @@ use Rattle.std.proofs.lemmas.Grind.{flat_map-append}
 use Rattle.std.specs.Prelude.{codes}
 use Rattle.std.specs.List.{flat_map}
 use Rattle.std.specs.Fmt.{decimal}
-use Rattle.plan_text.specs.PlanFile.{PlanFile, DecompositionLine, arrow}
+use Rattle.htn_model.specs.PlanFile.{PlanFile, DecompositionLine}
+use Rattle.htn_model.specs.PlanWord.{arrow}
 use Rattle.plan_text.specs.FileText.{start_marker, end_marker}
 use Rattle.plan_text.specs.Written.{spaced, line_of, action_words, root_words, decomposition_words, written}
 use Rattle.plan_text.specs.Parts.{head_text, tail_text, action_text, decomposition_text}

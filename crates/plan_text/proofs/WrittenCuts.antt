@@ -3,8 +3,9 @@ use Rattle.std.proofs.Common.{◌≡◌, ℕ, zero, suc, ◌+◌, ◌<◌, ◌�
 use Rattle.std.specs.List.{list_all, AllByRecursion, filter, flat_map}
 use Rattle.std.proofs.lemmas.List.{append-nil}
 use Rattle.std.proofs.lemmas.List.Folds.{list_all-append}
-use Rattle.plan_text.specs.Piece.{Piece, piece, pieces, with_front, is_blank, is_line_feed, is_filled, is_filled_by, words_at}
-use Rattle.plan_text.specs.PlanFile.{Word}
+use Rattle.htn_model.specs.PlanWord.{is_blank}
+use Rattle.plan_text.specs.Piece.{Piece, piece, pieces, with_front, is_line_feed, is_filled, is_filled_by, words_at}
+use Rattle.htn_model.specs.PlanFile.{Word}
 use Rattle.plan_text.specs.Written.{spaced, line_of}
 use Rattle.plan_text.proofs.Cases.{when}
 use Rattle.plan_text.proofs.KindLaws.{first_all}

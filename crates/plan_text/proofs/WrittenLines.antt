@@ -10,8 +10,11 @@ use Rattle.std.proofs.lemmas.Bool.{lt-ltb, eqb-true}
 use Rattle.std.proofs.lemmas.Bool.Decides.{nat_tests}
 use Rattle.std.proofs.lemmas.Fmt.{decimal_is_IsNumeral}
 use Rattle.std.proofs.lemmas.List.{map-append}
-use Rattle.plan_text.specs.Piece.{Piece, piece, pieces, is_blank, is_printable, is_line_feed, is_filled_by, words, words_at}
-use Rattle.plan_text.specs.PlanFile.{Word, ActionLine, DecompositionLine, arrow, is_name_byte, IsName, IsId, IsActionLine, IsDecompositionLine}
+use Rattle.htn_model.specs.PlanWord.{is_blank, is_printable}
+use Rattle.plan_text.specs.Piece.{Piece, piece, pieces, is_line_feed, is_filled_by, words, words_at}
+use Rattle.htn_model.specs.PlanFile.{Word, ActionLine, DecompositionLine}
+use Rattle.htn_model.specs.PlanWord.{arrow, is_name_byte, IsName}
+use Rattle.plan_text.specs.PlanFile.{IsId, IsActionLine, IsDecompositionLine}
 use Rattle.plan_text.specs.Line.{LineKind, blank, roots, action, decomposition, IsLine, IsLegal, is_legal, is_small, is_number, is_arrow, is_no_arrow, is_root, number, folded, numbers_of, actions_of, root_lists_of, decompositions_of}
 use Rattle.plan_text.specs.FileText.{is_marker, is_only, end_marker}
 use Rattle.plan_text.specs.Written.{spaced, action_words, root_words, decomposition_words}

@@ -4,7 +4,7 @@ use Rattle.std.specs.Option.{option_map, option_and_then}
 use Rattle.std.specs.Str.{bytes_eq}
 use Rattle.plan_text.specs.Piece.{Piece, max_bytes, lines, words}
 use Rattle.plan_text.specs.Line.{LineKind, AreLines, contents_of}
-use Rattle.plan_text.specs.PlanFile.{Word, PlanFile}
+use Rattle.htn_model.specs.PlanFile.{Word, PlanFile}
 
 abbrev pub start_marker : Word
 start_marker = codes "==>"

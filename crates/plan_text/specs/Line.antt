@@ -4,8 +4,10 @@ use Rattle.std.specs.List.{list_all, flat_map}
 use Rattle.std.specs.Char.{is_ascii_digit, to_ascii_lowercase}
 use Rattle.std.specs.Str.{bytes_eq, str_eq_ignore_ascii_case}
 use Rattle.std.specs.Str.Parse.{digits_value}
-use Rattle.plan_text.specs.Piece.{Piece, is_blank, is_printable, words}
-use Rattle.plan_text.specs.PlanFile.{Word, ActionLine, DecompositionLine, arrow}
+use Rattle.htn_model.specs.PlanWord.{is_blank, is_printable}
+use Rattle.plan_text.specs.Piece.{Piece, words}
+use Rattle.htn_model.specs.PlanFile.{Word, ActionLine, DecompositionLine}
+use Rattle.htn_model.specs.PlanWord.{arrow}
 
 -- a kind of line, with those of its words that say something
 pub data LineKind : Type 0 where

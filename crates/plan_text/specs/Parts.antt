@@ -2,7 +2,8 @@
 use Rattle.std.specs.Prelude.{ℕ, List, [], ◌∷◌, ◌++◌, map}
 use Rattle.std.specs.List.{flat_map}
 use Rattle.std.specs.Fmt.{decimal}
-use Rattle.plan_text.specs.PlanFile.{Word, ActionLine, DecompositionLine, arrow}
+use Rattle.htn_model.specs.PlanFile.{Word, ActionLine, DecompositionLine}
+use Rattle.htn_model.specs.PlanWord.{arrow}
 use Rattle.plan_text.specs.Written.{spaced, line_of, action_words, decomposition_words}
 
 abbrev pub head_text : ℕ → Word → List Word → List ℕ

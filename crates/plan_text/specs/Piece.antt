@@ -1,6 +1,7 @@
 -- Texts cut into lines, and lines into words.
 use Rattle.std.specs.Prelude.{ℕ, ◌+◌, Bool, true, false, ◌&&◌, ◌||◌, ◌==◌, nat_le, if◌then◌else◌, List, [], ◌∷◌}
 use Rattle.std.specs.List.{filter}
+use Rattle.htn_model.specs.PlanWord.{is_blank}
 
 -- the most bytes of a text
 abbrev pub max_bytes : ℕ
@@ -29,12 +30,6 @@ pieces is_cut place (b ∷ bytes) =
 
 abbrev pub is_line_feed : ℕ → Bool
 is_line_feed b = b == 10
-
-abbrev pub is_blank : ℕ → Bool
-is_blank b = b == 9 || b == 12 || b == 13 || b == 32 || b == 40 || b == 41
-
-abbrev pub is_printable : ℕ → Bool
-is_printable b = nat_le 33 b && nat_le b 126
 
 -- the lines of a text: a line feed ends a line, and so does the end of the text
 abbrev pub lines : List ℕ → List Piece

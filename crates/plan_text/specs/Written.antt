@@ -2,7 +2,8 @@
 use Rattle.std.specs.Prelude.{ℕ, List, [], ◌∷◌, ◌++◌, map, codes}
 use Rattle.std.specs.List.{flat_map}
 use Rattle.std.specs.Fmt.{decimal}
-use Rattle.plan_text.specs.PlanFile.{Word, ActionLine, DecompositionLine, PlanFile, arrow}
+use Rattle.htn_model.specs.PlanFile.{Word, ActionLine, DecompositionLine, PlanFile}
+use Rattle.htn_model.specs.PlanWord.{arrow}
 use Rattle.plan_text.specs.FileText.{start_marker, end_marker}
 
 -- a word with a space before it

@@ -1,6 +1,7 @@
 //! Texts cut into lines, and lines into words.
 
 ghost use Rattle.std.specs.Prelude.{◌≡◌, ◌+◌, ◌≤◌, [], ◌∷◌, length, take, position, not, MatchOption, IfOk};
+ghost use Rattle.htn_model.specs.PlanWord.{is_blank as is_blank_byte};
 ghost use Rattle.plan_text.specs.Piece as spec;
 ghost use Rattle.plan_text.specs.Seen.{seen, seen_all};
 
@@ -152,21 +153,21 @@ impl<'a> Words<'a> {
 }
 
 pub(crate) fn is_blank(byte: u8) -> bool
-    ensures { result ≡ spec.is_blank byte }
+    ensures { result ≡ is_blank_byte byte }
 {
     byte == 9 || byte == 12 || byte == 13 || byte == b' ' || byte == b'(' || byte == b')'
 }
 
 /// Where the first blank stands.
 fn blank_in(bytes: &[u8]) -> Option<usize>
-    ensures { result ≡ position spec.is_blank bytes.now }
+    ensures { result ≡ position is_blank_byte bytes.now }
 {
     bytes.iter().position(|byte| is_blank(*byte))
 }
 
 /// Where the first byte stands that is no blank.
 fn filled_in(bytes: &[u8]) -> Option<usize>
-    ensures { result ≡ position (λ byte. not (spec.is_blank byte)) bytes.now }
+    ensures { result ≡ position (λ byte. not (is_blank_byte byte)) bytes.now }
 {
     bytes.iter().position(|byte| !is_blank(*byte))
 }

@@ -2,7 +2,8 @@
 
 ghost use Rattle.std.specs.Prelude.{◌≡◌, ◌≤◌, ℕ, List, length};
 ghost use Rattle.plan_text.specs.Piece.{max_bytes};
-ghost use Rattle.plan_text.specs.PlanFile.{PlanFile, IsPlanFile};
+ghost use Rattle.htn_model.specs.PlanFile.{PlanFile};
+ghost use Rattle.plan_text.specs.PlanFile.{IsPlanFile};
 ghost use Rattle.plan_text.specs.FileText.{FileText};
 ghost use Rattle.plan_text.specs.Written.{written};
 

@@ -12,7 +12,7 @@ pub struct ActionLine {
 }
 
 impl Model for ActionLine {
-    ghost use Rattle.plan_text.specs.PlanFile.{ActionLine};
+    ghost use Rattle.htn_model.specs.PlanFile.{ActionLine};
 
     ghost Value = { ActionLine };
 
@@ -65,7 +65,7 @@ pub struct DecompositionLine {
 }
 
 impl Model for DecompositionLine {
-    ghost use Rattle.plan_text.specs.PlanFile.{DecompositionLine};
+    ghost use Rattle.htn_model.specs.PlanFile.{DecompositionLine};
 
     ghost Value = { DecompositionLine };
 
@@ -138,7 +138,8 @@ pub struct PlanFile {
 }
 
 impl Model for PlanFile {
-    ghost use Rattle.plan_text.specs.PlanFile.{PlanFile, IsPlanFile};
+    ghost use Rattle.htn_model.specs.PlanFile.{PlanFile};
+    ghost use Rattle.plan_text.specs.PlanFile.{IsPlanFile};
 
     ghost Value = { PlanFile };
 

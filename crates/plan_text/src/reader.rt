@@ -6,7 +6,7 @@ ghost use Rattle.plan_text.specs.FileText.{is_marker, after_start, before_end, b
 ghost use Rattle.plan_text.specs.Line.{LineKind, is_legal, IsLegal, IsLine};
 ghost use Rattle.plan_text.specs.Adding.{with_line, IsRead, IsByteFault};
 ghost use Rattle.plan_text.specs.Fault.{IsFaultOf, HasFaultyLine, IsFaultyBody, FaultAt};
-ghost use Rattle.plan_text.specs.PlanFile.{PlanFile};
+ghost use Rattle.htn_model.specs.PlanFile.{PlanFile};
 ghost use Rattle.plan_text.specs.Seen.{seen};
 
 use crate::cut::{Lines, MAX_BYTES, Words, is_blank, words_of};

@@ -62,6 +62,8 @@ impl Machine for Counter {
 
     ghost belongs = { λ m c. c.value < 1000 };
 
+    ghost owns = { λ m cache. Unit {0} };
+
     ghost is_ready = { λ m cache c. Unit {0} };
 
     ghost number = { λ w. w.number };

@@ -68,8 +68,10 @@ pub fn prepare_ranks<M: Machine>(
     configurations: &[M::Configuration],
     first: usize,
 ) -> Result<(), AllocError>
-    requires { All (M.belongs machine.now) configurations.now }
-    ensures { OnOk result (AreReadyFrom (M.is_ready machine.now cache.new) configurations.now first) }
+    requires known { All (M.belongs machine.now) configurations.now }
+    requires own { M.owns machine.now cache.old }
+    ensures owned { OnOk result (M.owns machine.now cache.new) }
+    ensures ready { OnOk result (AreReadyFrom (M.is_ready machine.now cache.new) configurations.now first) }
 {
     for rank in first..configurations.len() {
         machine.prepare(cache, &configurations[rank])?;

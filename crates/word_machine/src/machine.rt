@@ -21,6 +21,9 @@ pub trait Machine: Sync {
     // The configuration is one of this machine's.
     ghost belongs: { Self → Self.Configuration → Type 0 };
 
+    // The cache is one that this machine made, and no other has changed it.
+    ghost owns: { Self → Self.Cache → Type 0 };
+
     // The cache has what the choices at this configuration need.
     ghost is_ready: { Self → Self.Cache → Self.Configuration → Type 0 };
 
@@ -34,11 +37,14 @@ pub trait Machine: Sync {
         ensures { IfOk result (λ initials. initials.items ≡ (words self.now).initials) };
 
     /// A cache at the start of a search.
-    fn new_cache(&self) -> Result<Self::Cache, AllocError>;
+    fn new_cache(&self) -> Result<Self::Cache, AllocError>
+        ensures { IfOk result (owns self.now) };
 
     /// Puts into the cache what the choices at this configuration need. It keeps what it has.
     fn prepare(&self, cache: &mut Self::Cache, at: &Self::Configuration) -> Result<(), AllocError>
-        requires { belongs self.now at.now }
+        requires known { belongs self.now at.now }
+        requires own { owns self.now cache.old }
+        ensures owned { OnOk result (owns self.now cache.new) }
         ensures ready { OnOk result (is_ready self.now cache.new at.now) }
         ensures kept { OnOk result ((c : Self.Configuration) → is_ready self.now cache.old c → is_ready self.now cache.new c) };
 

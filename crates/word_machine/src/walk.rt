@@ -1,5 +1,5 @@
 //! Whether a word finishes.
-ghost use Rattle.std.specs.Prelude.{◌↔◌, IsTrue, IfOk, IfSome, IfNone};
+ghost use Rattle.std.specs.Prelude.{◌↔◌, IsTrue, IfOk, OnOk, IfSome, IfNone};
 ghost use Rattle.word_machine.specs.Machine.{IsLiveStep, IsFinishing};
 
 use crate::machine::Machine;
@@ -12,7 +12,9 @@ fn next<M: Machine>(
     from: &M::Configuration,
     number: u64,
 ) -> Result<Option<M::Configuration>, AllocError>
-    requires { M.belongs machine.now from.now }
+    requires known { M.belongs machine.now from.now }
+    requires own { M.owns machine.now cache.old }
+    ensures owned { OnOk result (M.owns machine.now cache.new) }
     ensures some { IfOk result (λ next. IfSome next (IsLiveStep (M.words machine.now) from.now number)) }
     ensures none { IfOk result (λ next. IfNone next ((to : M.Configuration) → IsLiveStep (M.words machine.now) from.now number to → ⊥)) }
 {

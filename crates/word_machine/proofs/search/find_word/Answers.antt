@@ -37,9 +37,13 @@ loop-level-init g c =
     let S : Search g.row.M-Configuration.Denot = search_of m c.args.bounds.nodes in
     let unfinished : (i : ℕ) (d : g.row.M-Configuration.Denot) → slice_get m.initials i ≡ Some d → IsDone m d → ⊥ =
     λ i d at. c.in_default.ensures.none i d (ap (λ l. slice_get l i) (c.deref.ensures.value ∙ c.in_ok-initials.ensures) ∙ at) in
-    first_level S g.M.Configuration.PartialEq.eq (g.met.M.Machine g.world.𝓛 g.world.𝓜 g.world.𝓡 ((λ s x. x), (λ x. x), (λ x. x), λ x. x)).same (g.met.M.Configuration.Eq g.world.𝓛 g.world.𝓜 g.world.𝓡 ((λ s x. x), (λ x. x), (λ x. x), λ x. x)).laws.refl unfinished c.merge.new.closed
-    (c.in_ok-merge.ensures ∙ ap (λ (n : Contents g.row.M-Configuration.Denot). offer_all g.M.Configuration.PartialEq.eq m.open_len c.args.bounds.nodes n c.in_ok-start.start.items) c.new-closed.ensures
-    ∙ ap (offer_all g.M.Configuration.PartialEq.eq m.open_len c.args.bounds.nodes (record { keys = []; origins = []; cut = false })) (c.in_ok-start.ensures ∙ ap (λ l. initial_successors 0 l) c.in_ok-initials.ensures))
+    record {
+      closed =
+          first_level S g.M.Configuration.PartialEq.eq (g.met.M.Machine g.world.𝓛 g.world.𝓜 g.world.𝓡 ((λ s x. x), (λ x. x), (λ x. x), λ x. x)).same (g.met.M.Configuration.Eq g.world.𝓛 g.world.𝓜 g.world.𝓡 ((λ s x. x), (λ x. x), (λ x. x), λ x. x)).laws.refl unfinished c.merge.new.closed
+          (c.in_ok-merge.ensures ∙ ap (λ (n : Contents g.row.M-Configuration.Denot). offer_all g.M.Configuration.PartialEq.eq m.open_len c.args.bounds.nodes n c.in_ok-start.start.items) c.new-closed.ensures
+          ∙ ap (offer_all g.M.Configuration.PartialEq.eq m.open_len c.args.bounds.nodes (record { keys = []; origins = []; cut = false })) (c.in_ok-start.ensures ∙ ap (λ l. initial_successors 0 l) c.in_ok-initials.ensures));
+      own = c.in_ok-cache.ensures;
+    }
 
 -- what is answered where nothing is left to expand
 answered : (g : given.Over) (machine : g.row.M.Denot) (bound : ℕ) (contents : Contents g.row.M-Configuration.Denot) (level low : ℕ)
@@ -58,30 +62,30 @@ returns-then-low-high g c =
     let contents = c.loop-level.closed in
     record {
       answer = subst (IsAnswer (g.M.Machine.words machine) c.args.bounds.nodes) (sym c.exhausted.ensures)
-          (answered g machine c.args.bounds.nodes contents c.loop-level.level c.loop-level.low c.loop-level.invariant
+          (answered g machine c.args.bounds.nodes contents c.loop-level.level c.loop-level.low c.loop-level.invariant.closed
           (inr (c.if-low-high.true ∙ ap length c.configurations-high.ensures)));
       no_thread = tt;
     }
 
-pub prepare_ranks-requires-after_bounds : goal.prepare_ranks-requires-after_bounds
-prepare_ranks-requires-after_bounds g c = λ _ _.
+pub prepare_ranks-requires-clause-known : goal.prepare_ranks-requires-clause-known
+prepare_ranks-requires-clause-known g c = λ _ _.
     let machine = c.args.machine.now in
     subst (All (g.M.Machine.belongs machine)) (sym c.configurations-configurations.ensures)
     (keys_belong (g.M.Machine.words machine) (g.M.Machine.belongs machine) (laws g machine) c.args.bounds.nodes
-    c.loop-level.closed c.loop-level.level c.loop-level.low c.loop-level.invariant)
+    c.loop-level.closed c.loop-level.level c.loop-level.low c.loop-level.invariant.closed)
 
 pub expand_ranks-requires-clause-known : goal.expand_ranks-requires-clause-known
 expand_ranks-requires-clause-known g c = λ _ _.
     let machine = c.args.machine.now in
     subst (All (g.M.Machine.belongs machine)) (sym c.configurations-configurations.ensures)
     (keys_belong (g.M.Machine.words machine) (g.M.Machine.belongs machine) (laws g machine) c.args.bounds.nodes
-    c.loop-level.closed c.loop-level.level c.loop-level.low c.loop-level.invariant)
+    c.loop-level.closed c.loop-level.level c.loop-level.low c.loop-level.invariant.closed)
 
 pub merge-requires-in-Whole-clause-known : goal.merge-requires-in-Whole-clause-known
 merge-requires-in-Whole-clause-known g c = λ _ _.
     let machine = c.args.machine.now in
     successors_belong (g.M.Machine.words machine) (g.M.Machine.belongs machine) (laws g machine) c.args.bounds.nodes
-    c.loop-level.closed c.loop-level.level c.loop-level.low c.loop-level.invariant (length c.loop-level.closed.keys) c.in-Whole.successors.items
+    c.loop-level.closed c.loop-level.level c.loop-level.low c.loop-level.invariant.closed (length c.loop-level.closed.keys) c.in-Whole.successors.items
     (whole (IsLiveStep (g.M.Machine.words machine)) (IsDone (g.M.Machine.words machine)) c.loop-level.closed.keys c.configurations-configurations.result.now c.configurations-configurations.result.now
     c.configurations-configurations.ensures c.configurations-configurations.ensures c.loop-level.low c.in_ok-successors.field-0 c.in_ok-successors.ensures.expanded c.in-Whole.successors c.in-Whole.is)
 
@@ -89,7 +93,7 @@ pub merge-requires-in-Whole-clause-within : goal.merge-requires-in-Whole-clause-
 merge-requires-in-Whole-clause-within g c = λ _ _.
     let machine = c.args.machine.now in
     successors_within (g.M.Machine.words machine) (g.M.Machine.belongs machine) (laws g machine) c.args.bounds.nodes
-    c.loop-level.closed c.loop-level.level c.loop-level.low c.loop-level.invariant c.in-Whole.successors.items
+    c.loop-level.closed c.loop-level.level c.loop-level.low c.loop-level.invariant.closed c.in-Whole.successors.items
     (whole (IsLiveStep (g.M.Machine.words machine)) (IsDone (g.M.Machine.words machine)) c.loop-level.closed.keys c.configurations-configurations.result.now c.configurations-configurations.result.now
     c.configurations-configurations.ensures c.configurations-configurations.ensures c.loop-level.low c.in_ok-successors.field-0 c.in_ok-successors.ensures.expanded c.in-Whole.successors c.in-Whole.is)
 
@@ -102,7 +106,7 @@ returns-in-Done g c =
     first_done live (IsDone m) c.loop-level.closed.keys c.configurations-configurations.result.now c.configurations-configurations.result.now
     c.configurations-configurations.ensures c.configurations-configurations.ensures c.loop-level.low c.in_ok-successors.field-0 c.in_ok-successors.ensures.expanded c.in-Done.rank c.in-Done.finish c.in-Done.is in
     let found = answer_found (g.M.Machine.words machine) (g.M.Machine.belongs machine) (laws g machine) c.args.bounds.nodes
-    c.loop-level.closed c.loop-level.level c.loop-level.low c.loop-level.invariant c.in-Done.rank c.in-Done.finish c.loop-level-test.true first in
+    c.loop-level.closed c.loop-level.level c.loop-level.low c.loop-level.invariant.closed c.in-Done.rank c.in-Done.finish c.loop-level-test.true first in
     record {
       answer = subst (IsLeastFinishing m c.args.bounds.nodes)
           (ap (λ o. get_or (words_of o) c.in-Done.rank [] ++ c.in-Done.finish ∷ []) (sym c.origins.ensures.origins) ∙ sym c.in_ok-word-in-Done.ensures) found;
@@ -118,11 +122,14 @@ loop-level-preserved g c =
     let later : IsClosedTo S c.merge-in-Whole.new.closed.keys (words_of c.merge-in-Whole.new.closed.origins) c.merge-in-Whole.new.closed.cut (c.loop-level.level + 1) (length c.loop-level.closed.keys) =
     later_level S g.M.Configuration.PartialEq.eq (g.met.M.Machine g.world.𝓛 g.world.𝓜 g.world.𝓡 ((λ s x. x), (λ x. x), (λ x. x), λ x. x)).same (g.met.M.Configuration.Eq g.world.𝓛 g.world.𝓜 g.world.𝓡 ((λ s x. x), (λ x. x), (λ x. x), λ x. x)).laws.refl
     (counts (g.M.Machine.words machine) (g.M.Machine.belongs machine) (laws g machine) c.args.bounds.nodes)
-    c.loop-level.closed c.loop-level.level c.loop-level.low c.loop-level.invariant c.in-Whole.successors.items
+    c.loop-level.closed c.loop-level.level c.loop-level.low c.loop-level.invariant.closed c.in-Whole.successors.items
     (whole (IsLiveStep (g.M.Machine.words machine)) (IsDone (g.M.Machine.words machine)) c.loop-level.closed.keys c.configurations-configurations.result.now c.configurations-configurations.result.now
     c.configurations-configurations.ensures c.configurations-configurations.ensures c.loop-level.low c.in_ok-successors.field-0 c.in_ok-successors.ensures.expanded c.in-Whole.successors c.in-Whole.is)
     (c.args.bounds.nodes - c.loop-level.level - 1) (omega arith) c.merge-in-Whole.new.closed c.in_ok-merge-in-Whole.ensures in
-    subst (λ n. IsClosedTo S c.merge-in-Whole.new.closed.keys (words_of c.merge-in-Whole.new.closed.origins) c.merge-in-Whole.new.closed.cut (c.loop-level.level + 1) n) (sym (ap length c.configurations-high.ensures)) later
+    record {
+      closed = subst (λ n. IsClosedTo S c.merge-in-Whole.new.closed.keys (words_of c.merge-in-Whole.new.closed.origins) c.merge-in-Whole.new.closed.cut (c.loop-level.level + 1) n) (sym (ap length c.configurations-high.ensures)) later;
+      own = c.in_ok-prepare_ranks.ensures.owned;
+    }
 
 pub returns : goal.returns
 returns g c =
@@ -130,6 +137,6 @@ returns g c =
     let contents = c.loop-level.closed in
     record {
       answer = subst (IsAnswer (g.M.Machine.words machine) c.args.bounds.nodes) (sym c.exhausted-2.ensures)
-          (answered g machine c.args.bounds.nodes contents c.loop-level.level c.loop-level.low c.loop-level.invariant (inl c.loop-level-test.false));
+          (answered g machine c.args.bounds.nodes contents c.loop-level.level c.loop-level.low c.loop-level.invariant.closed (inl c.loop-level-test.false));
       no_thread = tt;
     }

@@ -50,6 +50,7 @@ loop-number-preserved g c =
     record {
       way = way_more live (one_live_step m) start numbers c.loop-number.at c.in-Some-2.to (get_or numbers i 0) (drop (i + 1) numbers) way step;
       own = (laws g machine).stays c.loop-number.at c.in-Some-2.to (get_or numbers i 0) c.loop-number.invariant.own step.0;
+      made = c.in_ok-to.ensures.owned;
     }
 
 pub returns : goal.returns
@@ -85,4 +86,5 @@ loop-number-init g c =
     record {
       way = way_start (IsLiveStep m) start c.in-Some.numbers.now;
       own = subst belongs (sym c.swap_remove-at.ensures.value) (known c.in-Some.initial.now start inside);
+      made = c.in_ok-cache.ensures;
     }

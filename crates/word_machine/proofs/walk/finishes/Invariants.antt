@@ -8,4 +8,5 @@ abbrev pub invariant-loop-number : goal.invariant-loop-number
 invariant-loop-number g l = record {
   way : IsOnTheWay (IsLiveStep (g.M.Machine.words l.machine)) l.initial.at l.numbers l.at (drop l.number-index l.numbers);
   own : g.M.Machine.belongs l.machine l.at;
+  made : g.M.Machine.owns l.machine l.cache;
 }

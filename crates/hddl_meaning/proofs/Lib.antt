@@ -1,0 +1,6 @@
+pub mod Listed
+pub mod Unique
+pub mod Limits
+pub mod Numbers
+pub mod Conditions
+pub mod WellTyped

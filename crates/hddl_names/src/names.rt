@@ -1,0 +1,69 @@
+//! Names numbered in the order of their first declarations.
+ghost use Rattle.std.specs.Prelude.{◌≡◌, ℕ, [], map, length, slice_get, option_map, OnOk, OnErr};
+ghost use Rattle.std.specs.List.{position, IsDistinct};
+ghost use Rattle.hddl_meaning.specs.Names.{is_same_text, with_name};
+
+use indexmap::IndexSet;
+use std::alloc::{AllocFailed, Global};
+use std::marker::Model;
+
+/// Different names, each with its position as its number. Contracts see the list of the names.
+#[derive(Drop)]
+pub struct Names {
+    texts: IndexSet<Vec<u8>>,
+}
+
+impl Model for Names {
+    ghost use Rattle.std.specs.Prelude.{List};
+    ghost use Rattle.hddl_meaning.specs.Mentions.{Text};
+    ghost use Rattle.hddl_names.specs.Texts.{texts_of};
+
+    ghost Value = { List Text };
+
+    ghost view = { λ names. texts_of names.texts.keys };
+}
+
+impl Names {
+    /// No names.
+    pub fn new(alloc: Global) -> Names
+        ensures { result ≡ [] }
+    {
+        Names {
+            texts: IndexSet::new(alloc),
+        }
+    }
+
+    /// How many names there are.
+    pub fn len(&self) -> usize
+        ensures value { result ≡ length self.now }
+        ensures different { IsDistinct is_same_text self.now }
+    {
+        self.texts.len()
+    }
+
+    /// The name of that number.
+    pub fn get(&self, number: usize) -> Option<&[u8]>
+        ensures { option_map (λ text. text.now) result ≡ slice_get self.now number }
+    {
+        match self.texts.get_index(number) {
+            Some(text) => Some(text.as_slice()),
+            None => None,
+        }
+    }
+
+    /// The number of a name.
+    pub fn number_of(&self, text: &[u8]) -> Option<usize>
+        ensures { result ≡ position (is_same_text text.now) self.now }
+    {
+        self.texts.get_index_of(text)
+    }
+
+    /// Gives a name the next number, unless it has one. Where memory is refused, the names are as they were.
+    pub fn declare(&mut self, text: Vec<u8>) -> Result<(), AllocFailed<Vec<u8>>>
+        ensures ok { OnOk result (self.new ≡ with_name self.old text.items) }
+        ensures err { OnErr result (self.new ≡ self.old) }
+    {
+        let _ = self.texts.insert(text)?;
+        Ok(())
+    }
+}

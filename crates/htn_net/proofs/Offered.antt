@@ -1,0 +1,90 @@
+-- The choices of a compound task's instances, as they stand in the cache.
+use Rattle.std.proofs.Common.{◌≡◌, ℕ, zero, suc, ◌+◌, ◌<◌, Bool, true, false, cond, List, [], ◌∷◌, filter, map, length, get_or, slice_get, Some, None, not, All, option_and_then, refl, sym, ap, ◌∙◌, subst, arith}
+use Rattle.std.specs.List.{enumerate_from}
+use Rattle.std.proofs.lemmas.List.{length-map, get_or-map}
+use Rattle.std.proofs.lemmas.List.FromFn.{get_or-enumerate_from, length-enumerate_from}
+use Rattle.std.proofs.lemmas.Option.{slice_get-get_or}
+use Rattle.std.proofs.lemmas.Simd.{map-map}
+use Rattle.htn_model.specs.Choice.{child_of, first_free_compound}
+use Rattle.htn_model.specs.Exhaustion.{is_dead}
+use Rattle.htn_model.specs.Grounding.{problem_of}
+use Rattle.htn_model.specs.Instance.{Instance}
+use Rattle.htn_model.specs.Instances.{methods_of}
+use Rattle.htn_model.specs.Machine.{Config}
+use Rattle.htn_model.specs.Problem.{GroundTask, is_before, task}
+use Rattle.htn_model.specs.Task.{Task}
+use Rattle.word_machine.specs.Machine.{IsLiveNumbers}
+use Rattle.htn_answer.specs.Machine.{machine_of}
+use Rattle.htn_net.specs.Cache.{cached}
+use Rattle.htn_net.specs.Choices.{IsOffered, AreDecompositions, decompositions}
+use Rattle.htn_net.specs.Live.{live_methods}
+use Rattle.htn_net.specs.declared.cache.LiveCache.{LiveCache}
+use Rattle.htn_net.specs.declared.choice.LiveChange.TheVariants.{Decomposed}
+use Rattle.htn_net.specs.declared.choice.LiveChoice.{LiveChoice}
+use Rattle.htn_net.proofs.Numbers.{choose_instance, instance_numbers, live_numbers_are}
+
+-- what stands among numbered elements stands in the list at its number
+numbered_at : {X : Type 0} (q : ℕ × X → Bool) (a : ℕ) (xs : List X) (k : ℕ) (p : ℕ × X) → slice_get (filter q (enumerate_from a xs)) k ≡ Some p
+    → (j : ℕ) × (a + j ≡ p.0) × (slice_get xs j ≡ Some p.1)
+numbered_at q a [] k p h = absurd cc
+numbered_at {X} q a (x ∷ xs) k p h = by (q (a, x)) k (λ l e. numbered_at q (a + 1) xs l p e) h
+  where
+    rest : List (ℕ × X)
+    rest = filter q (enumerate_from (a + 1) xs)
+
+    Further : ℕ → Type 0
+    Further l = slice_get rest l ≡ Some p → (j : ℕ) × (a + 1 + j ≡ p.0) × (slice_get xs j ≡ Some p.1)
+
+    later : (l : ℕ) → Further l → slice_get rest l ≡ Some p → (j : ℕ) × (a + j ≡ p.0) × (slice_get (x ∷ xs) j ≡ Some p.1)
+    later l further e = let at = further e in let same = at.1 in (suc at.0, omega arith, at.2)
+
+    by : (b : Bool) (l : ℕ) → ((m : ℕ) → Further m) → slice_get (cond b ((a, x) ∷ rest) rest) l ≡ Some p → (j : ℕ) × (a + j ≡ p.0) × (slice_get (x ∷ xs) j ≡ Some p.1)
+    by true zero further e = let same : (a, x) ≡ p = cc in (0, (let z : a + 0 ≡ a = omega arith in z ∙ ap (λ (y : ℕ × X). y.0) same), ap (λ (y : ℕ × X). Some y.1) same)
+    by true (suc l) further e = later l (further l) e
+    by false l further e = later l (further l) e
+
+-- the numbers of numbered choices
+firsts : {X : Type 0} (a : ℕ) (xs : List (ℕ × X)) → map (λ (p : ℕ × (ℕ × X)). p.1.0) (enumerate_from a xs) ≡ map (λ (p : ℕ × X). p.0) xs
+firsts a [] = refl
+firsts a (x ∷ xs) = ap (λ l. x.0 ∷ l) (firsts (a + 1) xs)
+
+nothing : ℕ × Instance
+nothing = (0, record { method = None; values = []; network = record { children = []; order = [] } })
+
+module _ (t : Task) (cache : LiveCache) (c : Config) (i : ℕ) (g : GroundTask) (first : first_free_compound c.open_nodes (is_before c.order) ≡ Some i) (stands : child_of c.open_nodes i ≡ task g)
+    (ready : cached cache g ≡ Some (live_methods t g)) (choices : List LiveChoice) (are : AreDecompositions cache g i choices) where
+  right : are.found ≡ live_methods t g
+  right = let a = are.stands in let b = ready in (let e : Some are.found ≡ Some (live_methods t g) = sym are.stands ∙ ready in cc)
+
+  abbrev choice : ℕ × (ℕ × Instance) → LiveChoice
+  choice p = record { number = p.1.0; position = i; change = Decomposed are.entry p.0 }
+
+  offered_at : (k : ℕ) (p : ℕ × Instance) → slice_get are.found k ≡ Some p → IsOffered (problem_of t) cache c (choice (k, p))
+  offered_at k p at =
+      let numbered = numbered_at (λ (x : ℕ × Instance). not (is_dead (problem_of t) x.1.network)) 0 (methods_of t g) k p (ap (λ l. slice_get l k) (sym right) ∙ at) in
+      let same = numbered.1 in
+      let number : numbered.0 ≡ p.0 = omega arith in (
+        p.1,
+        ap (option_and_then (λ l. slice_get l k)) are.at ∙ at,
+        choose_instance t c i g first stands p.0 p.1 (ap (slice_get (methods_of t g)) (sym number) ∙ numbered.2),
+      )
+
+  pub decompositions_offered : All (IsOffered (problem_of t) cache c) choices
+  decompositions_offered = subst (λ (l : List LiveChoice). All (IsOffered (problem_of t) cache c) l) (sym are.each) each
+    where
+      each : All (IsOffered (problem_of t) cache c) (decompositions i are.entry are.found)
+      each k d inside =
+          let long : length (decompositions i are.entry are.found) ≡ length are.found = length-map (enumerate_from 0 are.found) choice ∙ length-enumerate_from 0 are.found in
+          let low : k < length are.found = omega arith in
+          let all = enumerate_from 0 are.found in
+          let counted : k < length all = omega (arith, length-enumerate_from 0 are.found) in
+          let p = get_or are.found k nothing in
+          let seen : get_or all k (0, nothing) ≡ (k, p) = get_or-enumerate_from 0 are.found k (0, nothing) low ∙ ap (λ (n : ℕ). (n, p)) (let e : 0 + k ≡ k = omega arith in e) in
+          subst (IsOffered (problem_of t) cache c) (sym (get_or-map choice all k (0, nothing) d counted ∙ ap choice seen)) (offered_at k p (slice_get-get_or are.found k nothing low))
+
+  pub decompositions_numbers : IsLiveNumbers (machine_of (problem_of t)) c (map (λ (x : LiveChoice). x.number) choices)
+  decompositions_numbers =
+      subst (IsLiveNumbers (machine_of (problem_of t)) c)
+      (sym (ap (map (λ (x : LiveChoice). x.number)) are.each ∙ map-map (λ (x : LiveChoice). x.number) choice (enumerate_from 0 are.found) ∙ firsts 0 are.found
+      ∙ ap (map (λ (p : ℕ × Instance). p.0)) right ∙ instance_numbers t c i g first stands))
+      (live_numbers_are (problem_of t) c)

@@ -1,0 +1,6 @@
+pub mod Cache
+pub mod Choices
+pub mod Grounded
+pub mod Hashes
+pub mod Laws
+pub mod Live

@@ -1,0 +1,17 @@
+//! Configurations of the word machine of a planning task, and their steps.
+#![tactic(auto)]
+
+mod cache;
+mod choice;
+mod config;
+mod live;
+mod machine;
+mod perform;
+mod splice;
+mod start;
+
+pub use cache::LiveCache;
+pub use choice::{Change, Choice, LiveChange, LiveChoice};
+pub use config::Config;
+pub use machine::WordMachine;
+pub use start::starts;
