@@ -4,3 +4,4 @@ pub mod Limits
 pub mod Numbers
 pub mod Conditions
 pub mod WellTyped
+pub mod Examples

@@ -6,3 +6,4 @@ pub mod Uses
 pub mod Items
 pub mod Building
 pub mod Agreement
+pub mod Examples

@@ -5,6 +5,7 @@
 mod fault;
 
 ghost use Rattle.hddl_meaning.specs.Agreement.{TasksAreWellTyped};
+ghost use Rattle.hddl_meaning.specs.Examples.{FaultsHavePlaces, TreesHaveMeanings};
 
 pub use fault::{At, CheckFault, Source};
 
@@ -12,4 +13,10 @@ pub use fault::{At, CheckFault, Source};
 /// atom and each task has as many arguments as its declaration has places, and orders are closed and have no cycle.
 pub fn tasks_are_well_typed()
     ensures typed { TasksAreWellTyped }
+{}
+
+/// Small trees: one that fails in the way of each fault, at that fault's place, and what some parts mean.
+pub fn worked_examples_hold()
+    ensures faults { FaultsHavePlaces }
+    ensures meanings { TreesHaveMeanings }
 {}

@@ -1,6 +1,13 @@
 -- Lists of texts.
-use Rattle.std.specs.Prelude.{ℕ, List, map, Vec}
-use Rattle.hddl_meaning.specs.Mentions.{Text}
+use Rattle.std.specs.Prelude.{ℕ, List, ◌++◌, map, Vec}
+use Rattle.std.specs.List.{flat_map}
+use Rattle.hddl_tree.specs.declared.term.NameGroup.{NameGroup}
+use Rattle.hddl_meaning.specs.Mentions.{Text, Mention, mention_of}
+use Rattle.hddl_meaning.specs.Names.{optional_mention}
 
 abbrev pub texts_of : {A : Type 0} → List (Vec ℕ A) → List Text
 texts_of vectors = map (λ v. v.items) vectors
+
+-- the names of a typed list and their types, in the order of the text
+abbrev pub mentions_in : List NameGroup → List Mention
+mentions_in groups = flat_map (λ g. map mention_of g.names ++ optional_mention g.of_type) groups

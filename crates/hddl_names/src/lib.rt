@@ -3,6 +3,8 @@
 
 mod names;
 mod text;
+mod vocabulary;
 
 pub use names::Names;
-pub use text::fold;
+pub use text::{fold, fold_into};
+pub use vocabulary::Vocabulary;

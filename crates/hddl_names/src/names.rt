@@ -1,10 +1,12 @@
 //! Names numbered in the order of their first declarations.
-ghost use Rattle.std.specs.Prelude.{◌≡◌, ℕ, [], map, length, slice_get, option_map, OnOk, OnErr};
+ghost use Rattle.std.specs.Prelude.{◌≡◌, ℕ, [], map, length, slice_get, option_map, IfOk, OnOk, OnErr};
 ghost use Rattle.std.specs.List.{position, IsDistinct};
+ghost use Rattle.hddl_meaning.specs.Mentions.{folded};
 ghost use Rattle.hddl_meaning.specs.Names.{is_same_text, with_name};
 
+use crate::text::fold_into;
 use indexmap::IndexSet;
-use std::alloc::{AllocFailed, Global};
+use std::alloc::{AllocError, AllocFailed, Global};
 use std::marker::Model;
 
 /// Different names, each with its position as its number. Contracts see the list of the names.
@@ -56,6 +58,18 @@ impl Names {
         ensures { result ≡ position (is_same_text text.now) self.now }
     {
         self.texts.get_index_of(text)
+    }
+
+    /// The number of a name as a text has it, which is folded into the buffer, or an error where memory was refused.
+    pub fn number_as_written(
+        &self,
+        buffer: &mut Vec<u8>,
+        bytes: &[u8],
+    ) -> Result<Option<usize>, AllocError>
+        ensures { IfOk result (λ number. number ≡ position (is_same_text (folded bytes.now)) self.now) }
+    {
+        fold_into(buffer, bytes)?;
+        Ok(self.number_of(buffer.as_slice()))
     }
 
     /// Gives a name the next number, unless it has one. Where memory is refused, the names are as they were.

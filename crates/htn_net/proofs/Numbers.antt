@@ -1,5 +1,6 @@
 -- The numbers of a configuration that are not dead.
-use Rattle.std.proofs.Common.{◌≡◌, ℕ, suc, ◌+◌, ◌<◌, ◌≤◌, Bool, true, false, not, cond, List, [], ◌∷◌, ◌++◌, filter, map, length, slice_get, get_or, Option, Some, None, Contains, ◌⊎◌, inl, inr, refl, sym, ap, ap₂, ◌∙◌, arith, true≢false, option_map, option_and_then}
+use Rattle.std.proofs.Common.{◌≡◌, ℕ, suc, ◌+◌, ◌<◌, ◌≤◌, Bool, true, false, not, cond, List, [], ◌∷◌, filter, map, length, slice_get, get_or, Option, Some, None, Contains, ◌⊎◌, inl, inr, refl, sym, ap, ap₂, ◌∙◌, arith, true≢false, option_map, option_and_then, is_some}
+use mathlib.Core.Path.{fun_ext}
 use Rattle.std.specs.List.{range_with_len, enumerate_from}
 use Rattle.std.specs.List.Sorted.{IsStrictlyIncreasing}
 use Rattle.std.proofs.lemmas.List.{length-map}
@@ -18,10 +19,13 @@ use Rattle.htn_model.specs.State.{State}
 use Rattle.htn_model.specs.Task.{Task}
 use Rattle.htn_model.proofs.Passing.{passes, found}
 use Rattle.htn_model.proofs.Steps.{Decomposes, Executes, chosen, step_choice}
-use Rattle.htn_order.proofs.Free.{one_fails, one_passes}
 use Rattle.word_machine.specs.Machine.{IsLiveNumbers, IsLiveStep}
 use Rattle.htn_answer.specs.Machine.{machine_of, is_dead_choice}
-use Rattle.htn_net.specs.Live.{is_live_choice, live_methods, live_numbers}
+use Rattle.htn_net.specs.Live.{is_live_choice, live_methods, live_numbers, numbers}
+
+-- whether a number chooses and is not dead
+abbrev pub is_live_at : Problem → Config → ℕ → Bool
+is_live_at problem c n = is_live_choice problem (choose problem c n)
 
 -- ## Numbers that pass a test
 
@@ -106,6 +110,10 @@ numbered_filter {X} q test a (x ∷ xs) same =
     by true = refl
     by false = refl
 
+pub all_kept : {X : Type 0} (xs : List X) → filter (λ (x : X). true) xs ≡ xs
+all_kept [] = refl
+all_kept (x ∷ xs) = ap (λ l. x ∷ l) (all_kept xs)
+
 module _ (t : Task) (c : Config) (i : ℕ) (g : GroundTask) (first : first_free_compound c.open_nodes (is_before c.order) ≡ Some i) (stands : child_of c.open_nodes i ≡ task g) where
   pub choose_instance : (n : ℕ) (x : Instance) → slice_get (methods_of t g) n ≡ Some x → choose (problem_of t) c n ≡ Some (record { position = i; network = x.network; state = c.state })
   choose_instance n x at =
@@ -113,14 +121,23 @@ module _ (t : Task) (c : Config) (i : ℕ) (g : GroundTask) (first : first_free_
       ap (choose_from (problem_of t) c n) first ∙ ap (λ y. option_map place (network_at (problem_of t) y n)) stands
       ∙ ap (option_map place) (slice_get-map (λ (y : Instance). y.network) (methods_of t g) n ∙ ap (option_map (λ (y : Instance). y.network)) at)
 
+  count : length (methods_of t g) ≡ choice_count (problem_of t) c
+  count =
+      sym (length-map (methods_of t g) (λ (y : Instance). y.network)) ∙ sym (ap (choice_count_by (problem_of t) c) first ∙ ap (method_count (problem_of t)) stands)
+
   pub instance_numbers : map (λ (p : ℕ × Instance). p.0) (live_methods t g) ≡ live_numbers (problem_of t) c
   instance_numbers =
-      let test : ℕ → Bool = λ n. is_live_choice (problem_of t) (choose (problem_of t) c n) in
-      let count : length (methods_of t g) ≡ choice_count (problem_of t) c =
-      sym (length-map (methods_of t g) (λ (y : Instance). y.network)) ∙ sym (ap (choice_count_by (problem_of t) c) first ∙ ap (method_count (problem_of t)) stands) in
-      numbered_filter (λ (x : Instance). not (is_dead (problem_of t) x.network)) test 0 (methods_of t g)
-      (λ k x at. ap test (let e : 0 + k ≡ k = omega arith in e) ∙ ap (is_live_choice (problem_of t)) (choose_instance k x at))
-      ∙ ap (passing test) count
+      numbered_filter (λ (x : Instance). not (is_dead (problem_of t) x.network)) (is_live_at (problem_of t) c) 0 (methods_of t g)
+      (λ k x at. ap (is_live_at (problem_of t) c) (let e : 0 + k ≡ k = omega arith in e) ∙ ap (is_live_choice (problem_of t)) (choose_instance k x at))
+      ∙ ap (passing (is_live_at (problem_of t) c)) count
+
+  pub all_instance_numbers : map (λ (p : ℕ × Instance). p.0) (enumerate_from 0 (methods_of t g)) ≡ numbers (problem_of t) c
+  all_instance_numbers =
+      let chooses : ℕ → Bool = λ n. is_some (choose (problem_of t) c n) in
+      ap (map (λ (p : ℕ × Instance). p.0)) (sym (all_kept (enumerate_from 0 (methods_of t g))))
+      ∙ numbered_filter (λ (x : Instance). true) chooses 0 (methods_of t g)
+      (λ k x at. ap chooses (let e : 0 + k ≡ k = omega arith in e) ∙ ap (λ (o : Option Choice). is_some o) (choose_instance k x at))
+      ∙ ap (passing chooses) count
 
 -- ## The numbers of steps and actions
 
@@ -146,24 +163,32 @@ module _ (problem : Problem) (c : Config) (none : first_free_compound c.open_nod
 
   module _ (items : List ℕ) (n : ℕ) (is : items ≡ free_nodes c) (inside : n < length items) where
     -- what the free node at a place of the list does
-    pub choose_at : choose problem c n ≡ option_map (λ state. record { position = get_or items n 0; network = no_network; state = state }) (perform problem c.state (child_of c.open_nodes (get_or items n 0)))
+    choose_at : choose problem c n ≡ option_map (λ state. record { position = get_or items n 0; network = no_network; state = state }) (perform problem c.state (child_of c.open_nodes (get_or items n 0)))
     choose_at = choose_free n (get_or items n 0) (ap (λ l. slice_get l n) (sym is) ∙ slice_get-get_or items n 0 inside)
 
     pub picks : (s : State) → perform problem c.state (child_of c.open_nodes (get_or items n 0)) ≡ Some s
         → choose problem c n ≡ Some (record { position = get_or items n 0; network = no_network; state = s })
     picks s h = choose_at ∙ ap (option_map (λ state. record { position = get_or items n 0; network = no_network; state = state })) h
 
-    pub picks_more : (s : State) → perform problem c.state (child_of c.open_nodes (get_or items n 0)) ≡ Some s
-        → passing (λ k. is_live_choice problem (choose problem c k)) n ++ n ∷ [] ≡ passing (λ k. is_live_choice problem (choose problem c k)) (n + 1)
-    picks_more s h = sym (one_passes (λ k. is_live_choice problem (choose problem c k)) n (ap (is_live_choice problem) (picks s h)))
+    pub picks_live : (s : State) → perform problem c.state (child_of c.open_nodes (get_or items n 0)) ≡ Some s → is_live_at problem c n ≡ true
+    picks_live s h = ap (is_live_choice problem) (picks s h)
 
-    pub skips_more : perform problem c.state (child_of c.open_nodes (get_or items n 0)) ≡ None
-        → passing (λ k. is_live_choice problem (choose problem c k)) n ≡ passing (λ k. is_live_choice problem (choose problem c k)) (n + 1)
-    skips_more h =
-        sym (one_fails (λ k. is_live_choice problem (choose problem c k)) n
-        (ap (is_live_choice problem) (choose_at ∙ ap (option_map (λ state. record { position = get_or items n 0; network = no_network; state = state })) h)))
+    pub skips : perform problem c.state (child_of c.open_nodes (get_or items n 0)) ≡ None → is_live_at problem c n ≡ false
+    skips h = ap (is_live_choice problem) (choose_at ∙ ap (option_map (λ state. record { position = get_or items n 0; network = no_network; state = state })) h)
 
-  pub all_seen : (items : List ℕ) (n : ℕ) → items ≡ free_nodes c → length items ≤ n → n ≤ length items → passing (λ k. is_live_choice problem (choose problem c k)) n ≡ live_numbers problem c
+  pub all_seen : (items : List ℕ) (n : ℕ) → items ≡ free_nodes c → length items ≤ n → n ≤ length items → passing (is_live_at problem c) n ≡ live_numbers problem c
   all_seen items n is past within =
       let count : choice_count problem c ≡ length (free_nodes c) = ap (choice_count_by problem c) none in
-      ap (passing (λ k. is_live_choice problem (choose problem c k))) (let e : n ≡ length items = omega arith in e ∙ ap length is ∙ sym count)
+      ap (passing (is_live_at problem c)) (let e : n ≡ length items = omega arith in e ∙ ap length is ∙ sym count)
+
+  -- none of them is dead
+  pub none_dead : live_numbers problem c ≡ numbers problem c
+  none_dead = ap (λ (test : ℕ → Bool). passing test (choice_count problem c)) (fun_ext (λ n. alike n (choose problem c n) refl))
+    where
+      alike : (n : ℕ) (o : Option Choice) → choose problem c n ≡ o → is_live_choice problem o ≡ is_some o
+      alike n None e = refl
+      alike n (Some choice) e = by (chosen problem c n choice e)
+        where
+          by : Decomposes problem c n choice ⊎ Executes problem c n choice → is_live_choice problem (Some choice) ≡ true
+          by (inl d) = (let a = d.first in let b = none in absurd cc)
+          by (inr x) = ap (λ (m : Network). not (is_dead problem m)) x.network

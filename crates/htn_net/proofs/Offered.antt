@@ -10,21 +10,24 @@ use Rattle.htn_model.specs.Exhaustion.{is_dead}
 use Rattle.htn_model.specs.Grounding.{problem_of}
 use Rattle.htn_model.specs.Instance.{Instance}
 use Rattle.htn_model.specs.Instances.{methods_of}
-use Rattle.htn_model.specs.Machine.{Config}
+use Rattle.htn_model.specs.Machine.{Config, choose}
 use Rattle.htn_model.specs.Problem.{GroundTask, is_before, task}
 use Rattle.htn_model.specs.Task.{Task}
 use Rattle.word_machine.specs.Machine.{IsLiveNumbers}
 use Rattle.htn_answer.specs.Machine.{machine_of}
 use Rattle.htn_net.specs.Cache.{cached}
-use Rattle.htn_net.specs.Choices.{IsOffered, AreDecompositions, decompositions}
+use Rattle.htn_net.specs.Choices.{IsChoice, IsOffered, AreDecompositions, decomposed_choices, decompositions}
+use Rattle.htn_net.specs.declared.choice.Change.TheVariants as chosen
+use Rattle.htn_net.specs.declared.choice.Choice.{Choice}
 use Rattle.htn_net.specs.Live.{live_methods}
 use Rattle.htn_net.specs.declared.cache.LiveCache.{LiveCache}
 use Rattle.htn_net.specs.declared.choice.LiveChange.TheVariants.{Decomposed}
 use Rattle.htn_net.specs.declared.choice.LiveChoice.{LiveChoice}
-use Rattle.htn_net.proofs.Numbers.{choose_instance, instance_numbers, live_numbers_are}
+use Rattle.std.proofs.lemmas.List.Elements.{All-map}
+use Rattle.htn_net.proofs.Numbers.{all_kept, choose_instance, instance_numbers, live_numbers_are}
 
 -- what stands among numbered elements stands in the list at its number
-numbered_at : {X : Type 0} (q : ℕ × X → Bool) (a : ℕ) (xs : List X) (k : ℕ) (p : ℕ × X) → slice_get (filter q (enumerate_from a xs)) k ≡ Some p
+pub numbered_at : {X : Type 0} (q : ℕ × X → Bool) (a : ℕ) (xs : List X) (k : ℕ) (p : ℕ × X) → slice_get (filter q (enumerate_from a xs)) k ≡ Some p
     → (j : ℕ) × (a + j ≡ p.0) × (slice_get xs j ≡ Some p.1)
 numbered_at q a [] k p h = absurd cc
 numbered_at {X} q a (x ∷ xs) k p h = by (q (a, x)) k (λ l e. numbered_at q (a + 1) xs l p e) h
@@ -50,6 +53,32 @@ firsts a (x ∷ xs) = ap (λ l. x.0 ∷ l) (firsts (a + 1) xs)
 
 nothing : ℕ × Instance
 nothing = (0, record { method = None; values = []; network = record { children = []; order = [] } })
+
+module _ (t : Task) (c : Config) (i : ℕ) (g : GroundTask) (first : first_free_compound c.open_nodes (is_before c.order) ≡ Some i) (stands : child_of c.open_nodes i ≡ task g) where
+  -- numbered instances are chosen by their numbers
+  pub numbered_chosen : (q : ℕ × Instance → Bool) → All (λ (p : ℕ × Instance). choose (problem_of t) c p.0 ≡ Some (record { position = i; network = p.1.network; state = c.state })) (filter q (enumerate_from 0 (methods_of t g)))
+  numbered_chosen q k d inside =
+      let found = filter q (enumerate_from 0 (methods_of t g)) in
+      let p = get_or found k d in
+      let at = numbered_at q 0 (methods_of t g) k p (slice_get-get_or found k d inside) in
+      let same = at.1 in
+      let number : at.0 ≡ p.0 = omega arith in
+      choose_instance t c i g first stands p.0 p.1 (ap (slice_get (methods_of t g)) (sym number) ∙ at.2)
+
+  pub instances_chosen : All (IsChoice (problem_of t) c) (decomposed_choices i (enumerate_from 0 (methods_of t g)))
+  instances_chosen =
+      All-map (IsChoice (problem_of t) c) (λ (p : ℕ × Instance). record { number = p.0; position = i; change = chosen.Decomposed p.1 }) (enumerate_from 0 (methods_of t g))
+      (subst (λ (l : List (ℕ × Instance)). All (λ (p : ℕ × Instance). choose (problem_of t) c p.0 ≡ Some (record { position = i; network = p.1.network; state = c.state })) l)
+      (all_kept (enumerate_from 0 (methods_of t g))) (numbered_chosen (λ (p : ℕ × Instance). true)))
+
+  pub live_instances_chosen : All (IsChoice (problem_of t) c) (decomposed_choices i (live_methods t g))
+  live_instances_chosen =
+      All-map (IsChoice (problem_of t) c) (λ (p : ℕ × Instance). record { number = p.0; position = i; change = chosen.Decomposed p.1 }) (live_methods t g)
+      (numbered_chosen (λ (p : ℕ × Instance). not (is_dead (problem_of t) p.1.network)))
+
+-- the numbers of the choices of numbered instances
+pub numbers_of : (i : ℕ) (found : List (ℕ × Instance)) → map (λ (x : Choice). x.number) (decomposed_choices i found) ≡ map (λ (p : ℕ × Instance). p.0) found
+numbers_of i found = map-map (λ (x : Choice). x.number) (λ (p : ℕ × Instance). record { number = p.0; position = i; change = chosen.Decomposed p.1 }) found
 
 module _ (t : Task) (cache : LiveCache) (c : Config) (i : ℕ) (g : GroundTask) (first : first_free_compound c.open_nodes (is_before c.order) ≡ Some i) (stands : child_of c.open_nodes i ≡ task g)
     (ready : cached cache g ≡ Some (live_methods t g)) (choices : List LiveChoice) (are : AreDecompositions cache g i choices) where

@@ -18,6 +18,7 @@ use Rattle.htn_net.specs.declared.choice.Choice.{Choice}
 use Rattle.htn_net.specs.declared.choice.LiveChange.{LiveChange}
 use Rattle.htn_net.specs.declared.choice.LiveChange.TheVariants as live
 use Rattle.htn_net.specs.declared.choice.LiveChoice.{LiveChoice}
+use Rattle.htn_net.specs.declared.choice.Performance.{Performance}
 
 -- what takes the node's place
 abbrev pub network_of : Change → Network
@@ -35,6 +36,14 @@ choice_of c x = record { position = x.position; network = network_of x.change; s
 -- the choice is that of its number
 abbrev pub IsChoice : Problem → Config → Choice → Type 0
 IsChoice problem c x = choose problem c x.number ≡ Some (choice_of c x)
+
+-- the step or action is free and has that number, and its literals hold
+abbrev pub IsPerformance : Problem → Config → Performance → Type 0
+IsPerformance problem c p = choose problem c p.number ≡ Some (record { position = p.position; network = no_network; state = arc_value p.state })
+
+-- a choice for each numbered instance of the task at a position
+abbrev pub decomposed_choices : ℕ → List (ℕ × Instance) → List Choice
+decomposed_choices position found = map (λ p. record { number = p.0; position = position; change = Decomposed p.1 }) found
 
 -- ## Choices of a search
 

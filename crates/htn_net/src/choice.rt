@@ -1,5 +1,9 @@
 //! What a number of a configuration stands for.
 
+ghost use Rattle.std.specs.Prelude.{◌≡◌};
+ghost use Rattle.htn_net.specs.declared.choice.Change.TheVariants.{Performed};
+ghost use Rattle.htn_net.specs.declared.choice.LiveChange.TheVariants as live;
+
 use htn_ground::Instance;
 use htn_state::State;
 use std::sync::Arc;
@@ -40,4 +44,37 @@ pub struct LiveChoice {
     pub(crate) number: u64,
     pub(crate) position: usize,
     pub(crate) change: LiveChange,
+}
+
+/// A free step or action is carried out.
+#[derive(Drop)]
+pub(crate) struct Performance {
+    /// Its number among the free nodes.
+    pub(crate) number: u64,
+    /// Its position among the open nodes.
+    pub(crate) position: usize,
+    /// The state then.
+    pub(crate) state: Arc<State>,
+}
+
+impl Performance {
+    pub(crate) fn into_choice(self) -> Choice
+        ensures { result ≡ record { number = self.number; position = self.position; change = Performed self.state } }
+    {
+        Choice {
+            number: self.number,
+            position: self.position,
+            change: Change::Performed(self.state),
+        }
+    }
+
+    pub(crate) fn into_live_choice(self) -> LiveChoice
+        ensures { result ≡ record { number = self.number; position = self.position; change = live.Performed self.state } }
+    {
+        LiveChoice {
+            number: self.number,
+            position: self.position,
+            change: LiveChange::Performed(self.state),
+        }
+    }
 }

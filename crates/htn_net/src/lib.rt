@@ -3,12 +3,13 @@
 
 mod cache;
 mod choice;
+mod choices;
 mod config;
-mod live;
 mod machine;
 mod perform;
 mod splice;
 mod start;
+mod step;
 
 pub use cache::LiveCache;
 pub use choice::{Change, Choice, LiveChange, LiveChoice};

@@ -9,7 +9,7 @@ ghost use Rattle.htn_net.specs.Grounded.{grounded-prop};
 use crate::cache::LiveCache;
 use crate::choice::{LiveChange, LiveChoice};
 use crate::config::Config;
-use crate::live::performances;
+use crate::perform::performances;
 use crate::start::starts;
 use htn_ground::goal_literals;
 use htn_state::LiteralList;
@@ -28,6 +28,13 @@ pub struct WordMachine<'a> {
 }
 
 impl<'a> WordMachine<'a> {
+    ghost use Rattle.std.specs.Prelude.{All, None, map};
+    ghost use Rattle.htn_model.specs.Choice.{first_free_compound};
+    ghost use Rattle.htn_model.specs.Problem.{is_before};
+    ghost use Rattle.htn_net.specs.Choices.{IsOffered};
+    ghost use Rattle.htn_net.specs.Live.{live_numbers};
+    ghost use Rattle.htn_net.specs.declared.cache.LiveCache.{LiveCache};
+
     /// The word machine of a task.
     pub fn new(alloc: Global, task: &'a Task) -> Result<WordMachine<'a>, AllocError>
         ensures { IfOk result (λ m. m.task.now ≡ task.now) }
@@ -35,6 +42,20 @@ impl<'a> WordMachine<'a> {
         let _initial = task.initial_atoms();
         let goal = goal_literals(alloc, task)?;
         Ok(WordMachine { task, goal, alloc })
+    }
+
+    /// The free steps and actions whose literals hold.
+    fn performed_choices(&self, from: &Config) -> Result<Vec<LiveChoice>, AllocError>
+        requires { first_free_compound from.now.open_nodes (is_before from.now.order) ≡ None }
+        ensures offered { IfOk result (λ choices. (cache : LiveCache) → All (IsOffered (problem_of self.now.task.now) cache from.now) choices.items) }
+        ensures numbers { IfOk result (λ choices. map (λ x. x.number) choices.items ≡ live_numbers (problem_of self.now.task.now) from.now) }
+    {
+        let found = performances(self.alloc, self.task, from)?;
+        let choices: Vec<LiveChoice> = found
+            .into_iter()
+            .map(|performance| performance.into_live_choice())
+            .collect(self.alloc)?;
+        Ok(choices)
     }
 }
 
@@ -90,7 +111,7 @@ impl<'a> Machine for WordMachine<'a> {
     ) -> Result<Vec<LiveChoice>, AllocError> {
         match from.first_free_task() {
             Some((position, goal)) => cache.decompositions(self.alloc, position, goal),
-            None => performances(self.alloc, self.task, from),
+            None => self.performed_choices(from),
         }
     }
 

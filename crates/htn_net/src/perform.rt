@@ -1,13 +1,18 @@
 //! What carrying out a step or an action makes of the state.
-ghost use Rattle.std.specs.Prelude.{◌≡◌, IfOk, None, Some, cond};
+ghost use Rattle.std.specs.Prelude.{◌≡◌, All, IfOk, None, Some, cond, map};
 ghost use Rattle.std.specs.Arc.{arc_value};
 ghost use Rattle.std.specs.Option.{option_map};
+ghost use Rattle.htn_model.specs.Choice.{first_free_compound};
 ghost use Rattle.htn_model.specs.Grounding.{problem_of};
 ghost use Rattle.htn_model.specs.Instances as model;
 ghost use Rattle.htn_model.specs.Literal.{holds};
 ghost use Rattle.htn_model.specs.Problem as problem;
+ghost use Rattle.htn_model.specs.Problem.{is_before};
 ghost use Rattle.htn_ground.specs.Views.{child_view};
+ghost use Rattle.htn_net.specs.Choices.{IsPerformance};
+ghost use Rattle.htn_net.specs.Live.{live_numbers, numbers};
 
+use crate::choice::Performance;
 use crate::config::Config;
 use htn_ground::{Child, GroundTask, action_of};
 use htn_state::{LiteralList, State};
@@ -60,4 +65,29 @@ pub(crate) fn perform(
         Child::Action(goal) => perform_action(alloc, task, config, goal),
         Child::Task(_) => Ok(None),
     }
+}
+
+/// The free steps and actions whose literals hold, by their numbers among the free nodes.
+pub(crate) fn performances(
+    alloc: Global,
+    task: &Task,
+    config: &Config,
+) -> Result<Vec<Performance>, AllocError>
+    requires { first_free_compound config.now.open_nodes (is_before config.now.order) ≡ None }
+    ensures each { IfOk result (λ found. All (IsPerformance (problem_of task.now) config.now) found.items) }
+    ensures numbers { IfOk result (λ found. map (λ p. p.number) found.items ≡ numbers (problem_of task.now) config.now) }
+    ensures live { IfOk result (λ found. map (λ p. p.number) found.items ≡ live_numbers (problem_of task.now) config.now) }
+{
+    let free = config.order().free_positions(alloc)?;
+    let mut found = Vec::new(alloc);
+    for (number, position) in free.iter().enumerate() {
+        if let Some(state) = perform(alloc, task, config, config.node_at(*position))? {
+            found.push(Performance {
+                number: number as u64,
+                position: *position,
+                state,
+            })?;
+        }
+    }
+    Ok(found)
 }

@@ -24,9 +24,9 @@ returns-in-Some-clause-numbers c =
     IfOk-weaker c.decompositions.result _ _ (λ choices are. decompositions_numbers t c.args.cache.now c.args.from.now c.in-Some.position g first stands (c.requires.ready c.in-Some.position g first stands) choices.items are) c.decompositions.ensures
 
 pub returns-in-None-clause-offered : goal.returns-in-None-clause-offered
-returns-in-None-clause-offered c = IfOk-weaker c.performances.result _ _ (λ choices offered. offered c.args.cache.now) c.performances.ensures.offered
+returns-in-None-clause-offered c = IfOk-weaker c.performed_choices.result _ _ (λ choices offered. offered c.args.cache.now) c.performed_choices.ensures.offered
 
 pub returns-in-None-clause-numbers : goal.returns-in-None-clause-numbers
 returns-in-None-clause-numbers c =
     let problem = problem_of c.args.self.now.task.now in
-    IfOk-weaker c.performances.result _ _ (λ choices is. subst (IsLiveNumbers (machine_of problem) c.args.from.now) (sym is) (live_numbers_are problem c.args.from.now)) c.performances.ensures.numbers
+    IfOk-weaker c.performed_choices.result _ _ (λ choices is. subst (IsLiveNumbers (machine_of problem) c.args.from.now) (sym is) (live_numbers_are problem c.args.from.now)) c.performed_choices.ensures.numbers

@@ -1,0 +1,6 @@
+use Rattle.std.proofs.Common.{◌≡◌, not, take}
+use Rattle.hddl_meaning.specs.Building.{effects_of}
+use Rattle.hddl_build.proofs.formula.deletes_of.Given as goal
+
+abbrev pub invariant-loop-literal : goal.invariant-loop-literal
+invariant-loop-literal l = l.atoms.items ≡ effects_of l.vocabulary l.scope not (take l.literal-index l.effect)

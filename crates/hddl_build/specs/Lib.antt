@@ -1,0 +1,5 @@
+pub mod Scopes
+pub mod Vocabularies
+pub mod Labels
+pub mod Initial
+pub mod ObjectLists

@@ -1,0 +1,75 @@
+//! The task of a domain and a problem.
+ghost use Rattle.std.specs.Prelude.{◌≡◌, IfOk};
+ghost use Rattle.std.specs.List.{All};
+ghost use Rattle.htn_order.specs.Closure.{IsAcyclic};
+ghost use Rattle.hddl_meaning.specs.Networks.{order_pairs};
+ghost use Rattle.hddl_meaning.specs.Items.{IsWellTypedPair};
+ghost use Rattle.hddl_meaning.specs.Building.{IsTaskOf, vocabulary_of};
+ghost use Rattle.hddl_build.specs.ObjectLists.{AreObjectLists, lists_of};
+ghost use Rattle.hddl_build.specs.Vocabularies.{IsNumbered};
+
+use crate::formula::goal_of;
+use crate::objects::{names_of, object_types};
+use crate::schema::{actions_of, compounds_of, initial_of, methods_of, predicates_of};
+use crate::state::state_of;
+use hddl_meaning::tasks_are_well_typed;
+use hddl_names::Vocabulary;
+use hddl_tree::{DomainText, ProblemText};
+use htn_task::{Task, TaskParts};
+use std::alloc::{AllocError, Global};
+
+/// The parts of the task.
+fn parts_of(
+    alloc: Global,
+    domain: &DomainText,
+    problem: &ProblemText,
+    vocabulary: &Vocabulary,
+    objects: Vec<Vec<u16>>,
+) -> Result<TaskParts, AllocError>
+    requires vocabulary { vocabulary.now ≡ vocabulary_of domain.now problem.now }
+    requires numbered { IsNumbered vocabulary.now }
+    requires objects { AreObjectLists domain.now problem.now (lists_of objects.items) }
+    requires methods { All (λ m. IsAcyclic (order_pairs m.network)) domain.now.methods }
+    requires initial { IsAcyclic (order_pairs problem.now.htn.network) }
+    ensures { IfOk result (IsTaskOf domain.now problem.now) }
+{
+    let types = object_types(alloc, vocabulary.types(), objects)?;
+    let objects = names_of(alloc, vocabulary.objects())?;
+    let predicates = predicates_of(alloc, vocabulary, domain.predicates.as_slice())?;
+    let tasks = compounds_of(alloc, vocabulary, domain.tasks.as_slice())?;
+    let methods = methods_of(alloc, vocabulary, domain.methods.as_slice())?;
+    let actions = actions_of(alloc, vocabulary, domain.actions.as_slice())?;
+    let initial_network = initial_of(alloc, vocabulary, &problem.htn)?;
+    let initial_atoms = state_of(alloc, vocabulary, problem.init.as_slice())?;
+    let goal = goal_of(alloc, vocabulary, problem.goal.as_slice())?;
+    Ok(TaskParts {
+        objects,
+        types,
+        predicates,
+        tasks,
+        methods,
+        actions,
+        initial_network,
+        initial_atoms,
+        goal,
+    })
+}
+
+/// The task of a domain and a problem that fit together, with their vocabulary and, for each type, the objects that have
+/// it, or an error where memory was refused.
+pub fn build(
+    alloc: Global,
+    domain: &DomainText,
+    problem: &ProblemText,
+    vocabulary: &Vocabulary,
+    objects: Vec<Vec<u16>>,
+) -> Result<Task, AllocError>
+    requires fits { IsWellTypedPair domain.now problem.now }
+    requires vocabulary { vocabulary.now ≡ vocabulary_of domain.now problem.now }
+    requires objects { AreObjectLists domain.now problem.now (lists_of objects.items) }
+    ensures { IfOk result (IsTaskOf domain.now problem.now) }
+{
+    tasks_are_well_typed();
+    let parts = parts_of(alloc, domain, problem, vocabulary, objects)?;
+    Ok(Task::new(parts))
+}

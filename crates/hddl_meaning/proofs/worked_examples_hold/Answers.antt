@@ -1,0 +1,5 @@
+use Rattle.hddl_meaning.proofs.Examples.{faults, meanings}
+use Rattle.hddl_meaning.proofs.worked_examples_hold.Goals as goal
+
+pub returns : goal.returns
+returns c = record { faults = faults; meanings = meanings }

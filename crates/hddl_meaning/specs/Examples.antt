@@ -1,0 +1,177 @@
+-- Small trees and where they fail, or what they mean.
+use Rattle.std.specs.Prelude.{◌≡◌, ℕ, true, List, [], ◌∷◌, codes, replicate, Some, None}
+use Rattle.htn_model.specs.Schema as model
+use Rattle.hddl_words.specs.Names.{Name, Variable}
+use Rattle.hddl_tree.specs.declared.term.Term.{Term}
+use Rattle.hddl_tree.specs.declared.term.Term.TheVariants as term
+use Rattle.hddl_tree.specs.declared.term.AtomText.{AtomText}
+use Rattle.hddl_tree.specs.declared.term.VariableGroup.{VariableGroup}
+use Rattle.hddl_tree.specs.declared.condition.Condition.{Condition, roll-Condition}
+use Rattle.hddl_tree.specs.declared.condition.Condition.TheOpen.{Condition-F}
+use Rattle.hddl_tree.specs.declared.network.SubtaskText.{SubtaskText}
+use Rattle.hddl_tree.specs.declared.network.NetworkText.{NetworkText}
+use Rattle.hddl_tree.specs.declared.domain.PredicateText.{PredicateText}
+use Rattle.hddl_tree.specs.declared.domain.ActionText.{ActionText}
+use Rattle.hddl_tree.specs.declared.domain.DomainText.{DomainText}
+use Rattle.hddl_tree.specs.declared.problem.ProblemText.{ProblemText}
+use Rattle.hddl_meaning.specs.Names.{type_names}
+use Rattle.hddl_meaning.specs.Networks.{order_pairs}
+use Rattle.hddl_meaning.specs.Building.{formula_of, vocabulary_of}
+use Rattle.hddl_meaning.specs.Items.{FailsAt}
+use Rattle.hddl_meaning.specs.declared.fault.Source.TheVariants as source
+use Rattle.hddl_meaning.specs.declared.fault.At.{At}
+use Rattle.hddl_meaning.specs.declared.fault.CheckFault.TheVariants as fault
+
+-- ## Parts
+
+abbrev pub called : ℕ → List ℕ → Name
+called place text = record { place = place; text = text }
+
+abbrev pub variable : ℕ → List ℕ → Variable
+variable place text = record { place = place; text = text }
+
+abbrev pub at_terms : Name → List Term → AtomText
+at_terms name terms = record { name = name; terms = terms }
+
+-- one variable with its type
+abbrev pub typed_as : Variable → Name → List VariableGroup
+typed_as x type = record { variables = x ∷ []; of_type = Some type } ∷ []
+
+abbrev pub untyped : Variable → List VariableGroup
+untyped x = record { variables = x ∷ []; of_type = None } ∷ []
+
+abbrev pub predicate : Name → List VariableGroup → PredicateText
+predicate name parameters = record { name = name; parameters = parameters }
+
+abbrev pub action : Name → List VariableGroup → List Condition → ActionText
+action name parameters precondition = record { name = name; parameters = parameters; precondition = precondition; effect = [] }
+
+abbrev pub atom : AtomText → Condition
+atom a = roll-Condition (Condition-F.Literal (record { is_positive = true; atom = a }))
+
+abbrev pub for_all : List VariableGroup → List Condition → Condition
+for_all groups body = roll-Condition (Condition-F.Forall groups body)
+
+abbrev pub no_network : NetworkText
+no_network = record { is_ordered = true; subtasks = []; orderings = []; constraints = [] }
+
+-- `(define (domain d))`
+abbrev pub empty_domain : DomainText
+empty_domain = record {
+  name = called 16 (codes "d");
+  requirements = [];
+  types = [];
+  constants = [];
+  predicates = [];
+  tasks = [];
+  methods = [];
+  actions = [];
+}
+
+-- `(define (problem x) (:domain d) (:htn))`
+abbrev pub empty_problem : ProblemText
+empty_problem = record {
+  name = called 17 (codes "x");
+  domain = called 29 (codes "d");
+  requirements = [];
+  objects = [];
+  init = [];
+  goal = [];
+  htn = record { place = 32; parameters = []; network = no_network };
+}
+
+abbrev pub in_domain : ℕ → At
+in_domain place = record { source = source.Domain; place = place }
+
+abbrev pub in_problem : ℕ → At
+in_problem place = record { source = source.Problem; place = place }
+
+-- ## Faults
+
+-- `(define (domain d) (:predicates (p) (P)))`
+abbrev pub two_predicates : DomainText
+two_predicates = record empty_domain { predicates = predicate (called 33 (codes "p")) [] ∷ predicate (called 37 (codes "P")) [] ∷ [] }
+
+-- `(define (domain d) (:predicates (p ?x - t)))`
+abbrev pub no_type : DomainText
+no_type = record empty_domain { predicates = predicate (called 33 (codes "p")) (typed_as (variable 35 (codes "?x")) (called 40 (codes "t"))) ∷ [] }
+
+-- `(define (domain d) (:types a - b b - a))`
+abbrev pub two_types : DomainText
+two_types = record empty_domain {
+  types =
+      record { names = called 27 (codes "a") ∷ []; of_type = Some (called 31 (codes "b")) }
+      ∷ record { names = called 33 (codes "b") ∷ []; of_type = Some (called 37 (codes "a")) } ∷ [];
+}
+
+-- `(define (domain d) (:action a :precondition (p)))`
+abbrev pub no_predicate : DomainText
+no_predicate = record empty_domain { actions = action (called 28 (codes "a")) [] (atom (at_terms (called 45 (codes "p")) []) ∷ []) ∷ [] }
+
+-- `(define (domain d) (:predicates (p ?x)) (:action a :precondition (p)))`
+abbrev pub no_argument : DomainText
+no_argument = record empty_domain {
+  predicates = predicate (called 33 (codes "p")) (untyped (variable 35 (codes "?x"))) ∷ [];
+  actions = action (called 49 (codes "a")) [] (atom (at_terms (called 66 (codes "p")) []) ∷ []) ∷ [];
+}
+
+-- `(define (domain d) (:types box can) (:constants c - can) (:predicates (p ?b - box)) (:action a :precondition (p c)))`
+abbrev pub no_box : DomainText
+no_box = record empty_domain {
+  types = record { names = called 27 (codes "box") ∷ called 31 (codes "can") ∷ []; of_type = None } ∷ [];
+  constants = record { names = called 48 (codes "c") ∷ []; of_type = Some (called 52 (codes "can")) } ∷ [];
+  predicates = predicate (called 71 (codes "p")) (typed_as (variable 73 (codes "?b")) (called 78 (codes "box"))) ∷ [];
+  actions = action (called 93 (codes "a")) [] (atom (at_terms (called 110 (codes "p")) (term.Object (called 112 (codes "c")) ∷ [])) ∷ []) ∷ [];
+}
+
+abbrev pub labelled : Name → Name → SubtaskText
+labelled label task = record { label = Some label; task = at_terms task [] }
+
+-- `(define (problem x) (:domain d) (:htn :ordered-subtasks (and (s1 (x)) (s2 (y))) :ordering (< s2 s1)))`
+abbrev pub two_ways : NetworkText
+two_ways = record {
+  is_ordered = true;
+  subtasks = labelled (called 62 (codes "s1")) (called 66 (codes "x")) ∷ labelled (called 71 (codes "s2")) (called 75 (codes "y")) ∷ [];
+  orderings = record { before = called 93 (codes "s2"); after = called 96 (codes "s1") } ∷ [];
+  constraints = [];
+}
+
+-- the same with `(< S2 s3)`
+abbrev pub no_subtask : NetworkText
+no_subtask = record two_ways { orderings = record { before = called 93 (codes "S2"); after = called 96 (codes "s3") } ∷ [] }
+
+abbrev pub problem_of : NetworkText → ProblemText
+problem_of network = record empty_problem { htn = record { place = 32; parameters = []; network = network } }
+
+-- a predicate with one place too many
+abbrev pub many_places : DomainText
+many_places = record empty_domain { predicates = predicate (called 33 (codes "p")) (record { variables = replicate 33 (variable 35 (codes "?x")); of_type = None } ∷ []) ∷ [] }
+
+pub record FaultsHavePlaces : Type 0 where
+  pub duplicate : FailsAt two_predicates empty_problem (fault.Duplicate (in_domain 37))
+  pub unknown_type : FailsAt no_type empty_problem (fault.UnknownType (in_domain 40))
+  pub type_cycle : FailsAt two_types empty_problem (fault.TypeCycle (in_domain 27))
+  pub unknown_name : FailsAt no_predicate empty_problem (fault.UnknownName (in_domain 45))
+  pub arity : FailsAt no_argument empty_problem (fault.Arity (in_domain 66))
+  pub type_clash : FailsAt no_box empty_problem (fault.TypeClash (in_domain 112))
+  pub order_cycle : FailsAt empty_domain (problem_of two_ways) (fault.OrderCycle (in_problem 32))
+  pub unknown_subtask : FailsAt empty_domain (problem_of no_subtask) (fault.UnknownSubtask (in_problem 96))
+  pub too_many : FailsAt many_places empty_problem (fault.TooMany (in_domain 35))
+
+-- ## Meanings
+
+-- `(forall (?c - CAN) (p ?c ?B))` where `?a` and `?b` are in force
+abbrev pub quantified : Condition
+quantified =
+    for_all (typed_as (variable 0 (codes "?c")) (called 0 (codes "CAN")))
+    (atom (at_terms (called 0 (codes "p")) (term.Variable (variable 0 (codes "?c")) ∷ term.Variable (variable 0 (codes "?B")) ∷ [])) ∷ [])
+
+pub record TreesHaveMeanings : Type 0 where
+  -- `object` first, then each type where it is first named
+  pub types : type_names two_types ≡ codes "object" ∷ codes "a" ∷ codes "b" ∷ []
+  -- the order of the list, and then the written one
+  pub pairs : order_pairs two_ways ≡ (0, 1) ∷ (1, 0) ∷ []
+  -- the variable of the `forall` has the number after those around it
+  pub numbers : formula_of (vocabulary_of no_box empty_problem) quantified (codes "?a" ∷ codes "?b" ∷ [])
+      ≡ model.for_all (2 ∷ [])
+      (model.formula (model.literal true (record { predicate = 0; arguments = model.parameter 2 ∷ model.parameter 1 ∷ [] })) model.no_formulas)

@@ -1,0 +1,110 @@
+//! The steps of a configuration.
+ghost use Rattle.std.specs.Prelude.{◌≡◌, IfOk, IfSome, None, Some, slice_get};
+ghost use Rattle.std.specs.Option.{option_map};
+ghost use Rattle.htn_model.specs.Choice.{first_free_compound};
+ghost use Rattle.htn_model.specs.Grounding.{problem_of};
+ghost use Rattle.htn_model.specs.Instance as instance;
+ghost use Rattle.htn_model.specs.Instances as model;
+ghost use Rattle.htn_model.specs.Machine as machine;
+ghost use Rattle.htn_model.specs.Problem.{is_before};
+ghost use Rattle.htn_net.specs.Choices.{IsChoice, choice_of};
+
+use crate::choice::{Change, Choice};
+use crate::config::Config;
+use crate::perform::perform;
+use htn_ground::{GroundTask, Instance, live_methods_of, methods_of};
+use htn_task::Task;
+use std::alloc::{AllocError, Global};
+
+/// The place of a number among numbered instances.
+fn place_of(instances: &[(u64, Instance)], number: u64) -> Option<usize>
+    ensures { IfSome result (λ place. (i : instance.Instance) × (slice_get instances.now place ≡ Some (number, i))) }
+{
+    for (place, (other, _)) in instances.iter().enumerate() {
+        if *other == number {
+            return Some(place);
+        }
+    }
+    None
+}
+
+/// The instance of a ground task that has this number.
+fn instance_of(
+    alloc: Global,
+    task: &Task,
+    goal: &GroundTask,
+    number: u64,
+) -> Result<Option<Instance>, AllocError>
+    ensures { IfOk result (λ o. o ≡ slice_get (model.methods_of task.now goal.now) number) }
+{
+    // Those that are not dead are found faster, and are all that a search takes.
+    let mut live = live_methods_of(alloc, task, goal)?;
+    if let Some(place) = place_of(&live, number) {
+        return Ok(Some(live.swap_remove(place).1));
+    }
+    let mut instances = methods_of(alloc, task, goal)?;
+    let place = number as usize;
+    if place >= instances.len() {
+        return Ok(None);
+    }
+    Ok(Some(instances.swap_remove(place)))
+}
+
+/// What a number chooses where no compound task is free.
+fn choose_free(
+    alloc: Global,
+    task: &Task,
+    config: &Config,
+    number: u64,
+) -> Result<Option<Choice>, AllocError>
+    requires { first_free_compound config.now.open_nodes (is_before config.now.order) ≡ None }
+    ensures { IfOk result (λ o. option_map (λ x. choice_of config.now x) o ≡ machine.choose (problem_of task.now) config.now number) }
+{
+    let Some(position) = config.order().nth_free(number as usize) else {
+        return Ok(None);
+    };
+    let Some(state) = perform(alloc, task, config, config.node_at(position))? else {
+        return Ok(None);
+    };
+    Ok(Some(Choice {
+        number,
+        position,
+        change: Change::Performed(state),
+    }))
+}
+
+impl Config {
+    /// What a number chooses; none where it is not one that the configuration allows.
+    pub fn choose(
+        &self,
+        alloc: Global,
+        task: &Task,
+        number: u64,
+    ) -> Result<Option<Choice>, AllocError>
+        ensures { IfOk result (λ o. option_map (λ x. choice_of self.now x) o ≡ machine.choose (problem_of task.now) self.now number) }
+    {
+        let Some((position, goal)) = self.first_free_task() else {
+            return choose_free(alloc, task, self, number);
+        };
+        let Some(instance) = instance_of(alloc, task, goal, number)? else {
+            return Ok(None);
+        };
+        Ok(Some(Choice {
+            number,
+            position,
+            change: Change::Decomposed(instance),
+        }))
+    }
+
+    /// The configuration that a choice leads to.
+    pub fn step(&self, alloc: Global, task: &Task, choice: &Choice) -> Result<Config, AllocError>
+        requires { IsChoice (problem_of task.now) self.now choice.now }
+        ensures { IfOk result (λ next. machine.step_by (problem_of task.now) self.now choice.now.number ≡ Some next) }
+    {
+        let _initial = task.initial_atoms();
+        match &choice.change {
+            Change::Decomposed(instance) => self.decomposed(alloc, choice.position, instance),
+            Change::Performed(state) => self.performed(alloc, choice.position, state),
+        }
+    }
+}

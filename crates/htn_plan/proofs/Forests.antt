@@ -1,0 +1,51 @@
+-- Lists of the program's nodes, as forests.
+use Rattle.std.proofs.Common.{◌≡◌, ℕ, zero, suc, ◌<◌, ◌≤◌, List, [], ◌∷◌, length, drop, Option, Some, None, slice_get, slice_index_or, IfSome, MatchOption, Bor, Vec, Global, rules, refl, ap, sym, ◌∙◌, arith}
+use Rattle.htn_ground.specs.declared.node.Node.{Node as RustNode, Compound, the_lemmas}
+use Rattle.htn_model.specs.Problem.{GroundTask}
+use Rattle.htn_ground.specs.Trees.{node_of, nodes_view}
+use Rattle.htn_model.specs.Tree.{Node, compound, Nodes, nodes_of, list_of, child_at, children_of, Place, node_at, node_below}
+use Rattle.htn_plan.proofs.Lists.{drop_at}
+
+pub nothing_below : (r : Place) → node_below None r ≡ None
+nothing_below [] = refl
+nothing_below (i ∷ r) = nothing_below r
+
+pub list_of_nodes : (ns : List Node) → list_of (nodes_of ns) ≡ ns
+list_of_nodes [] = refl
+list_of_nodes (n ∷ ns) = ap (λ xs. n ∷ xs) (list_of_nodes ns)
+
+pub child_of_list : (ns : List Node) (i : ℕ) → child_at (nodes_of ns) i ≡ slice_get ns i
+child_of_list [] i = refl
+child_of_list (n ∷ ns) zero = refl
+child_of_list (n ∷ ns) (suc i) = child_of_list ns i
+
+pub child_some : (xs : List RustNode) (i : ℕ) (n : RustNode) → i < length xs → n ≡ slice_index_or xs i n → child_at (nodes_of (nodes_view xs)) i ≡ Some (node_of n)
+child_some [] i n h e = absurd (omega arith)
+child_some (x ∷ xs) zero n h e = ap (λ y. Some (node_of y)) (sym e)
+child_some (x ∷ xs) (suc i) n h e = child_some xs i n (omega arith) e
+
+pub child_none : (xs : List RustNode) (i : ℕ) → length xs ≤ i → child_at (nodes_of (nodes_view xs)) i ≡ None
+child_none [] i h = refl
+child_none (x ∷ xs) zero h = absurd (omega arith)
+child_none (x ∷ xs) (suc i) h = child_none xs i (omega arith)
+
+pub as_many : (xs : List RustNode) → length (list_of (nodes_of (nodes_view xs))) ≡ length xs
+as_many [] = refl
+as_many (x ∷ xs) = ap suc (as_many xs)
+
+pub below_first : (trees : Nodes) (place : Place) (i : ℕ) (below : Place) → place ≡ i ∷ below → child_at trees i ≡ None → node_at trees place ≡ None
+below_first trees place i below e h = ap (node_at trees) e ∙ ap (λ n. node_below n below) h ∙ nothing_below below
+
+pub below_later : (n : Node) (below : Place) (k : ℕ) (x : Option Node) → k < length below → node_below (Some n) (drop k below) ≡ x
+    → child_at (children_of n) (slice_index_or below k 0) ≡ None → x ≡ None
+below_later n below k x h e none =
+    sym e ∙ ap (node_below (Some n)) (drop_at below k 0 h) ∙ ap (λ m. node_below m (drop (suc k) below)) none ∙ nothing_below (drop (suc k) below)
+
+pub child_found : (xs : List RustNode) (i : ℕ) (r : Option (Bor RustNode)) (H : Bor RustNode → Type 0) → IfSome r (λ x. x.now ≡ slice_index_or xs i x.now)
+    → MatchOption r (length xs ≤ i) (λ x. (i < length xs) × H x)
+    → MatchOption r (child_at (nodes_of (nodes_view xs)) i ≡ None) (λ n. child_at (nodes_of (nodes_view xs)) i ≡ Some (node_of n.now))
+child_found xs i None H is at = child_none xs i at
+child_found xs i (Some n) H is at = child_some xs i n.now at.0 is
+
+pub compound_seen : (g : GroundTask) (number : ℕ) (children : Vec RustNode Global) → node_of (Compound g number children) ≡ compound g number (nodes_of (nodes_view children.items))
+compound_seen g number children = search (rules, the_lemmas)

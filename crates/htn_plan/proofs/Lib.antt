@@ -1,0 +1,9 @@
+pub mod Lists
+pub mod Positions
+pub mod Forests
+pub mod Numbers
+pub mod Walks
+pub mod Counted
+pub mod Gathering
+pub mod Apart
+pub mod Filed

@@ -1,0 +1,5 @@
+use Rattle.htn_plan.proofs.Forests.{child_found}
+use Rattle.htn_plan.proofs.actions.child_at.Goals as goal
+
+pub returns : goal.returns
+returns c = let h = c.get.ensures.lookup in child_found c.args.nodes.now c.args.position c.get.result _ h.1 h.3

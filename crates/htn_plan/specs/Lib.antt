@@ -1,0 +1,6 @@
+pub mod Naming
+pub mod Ids
+pub mod Preorder
+pub mod Walk
+pub mod Items
+pub mod Gathered

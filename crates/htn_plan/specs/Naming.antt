@@ -1,0 +1,55 @@
+-- The names of a task: what the words of a plan file name in it, and the words of what stands in it.
+use Rattle.std.specs.Prelude.{ℕ, List, [], ◌∷◌, ◌++◌, map, get_or, codes, position, slice_get, Option, Some, None, option_and_then}
+use Rattle.std.specs.Str.{bytes_eq}
+use Rattle.htn_model.specs.Instance.{Instance}
+use Rattle.htn_model.specs.Instances.{methods_of}
+use Rattle.htn_model.specs.PlanFile.{Word, Naming}
+use Rattle.htn_model.specs.Problem.{GroundTask}
+use Rattle.htn_model.specs.Task.{Task}
+
+-- the word for a number that names nothing
+abbrev pub unnamed : Word
+unnamed = codes "?"
+
+abbrev pub object_name : Task → ℕ → Word
+object_name t o = get_or t.objects o unnamed
+
+-- the names of the compound tasks, and then of the actions
+abbrev pub task_names : Task → List Word
+task_names t = map (λ d. d.name) t.tasks ++ map (λ a. a.name) t.actions
+
+abbrev pub task_name : Task → ℕ → Word
+task_name t n = get_or (task_names t) n unnamed
+
+abbrev pub numbered_method_name : Task → Option ℕ → Word
+numbered_method_name t None = unnamed
+numbered_method_name t (Some m) = get_or (map (λ m. m.name) t.methods) m unnamed
+
+abbrev pub instance_name : Task → Option Instance → Word
+instance_name t None = unnamed
+instance_name t (Some i) = numbered_method_name t i.method
+
+-- the method of the instance with this number
+abbrev pub method_name : Task → GroundTask → ℕ → Word
+method_name t g number = instance_name t (slice_get (methods_of t g) number)
+
+-- the first number of a word in a list
+abbrev pub number_of : List Word → Word → Option ℕ
+number_of names w = position (bytes_eq w) names
+
+-- the objects that the words name, where each names one
+abbrev pub objects_named : Task → List Word → Option (List ℕ)
+objects_named t [] = Some []
+objects_named t (w ∷ words) = option_and_then (λ o. option_and_then (λ os. Some (o ∷ os)) (objects_named t words)) (number_of t.objects w)
+
+abbrev pub task_named : Task → Word → List Word → Option GroundTask
+task_named t w words =
+    option_and_then (λ n. option_and_then (λ os. Some (record { name = n; arguments = os })) (objects_named t words)) (number_of (task_names t) w)
+
+abbrev pub naming_of : Task → Naming
+naming_of t = record {
+  named = task_named t;
+  task_name = λ g. task_name t g.name;
+  argument_names = λ g. map (object_name t) g.arguments;
+  method_name = method_name t;
+}

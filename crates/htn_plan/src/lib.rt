@@ -1,0 +1,16 @@
+//! The plan file of a solution: what the plan writer prints.
+#![tactic(auto)]
+
+mod actions;
+mod compounds;
+mod file;
+mod ids;
+mod lines;
+mod names;
+mod preorder;
+
+pub use file::file_of;
+pub use plan_text::{
+    ActionLine, DecompositionLine, MAX_BYTES, Out, PlanFault, PlanFile, Sink, Word, WriteFault,
+    one_file, read_plan, reads_back, write_plan,
+};

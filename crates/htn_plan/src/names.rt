@@ -1,0 +1,74 @@
+//! The names of what stands in a task.
+ghost use Rattle.std.specs.Prelude.{◌≡◌, Some, IfOk};
+ghost use Rattle.htn_model.specs.PlanWord.{IsName};
+ghost use Rattle.htn_plan.specs.Naming as spec;
+
+use htn_ground::{GroundTask, Instance, methods_of};
+use htn_task::Task;
+use std::alloc::{AllocError, Global};
+
+/// The word for a number that names nothing.
+fn unnamed() -> &'static [u8]
+    ensures value { result.now ≡ spec.unnamed }
+    ensures name { IsName result.now }
+{
+    b"?"
+}
+
+/// The name of an object.
+pub(crate) fn object_name(task: &Task, object: u16) -> &[u8]
+    ensures value { result.now ≡ spec.object_name task.now object }
+    ensures name { IsName result.now }
+{
+    match task.objects().get(object as usize) {
+        Some(name) => name.as_bytes(),
+        None => unnamed(),
+    }
+}
+
+/// The name of a compound task or an action.
+pub(crate) fn task_name(task: &Task, number: u32) -> &[u8]
+    ensures value { result.now ≡ spec.task_name task.now number }
+    ensures name { IsName result.now }
+{
+    let count = task.tasks().len();
+    let number = number as usize;
+    if number < count {
+        return task.tasks()[number].name().as_bytes();
+    }
+    match task.actions().get(number - count) {
+        Some(action) => action.name().as_bytes(),
+        None => unnamed(),
+    }
+}
+
+/// The name of an instance's method.
+fn instance_name<'a>(task: &'a Task, instance: &Instance) -> &'a [u8]
+    ensures value { result.now ≡ spec.instance_name task.now (Some instance.now) }
+    ensures name { IsName result.now }
+{
+    let Some(number) = instance.method() else {
+        return unnamed();
+    };
+    match task.methods().get(number as usize) {
+        Some(method) => method.name().as_bytes(),
+        None => unnamed(),
+    }
+}
+
+/// The name of the method whose instance has this number, among the instances of a compound task.
+pub(crate) fn method_name<'a>(
+    alloc: Global,
+    task: &'a Task,
+    goal: &GroundTask,
+    number: u64,
+) -> Result<&'a [u8], AllocError>
+    ensures value { IfOk result (λ w. w.now ≡ spec.method_name task.now goal.now number) }
+    ensures name { IfOk result (λ w. IsName w.now) }
+{
+    let instances = methods_of(alloc, task, goal)?;
+    match instances.get(number as usize) {
+        Some(instance) => Ok(instance_name(task, instance)),
+        None => Ok(unnamed()),
+    }
+}

@@ -1,0 +1,95 @@
+//! The nodes of a forest in preorder.
+ghost use Rattle.std.specs.Prelude.{◌≡◌, ◌<◌, ◌+◌, ◌++◌, [], IfOk, OnOk};
+ghost use Rattle.htn_ground.specs.Trees.{node_of, nodes_view};
+ghost use Rattle.htn_model.specs.Tree as tree;
+ghost use Rattle.htn_plan.specs.Ids.{id_of};
+ghost use Rattle.htn_plan.specs.Items.{item_of, items_of, levels_of};
+ghost use Rattle.htn_plan.specs.Preorder as spec;
+ghost use Rattle.htn_plan.specs.Walk.{pending, place_of as level_place, steps_left};
+
+use crate::ids::ActionIds;
+use htn_ground::{GroundTask, Node};
+use std::alloc::{AllocError, Global};
+
+/// A node, without those below it.
+#[derive(Drop)]
+pub(crate) enum Item<'a> {
+    /// An action, with its id if it is carried out.
+    Action(Option<u64>),
+    /// A precondition step.
+    Step,
+    /// A compound task, the number of its method instance, and how many children it has.
+    Compound(&'a GroundTask, u64, usize),
+}
+
+/// The children of a node, of which so many were taken.
+#[derive(Drop)]
+pub(crate) struct Frame<'a> {
+    children: &'a [Node],
+    taken: usize,
+}
+
+/// The place of the node that was taken last.
+fn place_of(alloc: Global, frames: &[Frame<'_>]) -> Result<Vec<usize>, AllocError>
+    ensures { IfOk result (λ place. place.items ≡ level_place (levels_of frames.now)) }
+{
+    let mut place = Vec::with_capacity(alloc, frames.len())?;
+    for frame in frames {
+        place.push(frame.taken.saturating_sub(1))?;
+    }
+    Ok(place)
+}
+
+/// Notes a node that was taken, and goes on with its children.
+fn visit<'a>(
+    alloc: Global,
+    node: &'a Node,
+    ids: &ActionIds<'_>,
+    frames: &mut Vec<Frame<'a>>,
+    items: &mut Vec<Item<'a>>,
+) -> Result<(), AllocError>
+    ensures items { OnOk result
+        (items_of items.new.items ++ pending (id_of ids.now) (levels_of frames.new.items)
+        ≡ items_of items.old.items ++ spec.items (id_of ids.now) (level_place (levels_of frames.old.items)) (node_of node.now) ++ pending (id_of ids.now) (levels_of frames.old.items)) }
+    ensures fewer { OnOk result (steps_left (levels_of frames.new.items) < tree.size (node_of node.now) + tree.size (node_of node.now) + steps_left (levels_of frames.old.items)) }
+{
+    match node {
+        Node::Leaf(_) => {
+            let place = place_of(alloc, frames)?;
+            items.push(Item::Action(ids.get(&place)))?;
+        }
+        Node::Step(_) => items.push(Item::Step)?,
+        Node::Compound(goal, number, children) => {
+            items.push(Item::Compound(goal, *number, children.len()))?;
+            frames.push(Frame { children, taken: 0 })?;
+        }
+    }
+    Ok(())
+}
+
+/// The nodes of a forest, each before those below it.
+pub(crate) fn preorder<'a>(
+    alloc: Global,
+    trees: &'a [Node],
+    ids: &ActionIds<'_>,
+) -> Result<Vec<Item<'a>>, AllocError>
+    ensures { IfOk result (λ items. items_of items.items ≡ spec.items_from (id_of ids.now) [] 0 (tree.nodes_of (nodes_view trees.now))) }
+{
+    let mut items = Vec::new(alloc);
+    let mut frames = Vec::new(alloc);
+    frames.push(Frame {
+        children: trees,
+        taken: 0,
+    })?;
+    while let Some(frame) = frames.pop() {
+        let Frame { children, taken } = frame;
+        if let Some(node) = children.get(taken) {
+            frames.push(Frame {
+                children,
+                taken: taken + 1,
+            })?;
+            visit(alloc, node, ids, &mut frames, &mut items)?;
+        }
+    }
+    Ok(items)
+}

@@ -1,0 +1,4 @@
+pub mod Moves
+pub mod ChildPlaces
+pub mod Way
+pub mod Solved

@@ -1,0 +1,131 @@
+-- What a walk along a finishing word has recorded after each number.
+use Rattle.std.proofs.Common.{◌≡◌, ℕ, zero, suc, ◌+◌, ◌<◌, ◌≤◌, List, [], ◌∷◌, ◌++◌, length, take, drop, get_or, Option, Some, inl, inr, sym, refl, ap, ap₂, ◌∙◌, subst, append_assoc, arith}
+use Rattle.std.proofs.lemmas.List.{length-map, append-nil}
+use Rattle.std.proofs.lemmas.Option.{same_Some}
+use Rattle.htn_model.specs.Problem.{Child, precondition, action, task, is_compound, Problem}
+use Rattle.htn_model.specs.Tree.{Node, Place, root}
+use Rattle.htn_model.specs.Choice.{splice, child_of}
+use Rattle.htn_model.specs.Machine.{Config, Choice, choose, result_of, FinishesFrom}
+use Rattle.htn_model.proofs.Splices.{length_splice}
+use Rattle.htn_model.proofs.Steps.{chosen, step_choice}
+use Rattle.htn_model.proofs.Onward.{visited}
+use Rattle.htn_model.proofs.Regrown.{make, graft, regrown, rebuild, Regrows, regrows, choice_within}
+use Rattle.htn_model.proofs.Rebuild.{routed, route}
+use Rattle.htn_model.proofs.Rebuild as theory
+use Rattle.htn_ground.specs.Views.{child_view}
+use Rattle.htn_search.specs.declared.trail.Move.{Move}
+use Rattle.htn_search.specs.Trail.{node_over, before_move, before_moves, AreWithin, IsMove}
+use Rattle.htn_search.specs.Places.{child_places, own_place}
+use Rattle.htn_search.proofs.Moves.{before_last, within_push}
+
+-- ## The same words
+
+same_node : (child : Child) (number : ℕ) (children : List Node) → node_over child number children ≡ make child number children
+same_node (precondition literals) number children = refl
+same_node (action g) number children = refl
+same_node (task t) number children = refl
+
+pub same_places : (place : Place) (position count : ℕ) → child_places place position count ≡ theory.child_places place position count
+same_places place position zero = refl
+same_places place position (suc count) = ap (λ l. (place ++ position ∷ []) ∷ l) (same_places place (suc position) count)
+
+same_visit : (child : Child) (place : Place) (rest : List Place) → own_place child place ++ rest ≡ visited child place rest
+same_visit (precondition literals) place rest = refl
+same_visit (action g) place rest = refl
+same_visit (task t) place rest = refl
+
+pub length-child_places : (place : Place) (position count : ℕ) → length (child_places place position count) ≡ count
+length-child_places place position zero = refl
+length-child_places place position (suc count) = ap suc (length-child_places place (suc position) count)
+
+-- ## One number
+
+pub record IsUnderWay (problem : Problem) (word : List ℕ) (first : Config) (roots : List Place) (rest : List ℕ) (c : Config) (trail : List Move)
+    (places visits : List Place) : Type 0 where
+  pub finishes : FinishesFrom problem rest c
+  pub placed : length places ≡ length c.open_nodes
+  pub within : AreWithin trail (rebuild problem rest c)
+  pub trees : before_moves trail (rebuild problem rest c) ≡ rebuild problem word first
+  pub carried_out : visits ++ route problem rest c places ≡ route problem word first roots
+
+module _ (problem : Problem) (c : Config) (number : ℕ) (choice : Choice) (chooses : choose problem c number ≡ Some choice) (last : Move)
+    (is_move : IsMove c number choice last) (rest : List ℕ) where
+  pub position_within : choice.position < length c.open_nodes
+  position_within = choice_within problem c number choice (chosen problem c number choice chooses)
+
+  abbrev next : Config
+  next = result_of c choice
+
+  next_finishes : FinishesFrom problem (number ∷ rest) c → FinishesFrom problem rest next
+  next_finishes h =
+      let made = step_choice problem c h.0 number h.1 in
+      let same : made.0 ≡ choice = same_Some made.0 choice (sym made.1 ∙ chooses) in
+      subst (FinishesFrom problem rest) (made.2 ∙ ap (result_of c) same) h.2
+
+  grown_back : before_move last (rebuild problem rest next) ≡ rebuild problem (number ∷ rest) c
+  grown_back =
+      let trees = rebuild problem rest next in
+      same_graft trees ∙ sym (ap (regrown c number (rebuild problem rest)) chooses)
+    where
+      same_graft : (trees : List Node) → before_move last trees ≡ graft choice.position (length choice.network.children) (child_of c.open_nodes choice.position) number trees
+      same_graft trees =
+          let i = choice.position in
+          let m = length choice.network.children in
+          ap (λ k. take k trees ++ node_over (child_view last.node) last.number (take last.children (drop k trees)) ∷ drop (k + last.children) trees) is_move.position
+          ∙ ap (λ k. take i trees ++ node_over (child_view last.node) last.number (take k (drop i trees)) ∷ drop (i + k) trees) is_move.children
+          ∙ ap₂ (λ x k. take i trees ++ node_over x k (take m (drop i trees)) ∷ drop (i + m) trees) is_move.node is_move.chosen_by
+          ∙ ap (λ n. take i trees ++ n ∷ drop (i + m) trees) (same_node (child_of c.open_nodes i) number (take m (drop i trees)))
+
+  move_within : FinishesFrom problem rest next → last.position + last.children ≤ length (rebuild problem rest next)
+  move_within h =
+      let i = choice.position in
+      let grown = regrows problem rest next h in
+      let long : length (rebuild problem rest next) ≡ length (splice i choice.network.children c.open_nodes) = sym (length-map (rebuild problem rest next) root) ∙ ap length grown.roots in
+      let spliced = length_splice i choice.network.children c.open_nodes position_within in
+      omega (arith, long, spliced, position_within, is_move.position, is_move.children)
+
+  routed_on : (places : List Place)
+      → route problem (number ∷ rest) c places
+      ≡ own_place (child_of c.open_nodes choice.position) (get_or places choice.position [])
+      ++ route problem rest next (splice choice.position (child_places (get_or places choice.position []) 0 (length choice.network.children)) places)
+  routed_on places =
+      let i = choice.position in
+      let place = get_or places i [] in
+      ap (routed c places (route problem rest)) chooses
+      ∙ ap (λ l. visited (child_of c.open_nodes i) place (route problem rest next (splice i l places))) (sym (same_places place 0 (length choice.network.children)))
+      ∙ sym (same_visit (child_of c.open_nodes i) place _)
+
+  -- the walk one number on
+  pub walk_on : (word : List ℕ) (first : Config) (roots : List Place) (trail trail_then : List Move) (places places_then visits visits_then : List Place)
+      → IsUnderWay problem word first roots (number ∷ rest) c trail places visits
+      → trail_then ≡ trail ++ last ∷ []
+      → places_then ≡ splice choice.position (child_places (get_or places choice.position []) 0 (length choice.network.children)) places
+      → visits_then ≡ visits ++ own_place (child_of c.open_nodes choice.position) (get_or places choice.position [])
+      → IsUnderWay problem word first roots rest next trail_then places_then visits_then
+  walk_on word first roots trail trail_then places places_then visits visits_then way t p v =
+      let i = choice.position in
+      let m = length choice.network.children in
+      let place = get_or places i [] in
+      let finishes = next_finishes way.finishes in
+      let low : i < length places = subst (λ n. i < n) (sym way.placed) position_within in
+      let standing = length_splice i (child_places place 0 m) places low in
+      let nodes = length_splice i choice.network.children c.open_nodes position_within in
+      let count = length-child_places place 0 m in
+      record {
+        finishes = finishes;
+        placed = ap length p ∙ (let e : length (splice i (child_places place 0 m) places) ≡ length (splice i choice.network.children c.open_nodes) = omega (arith, standing, nodes, count, way.placed) in e);
+        within = subst (λ l. AreWithin l (rebuild problem rest next)) (sym t)
+            (within_push trail last (rebuild problem rest next) (subst (AreWithin trail) (sym grown_back) way.within) (move_within finishes));
+        trees = ap (λ l. before_moves l (rebuild problem rest next)) t ∙ before_last trail last (rebuild problem rest next) ∙ ap (before_moves trail) grown_back ∙ way.trees;
+        carried_out =
+            ap₂ (λ l q. l ++ route problem rest next q) v p
+            ∙ append_assoc visits (own_place (child_of c.open_nodes i) place) _
+            ∙ ap (λ l. visits ++ l) (sym (routed_on places))
+            ∙ way.carried_out;
+      }
+
+-- ## The ends of a walk
+
+pub way_start : (problem : Problem) (word : List ℕ) (first : Config) (roots : List Place) → FinishesFrom problem word first → length roots ≡ length first.open_nodes
+    → IsUnderWay problem word first roots word first [] roots []
+way_start problem word first roots h placed = record { finishes = h; placed = placed; within = tt; trees = refl; carried_out = refl }

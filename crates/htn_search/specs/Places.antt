@@ -1,0 +1,19 @@
+-- The places of children.
+use Rattle.std.specs.Prelude.{ℕ, zero, suc, List, [], ◌∷◌, ◌++◌, map}
+use Rattle.std.specs.Global.{Vec}
+use Rattle.htn_model.specs.Problem.{Child, precondition, action, task}
+use Rattle.htn_model.specs.Tree.{Place}
+
+abbrev pub places_view : List (Vec ℕ) → List Place
+places_view places = map (λ p. p.items) places
+
+-- those of so many children, from a position on
+abbrev pub child_places : Place → ℕ → ℕ → List Place
+child_places place position zero = []
+child_places place position (suc count) = (place ++ position ∷ []) ∷ child_places place (suc position) count
+
+-- an action and a step are carried out where they stand
+abbrev pub own_place : Child → Place → List Place
+own_place (precondition literals) place = place ∷ []
+own_place (action g) place = place ∷ []
+own_place (task t) place = []

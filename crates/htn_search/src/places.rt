@@ -1,0 +1,55 @@
+//! The places of the open nodes.
+ghost use Rattle.std.specs.Prelude.{◌≡◌, ◌+◌, ◌<◌, ◌∷◌, ◌++◌, [], IfOk, OnOk, get_or, length};
+ghost use Rattle.htn_model.specs.Choice.{splice};
+ghost use Rattle.htn_search.specs.Places.{child_places, places_view};
+
+use std::alloc::{AllocError, Global};
+
+/// The place of a child: one position more.
+fn child_place(alloc: Global, place: &[usize], position: usize) -> Result<Vec<usize>, AllocError>
+    ensures { IfOk result (λ p. p.items ≡ place.now ++ position ∷ []) }
+{
+    let mut child = Vec::new(alloc);
+    child.extend_from_slice(place)?;
+    child.push(position)?;
+    Ok(child)
+}
+
+/// The places of so many children. The last child has the parent's own list.
+fn child_places(
+    alloc: Global,
+    mut place: Vec<usize>,
+    count: usize,
+) -> Result<Vec<Vec<usize>>, AllocError>
+    ensures { IfOk result (λ l. places_view l.items ≡ child_places place.items 0 count) }
+{
+    let mut places = Vec::new(alloc);
+    let Some(last) = count.checked_sub(1) else {
+        return Ok(places);
+    };
+    for position in 0..last {
+        places.push(child_place(alloc, &place, position)?)?;
+    }
+    place.push(last)?;
+    places.push(place)?;
+    Ok(places)
+}
+
+/// Puts the places of so many children in the place of an open node's.
+pub(crate) fn open_children(
+    alloc: Global,
+    places: &mut Vec<Vec<usize>>,
+    position: usize,
+    count: usize,
+) -> Result<(), AllocError>
+    requires { position < length places.old.items }
+    ensures { OnOk result (places_view places.new.items
+        ≡ splice position (child_places (get_or (places_view places.old.items) position []) 0 count) (places_view places.old.items)) }
+{
+    let mut later = places.split_off(position + 1)?;
+    let place = places.remove(position);
+    let mut children = child_places(alloc, place, count)?;
+    places.append(&mut children)?;
+    places.append(&mut later)?;
+    Ok(())
+}
