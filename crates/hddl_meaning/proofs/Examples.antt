@@ -32,10 +32,10 @@ only_atom : (name : ℕ) (a : AtomText) → IsIn (use_of a) (schema_of_action (a
 only_atom name a =
     in_left (use_of a) (atoms_in [] (atom a ∷ [])) [] (subst (IsIn (use_of a)) (sym (one_atom a [])) (at_head (use_of a) []))
 
-absent : (t : Text) (ts : List Text) → list_any (is_same_text t) ts ≡ false → IsIn t ts → ⊥
+pub absent : (t : Text) (ts : List Text) → list_any (is_same_text t) ts ≡ false → IsIn t ts → ⊥
 absent t ts h k = both_ways _ h (found t ts k)
 
-differ : (t u : Text) → is_same_text t u ≡ false → t ≡ u → ⊥
+pub differ : (t u : Text) → is_same_text t u ≡ false → t ≡ u → ⊥
 differ t u h e = both_ways _ h ((texts_decide t u).1 e)
 
 not_declared : IsDeclaredType no_type (codes "t") → ⊥
@@ -43,7 +43,7 @@ not_declared (inl e) = differ (codes "t") object refl e
 not_declared (inr h) = absent (codes "t") [] refl h
 
 -- some pair leads to where the pairs lead
-last_of : (pairs : List (Text × Text)) (t u : Text) → Leads pairs t u → (w : Text) × IsIn (w, u) pairs
+pub last_of : (pairs : List (Text × Text)) (t u : Text) → Leads pairs t u → (w : Text) × IsIn (w, u) pairs
 last_of pairs t u (Direct x y h) = (x, h)
 last_of pairs t u (Through x y z h more) = last_of pairs y z more
 

@@ -5,3 +5,4 @@ pub mod Numbers
 pub mod Conditions
 pub mod WellTyped
 pub mod Examples
+pub mod Packing

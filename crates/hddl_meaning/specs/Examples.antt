@@ -1,6 +1,8 @@
 -- Small trees and where they fail, or what they mean.
-use Rattle.std.specs.Prelude.{◌≡◌, ℕ, true, List, [], ◌∷◌, codes, replicate, Some, None}
+use Rattle.std.specs.Prelude.{◌≡◌, ℕ, ◌+◌, true, false, List, [], ◌∷◌, length, codes, replicate, Some, None}
+use Rattle.htn_model.specs.State.{set_of}
 use Rattle.htn_model.specs.Schema as model
+use Rattle.htn_model.specs.Task.{Task}
 use Rattle.hddl_words.specs.Names.{Name, Variable}
 use Rattle.hddl_tree.specs.declared.term.Term.{Term}
 use Rattle.hddl_tree.specs.declared.term.Term.TheVariants as term
@@ -16,8 +18,8 @@ use Rattle.hddl_tree.specs.declared.domain.DomainText.{DomainText}
 use Rattle.hddl_tree.specs.declared.problem.ProblemText.{ProblemText}
 use Rattle.hddl_meaning.specs.Names.{type_names}
 use Rattle.hddl_meaning.specs.Networks.{order_pairs}
-use Rattle.hddl_meaning.specs.Building.{formula_of, vocabulary_of}
-use Rattle.hddl_meaning.specs.Items.{FailsAt}
+use Rattle.hddl_meaning.specs.Building.{IsTaskOf, formula_of, vocabulary_of}
+use Rattle.hddl_meaning.specs.Items.{FailsAt, IsWellTypedPair}
 use Rattle.hddl_meaning.specs.declared.fault.Source.TheVariants as source
 use Rattle.hddl_meaning.specs.declared.fault.At.{At}
 use Rattle.hddl_meaning.specs.declared.fault.CheckFault.TheVariants as fault
@@ -175,3 +177,84 @@ pub record TreesHaveMeanings : Type 0 where
   pub numbers : formula_of (vocabulary_of no_box empty_problem) quantified (codes "?a" ∷ codes "?b" ∷ [])
       ≡ model.for_all (2 ∷ [])
       (model.formula (model.literal true (record { predicate = 0; arguments = model.parameter 2 ∷ model.parameter 1 ∷ [] })) model.no_formulas)
+
+-- ## A pair that fits together, and its task
+
+-- `?b - box`
+abbrev pub box : ℕ → List VariableGroup
+box place = typed_as (variable place (codes "?b")) (called (place + 5) (codes "box"))
+
+-- a name at the variable `?b`
+abbrev pub of_box : ℕ → List ℕ → AtomText
+of_box place name = at_terms (called place name) (term.Variable (variable (place + length name + 1) (codes "?b")) ∷ [])
+
+-- `(define (domain d) (:types box) (:predicates (done ?b - box)) (:task pack :parameters (?b - box)) (:method m
+-- :parameters (?b - box) :task (pack ?b) :ordered-subtasks (mark ?b)) (:action mark :parameters (?b - box) :effect (done ?b)))`
+abbrev pub packing : DomainText
+packing = record empty_domain {
+  types = record { names = called 27 (codes "box") ∷ []; of_type = None } ∷ [];
+  predicates = predicate (called 46 (codes "done")) (box 51) ∷ [];
+  tasks = record { name = called 69 (codes "pack"); parameters = box 87 } ∷ [];
+  methods = record {
+    place = 98;
+    name = called 107 (codes "m");
+    parameters = box 122;
+    task = of_box 139 (codes "pack");
+    precondition = [];
+    network = record no_network { subtasks = record { label = None; task = of_box 167 (codes "mark") } ∷ [] };
+  } ∷ [];
+  actions = record {
+    name = called 186 (codes "mark");
+    parameters = box 204;
+    precondition = [];
+    effect = record { is_positive = true; atom = of_box 223 (codes "done") } ∷ [];
+  } ∷ [];
+}
+
+-- `(define (problem x) (:domain d) (:objects B1 - box) (:htn :ordered-subtasks (pack b1)))`
+abbrev pub one_box : ProblemText
+one_box = record empty_problem {
+  objects = record { names = called 42 (codes "B1") ∷ []; of_type = Some (called 47 (codes "box")) } ∷ [];
+  htn = record {
+    place = 52;
+    parameters = [];
+    network = record no_network {
+      subtasks = record { label = None; task = at_terms (called 77 (codes "pack")) (term.Object (called 82 (codes "b1")) ∷ []) } ∷ [];
+    };
+  };
+}
+
+-- numbers: of types `object` is 0 and `box` 1; of tasks `pack` is 0 and `mark` 1
+abbrev pub packing_task : Task
+packing_task = record {
+  objects = codes "b1" ∷ [];
+  types = record { name = codes "object"; objects = 0 ∷ [] } ∷ record { name = codes "box"; objects = 0 ∷ [] } ∷ [];
+  predicates = record { name = codes "done"; types = 1 ∷ [] } ∷ [];
+  tasks = record { name = codes "pack"; types = 1 ∷ [] } ∷ [];
+  methods = record {
+    name = codes "m";
+    parameters = 1 ∷ [];
+    task = record { name = 0; arguments = model.parameter 0 ∷ [] };
+    precondition = [];
+    constraints = [];
+    network = record { subtasks = record { name = 1; arguments = model.parameter 0 ∷ [] } ∷ []; order = (false ∷ []) ∷ [] };
+  } ∷ [];
+  actions = record {
+    name = codes "mark";
+    parameters = 1 ∷ [];
+    precondition = [];
+    deletes = [];
+    adds = record { predicate = 0; arguments = model.parameter 0 ∷ [] } ∷ [];
+  } ∷ [];
+  initial_network = record {
+    parameters = [];
+    constraints = [];
+    network = record { subtasks = record { name = 0; arguments = model.object 0 ∷ [] } ∷ []; order = (false ∷ []) ∷ [] };
+  };
+  initial_atoms = set_of [];
+  goal = [];
+}
+
+pub record PackingIsATask : Type 0 where
+  pub fits : IsWellTypedPair packing one_box
+  pub task : IsTaskOf packing one_box packing_task

@@ -7,3 +7,4 @@ pub mod Items
 pub mod Building
 pub mod Agreement
 pub mod Examples
+pub mod Texts

@@ -12,6 +12,11 @@ pub enum Source {
 }
 
 impl fmt::Display for Source {
+    ghost use Rattle.std.specs.Prelude.{Some};
+    ghost use Rattle.hddl_meaning.specs.Texts.{source_text};
+
+    ghost output = { λ source. Some (source_text source) };
+
     fn fmt<W: fmt::Write>(&self, f: &mut fmt::Formatter<W>) -> Result<(), fmt::Error> {
         match self {
             Source::Domain => f.write_str("domain"),

@@ -3,9 +3,11 @@
 #![tactic(auto)]
 
 mod fault;
+#[cfg(test)]
+mod tests;
 
 ghost use Rattle.hddl_meaning.specs.Agreement.{TasksAreWellTyped};
-ghost use Rattle.hddl_meaning.specs.Examples.{FaultsHavePlaces, TreesHaveMeanings};
+ghost use Rattle.hddl_meaning.specs.Examples.{FaultsHavePlaces, PackingIsATask, TreesHaveMeanings};
 
 pub use fault::{At, CheckFault, Source};
 
@@ -15,8 +17,10 @@ pub fn tasks_are_well_typed()
     ensures typed { TasksAreWellTyped }
 {}
 
-/// Small trees: one that fails in the way of each fault, at that fault's place, and what some parts mean.
+/// Small trees: one that fails in the way of each fault, at that fault's place, what some parts mean, and a pair that fits together
+/// with its task.
 pub fn worked_examples_hold()
     ensures faults { FaultsHavePlaces }
     ensures meanings { TreesHaveMeanings }
+    ensures packing { PackingIsATask }
 {}

@@ -1,6 +1,7 @@
 //! Names numbered in the order of their first declarations.
-ghost use Rattle.std.specs.Prelude.{◌≡◌, ℕ, [], map, length, slice_get, option_map, IfOk, OnOk, OnErr};
+ghost use Rattle.std.specs.Prelude.{◌≡◌, ℕ, [], map, length, slice_get, option_map, IfOk, IfSome, OnOk, OnErr};
 ghost use Rattle.std.specs.List.{position, IsDistinct};
+ghost use Rattle.htn_model.specs.PlanWord.{IsName};
 ghost use Rattle.hddl_meaning.specs.Mentions.{folded};
 ghost use Rattle.hddl_meaning.specs.Names.{is_same_text, with_name};
 
@@ -9,7 +10,7 @@ use indexmap::IndexSet;
 use std::alloc::{AllocError, AllocFailed, Global};
 use std::marker::Model;
 
-/// Different names, each with its position as its number. Contracts see the list of the names.
+/// Different names in lower case, as a plan file can hold them, each with its position as its number. Contracts see the list of the names.
 #[derive(Drop)]
 pub struct Names {
     texts: IndexSet<Vec<u8>>,
@@ -18,11 +19,13 @@ pub struct Names {
 impl Model for Names {
     ghost use Rattle.std.specs.Prelude.{List};
     ghost use Rattle.hddl_meaning.specs.Mentions.{Text};
-    ghost use Rattle.hddl_names.specs.Texts.{texts_of};
+    ghost use Rattle.hddl_names.specs.Texts.{AreNames, texts_of};
 
     ghost Value = { List Text };
 
     ghost view = { λ names. texts_of names.texts.keys };
+
+    ghost invariant = { λ names. AreNames (texts_of names.texts.keys) };
 }
 
 impl Names {
@@ -45,7 +48,8 @@ impl Names {
 
     /// The name of that number.
     pub fn get(&self, number: usize) -> Option<&[u8]>
-        ensures { option_map (λ text. text.now) result ≡ slice_get self.now number }
+        ensures value { option_map (λ text. text.now) result ≡ slice_get self.now number }
+        ensures name { IfSome result (λ text. IsName text.now) }
     {
         match self.texts.get_index(number) {
             Some(text) => Some(text.as_slice()),
@@ -74,6 +78,7 @@ impl Names {
 
     /// Gives a name the next number, unless it has one. Where memory is refused, the names are as they were.
     pub fn declare(&mut self, text: Vec<u8>) -> Result<(), AllocFailed<Vec<u8>>>
+        requires { IsName text.items }
         ensures ok { OnOk result (self.new ≡ with_name self.old text.items) }
         ensures err { OnErr result (self.new ≡ self.old) }
     {

@@ -1,7 +1,6 @@
 -- What the body of a `forall` gives.
-use Rattle.std.proofs.Common.{◌≡◌, ◌++◌, ◌∙◌, ◌∷◌, Global, List, Vec, [], ap, refl, rules, ℕ}
+use Rattle.std.proofs.Common.{◌≡◌, ◌++◌, ◌∷◌, Global, List, Vec, [], ap, refl, rules, ℕ}
 use Rattle.std.specs.List.{flat_map}
-use Rattle.htn_model.specs.Literal.{Literal}
 use Rattle.htn_model.specs.Schema as model
 use Rattle.htn_model.specs.Schema.{Term}
 use Rattle.htn_model.specs.Task.{Task}

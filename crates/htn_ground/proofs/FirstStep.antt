@@ -1,5 +1,5 @@
 -- The order with a new first position, row by row.
-use Rattle.std.proofs.Common.{◌≡◌, ◌+◌, ◌-◌, ◌<◌, ◌≤◌, ◌∙◌, ◌&&◌, Bool, List, [], ◌∷◌, ap, arith, cond, eqb, false, get_or, length, ltb, map, refl, subst, suc, sym, true, zero, ℕ, ⊎_elim}
+use Rattle.std.proofs.Common.{◌≡◌, ◌+◌, ◌-◌, ◌<◌, ◌≤◌, ◌∙◌, ◌&&◌, Bool, [], ◌∷◌, ap, arith, cond, eqb, false, get_or, length, ltb, map, refl, subst, suc, sym, true, zero, ℕ, ⊎_elim}
 use Rattle.std.proofs.lemmas.Bool.{cases_lt}
 use Rattle.std.proofs.lemmas.Bool.Decides.{nat_tests}
 use Rattle.htn_model.specs.Problem.{IsSquare, Order, is_before}

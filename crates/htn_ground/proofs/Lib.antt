@@ -9,3 +9,4 @@ pub mod Classified
 pub mod Steps
 pub mod Pinned
 pub mod Numbered
+pub mod TreeSizes

@@ -1,6 +1,6 @@
 -- Instances with their numbers, method by method.
-use Rattle.std.proofs.Common.{◌≡◌, ◌+◌, ◌<◌, ◌∙◌, ◌++◌, ◌∷◌, ◌&&◌, ◌||◌, Bool, List, [], ap, append-nil, append_assoc, arith, cond, false, get_or, length, length-append, length-take-le, map, not, refl, subst, suc, sym, take, true, zero, ℕ}
-use Rattle.std.specs.List.{All, Contains, enumerate_from, filter, flat_map, list_all, list_any}
+use Rattle.std.proofs.Common.{◌≡◌, ◌+◌, ◌<◌, ◌∙◌, ◌++◌, ◌∷◌, ◌&&◌, ◌||◌, Bool, List, [], ap, append-nil, arith, cond, false, get_or, length, length-append, length-take-le, map, not, refl, subst, suc, sym, take, true, zero, ℕ}
+use Rattle.std.specs.List.{All, enumerate_from, flat_map, list_all, list_any}
 use Rattle.std.proofs.lemmas.List.{length-map, take_more}
 use Rattle.std.proofs.lemmas.List.Concat.{flat_map-append}
 use Rattle.std.proofs.lemmas.List.Elements.{All-cons, All-contains, All-get_or, All-head, All-nil, All-tail, filter-append}

@@ -1,15 +1,15 @@
 -- The conditions of well-typed schemas name their own parameters, and those that pin a task leave its instances.
-use Rattle.std.proofs.Common.{◌≡◌, ◌+◌, ◌<◌, ◌≤◌, ◌∙◌, ◌++◌, ◌∷◌, ◌&&◌, ◌⊎◌, Bool, List, [], ap, arith, cond, eqb, false, get_or, inl, inr, length, ltb, map, nat_eq, refl, subst, suc, sym, true, zero, ℕ}
+use Rattle.std.proofs.Common.{◌≡◌, ◌<◌, ◌∙◌, ◌++◌, ◌∷◌, ◌&&◌, ◌⊎◌, Bool, List, [], ap, arith, cond, false, inl, inr, length, map, nat_eq, refl, suc, sym, true, ℕ}
 use Rattle.std.specs.Bool.{beq}
 use Rattle.std.specs.Cmp.{unsigned_Decides}
 use Rattle.std.specs.Cmp.Lexicographic.{pointwise}
-use Rattle.std.specs.List.{All, Contains, filter, flat_map, list_all, zip}
+use Rattle.std.specs.List.{All, filter, list_all}
 use Rattle.std.proofs.lemmas.Bool.Decides.{nat_tests}
 use Rattle.std.proofs.lemmas.List.Elements.{All-append, All-cons, All-head, All-nil, All-tail}
 use Rattle.std.proofs.lemmas.List.Folds.{list_all-append}
 use Rattle.htn_model.specs.Problem.{GroundTask, ground_task_eq}
-use Rattle.htn_model.specs.Schema.{AtomSchema, EqualitySchema, Formula, TaskSchema, Term, equation, for_all, literal, object, parameter}
-use Rattle.htn_model.specs.Task.{IsAtomSchema, IsEqualitySchema, IsFormula, IsInitialSchema, IsMethodSchema, IsTerm, InitialSchema, MethodSchema, Task, has_type}
+use Rattle.htn_model.specs.Schema.{EqualitySchema, Formula, Term, equation, for_all, literal, object, parameter}
+use Rattle.htn_model.specs.Task.{IsEqualitySchema, IsFormula, IsInitialSchema, IsMethodSchema, IsTerm, InitialSchema, MethodSchema, Task, has_type}
 use Rattle.htn_model.specs.Instances.{Conditions, assignments, domains_of, equalities_in, equalities_of, equality_holds, ground_task, initial_conditions, instances, is_among, meets, method_conditions, value_of}
 use Rattle.htn_ground.specs.Methods.{fits_task, instances_for}
 use Rattle.htn_ground.specs.Places.{among, pinned}

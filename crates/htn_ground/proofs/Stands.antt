@@ -1,5 +1,5 @@
 -- A formula of a list, as the model sees it.
-use Rattle.std.proofs.Common.{◌≡◌, ◌<◌, ◌∙◌, ◌∷◌, Bool, List, [], ap, arith, false, get_or, length, map, rules, subst, suc, sym, zero, ℕ}
+use Rattle.std.proofs.Common.{◌≡◌, ◌<◌, ◌∙◌, ◌∷◌, Bool, List, [], ap, arith, false, get_or, length, rules, subst, suc, sym, zero, ℕ}
 use Rattle.std.specs.List.{Contains}
 use Rattle.htn_model.specs.Schema as model
 use Rattle.htn_model.specs.Schema.{AtomSchema}

@@ -1,7 +1,6 @@
 -- Steps of the loops that gather and narrow.
-use Rattle.std.proofs.Common.{◌≡◌, ◌+◌, ◌<◌, ◌≤◌, ◌∙◌, ◌++◌, ◌∷◌, ◌&&◌, Bool, List, None, Option, Some, [], ap, append-nil, append_assoc, arith, cond, drop, drop-cons, add-one, false, filter, get_or, length, length-take-le, map, refl, suc, sym, take, true, zero, ℕ}
-use Rattle.std.specs.List.{flat_map, zip}
-use Rattle.std.specs.Option.{option_to_list}
+use Rattle.std.proofs.Common.{◌≡◌, ◌+◌, ◌<◌, ◌≤◌, ◌∙◌, ◌++◌, ◌∷◌, ◌&&◌, Bool, List, [], ap, append-nil, append_assoc, arith, cond, drop, drop-cons, add-one, false, filter, get_or, length, length-take-le, map, refl, suc, sym, take, true, zero, ℕ}
+use Rattle.std.specs.List.{zip}
 use Rattle.std.proofs.lemmas.List.{map-append, take_more, length-map}
 use Rattle.std.proofs.lemmas.List.Elements.{filter-append}
 use Rattle.htn_model.specs.Schema.{Term, object}

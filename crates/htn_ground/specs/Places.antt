@@ -1,7 +1,7 @@
 -- The program's places and conditions as the model's.
-use Rattle.std.specs.Prelude.{List, map, length, refl, true, ℕ, ◌++◌, ◌∷◌, []}
+use Rattle.std.specs.Prelude.{List, map, refl, true, ℕ, ◌∷◌, []}
 use Rattle.std.specs.Coded.{Coded, code_by, coded×, coded_ℕ, coded_list}
-use Rattle.std.specs.List.{filter, zip}
+use Rattle.std.specs.List.{filter}
 use Rattle.htn_model.specs.Schema.{Term, EqualitySchema, object}
 use Rattle.htn_model.specs.Instances.{Conditions, is_among}
 use Rattle.htn_model.specs.TaskCode.{term_code, equality_schema_code}

@@ -51,3 +51,8 @@ put_children old left later out children place position count within l r p c o =
     (map-append (λ v. v.items) children later
     ∙ ap₂ ◌++◌ (c ∙ ap (λ q. child_places q 0 count) stood)
     (ap places_view (r ∙ ap (λ k. drop k old) (let e : position + 1 ≡ suc position = omega arith in e)) ∙ sym (drop-map (λ v. v.items) (suc position) old)))
+
+pub place_removed : (old out : List (Vec ℕ)) (position : ℕ) → out ≡ remove old position → places_view out ≡ splice {X = Place} position [] (places_view old)
+place_removed old out position e =
+    ap places_view e ∙ map-append (λ v. v.items) (take position old) (drop (suc position) old)
+    ∙ ap₂ ◌++◌ (sym (take-map (λ v. v.items) position old)) (sym (drop-map (λ v. v.items) (suc position) old))

@@ -1,8 +1,13 @@
 -- The solution that a walk along a finishing word has recorded.
-use Rattle.std.proofs.Common.{◌≡◌, ℕ, List, [], ◌∷◌, ◌++◌, length, Some, slice_get, sym, ap, ap₂, ◌∙◌, subst}
+use Rattle.std.proofs.Common.{◌≡◌, ℕ, List, [], ◌∷◌, length, get_or, ◌<◌, Some, slice_get, sym, ap, ap₂, ◌∙◌, subst}
 use Rattle.std.proofs.lemmas.List.{append-nil}
-use Rattle.std.proofs.lemmas.Option.{same_Some}
+use Rattle.std.proofs.lemmas.Option.{same_Some, slice_get_within, get_or_from_slice_get}
+use Rattle.htn_model.specs.Grounding.{problem_of}
+use Rattle.htn_model.specs.Instance.{Instance}
+use Rattle.htn_model.specs.Instances.{initials}
 use Rattle.htn_model.specs.Problem.{Network, Problem, IsGrounded}
+use Rattle.htn_model.specs.Task.{Task}
+use Rattle.htn_answer.proofs.Words.{slice_get-map_back}
 use Rattle.htn_model.specs.Tree.{Place, Solution, IsSolution, nodes_of}
 use Rattle.htn_model.specs.Code.{IsCode}
 use Rattle.htn_model.specs.Machine.{Config, start, FinishesFrom, Finishes}
@@ -10,7 +15,7 @@ use Rattle.htn_model.proofs.Regrown.{rebuild}
 use Rattle.htn_model.proofs.Rebuild.{route}
 use Rattle.htn_model.proofs.OneToOne.{one_to_one, rebuilds, rebuilt_solution}
 use Rattle.htn_search.specs.declared.trail.Move.{Move}
-use Rattle.htn_search.specs.Trail.{AreWithin, before_moves}
+use Rattle.htn_search.specs.Trail.{before_moves}
 use Rattle.htn_search.specs.Places.{child_places}
 use Rattle.htn_search.specs.Rebuilt.{IsSolutionOf}
 use Rattle.htn_search.proofs.Way.{IsUnderWay, same_places}
@@ -18,16 +23,16 @@ use Rattle.htn_search.proofs.Way.{IsUnderWay, same_places}
 -- all numbers are walked, from an initial network on
 pub solved : (problem : Problem) → IsGrounded problem → (number : ℕ) (numbers : List ℕ) (h : Finishes problem (number ∷ numbers)) (network : Network)
     → slice_get problem.initials number ≡ Some network
-    → (c : Config) (trail : List Move) (places visits : List Place)
-    → IsUnderWay problem numbers (start problem network) (child_places [] 0 (length network.children)) [] c trail places visits
+    → (first : Config) (roots : List Place) → first ≡ start problem network → roots ≡ child_places [] 0 (length network.children)
+    → (c : Config) (trail : List Move) (places visits : List Place) → IsUnderWay problem numbers first roots [] c trail places visits
     → (s : Solution) → s.number ≡ number → s.trees ≡ nodes_of (before_moves trail []) → s.linearisation ≡ visits
     → IsSolutionOf problem (number ∷ numbers) s
-solved problem grounded number numbers h network is c trail places visits way s n t l =
+solved problem grounded number numbers h network is first roots f r c trail places visits way s n t l =
     let same : network ≡ h.0 = same_Some network h.0 (sym is ∙ h.1) in
-    let first = start problem network in
-    let trees : s.trees ≡ nodes_of (rebuild problem numbers (start problem h.0)) = t ∙ ap nodes_of way.trees ∙ ap (λ x. nodes_of (rebuild problem numbers (start problem x))) same in
+    let trees : s.trees ≡ nodes_of (rebuild problem numbers (start problem h.0)) =
+    t ∙ ap nodes_of way.trees ∙ ap (λ x. nodes_of (rebuild problem numbers x)) f ∙ ap (λ x. nodes_of (rebuild problem numbers (start problem x))) same in
     let list : s.linearisation ≡ (rebuilt_solution problem h.0 number numbers).linearisation =
-    l ∙ sym (append-nil visits) ∙ way.carried_out ∙ ap (route problem numbers first) (same_places [] 0 (length network.children))
+    l ∙ sym (append-nil visits) ∙ way.carried_out ∙ ap₂ (route problem numbers) f r ∙ ap (route problem numbers (start problem network)) (same_places [] 0 (length network.children))
     ∙ ap (λ x. (rebuilt_solution problem x number numbers).linearisation) same in
     let whole : s ≡ rebuilt_solution problem h.0 number numbers = λ i. record { number = n i; trees = trees i; linearisation = list i } in
     let own = rebuilds problem grounded number numbers h in
@@ -36,4 +41,25 @@ solved problem grounded number numbers h network is c trail places visits way s 
       code = subst (λ r. IsCode problem r (number ∷ numbers)) (sym whole) own.1;
       only = λ other solves code.
           (one_to_one problem grounded).one_solution other (rebuilt_solution problem h.0 number numbers) (number ∷ numbers) solves own.0 code own.1 ∙ sym whole;
+    }
+
+-- the instance of a finishing word's first number
+pub record IsBegun (t : Task) (number : ℕ) (numbers : List ℕ) (instance : Instance) : Type 0 where
+  pub within : number < length (initials t)
+  pub stands : get_or (initials t) number instance ≡ instance
+  pub network : slice_get (problem_of t).initials number ≡ Some instance.network
+  pub finishes : FinishesFrom (problem_of t) numbers (start (problem_of t) instance.network)
+
+pub begun : (t : Task) (number : ℕ) (numbers : List ℕ) (instances : List Instance) (instance : Instance) → Finishes (problem_of t) (number ∷ numbers)
+    → instances ≡ initials t → instance ≡ get_or instances number instance → IsBegun t number numbers instance
+begun t number numbers instances instance h all at =
+    let found = slice_get-map_back (λ i. i.network) (initials t) number h.0 h.1 in
+    let stands : get_or (initials t) number instance ≡ instance = sym (at ∙ ap (λ l. get_or l number instance) all) in
+    let same : instance ≡ found.0 = sym stands ∙ get_or_from_slice_get (initials t) number found.0 instance found.1 in
+    let network : h.0 ≡ instance.network = sym (ap (λ i. i.network) same ∙ found.2) in
+    record {
+      within = slice_get_within (initials t) number found.0 found.1;
+      stands = stands;
+      network = h.1 ∙ ap Some network;
+      finishes = subst (λ n. FinishesFrom (problem_of t) numbers (start (problem_of t) n)) network h.2;
     }

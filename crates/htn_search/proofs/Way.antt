@@ -1,15 +1,15 @@
 -- What a walk along a finishing word has recorded after each number.
-use Rattle.std.proofs.Common.{◌≡◌, ℕ, zero, suc, ◌+◌, ◌<◌, ◌≤◌, List, [], ◌∷◌, ◌++◌, length, take, drop, get_or, Option, Some, inl, inr, sym, refl, ap, ap₂, ◌∙◌, subst, append_assoc, arith}
-use Rattle.std.proofs.lemmas.List.{length-map, append-nil}
+use Rattle.std.proofs.Common.{◌≡◌, ℕ, zero, suc, ◌+◌, ◌<◌, ◌≤◌, List, [], ◌∷◌, ◌++◌, length, take, drop, get_or, false, true≢false, Some, inl, inr, sym, refl, ap, ap₂, ◌∙◌, subst, append_assoc, arith}
+use Rattle.std.proofs.lemmas.List.{length-map}
 use Rattle.std.proofs.lemmas.Option.{same_Some}
 use Rattle.htn_model.specs.Problem.{Child, precondition, action, task, is_compound, Problem}
 use Rattle.htn_model.specs.Tree.{Node, Place, root}
 use Rattle.htn_model.specs.Choice.{splice, child_of}
-use Rattle.htn_model.specs.Machine.{Config, Choice, choose, result_of, FinishesFrom}
+use Rattle.htn_model.specs.Machine.{Config, Choice, choose, result_of, step_by, FinishesFrom}
 use Rattle.htn_model.proofs.Splices.{length_splice}
 use Rattle.htn_model.proofs.Steps.{chosen, step_choice}
 use Rattle.htn_model.proofs.Onward.{visited}
-use Rattle.htn_model.proofs.Regrown.{make, graft, regrown, rebuild, Regrows, regrows, choice_within}
+use Rattle.htn_model.proofs.Regrown.{make, graft, regrown, rebuild, regrows, choice_within}
 use Rattle.htn_model.proofs.Rebuild.{routed, route}
 use Rattle.htn_model.proofs.Rebuild as theory
 use Rattle.htn_ground.specs.Views.{child_view}
@@ -40,6 +40,9 @@ length-child_places place position (suc count) = ap suc (length-child_places pla
 
 -- ## One number
 
+pub position_within : (problem : Problem) (c : Config) (number : ℕ) (choice : Choice) → choose problem c number ≡ Some choice → choice.position < length c.open_nodes
+position_within problem c number choice chooses = choice_within problem c number choice (chosen problem c number choice chooses)
+
 pub record IsUnderWay (problem : Problem) (word : List ℕ) (first : Config) (roots : List Place) (rest : List ℕ) (c : Config) (trail : List Move)
     (places visits : List Place) : Type 0 where
   pub finishes : FinishesFrom problem rest c
@@ -50,8 +53,8 @@ pub record IsUnderWay (problem : Problem) (word : List ℕ) (first : Config) (ro
 
 module _ (problem : Problem) (c : Config) (number : ℕ) (choice : Choice) (chooses : choose problem c number ≡ Some choice) (last : Move)
     (is_move : IsMove c number choice last) (rest : List ℕ) where
-  pub position_within : choice.position < length c.open_nodes
-  position_within = choice_within problem c number choice (chosen problem c number choice chooses)
+  within : choice.position < length c.open_nodes
+  within = position_within problem c number choice chooses
 
   abbrev next : Config
   next = result_of c choice
@@ -81,8 +84,8 @@ module _ (problem : Problem) (c : Config) (number : ℕ) (choice : Choice) (choo
       let i = choice.position in
       let grown = regrows problem rest next h in
       let long : length (rebuild problem rest next) ≡ length (splice i choice.network.children c.open_nodes) = sym (length-map (rebuild problem rest next) root) ∙ ap length grown.roots in
-      let spliced = length_splice i choice.network.children c.open_nodes position_within in
-      omega (arith, long, spliced, position_within, is_move.position, is_move.children)
+      let spliced = length_splice i choice.network.children c.open_nodes within in
+      omega (arith, long, spliced, within, is_move.position, is_move.children)
 
   routed_on : (places : List Place)
       → route problem (number ∷ rest) c places
@@ -107,9 +110,9 @@ module _ (problem : Problem) (c : Config) (number : ℕ) (choice : Choice) (choo
       let m = length choice.network.children in
       let place = get_or places i [] in
       let finishes = next_finishes way.finishes in
-      let low : i < length places = subst (λ n. i < n) (sym way.placed) position_within in
+      let low : i < length places = subst (λ n. i < n) (sym way.placed) within in
       let standing = length_splice i (child_places place 0 m) places low in
-      let nodes = length_splice i choice.network.children c.open_nodes position_within in
+      let nodes = length_splice i choice.network.children c.open_nodes within in
       let count = length-child_places place 0 m in
       record {
         finishes = finishes;
@@ -126,6 +129,28 @@ module _ (problem : Problem) (c : Config) (number : ℕ) (choice : Choice) (choo
 
 -- ## The ends of a walk
 
-pub way_start : (problem : Problem) (word : List ℕ) (first : Config) (roots : List Place) → FinishesFrom problem word first → length roots ≡ length first.open_nodes
-    → IsUnderWay problem word first roots word first [] roots []
-way_start problem word first roots h placed = record { finishes = h; placed = placed; within = tt; trees = refl; carried_out = refl }
+pub way_start : (problem : Problem) (word : List ℕ) (first : Config) (roots : List Place) (trail : List Move) (visits : List Place)
+    → FinishesFrom problem word first → length roots ≡ length first.open_nodes → trail ≡ [] → visits ≡ [] → IsUnderWay problem word first roots word first trail roots visits
+way_start problem word first roots trail visits h placed t v = record {
+  finishes = h;
+  placed = placed;
+  within = subst (λ l. AreWithin l (rebuild problem word first)) (sym t) tt;
+  trees = ap (λ l. before_moves l (rebuild problem word first)) t;
+  carried_out = ap (λ l. l ++ route problem word first roots) v;
+}
+
+-- what a choice leaves where a step or an action is carried out
+pub childless : (problem : Problem) (c : Config) (number : ℕ) (choice : Choice) → choose problem c number ≡ Some choice
+    → is_compound (child_of c.open_nodes choice.position) ≡ false → length choice.network.children ≡ 0
+childless problem c number choice chooses primitive =
+    elim (chosen problem c number choice chooses) [
+      | inl d ↦ absurd (true≢false (sym (ap is_compound d.is_task) ∙ primitive))
+      | inr e ↦ ap (λ n. length n.children) e.network
+    ]
+
+-- where a step leads
+pub stepped : (problem : Problem) (c : Config) (number : ℕ) (choice : Choice) (next : Config) → choose problem c number ≡ Some choice → step_by problem c number ≡ Some next
+    → next ≡ result_of c choice
+stepped problem c number choice next chooses steps =
+    let made = step_choice problem c next number steps in
+    made.2 ∙ ap (result_of c) (same_Some made.0 choice (sym made.1 ∙ chooses))

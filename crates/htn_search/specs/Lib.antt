@@ -1,3 +1,5 @@
 pub mod Trail
 pub mod Places
 pub mod Rebuilt
+pub mod Walk
+pub mod Answer

@@ -1,5 +1,16 @@
 //! The search for a task's least solution, and the solution of a word.
 #![tactic(auto)]
 
+mod answer;
 mod places;
+mod solution;
+mod solve;
+#[cfg(test)]
+mod tests;
 mod trail;
+mod walk;
+
+pub use answer::Answer;
+pub use solution::rebuild;
+pub use solve::{find_word, finishes, search};
+pub use word_machine::{Bounds, Found, Gate, NoGate, SearchFault};

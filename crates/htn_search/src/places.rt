@@ -16,7 +16,7 @@ fn child_place(alloc: Global, place: &[usize], position: usize) -> Result<Vec<us
 }
 
 /// The places of so many children. The last child has the parent's own list.
-fn child_places(
+pub(crate) fn child_places(
     alloc: Global,
     mut place: Vec<usize>,
     count: usize,

@@ -1,4 +1,4 @@
-use Rattle.std.proofs.Common.{◌++◌, ◌∙◌, List, ap, length, map, ℕ}
+use Rattle.std.proofs.Common.{◌++◌, ◌∙◌, List, ap, length, ℕ}
 use Rattle.std.specs.List.{flat_map}
 use Rattle.htn_model.specs.Schema.{Formula, NetworkSchema, TaskSchema}
 use Rattle.htn_model.specs.Instances.{formula_places, task_places}

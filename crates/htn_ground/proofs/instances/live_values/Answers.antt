@@ -4,7 +4,6 @@ use Rattle.htn_model.specs.Schema.{EqualitySchema}
 use Rattle.htn_model.specs.State.{State}
 use Rattle.htn_model.specs.Task.{objects_of}
 use Rattle.htn_model.specs.Instances.{domains_of, instances}
-use Rattle.htn_ground.specs.declared.fixed.FixedLiteral.{FixedLiteral}
 use Rattle.htn_ground.specs.declared.relation.Relation.{Relation}
 use Rattle.htn_ground.specs.Search.{AreLiteralsOf, AreRelationsOf, all_relations, all_relations_of, live_from, matches, narrowed, singles_of}
 use Rattle.htn_ground.proofs.Classified.{instances_parts, length-narrowed, relations_bound}

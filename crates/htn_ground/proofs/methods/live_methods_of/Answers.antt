@@ -1,4 +1,4 @@
-use Rattle.std.proofs.Common.{◌≡◌, ◌∙◌, List, ap, length, subst, sym, ℕ}
+use Rattle.std.proofs.Common.{List, length, subst, sym}
 use Rattle.std.specs.List.{All}
 use Rattle.htn_model.specs.Schema.{Formula}
 use Rattle.htn_ground.specs.declared.fixed.FixedLiteral.{FixedLiteral}

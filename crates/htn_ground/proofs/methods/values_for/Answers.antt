@@ -1,5 +1,5 @@
-use Rattle.std.proofs.Common.{◌≡◌, ◌+◌, ◌∙◌, List, [], ap, arith, false, length, subst, sym, true, ℕ}
-use Rattle.htn_model.specs.Schema.{TaskSchema, Term}
+use Rattle.std.proofs.Common.{◌≡◌, ◌+◌, ◌∙◌, List, ap, arith, false, length, subst, sym, true, ℕ}
+use Rattle.htn_model.specs.Schema.{TaskSchema}
 use Rattle.htn_model.specs.Instances.{Conditions, instances, method_conditions}
 use Rattle.htn_task.specs.Views.{terms_of}
 use Rattle.htn_ground.specs.Methods.{fits_task, instances_for}

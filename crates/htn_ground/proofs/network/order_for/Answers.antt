@@ -1,5 +1,4 @@
-use Rattle.std.proofs.Common.{◌∙◌, ap, cond, sym}
-use Rattle.htn_model.specs.Problem.{Order}
+use Rattle.std.proofs.Common.{◌∙◌, ap, cond}
 use Rattle.htn_model.specs.Instances.{step_first}
 use Rattle.htn_ground.proofs.FirstStep.{with_first_is}
 use Rattle.htn_ground.proofs.network.order_for.Goals as goal

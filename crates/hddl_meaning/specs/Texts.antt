@@ -1,0 +1,8 @@
+-- What is printed.
+use Rattle.std.specs.Prelude.{ℕ, List, codes}
+use Rattle.hddl_meaning.specs.declared.fault.Source.{Source}
+use Rattle.hddl_meaning.specs.declared.fault.Source.TheVariants as source
+
+abbrev pub source_text : Source → List ℕ
+source_text source.Domain = codes "domain"
+source_text source.Problem = codes "problem"

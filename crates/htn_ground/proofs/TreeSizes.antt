@@ -1,0 +1,46 @@
+-- How many nodes trees have, where one is taken out or exchanged.
+use Rattle.std.proofs.Common.{◌≡◌, ℕ, suc, ◌+◌, ◌*◌, ◌<◌, List, [], ◌∷◌, ◌++◌, length, get_or, take, drop, set, ap, ◌∙◌, arith, rules, Vec, Global}
+use Rattle.std.proofs.lemmas.List.{set_split}
+use Rattle.std.specs.List.{remove}
+use Rattle.htn_model.specs.Problem.{GroundTask}
+use Rattle.htn_model.specs.Tree as tree
+use Rattle.htn_model.proofs.Splices.{split_at}
+use Rattle.htn_ground.specs.declared.node.Node.{Node, Compound, the_lemmas}
+use Rattle.htn_ground.specs.Trees.{node_of, nodes_view, size_of}
+
+abbrev pub sizes : List Node → ℕ
+sizes ns = tree.total_size (tree.nodes_of (nodes_view ns))
+
+sizes-append : (xs ys : List Node) → sizes (xs ++ ys) ≡ sizes xs + sizes ys
+sizes-append [] ys = omega arith
+sizes-append (x ∷ xs) ys = let more = sizes-append xs ys in omega arith
+
+pub size-Compound : (t : GroundTask) (number : ℕ) (v : Vec Node Global) → size_of (Compound t number v) ≡ suc (sizes v.items)
+size-Compound t number v = ap tree.size (view-Compound t number v)
+  where
+    view-Compound : (t : GroundTask) (number : ℕ) (v : Vec Node Global) → node_of (Compound t number v) ≡ tree.compound t number (tree.nodes_of (nodes_view v.items))
+    view-Compound t number v = search (rules, the_lemmas)
+
+size_positive : (n : tree.Node) → 0 < tree.size n
+size_positive (tree.leaf g) = omega arith
+size_positive (tree.step literals) = omega arith
+size_positive (tree.compound t number nodes) = omega arith
+
+pub some_size : (n : Node) → 0 < size_of n
+some_size n = size_positive (node_of n)
+
+pub sizes-at : (ns : List Node) (i : ℕ) (d : Node) → i < length ns → sizes ns ≡ sizes (take i ns) + (size_of (get_or ns i d) + sizes (drop (suc i) ns))
+sizes-at ns i d h = ap sizes (split_at i ns d h) ∙ sizes-append (take i ns) (get_or ns i d ∷ drop (suc i) ns)
+
+pub sizes-remove : (ns : List Node) (i : ℕ) (d : Node) → i < length ns → size_of (get_or ns i d) + sizes (remove ns i) ≡ sizes ns
+sizes-remove ns i d h = let all = sizes-at ns i d h in let rest = sizes-append (take i ns) (drop (suc i) ns) in omega arith
+
+pub sizes-set : (ns : List Node) (i : ℕ) (d new : Node) → i < length ns → size_of (get_or ns i d) + sizes (set ns i new) ≡ sizes ns + size_of new
+sizes-set ns i d new h =
+    let all = sizes-at ns i d h in
+    let changed : sizes (set ns i new) ≡ sizes (take i ns) + (size_of new + sizes (drop (suc i) ns)) =
+    ap sizes (set_split ns i new h) ∙ sizes-append (take i ns) (new ∷ drop (suc i) ns) in
+    omega arith
+
+pub less_left : (here above : ℕ) → 0 < here → (above + 0) * (above + 0) + above < (here + above) * (here + above) + here
+less_left here above h = grind arith

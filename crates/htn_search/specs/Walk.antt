@@ -1,0 +1,27 @@
+-- A walk along a word.
+use Rattle.std.specs.Prelude.{◌≡◌, ℕ, [], ◌∷◌, ◌++◌, get_or, length, Some}
+use Rattle.htn_model.specs.Problem.{Problem}
+use Rattle.htn_model.specs.Tree.{Solution, nodes_of}
+use Rattle.htn_model.specs.Choice.{splice, child_of}
+use Rattle.htn_model.specs.Machine.{Choice, choose, result_of}
+use Rattle.htn_search.specs.declared.trail.Move.{Move}
+use Rattle.htn_search.specs.declared.walk.Walk.{Walk}
+use Rattle.htn_search.specs.Trail.{IsMove, before_moves}
+use Rattle.htn_search.specs.Places.{child_places, own_place, places_view}
+
+-- the walk one number on: where the number leads, with its move recorded, its children's places, and its place where it is carried out
+pub record IsOneOn (problem : Problem) (number : ℕ) (old new : Walk) : Type 0 where
+  pub choice : Choice
+  pub chooses : choose problem old.config number ≡ Some choice
+  pub config : new.config ≡ result_of old.config choice
+  pub last : Move
+  pub is_move : IsMove old.config number choice last
+  pub trail : new.trail.items ≡ old.trail.items ++ last ∷ []
+  pub places : places_view new.places.items
+      ≡ splice choice.position (child_places (get_or (places_view old.places.items) choice.position []) 0 (length choice.network.children)) (places_view old.places.items)
+  pub visits : places_view new.visits.items
+      ≡ places_view old.visits.items ++ own_place (child_of old.config.open_nodes choice.position) (get_or (places_view old.places.items) choice.position [])
+
+-- the solution that a walk has recorded, from an initial network of this number
+abbrev pub recorded : ℕ → Walk → Solution
+recorded number walk = record { number = number; trees = nodes_of (before_moves walk.trail.items []); linearisation = places_view walk.visits.items }

@@ -1,0 +1,64 @@
+//! The search of a task.
+ghost use Rattle.std.specs.Prelude.{◌≡◌, ◌<◌, ◌↔◌, IfErr, IfOk, IsTrue};
+ghost use Rattle.htn_answer.specs.Answered.{IsAnswered, IsExact};
+ghost use Rattle.htn_model.specs.Grounding.{problem_of};
+ghost use Rattle.htn_model.specs.Machine.{Finishes};
+ghost use Rattle.htn_search.specs.Answer.{Answers};
+ghost use Rattle.word_machine.specs.declared.found.SearchFault.TheVariants.{NoThread};
+
+use crate::answer::Answer;
+use crate::solution::rebuild;
+use htn_net::WordMachine;
+use htn_task::Task;
+use std::alloc::{AllocError, Global};
+use std::sync::Wait;
+use std::thread::Threads;
+use word_machine::{Bounds, Found, Gate, SearchFault};
+
+/// The least finishing word of a task, by its steps and then by its numbers; or that no solution is
+/// within the bound, or none at all. `SearchFault::NoThread` never comes with one worker.
+pub fn find_word<G: Gate, R: Threads + Wait + Sync>(
+    rt: &R,
+    alloc: Global,
+    task: &Task,
+    bounds: Bounds,
+    gate: &G,
+) -> Result<Found, SearchFault>
+    ensures answered { IfOk result (IsAnswered (problem_of task.now) bounds.nodes) }
+    ensures exact { IfOk result (IsExact (problem_of task.now) bounds.nodes) }
+    ensures no_thread { IfErr result (λ e. e ≡ NoThread → 1 < bounds.workers) }
+{
+    let machine = WordMachine::new(alloc, task)?;
+    let found = word_machine::find_word(rt, alloc, &machine, bounds, gate)?;
+    Ok(found)
+}
+
+/// The solution of fewest nodes and then of least code; or that none is within the bound, or none
+/// at all. `SearchFault::NoThread` never comes with one worker.
+pub fn search<G: Gate, R: Threads + Wait + Sync>(
+    rt: &R,
+    alloc: Global,
+    task: &Task,
+    bounds: Bounds,
+    gate: &G,
+) -> Result<Answer, SearchFault>
+    ensures answer { IfOk result (Answers (problem_of task.now) bounds.nodes) }
+    ensures no_thread { IfErr result (λ e. e ≡ NoThread → 1 < bounds.workers) }
+{
+    let _typed = task.objects();
+    match find_word(rt, alloc, task, bounds, gate)? {
+        Found::Word(word) => Ok(Answer::Plan(rebuild(alloc, task, &word)?)),
+        Found::None => Ok(Answer::None),
+        Found::Unsolvable => Ok(Answer::Unsolvable),
+    }
+}
+
+/// Whether a word finishes: the numbers lead from an initial network to no open nodes with the goal
+/// true.
+pub fn finishes(alloc: Global, task: &Task, word: &[u64]) -> Result<bool, AllocError>
+    ensures { IfOk result (λ finishes. IsTrue finishes ↔ Finishes (problem_of task.now) word.now) }
+{
+    let machine = WordMachine::new(alloc, task)?;
+    let finishes = word_machine::finishes(&machine, word)?;
+    Ok(finishes)
+}

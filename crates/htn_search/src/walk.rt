@@ -1,0 +1,147 @@
+//! A walk along a finishing word.
+ghost use Rattle.std.specs.Prelude.{◌≡◌, ◌<◌, ◌++◌, ◌∷◌, [], ℕ, Contains, IfOk, IsSome, OnOk, Some, false, get_or, length, slice_get};
+ghost use Rattle.htn_ground.specs.Views.{child_view};
+ghost use Rattle.htn_model.specs.Choice.{child_of, splice};
+ghost use Rattle.htn_model.specs.Grounding.{problem_of};
+ghost use Rattle.htn_model.specs.Instances.{initials};
+ghost use Rattle.htn_model.specs.Machine.{choose, start, FinishesFrom};
+ghost use Rattle.htn_model.specs.Problem.{is_compound};
+ghost use Rattle.htn_net.specs.Choices.{network_of};
+ghost use Rattle.htn_search.specs.Places.{child_places, own_place, places_view};
+ghost use Rattle.htn_search.specs.Rebuilt.{IsSolutionOf};
+ghost use Rattle.htn_search.specs.Trail.{AreWithin};
+ghost use Rattle.htn_search.specs.Walk.{IsOneOn, recorded};
+
+use crate::places::{child_places, open_children};
+use crate::trail::Move;
+use htn_ground::{Child, Instance};
+use htn_net::{Change, Choice, Config};
+use htn_task::Task;
+use std::alloc::{AllocError, Global};
+
+/// A walk along a word: where it is, and what it saw on the way.
+#[derive(Drop)]
+pub(crate) struct Walk {
+    config: Config,
+    /// The places of the open nodes.
+    places: Vec<Vec<usize>>,
+    /// What each number chose.
+    pub(crate) trail: Vec<Move>,
+    /// The places of the actions and steps that were carried out, in their order.
+    pub(crate) visits: Vec<Vec<usize>>,
+}
+
+/// How many nodes take the place of the one that is chosen.
+fn children_len(choice: &Choice) -> usize
+    ensures { result ≡ length (network_of choice.now.change).children }
+{
+    match &choice.change {
+        Change::Decomposed(instance) => instance.children().len(),
+        Change::Performed(_) => 0,
+    }
+}
+
+/// Gives the children of a compound node their places, or takes the place of an action or a step as
+/// the next that is carried out.
+fn leave(
+    alloc: Global,
+    places: &mut Vec<Vec<usize>>,
+    visits: &mut Vec<Vec<usize>>,
+    node: &Child,
+    position: usize,
+    count: usize,
+) -> Result<(), AllocError>
+    requires within { position < length places.old.items }
+    requires childless { is_compound (child_view node.now) ≡ false → count ≡ 0 }
+    ensures places { OnOk result (places_view places.new.items
+        ≡ splice position (child_places (get_or (places_view places.old.items) position []) 0 count) (places_view places.old.items)) }
+    ensures visits { OnOk result (places_view visits.new.items
+        ≡ places_view visits.old.items ++ own_place (child_view node.now) (get_or (places_view places.old.items) position [])) }
+{
+    match node {
+        Child::Task(_) => open_children(alloc, places, position, count),
+        Child::Action(_) | Child::Precondition(_) => carry_out(places, visits, position),
+    }
+}
+
+/// Takes the place of an open node as the next that is carried out.
+fn carry_out(
+    places: &mut Vec<Vec<usize>>,
+    visits: &mut Vec<Vec<usize>>,
+    position: usize,
+) -> Result<(), AllocError>
+    requires { position < length places.old.items }
+    ensures places { OnOk result (places_view places.new.items ≡ splice position [] (places_view places.old.items)) }
+    ensures visits { OnOk result (places_view visits.new.items ≡ places_view visits.old.items ++ get_or (places_view places.old.items) position [] ∷ []) }
+{
+    visits.push(places.remove(position))?;
+    Ok(())
+}
+
+/// A copy of the open node at a position.
+fn node_at(config: &Config, position: usize) -> Result<Child, AllocError>
+    requires { position < length config.now.open_nodes }
+    ensures { IfOk result (λ node. child_view node ≡ child_of config.now.open_nodes position) }
+{
+    let nodes = config.open_nodes().as_slice();
+    nodes[position].clone()
+}
+
+impl Walk {
+    /// One number on.
+    fn follow(&mut self, alloc: Global, task: &Task, number: u64) -> Result<(), AllocError>
+        requires chosen { IsSome (choose (problem_of task.now) self.old.config number) }
+        requires placed { length self.old.places.items ≡ length self.old.config.open_nodes }
+        ensures { OnOk result (IsOneOn (problem_of task.now) number self.old self.new) }
+    {
+        let Some(choice) = self.config.choose(alloc, task, number)? else {
+            unreachable!()
+        };
+        let node = node_at(&self.config, choice.position)?;
+        let children = children_len(&choice);
+        leave(
+            alloc,
+            &mut self.places,
+            &mut self.visits,
+            &node,
+            choice.position,
+            children,
+        )?;
+        let next = self.config.step(alloc, task, &choice)?;
+        self.trail.push(Move {
+            position: choice.position,
+            node,
+            number,
+            children,
+        })?;
+        self.config = next;
+        Ok(())
+    }
+}
+
+/// The walk along all numbers of a finishing word, from an initial network on: it has recorded the
+/// word's solution.
+pub(crate) fn walk_along(
+    alloc: Global,
+    task: &Task,
+    initial: &Instance,
+    numbers: &[u64],
+) -> Result<Walk, AllocError>
+    requires initial { Contains (initials task.now) initial.now }
+    requires finishes { FinishesFrom (problem_of task.now) numbers.now (start (problem_of task.now) initial.now.network) }
+    ensures within { IfOk result (λ walk. AreWithin walk.trail.items []) }
+    ensures solved { IfOk result (λ walk. (number : ℕ) → slice_get (problem_of task.now).initials number ≡ Some initial.now.network
+        → IsSolutionOf (problem_of task.now) (number ∷ numbers.now) (recorded number walk)) }
+{
+    let _typed = task.objects();
+    let mut walk = Walk {
+        config: Config::start(alloc, task, initial)?,
+        places: child_places(alloc, Vec::new(alloc), initial.children().len())?,
+        trail: Vec::new(alloc),
+        visits: Vec::new(alloc),
+    };
+    for number in numbers {
+        walk.follow(alloc, task, *number)?;
+    }
+    Ok(walk)
+}
