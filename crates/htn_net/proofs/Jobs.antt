@@ -4,10 +4,10 @@ use Rattle.std.proofs.lemmas.List.Elements.{All-cons, All-nil}
 use Rattle.htn_model.specs.Atom.{Atom}
 use Rattle.htn_model.specs.State.{contains}
 use Rattle.htn_model.specs.Schema.{Formula, literal, TaskSchema}
-use Rattle.htn_model.specs.Task.{IsWellTyped, IsAtomSchema, IsTaskSchema, IsFormula, IsNetworkSchema, IsMethodSchema, IsActionSchema, IsTerm, IsGroundAtom}
+use Rattle.htn_model.specs.Task.{IsWellTyped, IsAtomSchema, IsTaskSchema, IsFormula, IsNetworkSchema, IsMethodSchema, IsActionSchema, IsTerm, IsGroundAtom, AreTypes}
 use Rattle.htn_model.proofs.Sets.{contains-set_of}
 use Rattle.htn_order.proofs.Chains.{chain_closed, chain_square}
-use Rattle.htn_net.specs.Example.{something_done, call, in_turn, method, work, jobs}
+use Rattle.htn_net.specs.Example.{something_done, call, declared, in_turn, method, work, jobs}
 
 fact : IsAtomSchema jobs 0 something_done
 fact = record { declared = omega arith; arity = refl; arguments = All-nil (IsTerm jobs 0) }
@@ -40,13 +40,16 @@ nothing_true a h = absurd (true≢false (sym h ∙ contains-set_of [] a))
 adds_fact : IsActionSchema jobs work
 adds_fact = record { parameters = All-nil _; precondition = All-nil _; deletes = All-nil _; adds = All-cons (IsAtomSchema jobs 0) something_done [] fact (All-nil _) }
 
+no_types : AreTypes jobs []
+no_types = All-nil (λ type. type < length jobs.types)
+
 pub jobs_typed : IsWellTyped jobs
 jobs_typed = record {
   types = All-nil _;
-  predicates = All-cons _ _ [] (All-nil _) (All-nil _);
-  tasks = All-cons _ _ [] (All-nil _) (All-nil _);
-  methods = All-cons (IsMethodSchema jobs) _ _ (one_method (literal true something_done ∷ []) [] facts (All-nil _))
-      (All-cons (IsMethodSchema jobs) _ _ (one_method [] (call 1 ∷ []) (All-nil _) (All-cons (IsTaskSchema jobs 0) (call 1) [] labour (All-nil _))) (All-nil _));
+  predicates = All-cons (λ x. AreTypes jobs x.types) declared [] no_types (All-nil _);
+  tasks = All-cons (λ x. AreTypes jobs x.types) declared [] no_types (All-nil _);
+  methods = All-cons (IsMethodSchema jobs) (method (literal true something_done ∷ []) []) (method [] (call 1 ∷ []) ∷ []) (one_method (literal true something_done ∷ []) [] facts (All-nil (IsTaskSchema jobs 0)))
+      (All-cons (IsMethodSchema jobs) (method [] (call 1 ∷ [])) [] (one_method [] (call 1 ∷ []) (All-nil (IsFormula jobs 0)) (All-cons (IsTaskSchema jobs 0) (call 1) [] labour (All-nil (IsTaskSchema jobs 0)))) (All-nil (IsMethodSchema jobs)));
   actions = All-cons (IsActionSchema jobs) work [] adds_fact (All-nil _);
   initial_network = record {
     parameters = All-nil _;

@@ -12,6 +12,13 @@ use htn_task::{
 };
 use std::alloc::{AllocError, Global};
 
+// The name of everything.
+fn label(alloc: Global) -> Result<Name, AllocError>
+    ensures { IfOk result (λ name. name ≡ example.label) }
+{
+    Name::new(alloc, b"n")
+}
+
 fn something_done(alloc: Global) -> AtomSchema
     ensures { result ≡ example.something_done }
 {
@@ -51,7 +58,7 @@ fn method(
     ensures { IfOk result (λ m. m ≡ example.method precondition (map example.call names.now)) }
 {
     Ok(MethodSchema::new(
-        Name::new(alloc, &[])?,
+        label(alloc)?,
         Vec::new(alloc),
         call(alloc, 0),
         precondition,
@@ -66,7 +73,7 @@ fn work(alloc: Global) -> Result<ActionSchema, AllocError>
     let mut adds = Vec::new(alloc);
     adds.push(something_done(alloc))?;
     Ok(ActionSchema::new(
-        Name::new(alloc, &[])?,
+        label(alloc)?,
         Vec::new(alloc),
         FormulaList::of(Vec::new(alloc)),
         Vec::new(alloc),
@@ -77,7 +84,7 @@ fn work(alloc: Global) -> Result<ActionSchema, AllocError>
 fn declaration(alloc: Global) -> Result<Declaration, AllocError>
     ensures { IfOk result (λ d. d ≡ record { name = []; types = [] }) }
 {
-    Ok(Declaration::new(Name::new(alloc, &[])?, Vec::new(alloc)))
+    Ok(Declaration::new(label(alloc)?, Vec::new(alloc)))
 }
 
 fn initial(alloc: Global) -> Result<InitialSchema, AllocError>

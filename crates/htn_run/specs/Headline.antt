@@ -57,9 +57,9 @@ Refuses domain problem bounds fault.OutOfMemory = ⊤
 Refuses domain problem bounds fault.NoThread = 1 < bounds.workers
 Refuses domain problem bounds fault.Output = ⊥
 
--- a beginning of the answer's text was added to the output
-pub record IsCutShort (domain problem : List ℕ) (bound : ℕ) (old new : Option (List ℕ)) : Type 0 where
+-- a beginning of the text that answers was added to the output
+pub record IsCutShort (task : Task) (bound : ℕ) (old new : Option (List ℕ)) : Type 0 where
   pub outcome : Outcome
   pub text : List ℕ
-  pub answers : Answers domain problem bound outcome text
+  pub says : Says task bound outcome text
   pub begun : TakesBeginning old new text

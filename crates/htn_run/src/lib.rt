@@ -2,15 +2,12 @@
 //! of the answer.
 #![tactic(auto)]
 
+mod answer;
 mod line;
 mod outcome;
-mod run;
 mod source;
-mod words;
 
 pub use htn_plan::{Out, Sink};
 pub use htn_search::{Bounds, Gate, NoGate};
 pub use outcome::{Outcome, RunFault};
-pub use run::run_plan;
 pub use source::{Disk, MAX_BYTES_READ, ReadFault, Source};
-pub use words::run_words;

@@ -1,6 +1,6 @@
 //! How a run ends.
 
-use hddl_check::CheckFault;
+use hddl_meaning::CheckFault;
 use hddl_text::TextFault;
 use htn_plan::WriteFault;
 use htn_search::SearchFault;
