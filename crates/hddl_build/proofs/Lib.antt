@@ -6,3 +6,4 @@ pub mod Labelled
 pub mod Pairs
 pub mod TypeObjects
 pub mod Numbered
+pub mod Bounds

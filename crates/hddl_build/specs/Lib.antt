@@ -3,3 +3,4 @@ pub mod Vocabularies
 pub mod Labels
 pub mod Initial
 pub mod ObjectLists
+pub mod InForce

@@ -1,6 +1,7 @@
 //! Preconditions, goals and effects.
-ghost use Rattle.std.specs.Prelude.{◌≡◌, [], not, IfOk};
+ghost use Rattle.std.specs.Prelude.{◌≡◌, [], true, not, length, IfOk};
 ghost use Rattle.hddl_meaning.specs.Building as building;
+ghost use Rattle.hddl_build.specs.InForce.{all_fit, fits};
 ghost use Rattle.hddl_build.specs.Vocabularies.{IsNumbered};
 ghost use Rattle.htn_task.specs.Formulas as formulas;
 
@@ -19,7 +20,8 @@ fn formula_of<'a>(
     scope: &Scope<'a>,
     condition: &'a Condition,
 ) -> Result<Formula, AllocError>
-    requires { IsNumbered vocabulary.now }
+    requires numbered { IsNumbered vocabulary.now }
+    requires in_force { fits (length scope.now) condition.now ≡ true }
     ensures { IfOk result (λ f. formulas.formula_of f ≡ building.formula_of vocabulary.now condition.now scope.now) }
 {
     match condition {
@@ -50,7 +52,8 @@ pub(crate) fn formulas_of<'a>(
     scope: &Scope<'a>,
     conditions: &'a [Condition],
 ) -> Result<FormulaList, AllocError>
-    requires { IsNumbered vocabulary.now }
+    requires numbered { IsNumbered vocabulary.now }
+    requires in_force { all_fit (length scope.now) conditions.now ≡ true }
     ensures { IfOk result (λ l. l ≡ building.formulas_of vocabulary.now scope.now conditions.now) }
 {
     let mut formulas = Vec::new(alloc);
@@ -66,7 +69,8 @@ pub(crate) fn goal_of(
     vocabulary: &Vocabulary,
     conditions: &[Condition],
 ) -> Result<FormulaList, AllocError>
-    requires { IsNumbered vocabulary.now }
+    requires numbered { IsNumbered vocabulary.now }
+    requires in_force { all_fit 0 conditions.now ≡ true }
     ensures { IfOk result (λ l. l ≡ building.formulas_of vocabulary.now [] conditions.now) }
 {
     let scope = Scope::empty(alloc);

@@ -1,11 +1,12 @@
 //! Declarations, methods, actions and the initial network.
-ghost use Rattle.std.specs.Prelude.{◌≡◌, map, IfOk};
+ghost use Rattle.std.specs.Prelude.{◌≡◌, ◌≤◌, length, map, IfOk};
 ghost use Rattle.std.specs.List.{All, AllZip};
 ghost use Rattle.htn_order.specs.Closure.{IsAcyclic};
 ghost use Rattle.hddl_meaning.specs.Mentions.{folded};
 ghost use Rattle.hddl_meaning.specs.Networks.{order_pairs};
 ghost use Rattle.hddl_meaning.specs.Building as building;
-ghost use Rattle.hddl_meaning.specs.Building.{IsMethodOf};
+ghost use Rattle.hddl_meaning.specs.Building.{IsMethodOf, variables_of};
+ghost use Rattle.hddl_build.specs.InForce.{IsBounded, most_in_force};
 ghost use Rattle.hddl_build.specs.Vocabularies.{IsNumbered};
 ghost use Rattle.hddl_build.specs.Initial.{IsInitialOf};
 
@@ -59,7 +60,8 @@ fn action_of(
     vocabulary: &Vocabulary,
     action: &ActionText,
 ) -> Result<ActionSchema, AllocError>
-    requires { IsNumbered vocabulary.now }
+    requires numbered { IsNumbered vocabulary.now }
+    requires bounded { IsBounded action.now.parameters action.now.precondition }
     ensures { IfOk result (λ a. a ≡ building.action_of vocabulary.now action.now) }
 {
     let name = name_of(alloc, &action.name)?;
@@ -77,6 +79,7 @@ fn method_of(
     method: &MethodText,
 ) -> Result<MethodSchema, AllocError>
     requires numbered { IsNumbered vocabulary.now }
+    requires bounded { IsBounded method.now.parameters method.now.precondition }
     requires acyclic { IsAcyclic (order_pairs method.now.network) }
     ensures { IfOk result (IsMethodOf vocabulary.now method.now) }
 {
@@ -98,6 +101,7 @@ pub(crate) fn initial_of(
     htn: &HtnText,
 ) -> Result<InitialSchema, AllocError>
     requires numbered { IsNumbered vocabulary.now }
+    requires bounded { length (variables_of htn.now.parameters) ≤ most_in_force }
     requires acyclic { IsAcyclic (order_pairs htn.now.network) }
     ensures { IfOk result (IsInitialOf vocabulary.now htn.now) }
 {
@@ -149,7 +153,8 @@ pub(crate) fn actions_of(
     vocabulary: &Vocabulary,
     actions: &[ActionText],
 ) -> Result<Vec<ActionSchema>, AllocError>
-    requires { IsNumbered vocabulary.now }
+    requires numbered { IsNumbered vocabulary.now }
+    requires bounded { All (λ a. IsBounded a.parameters a.precondition) actions.now }
     ensures { IfOk result (λ found. found.items ≡ map (building.action_of vocabulary.now) actions.now) }
 {
     let mut found = Vec::new(alloc);
@@ -165,6 +170,7 @@ pub(crate) fn methods_of(
     methods: &[MethodText],
 ) -> Result<Vec<MethodSchema>, AllocError>
     requires numbered { IsNumbered vocabulary.now }
+    requires bounded { All (λ m. IsBounded m.parameters m.precondition) methods.now }
     requires acyclic { All (λ m. IsAcyclic (order_pairs m.network)) methods.now }
     ensures { IfOk result (λ found. AllZip (IsMethodOf vocabulary.now) methods.now found.items) }
 {

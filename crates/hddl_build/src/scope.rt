@@ -1,8 +1,9 @@
 //! The variables in force.
-ghost use Rattle.std.specs.Prelude.{◌≡◌, [], ◌++◌, map, IfOk, OnOk};
+ghost use Rattle.std.specs.Prelude.{◌≡◌, ◌+◌, ◌≤◌, [], ◌++◌, length, map, IfOk, OnOk};
 ghost use Rattle.hddl_meaning.specs.Mentions.{folded};
 ghost use Rattle.hddl_meaning.specs.Names.{number_in};
 ghost use Rattle.hddl_meaning.specs.Building.{variables_of};
+ghost use Rattle.hddl_build.specs.InForce.{most_in_force};
 ghost use Rattle.hddl_build.specs.Scopes.{texts_of};
 
 use hddl_tree::{Variable, VariableGroup};
@@ -18,15 +19,16 @@ pub(crate) struct Scope<'a> {
 }
 
 impl<'a> Model for Scope<'a> {
-    ghost use Rattle.std.specs.Prelude.{List, ◌≤◌, ◌^◌, length};
+    ghost use Rattle.std.specs.Prelude.{List, ◌≤◌, length};
     ghost use Rattle.hddl_meaning.specs.Mentions.{Text};
+    ghost use Rattle.hddl_build.specs.InForce.{most_in_force};
     ghost use Rattle.hddl_build.specs.Scopes.{texts_of};
 
     ghost Value = { List Text };
 
     ghost view = { λ scope. texts_of scope.variables.items };
 
-    ghost invariant = { λ scope. length scope.variables.items ≤ 2 ^ 16 };
+    ghost invariant = { λ scope. length scope.variables.items ≤ most_in_force };
 }
 
 /// Adds the variables of a group.
@@ -52,8 +54,9 @@ impl<'a> Scope<'a> {
         }
     }
 
-    /// The variables of these groups, or an error where memory was refused or they are too many.
+    /// The variables of these groups.
     pub(crate) fn of(alloc: Global, groups: &'a [VariableGroup]) -> Result<Scope<'a>, AllocError>
+        requires { length (variables_of groups.now) ≤ most_in_force }
         ensures { IfOk result (λ scope. scope ≡ variables_of groups.now) }
     {
         let none = Scope::empty(alloc);
@@ -61,21 +64,19 @@ impl<'a> Scope<'a> {
         Ok(scope)
     }
 
-    /// These variables, and then those of the groups, or an error where memory was refused or they are too many.
+    /// These variables, and then those of the groups.
     #[tactic(auto, using(crate::proofs::Groups::variables_by_group))]
     pub(crate) fn with(
         &self,
         alloc: Global,
         groups: &'a [VariableGroup],
     ) -> Result<Scope<'a>, AllocError>
+        requires { length self.now + length (variables_of groups.now) ≤ most_in_force }
         ensures { IfOk result (λ scope. scope ≡ self.now ++ variables_of groups.now) }
     {
         let mut variables = Vec::from_slice(alloc, &self.variables)?;
         for group in groups {
             push_group(&mut variables, group)?;
-        }
-        if variables.len() > 1 << 16 {
-            return Err(AllocError);
         }
         Ok(Scope { variables })
     }

@@ -1,10 +1,11 @@
 //! The task of a domain and a problem.
-ghost use Rattle.std.specs.Prelude.{◌≡◌, IfOk};
+ghost use Rattle.std.specs.Prelude.{◌≡◌, ◌≤◌, true, length, IfOk};
 ghost use Rattle.std.specs.List.{All};
 ghost use Rattle.htn_order.specs.Closure.{IsAcyclic};
 ghost use Rattle.hddl_meaning.specs.Networks.{order_pairs};
 ghost use Rattle.hddl_meaning.specs.Items.{IsWellTypedPair};
-ghost use Rattle.hddl_meaning.specs.Building.{IsTaskOf, vocabulary_of};
+ghost use Rattle.hddl_meaning.specs.Building.{IsTaskOf, variables_of, vocabulary_of};
+ghost use Rattle.hddl_build.specs.InForce.{IsBounded, all_fit, most_in_force};
 ghost use Rattle.hddl_build.specs.ObjectLists.{AreObjectLists, lists_of};
 ghost use Rattle.hddl_build.specs.Vocabularies.{IsNumbered};
 
@@ -29,8 +30,12 @@ fn parts_of(
     requires vocabulary { vocabulary.now ≡ vocabulary_of domain.now problem.now }
     requires numbered { IsNumbered vocabulary.now }
     requires objects { AreObjectLists domain.now problem.now (lists_of objects.items) }
-    requires methods { All (λ m. IsAcyclic (order_pairs m.network)) domain.now.methods }
-    requires initial { IsAcyclic (order_pairs problem.now.htn.network) }
+    requires actions { All (λ a. IsBounded a.parameters a.precondition) domain.now.actions }
+    requires methods { All (λ m. IsBounded m.parameters m.precondition) domain.now.methods }
+    requires orders { All (λ m. IsAcyclic (order_pairs m.network)) domain.now.methods }
+    requires initial { length (variables_of problem.now.htn.parameters) ≤ most_in_force }
+    requires order { IsAcyclic (order_pairs problem.now.htn.network) }
+    requires goal { all_fit 0 problem.now.goal ≡ true }
     ensures { IfOk result (IsTaskOf domain.now problem.now) }
 {
     let types = object_types(alloc, vocabulary.types(), objects)?;

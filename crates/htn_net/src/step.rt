@@ -58,8 +58,8 @@ fn choose_free(
     number: u64,
 ) -> Result<Option<Choice>, AllocError>
     requires { first_free_compound config.now.open_nodes (is_before config.now.order) ≡ None }
-    ensures chosen { IfOk result (λ o. option_map (λ x. choice_of config.now x) o ≡ machine.choose (problem_of task.now) config.now number) }
-    ensures numbered { IfOk result (λ o. IfSome o (λ x. x.number ≡ number)) }
+    ensures choice { IfOk result (λ o. option_map (λ x. choice_of config.now x) o ≡ machine.choose (problem_of task.now) config.now number) }
+    ensures number { IfOk result (λ o. IfSome o (λ x. x.number ≡ number)) }
 {
     let Some(position) = config.order().nth_free(number as usize) else {
         return Ok(None);
@@ -82,8 +82,8 @@ impl Config {
         task: &Task,
         number: u64,
     ) -> Result<Option<Choice>, AllocError>
-        ensures chosen { IfOk result (λ o. option_map (λ x. choice_of self.now x) o ≡ machine.choose (problem_of task.now) self.now number) }
-        ensures numbered { IfOk result (λ o. IfSome o (λ x. x.number ≡ number)) }
+        ensures choice { IfOk result (λ o. option_map (λ x. choice_of self.now x) o ≡ machine.choose (problem_of task.now) self.now number) }
+        ensures number { IfOk result (λ o. IfSome o (λ x. x.number ≡ number)) }
     {
         let Some((position, goal)) = self.first_free_task() else {
             return choose_free(alloc, task, self, number);

@@ -7,3 +7,6 @@ pub mod Counted
 pub mod Gathering
 pub mod Apart
 pub mod Filed
+pub mod Trip
+pub mod Ranges
+pub mod Named

@@ -4,3 +4,4 @@ pub mod Preorder
 pub mod Walk
 pub mod Items
 pub mod Gathered
+pub mod Trip

@@ -3,7 +3,7 @@ use Rattle.std.specs.Prelude.{ℕ, List, [], ◌∷◌, ◌++◌, map, get_or, c
 use Rattle.std.specs.Str.{bytes_eq}
 use Rattle.htn_model.specs.Instance.{Instance}
 use Rattle.htn_model.specs.Instances.{methods_of}
-use Rattle.htn_model.specs.PlanFile.{Word, Naming}
+use Rattle.htn_model.specs.PlanFile.{Word, Naming, IsWithoutRepeats}
 use Rattle.htn_model.specs.Problem.{GroundTask}
 use Rattle.htn_model.specs.Task.{Task}
 
@@ -53,3 +53,7 @@ naming_of t = record {
   argument_names = λ g. map (object_name t) g.arguments;
   method_name = method_name t;
 }
+
+-- no two tasks or actions have one name, and no two objects
+abbrev pub HasDistinctNames : Task → Type 0
+HasDistinctNames t = IsWithoutRepeats (task_names t) × IsWithoutRepeats t.objects

@@ -1,13 +1,15 @@
-use Rattle.std.proofs.Common.{◌≡◌, ◌++◌, ◌∙◌, List, ℕ, ap, ap₂, sym, map}
+use Rattle.std.proofs.Common.{◌≡◌, ◌++◌, ◌∙◌, List, ℕ, ap, ap₂, sym, map, true, length, length-append, ◌+◌, rules}
 use Rattle.std.proofs.lemmas.List.{take_all}
 use Rattle.htn_model.specs.Schema as model
 use Rattle.htn_task.specs.Formulas.{formulas_view}
-use Rattle.hddl_tree.specs.declared.condition.Condition.{Condition}
+use Rattle.hddl_tree.specs.declared.condition.Condition as condition
+use Rattle.hddl_tree.specs.declared.condition.Condition.{Condition, Forall}
 use Rattle.hddl_tree.specs.declared.term.VariableGroup.{VariableGroup}
 use Rattle.hddl_meaning.specs.Mentions.{Text}
 use Rattle.hddl_meaning.specs.Building.{formula_of, types_of, variables_of}
 use Rattle.hddl_build.specs.Scopes.{texts_of}
-use Rattle.hddl_build.proofs.Formulas.{formula-Forall, view-ForAll}
+use Rattle.hddl_build.specs.InForce.{fits}
+use Rattle.hddl_build.proofs.Formulas.{formula-Forall, part_fits, view-ForAll}
 use Rattle.hddl_build.proofs.formula.+formula_of.Goals as goal
 
 pub returns-after-loop-part : goal.returns-after-loop-part
@@ -26,3 +28,17 @@ returns-after-loop-part t c =
     ∙ ap₂ (λ (ts : List ℕ) (fs : List model.Formula). model.for_all ts (model.formulas_of fs)) types parts
     ∙ sym (formula-Forall v groups body c.args.scope.now)
     ∙ sym (ap (λ (x : Condition). formula_of v x c.args.scope.now) c.in-Forall.is)
+
+pub formula_of-requires : goal.formula_of-requires
+formula_of-requires t c =
+    let n = length c.args.scope.now in
+    let groups = c.in-Forall.groups in
+    let items = c.as_slice-part-items.result.now in
+    let whole : fits n (Forall groups items) ≡ true =
+    ap (λ (l : List Condition). fits n (Forall groups l)) c.as_slice-part-items.ensures ∙ ap (λ (x : Condition). fits n x) (sym c.in-Forall.is) ∙ c.requires.in_force in
+    let count : length c.in_ok-inner-in-Forall.inner ≡ n + length (variables_of groups) =
+    ap (λ (l : List Text). length l) (c.in_ok-inner-in-Forall.ensures ∙ ap (λ (l : List VariableGroup). c.args.scope.now ++ variables_of l) c.as_slice-in-Forall.ensures)
+    ∙ length-append c.args.scope.now (variables_of groups) in
+    let part : fits (n + length (variables_of groups)) c.part-item.result ≡ true =
+    part_fits n groups items c.loop-part.part-index c.part-item.result whole c.loop-part-test.true c.part-item.is in
+    (search (rules, condition.the_lemmas), (c.requires.numbered, ap (λ (m : ℕ). fits m c.part-item.result) count ∙ part))

@@ -15,7 +15,7 @@ node_at-requires c =
     let problem = problem_of c.args.task.now in
     let at = c.args.self.now.config in
     let choice = choice_of at c.in-Some.choice in
-    let chooses : choose problem at c.args.number ≡ Some choice = sym c.in_ok-choice.ensures.chosen ∙ ap (option_map (choice_of at)) c.in-Some.is in
+    let chooses : choose problem at c.args.number ≡ Some choice = sym c.in_ok-choice.ensures.choice ∙ ap (option_map (choice_of at)) c.in-Some.is in
     position_within problem at c.args.number choice chooses
 
 pub leave-requires-clause-within : goal.leave-requires-clause-within
@@ -23,7 +23,7 @@ leave-requires-clause-within c =
     let problem = problem_of c.args.task.now in
     let at = c.args.self.now.config in
     let choice = choice_of at c.in-Some.choice in
-    let chooses : choose problem at c.args.number ≡ Some choice = sym c.in_ok-choice.ensures.chosen ∙ ap (option_map (choice_of at)) c.in-Some.is in
+    let chooses : choose problem at c.args.number ≡ Some choice = sym c.in_ok-choice.ensures.choice ∙ ap (option_map (choice_of at)) c.in-Some.is in
     subst (λ n. choice.position < n) (sym c.requires.placed) (position_within problem at c.args.number choice chooses)
 
 pub leave-requires-clause-childless : goal.leave-requires-clause-childless
@@ -31,7 +31,7 @@ leave-requires-clause-childless c =
     let problem = problem_of c.args.task.now in
     let at = c.args.self.now.config in
     let choice = choice_of at c.in-Some.choice in
-    let chooses : choose problem at c.args.number ≡ Some choice = sym c.in_ok-choice.ensures.chosen ∙ ap (option_map (choice_of at)) c.in-Some.is in
+    let chooses : choose problem at c.args.number ≡ Some choice = sym c.in_ok-choice.ensures.choice ∙ ap (option_map (choice_of at)) c.in-Some.is in
     λ primitive. c.children_len-children.ensures ∙ childless problem at c.args.number choice chooses (sym (ap is_compound c.in_ok-node.ensures) ∙ primitive)
 
 pub step-requires : goal.step-requires
@@ -39,8 +39,8 @@ step-requires c =
     let problem = problem_of c.args.task.now in
     let at = c.args.self.now.config in
     let choice = choice_of at c.in-Some.choice in
-    let chooses : choose problem at c.args.number ≡ Some choice = sym c.in_ok-choice.ensures.chosen ∙ ap (option_map (choice_of at)) c.in-Some.is in
-    ap (choose problem at) (MatchOption-at_some _ _ _ c.in-Some.is c.in_ok-choice.ensures.numbered) ∙ chooses
+    let chooses : choose problem at c.args.number ≡ Some choice = sym c.in_ok-choice.ensures.choice ∙ ap (option_map (choice_of at)) c.in-Some.is in
+    ap (choose problem at) (MatchOption-at_some _ _ _ c.in-Some.is c.in_ok-choice.ensures.number) ∙ chooses
 
 pub returns : goal.returns
 returns c =
@@ -48,8 +48,8 @@ returns c =
     let at = c.args.self.now.config in
     let number = c.args.number in
     let choice = choice_of at c.in-Some.choice in
-    let chooses : choose problem at number ≡ Some choice = sym c.in_ok-choice.ensures.chosen ∙ ap (option_map (choice_of at)) c.in-Some.is in
-    let same : c.in-Some.choice.number ≡ number = MatchOption-at_some _ _ _ c.in-Some.is c.in_ok-choice.ensures.numbered in
+    let chooses : choose problem at number ≡ Some choice = sym c.in_ok-choice.ensures.choice ∙ ap (option_map (choice_of at)) c.in-Some.is in
+    let same : c.in-Some.choice.number ≡ number = MatchOption-at_some _ _ _ c.in-Some.is c.in_ok-choice.ensures.number in
     let place = get_or (places_view c.args.self.now.places.items) choice.position [] in
     record {
       choice = choice;
