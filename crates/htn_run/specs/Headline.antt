@@ -57,6 +57,12 @@ Refuses domain problem bounds fault.OutOfMemory = ⊤
 Refuses domain problem bounds fault.NoThread = 1 < bounds.workers
 Refuses domain problem bounds fault.Output = ⊥
 
+-- memory or a thread was refused; a thread only where there is more than one worker
+abbrev pub IsWant : Bounds → RunFault → Type 0
+IsWant bounds fault.OutOfMemory = ⊤
+IsWant bounds fault.NoThread = 1 < bounds.workers
+IsWant bounds _ = ⊥
+
 -- a beginning of the text that answers was added to the output
 pub record IsCutShort (task : Task) (bound : ℕ) (old new : Option (List ℕ)) : Type 0 where
   pub outcome : Outcome

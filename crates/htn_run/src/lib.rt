@@ -5,9 +5,11 @@
 mod answer;
 mod line;
 mod outcome;
+mod run;
 mod source;
 
 pub use htn_plan::{Out, Sink};
 pub use htn_search::{Bounds, Gate, NoGate};
 pub use outcome::{Outcome, RunFault};
+pub use run::run_task;
 pub use source::{Disk, MAX_BYTES_READ, ReadFault, Source};
