@@ -14,7 +14,7 @@ use Rattle.hddl_tree.specs.declared.problem.ProblemText.{ProblemText}
 use Rattle.hddl_meaning.specs.Mentions.{Text}
 use Rattle.hddl_meaning.specs.Names.{type_names, object_names}
 use Rattle.hddl_meaning.specs.Types.{HasType}
-use Rattle.hddl_build.specs.ObjectLists.{AreObjectLists}
+use Rattle.hddl_names.specs.Members.{AreMembersOf}
 
 -- a test of numbers finds what a list contains
 any_of : (o : ℕ) (l : List ℕ) → (list_any (nat_eq o) l ≡ true) ↔ Contains l o
@@ -39,7 +39,7 @@ module _ (t : model.Task) (lists : List (List ℕ)) (same : map (λ x. x.objects
       let as_list : model.has_type t k o ≡ list_any (nat_eq o) (get_or lists k []) = ap (λ l. list_any (nat_eq o) (get_or l k [])) same in
       (λ has. (any_of o (get_or lists k [])).0 (sym as_list ∙ has), λ among. as_list ∙ (any_of o (get_or lists k [])).1 among)
 
-  module _ (d : DomainText) (p : ProblemText) (names : map (λ x. x.name) t.types ≡ type_names d) (objects : t.objects ≡ object_names d p) (are : AreObjectLists d p lists) where
+  module _ (d : DomainText) (p : ProblemText) (names : map (λ x. x.name) t.types ≡ type_names d) (objects : t.objects ≡ object_names d p) (are : AreMembersOf d p lists) where
     pub ascends : (k : ℕ) (type : model.ObjectType) → slice_get t.types k ≡ Some type → IsStrictlySortedBy nat_cmp type.objects
     ascends k type h = subst (IsStrictlySortedBy nat_cmp) (list_at k type h) (are.ascending k)
 

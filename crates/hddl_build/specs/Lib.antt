@@ -2,5 +2,4 @@ pub mod Scopes
 pub mod Vocabularies
 pub mod Labels
 pub mod Initial
-pub mod ObjectLists
 pub mod InForce

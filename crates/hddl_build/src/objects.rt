@@ -1,6 +1,6 @@
 //! Objects and types.
 ghost use Rattle.std.specs.Prelude.{◌≡◌, ◌<◌, [], length, map, get_or, IfOk};
-ghost use Rattle.hddl_build.specs.ObjectLists.{lists_of};
+ghost use Rattle.hddl_names.specs.Rows.{lists_of};
 
 use hddl_names::Names;
 use htn_task::{Name, ObjectType};

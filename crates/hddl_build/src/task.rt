@@ -6,7 +6,8 @@ ghost use Rattle.hddl_meaning.specs.Networks.{order_pairs};
 ghost use Rattle.hddl_meaning.specs.Items.{IsWellTypedPair};
 ghost use Rattle.hddl_meaning.specs.Building.{IsTaskOf, variables_of, vocabulary_of};
 ghost use Rattle.hddl_build.specs.InForce.{IsBounded, all_fit, most_in_force};
-ghost use Rattle.hddl_build.specs.ObjectLists.{AreObjectLists, lists_of};
+ghost use Rattle.hddl_names.specs.Members.{AreMembersOf};
+ghost use Rattle.hddl_names.specs.Rows.{lists_of};
 ghost use Rattle.hddl_build.specs.Vocabularies.{IsNumbered};
 
 use crate::formula::goal_of;
@@ -14,7 +15,7 @@ use crate::objects::{names_of, object_types};
 use crate::schema::{actions_of, compounds_of, initial_of, methods_of, predicates_of};
 use crate::state::state_of;
 use hddl_meaning::tasks_are_well_typed;
-use hddl_names::Vocabulary;
+use hddl_names::{ObjectsByType, Vocabulary};
 use hddl_tree::{DomainText, ProblemText};
 use htn_task::{Task, TaskParts};
 use std::alloc::{AllocError, Global};
@@ -29,7 +30,7 @@ fn parts_of(
 ) -> Result<TaskParts, AllocError>
     requires vocabulary { vocabulary.now ≡ vocabulary_of domain.now problem.now }
     requires numbered { IsNumbered vocabulary.now }
-    requires objects { AreObjectLists domain.now problem.now (lists_of objects.items) }
+    requires objects { AreMembersOf domain.now problem.now (lists_of objects.items) }
     requires actions { All (λ a. IsBounded a.parameters a.precondition) domain.now.actions }
     requires methods { All (λ m. IsBounded m.parameters m.precondition) domain.now.methods }
     requires orders { All (λ m. IsAcyclic (order_pairs m.network)) domain.now.methods }
@@ -67,14 +68,14 @@ pub fn build(
     domain: &DomainText,
     problem: &ProblemText,
     vocabulary: &Vocabulary,
-    objects: Vec<Vec<u16>>,
+    objects: ObjectsByType,
 ) -> Result<Task, AllocError>
     requires fits { IsWellTypedPair domain.now problem.now }
     requires vocabulary { vocabulary.now ≡ vocabulary_of domain.now problem.now }
-    requires objects { AreObjectLists domain.now problem.now (lists_of objects.items) }
+    requires objects { AreMembersOf domain.now problem.now objects }
     ensures { IfOk result (IsTaskOf domain.now problem.now) }
 {
     tasks_are_well_typed();
-    let parts = parts_of(alloc, domain, problem, vocabulary, objects)?;
+    let parts = parts_of(alloc, domain, problem, vocabulary, objects.into_lists())?;
     Ok(Task::new(parts))
 }

@@ -1,3 +1,17 @@
+pub mod Ascending
+pub mod Circles
+pub mod Collected
 pub mod Declared
+pub mod Distinct
+pub mod Found
+pub mod FromPairs
+pub mod Fronts
+pub mod GroupPairs
+pub mod Parents
+pub mod RowLists
+pub mod Searched
+pub mod Texts
+pub mod Typed
 pub mod Vectors
 pub mod PlanNames
+pub mod Within

@@ -1,1 +1,6 @@
+pub mod Cycles
+pub mod Members
+pub mod Reach
+pub mod Rows
 pub mod Texts
+pub mod TypeNumbers

@@ -1,10 +1,19 @@
 //! The names of a domain and a problem with their numbers, and the types that the names have.
 #![tactic(auto)]
 
+mod cycles;
+mod edges;
+mod hierarchy;
+mod members;
 mod names;
+mod pairs;
+mod reach;
+mod rows;
 mod text;
 mod vocabulary;
 
+pub use hierarchy::TypeHierarchy;
+pub use members::ObjectsByType;
 pub use names::Names;
 pub use text::{fold, fold_into};
 pub use vocabulary::Vocabulary;

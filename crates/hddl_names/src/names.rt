@@ -3,7 +3,7 @@ ghost use Rattle.std.specs.Prelude.{◌≡◌, ℕ, [], map, length, slice_get, 
 ghost use Rattle.std.specs.List.{position, IsDistinct};
 ghost use Rattle.htn_model.specs.PlanWord.{IsName};
 ghost use Rattle.hddl_meaning.specs.Mentions.{folded};
-ghost use Rattle.hddl_meaning.specs.Names.{is_same_text, with_name};
+ghost use Rattle.hddl_meaning.specs.Names.{is_same_text, with_name, number_in};
 
 use crate::text::fold_into;
 use indexmap::IndexSet;
@@ -74,6 +74,14 @@ impl Names {
     {
         fold_into(buffer, bytes)?;
         Ok(self.number_of(buffer.as_slice()))
+    }
+
+    /// The number of a name as a text has it, 0 where there is no such name, or an error where memory was refused.
+    pub fn number_or_zero(&self, buffer: &mut Vec<u8>, bytes: &[u8]) -> Result<usize, AllocError>
+        ensures { IfOk result (λ number. number ≡ number_in self.now (folded bytes.now)) }
+    {
+        let number = self.number_as_written(buffer, bytes)?;
+        Ok(number.unwrap_or(0))
     }
 
     /// Gives a name the next number, unless it has one. Where memory is refused, the names are as they were.

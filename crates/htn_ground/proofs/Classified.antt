@@ -14,7 +14,7 @@ use Rattle.htn_ground.specs.declared.relation.Relation.TheVariants.{Different, S
 use Rattle.htn_ground.specs.Search.{AreAmong, AreBound, AreRelationsOf, all_relations_of, constant_of, constants_hold, each_passes, equality_singles, matches, narrowed, place_constant, place_single, place_singles, relation_depth, relation_holds, relations_hold, relations_of, single_of, singles_of}
 use Rattle.htn_ground.proofs.Narrowing.{filter-assignments}
 
-always : (j : ℕ) (values : List ℕ) → each_passes (λ k o. true) j values ≡ true
+pub always : (j : ℕ) (values : List ℕ) → each_passes (λ k o. true) j values ≡ true
 always j [] = refl
 always j (o ∷ values) = always (j + 1) values
 
@@ -27,7 +27,7 @@ module _ (q : ℕ → Bool) where
       ap (λ b. (not b || q o) && each_passes (λ k x. not (eqb k a) || q x) (j + 1) values) other ∙ beyond a (j + 1) (omega arith) values
 
   -- a test of the object at one parameter
-  at_parameter : (a j i : ℕ) (values : List ℕ) → j + i ≡ a → i < length values → each_passes (λ k o. not (eqb k a) || q o) j values ≡ q (get_or values i 0)
+  pub at_parameter : (a j i : ℕ) (values : List ℕ) → j + i ≡ a → i < length values → each_passes (λ k o. not (eqb k a) || q o) j values ≡ q (get_or values i 0)
   at_parameter a j i [] e below = absurd (omega arith)
   at_parameter a j zero (o ∷ values) e below =
       let here : eqb j a ≡ true = grind (arith, nat_tests) in
@@ -45,10 +45,10 @@ module _ (q : ℕ → Bool) where
 is_below : (n m : ℕ) → ltb m n ≡ true → m < n
 is_below n m e = grind (arith, nat_tests)
 
-turned : (x y : ℕ) → eqb x y ≡ eqb y x
+pub turned : (x y : ℕ) → eqb x y ≡ eqb y x
 turned x y = nat_eq_equiv.symm x y
 
-regroup : (a b c d : Bool) → ((a && b) && (c && d)) ≡ ((a && c) && (b && d))
+pub regroup : (a b c d : Bool) → ((a && b) && (c && d)) ≡ ((a && c) && (b && d))
 regroup true true c d = refl
 regroup true false true d = refl
 regroup true false false d = refl
@@ -86,7 +86,7 @@ equality_parts positive (parameter a) (object y) values p q =
 equality_parts positive (parameter a) (parameter b) values p q =
     relation_says positive a b values ∙ sym (ap (λ c. c && relations_hold (relations_of positive (parameter a) (parameter b)) values) (always 0 values))
 
-each_passes-and : (s t : ℕ → ℕ → Bool) (j : ℕ) (values : List ℕ) → each_passes (λ k o. s k o && t k o) j values ≡ (each_passes s j values && each_passes t j values)
+pub each_passes-and : (s t : ℕ → ℕ → Bool) (j : ℕ) (values : List ℕ) → each_passes (λ k o. s k o && t k o) j values ≡ (each_passes s j values && each_passes t j values)
 each_passes-and s t j [] = refl
 each_passes-and s t j (o ∷ values) =
     ap (λ b. (s j o && t j o) && b) (each_passes-and s t (j + 1) values) ∙ regroup (s j o) (t j o) (each_passes s (j + 1) values) (each_passes t (j + 1) values)
@@ -168,7 +168,7 @@ assignments_long (objects ∷ domains) =
     let more : length domains + 1 ≡ length (objects ∷ domains) = omega arith in
     subst (λ (n : ℕ). AllByRecursion (λ v. length v ≡ n) (assignments (objects ∷ domains))) more (long_pieces (length domains) (assignments domains) (assignments_long domains) objects)
 
-filter_same : (n : ℕ) (p q : List ℕ → Bool) → ((v : List ℕ) → length v ≡ n → p v ≡ q v) → (vs : List (List ℕ)) → AllByRecursion (λ v. length v ≡ n) vs → filter p vs ≡ filter q vs
+pub filter_same : (n : ℕ) (p q : List ℕ → Bool) → ((v : List ℕ) → length v ≡ n → p v ≡ q v) → (vs : List (List ℕ)) → AllByRecursion (λ v. length v ≡ n) vs → filter p vs ≡ filter q vs
 filter_same n p q same [] all = refl
 filter_same n p q same (v ∷ vs) all = (λ i. cond (same v all.0 i) (v ∷ filter_same n p q same vs all.1 i) (filter_same n p q same vs all.1 i))
 

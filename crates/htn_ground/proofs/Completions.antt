@@ -89,6 +89,14 @@ same_pieces : (f g : ℕ → List (List ℕ)) → ((o : ℕ) → f o ≡ g o) �
 same_pieces f g same [] = refl
 same_pieces f g same (o ∷ objects) = (λ i. same o i ++ same_pieces f g same objects i)
 
+-- the completions by some objects at the next parameter
+pub completions_run : (domains : List (List ℕ)) (relations : List Relation) (values run : List ℕ)
+    → filter (relations_hold relations) (map (λ rest. values ++ rest) (assignments (run ∷ drop (length values + 1) domains))) ≡ flat_map (λ object. completions domains relations (values ++ object ∷ [])) run
+completions_run domains relations values run =
+    let p = relations_hold relations in
+    each_object p values (assignments (drop (length values + 1) domains)) run
+    ∙ same_pieces _ _ (λ o. ap (λ (n : ℕ). filter p (map (λ rest. (values ++ o ∷ []) ++ rest) (assignments (drop n domains)))) (sym (length-append values (o ∷ [])))) run
+
 -- the completions by the value of the next parameter
 pub completions_step : (domains : List (List ℕ)) (relations : List Relation) (values domain : List ℕ) → length values < length domains → domain ≡ get_or domains (length values) domain
     → completions domains relations values ≡ flat_map (λ object. completions domains relations (values ++ object ∷ [])) domain
@@ -96,8 +104,7 @@ completions_step domains relations values domain below is =
     let p = relations_hold relations in
     let next : drop (length values) domains ≡ domain ∷ drop (length values + 1) domains = drop-cons domains (length values) domain below ∙ (λ i. sym is i ∷ drop (sym (add-one (length values)) i) domains) in
     ap (λ (ds : List (List ℕ)). filter p (map (λ rest. values ++ rest) (assignments ds))) next
-    ∙ each_object p values (assignments (drop (length values + 1) domains)) domain
-    ∙ same_pieces _ _ (λ o. ap (λ (n : ℕ). filter p (map (λ rest. (values ++ o ∷ []) ++ rest) (assignments (drop n domains)))) (sym (length-append values (o ∷ [])))) domain
+    ∙ completions_run domains relations values domain
 
 map_same : (rests : List (List ℕ)) → map (λ rest. [] ++ rest) rests ≡ rests
 map_same [] = refl

@@ -4,7 +4,12 @@ pub mod Bodies
 pub mod Stands
 pub mod Narrowing
 pub mod Completions
-pub mod Counts
+pub mod Counting
+pub mod Gaps
+pub mod Moved
+pub mod Excluded
+pub mod Skipped
+pub mod Started
 pub mod Classified
 pub mod Steps
 pub mod Pinned

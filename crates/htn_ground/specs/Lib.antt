@@ -3,6 +3,7 @@ pub mod Hashes
 pub mod Assigned
 pub mod Places
 pub mod Search
+pub mod Candidates
 pub mod Fixed
 pub mod Methods
 pub mod Trees

@@ -1,6 +1,6 @@
 -- The search for the values of an instance: conditions on no parameter, on one and on two, and the completions of a
 -- partial choice.
-use Rattle.std.specs.Prelude.{ℕ, Bool, true, not, max, nat_lt, nat_le, cond, ◌+◌, ◌*◌, ◌≤◌, ◌==◌, ◌&&◌, ◌||◌, ◌≡◌, List, [], ◌∷◌, ◌++◌, map, drop, length, slice_index}
+use Rattle.std.specs.Prelude.{ℕ, Bool, true, false, not, max, min, nat_lt, cond, ◌+◌, ◌*◌, ◌≤◌, ◌==◌, ◌&&◌, ◌||◌, ◌≡◌, List, [], ◌∷◌, ◌++◌, map, drop, length, slice_index}
 use Rattle.std.specs.Bool.{beq}
 use Rattle.std.specs.List.{All, enumerate_from, filter, flat_map, list_all, list_any}
 use Rattle.htn_model.specs.Atom.{Atom}
@@ -114,9 +114,26 @@ bound_relations_hold relations values = list_all (λ r. nat_lt (length values) (
 abbrev pub completions : List (List ℕ) → List Relation → List ℕ → List (List ℕ)
 completions domains relations values = filter (relations_hold relations) (map (λ rest. values ++ rest) (assignments (drop (length values) domains)))
 
--- whether all relations are between the first so many parameters
-abbrev pub are_all_bound : List Relation → ℕ → Bool
-are_all_bound relations depth = list_all (λ r. nat_le (relation_depth r) depth) relations
+-- the first parameter of a relation
+abbrev pub relation_start : Relation → ℕ
+relation_start (Same a b) = min a b
+relation_start (Different a b) = min a b
+
+-- whether each relation has a parameter among the first so many
+abbrev pub are_started : List Relation → ℕ → Bool
+are_started relations depth = list_all (λ r. nat_lt (relation_start r) depth) relations
+
+-- a parameter: the object that it stands for, if it has a value
+abbrev pub term_after : List ℕ → ℕ → Term
+term_after values p = cond (nat_lt p (length values)) (object (slice_index values p)) (parameter p)
+
+-- what a relation says of the object at parameter j, where its other parameter has a value
+abbrev pub relation_single : List ℕ → Relation → ℕ → ℕ → Bool
+relation_single values (Same a b) = single_of true (term_after values a) (term_after values b)
+relation_single values (Different a b) = single_of false (term_after values a) (term_after values b)
+
+abbrev pub relation_singles : List Relation → List ℕ → ℕ → ℕ → Bool
+relation_singles relations values j o = list_all (λ r. relation_single values r j o) relations
 
 -- how many choices of one object of each list there are
 abbrev pub product : List (List ℕ) → ℕ

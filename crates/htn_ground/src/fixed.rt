@@ -18,7 +18,7 @@ pub(crate) struct FixedLiteral {
 
 impl FixedLiteral {
     /// Whether all its arguments have values.
-    fn is_bound(&self, count: usize) -> bool
+    pub(crate) fn is_bound(&self, count: usize) -> bool
         ensures { result ≡ is_bound count self.now }
     {
         for term in &self.arguments {

@@ -1,6 +1,8 @@
 //! The values of a schema's instances.
 ghost use Rattle.std.specs.Prelude.{◌≡◌, ◌+◌, IfOk, length};
-ghost use Rattle.std.specs.List.{filter, list_all};
+ghost use Rattle.std.specs.List.{All, filter, list_all};
+ghost use Rattle.std.specs.List.Sorted.{IsStrictlySortedBy};
+ghost use Rattle.std.specs.Ordering.{nat_cmp};
 ghost use Rattle.std.specs.Option.{option_to_list};
 ghost use Rattle.htn_model.specs.Instances as model;
 ghost use Rattle.htn_model.specs.Task.{has_type};
@@ -29,7 +31,7 @@ fn constant_of(positive: bool, left: Term, right: Term) -> bool
 }
 
 /// What an equality says of an object at a parameter, where it names one parameter.
-fn single_of(positive: bool, left: Term, right: Term, place: usize, object: u16) -> bool
+pub(crate) fn single_of(positive: bool, left: Term, right: Term, place: usize, object: u16) -> bool
     ensures { result ≡ search.single_of positive (term_of left) (term_of right) place object }
 {
     match &left {
@@ -157,7 +159,9 @@ fn narrow(
     objects: &[u16],
     at: usize,
 ) -> Result<ObjectList, AllocError>
-    ensures { IfOk result (λ l. l ≡ filter (search.singles_of task.now conditions.now at) objects.now) }
+    requires { IsStrictlySortedBy nat_cmp objects.now }
+    ensures kept { IfOk result (λ l. l ≡ filter (search.singles_of task.now conditions.now at) objects.now) }
+    ensures ascending { IfOk result (IsStrictlySortedBy nat_cmp) }
 {
     let mut kept = ObjectList::new(alloc);
     for object in objects {
@@ -174,7 +178,8 @@ fn narrow_all(
     task: &Task,
     conditions: &Conditions,
 ) -> Result<Vec<ObjectList>, AllocError>
-    ensures { IfOk result (λ v. v.items ≡ search.narrowed (search.singles_of task.now conditions.now) 0 (model.domains_of task.now conditions.now.parameters)) }
+    ensures lists { IfOk result (λ v. v.items ≡ search.narrowed (search.singles_of task.now conditions.now) 0 (model.domains_of task.now conditions.now.parameters)) }
+    ensures ascending { IfOk result (λ v. All (IsStrictlySortedBy nat_cmp) v.items) }
 {
     let mut lists = Vec::new(alloc);
     for (at, type_number) in conditions.parameters().iter().enumerate() {

@@ -1,8 +1,10 @@
 //! The instances of a planning task's schemas, in their order and with their numbers.
 #![tactic(auto)]
 
+mod candidates;
 mod child;
 mod conditions;
+mod counts;
 mod dead;
 mod fixed;
 mod ground_task;

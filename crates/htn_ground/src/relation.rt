@@ -1,6 +1,20 @@
 //! Equalities and negated equalities between the parameters of a schema.
 ghost use Rattle.std.specs.Prelude.{◌≡◌, ◌≤◌, length};
-ghost use Rattle.htn_ground.specs.Search.{relation_depth, relation_holds};
+ghost use Rattle.htn_ground.specs.Search.{relation_depth, relation_holds, relation_single, relation_start, term_after};
+ghost use Rattle.htn_task.specs.Views.{term_of};
+
+use crate::instances::single_of;
+use htn_task::Term;
+
+/// A parameter: the object that it stands for, if it has a value.
+fn term_after(values: &[u16], parameter: u16) -> Term
+    ensures { term_of result ≡ term_after values.now parameter }
+{
+    match values.get(parameter as usize) {
+        Some(object) => Term::Object(*object),
+        None => Term::Parameter(parameter),
+    }
+}
 
 /// A relation between two parameters, by their places.
 #[derive(Clone, Copy)]
@@ -16,6 +30,33 @@ impl Relation {
     {
         match self {
             Relation::Same(a, b) | Relation::Different(a, b) => (*a).max(*b) as usize + 1,
+        }
+    }
+
+    /// Its first parameter.
+    pub(crate) fn start(&self) -> usize
+        ensures { result ≡ relation_start self.now }
+    {
+        match self {
+            Relation::Same(a, b) | Relation::Different(a, b) => (*a).min(*b) as usize,
+        }
+    }
+
+    /// Whether the relation allows an object at a place, where its other parameter has a value.
+    pub(crate) fn allows(&self, values: &[u16], place: usize, object: u16) -> bool
+        ensures { result ≡ relation_single values.now self.now place object }
+    {
+        match self {
+            Relation::Same(a, b) => {
+                let left = term_after(values, *a);
+                let right = term_after(values, *b);
+                single_of(true, left, right, place, object)
+            }
+            Relation::Different(a, b) => {
+                let left = term_after(values, *a);
+                let right = term_after(values, *b);
+                single_of(false, left, right, place, object)
+            }
         }
     }
 

@@ -1,82 +1,19 @@
 //! The choices of objects of which all relations hold and that no literal rules out, with their
 //! numbers among all of which the relations hold.
-ghost use Rattle.std.specs.Prelude.{◌≡◌, ◌≤◌, ◌+◌, ◌++◌, length, OnOk, IfOk, IfSome};
-ghost use Rattle.htn_ground.specs.Search.{AreLiteralsOf, AreRelationsOf, are_all_bound, bound_relations_hold, completions, live_from, matches, product};
+ghost use Rattle.std.specs.Prelude.{◌≡◌, ◌≤◌, ◌+◌, ◌++◌, length, OnOk, IfOk};
+ghost use Rattle.std.specs.List.{All};
+ghost use Rattle.std.specs.List.Sorted.{IsStrictlySortedBy};
+ghost use Rattle.std.specs.Ordering.{nat_cmp};
+ghost use Rattle.htn_ground.specs.Candidates.{Excludes};
+ghost use Rattle.htn_ground.specs.Search.{AreLiteralsOf, AreRelationsOf, completions, live_from, matches};
 
+use crate::candidates::{Candidates, all_candidates, next_place};
+use crate::counts::{bound_relations_hold_of, count_completions, count_run, sum};
 use crate::fixed::{FixedLiteral, is_ruled_out};
 use crate::object_list::ObjectList;
 use crate::relation::Relation;
 use htn_state::State;
 use std::alloc::{AllocError, Global};
-
-/// Whether the relations hold that are between parameters with values.
-fn bound_relations_hold_of(relations: &[Relation], values: &[u16]) -> bool
-    ensures { result ≡ bound_relations_hold relations.now values.now }
-{
-    relations.iter().all(|relation| relation.depth() > values.len() || relation.holds(values))
-}
-
-/// The number of assignments to the parameters from the first list on.
-fn count_assignments(domains: &[ObjectList]) -> Option<u64>
-    ensures { IfSome result (λ n. n ≡ product domains.now) }
-{
-    let mut count: u64 = 1;
-    for domain in domains {
-        count = count.checked_mul(domain.len() as u64)?;
-    }
-    Some(count)
-}
-
-/// The sum of two numbers. No list has room for so many items that it does not fit.
-fn sum(a: u64, b: u64) -> Result<u64, AllocError>
-    ensures { IfOk result (λ n. n ≡ a + b) }
-{
-    match a.checked_add(b) {
-        Some(n) => Ok(n),
-        None => Err(AllocError),
-    }
-}
-
-/// The number of the completions of `values`. Once no relation is left to read, they are not enumerated.
-fn count_completions(
-    domains: &[ObjectList],
-    relations: &[Relation],
-    values: &mut ObjectList,
-) -> Result<u64, AllocError>
-    requires small { length values.old ≤ length domains.now }
-    requires relations { AreRelationsOf relations.now (length domains.now) }
-    ensures count { IfOk result (λ n. n ≡ length (completions domains.now relations.now values.old)) }
-    ensures values { OnOk result (values.new ≡ values.old) }
-{
-    if !bound_relations_hold_of(relations, values.as_slice()) {
-        return Ok(0);
-    }
-    let depth = values.len();
-    if depth == domains.len() {
-        return Ok(1);
-    }
-    if are_all_bound_of(relations, depth) {
-        let Some(count) = count_assignments(&domains[depth..]) else {
-            return Err(AllocError);
-        };
-        return Ok(count);
-    }
-    let mut count: u64 = 0;
-    for object in domains[depth].as_slice() {
-        values.push(*object)?;
-        let more = count_completions(domains, relations, values)?;
-        values.pop();
-        count = sum(count, more)?;
-    }
-    Ok(count)
-}
-
-/// Whether all relations are between the first parameters.
-fn are_all_bound_of(relations: &[Relation], depth: usize) -> bool
-    ensures { result ≡ are_all_bound relations.now depth }
-{
-    relations.iter().all(|relation| relation.depth() <= depth)
-}
 
 /// Appends the live completions of `values` to `found`, with their numbers from `number` on.
 fn complete_live(
@@ -84,6 +21,7 @@ fn complete_live(
     relations: &[Relation],
     literals: &[FixedLiteral],
     state: &State,
+    candidates: &[Candidates],
     values: &mut ObjectList,
     number: &mut u64,
     found: &mut Vec<(u64, ObjectList)>,
@@ -91,6 +29,8 @@ fn complete_live(
     requires small { length values.old ≤ length domains.now }
     requires relations { AreRelationsOf relations.now (length domains.now) }
     requires literals { AreLiteralsOf literals.now (length domains.now) }
+    requires candidates { All (Excludes state.now literals.now) candidates.now }
+    requires ascending { All (IsStrictlySortedBy nat_cmp) domains.now }
     ensures found { OnOk result (found.new.items ≡ found.old.items ++ live_from state.now literals.now number.old (completions domains.now relations.now values.old)) }
     ensures number { OnOk result (number.new ≡ number.old + length (completions domains.now relations.now values.old)) }
     ensures values { OnOk result (values.new ≡ values.old) }
@@ -109,10 +49,22 @@ fn complete_live(
         *number = sum(*number, 1)?;
         return Ok(());
     }
-    for object in domains[depth].as_slice() {
-        values.push(*object)?;
-        complete_live(domains, relations, literals, state, values, number, found)?;
-        values.pop();
+    let objects = domains[depth].as_slice();
+    let mut place = 0;
+    while place < objects.len() {
+        let next = next_place(candidates, state, values.as_slice(), objects, place)?;
+        if next > place {
+            let skipped = count_run(domains, relations, values, &objects[place..next])?;
+            *number = sum(*number, skipped)?;
+            place = next;
+        } else {
+            values.push(objects[place])?;
+            complete_live(
+                domains, relations, literals, state, candidates, values, number, found,
+            )?;
+            values.pop();
+            place += 1;
+        }
     }
     Ok(())
 }
@@ -129,9 +81,11 @@ pub(crate) fn live_assignments(
 ) -> Result<(Vec<(u64, ObjectList)>, u64), AllocError>
     requires relations { AreRelationsOf relations.now (length domains.now) }
     requires literals { AreLiteralsOf literals.now (length domains.now) }
+    requires ascending { All (IsStrictlySortedBy nat_cmp) domains.now }
     ensures found { IfOk result (λ r. r.0.items ≡ live_from state.now literals.now first (matches domains.now relations.now)) }
     ensures next { IfOk result (λ r. r.1 ≡ first + length (matches domains.now relations.now)) }
 {
+    let candidates = all_candidates(alloc, domains, literals, state)?;
     let mut values = ObjectList::new(alloc);
     let mut number = first;
     let mut found = Vec::new(alloc);
@@ -140,6 +94,7 @@ pub(crate) fn live_assignments(
         relations,
         literals,
         state,
+        &candidates,
         &mut values,
         &mut number,
         &mut found,

@@ -1,6 +1,5 @@
 pub mod Cache
 pub mod Choices
-pub mod Example
 pub mod Grounded
 pub mod Hashes
 pub mod Laws

@@ -17,7 +17,3 @@ pub use config::Config;
 pub use machine::WordMachine;
 pub use start::starts;
 
-#[cfg(test)]
-mod example;
-#[cfg(test)]
-mod tests;

@@ -1,5 +1,5 @@
 use Rattle.std.proofs.Common.{◌≡◌, map, take, length}
-use Rattle.hddl_build.specs.ObjectLists.{lists_of}
+use Rattle.hddl_names.specs.Rows.{lists_of}
 use Rattle.hddl_build.proofs.objects.object_types.Given as goal
 
 abbrev pub invariant-loop-objects : goal.invariant-loop-objects

@@ -12,7 +12,7 @@ use Rattle.hddl_tree.specs.declared.domain.PredicateText.{PredicateText}
 use Rattle.hddl_tree.specs.declared.domain.TaskText.{TaskText}
 use Rattle.hddl_meaning.specs.Names.{object_names, type_names}
 use Rattle.hddl_meaning.specs.Building.{Vocabulary, IsMethodOf, IsNetworkOf, action_of, atom_of, compound_of, equality_of, formulas_of, predicate_of, types_of, variables_of}
-use Rattle.hddl_build.specs.ObjectLists.{lists_of}
+use Rattle.hddl_names.specs.Rows.{lists_of}
 use Rattle.hddl_build.proofs.TypeObjects.{ascends, has_members, lies_within}
 use Rattle.hddl_build.proofs.task.parts_of.Goals as goal
 

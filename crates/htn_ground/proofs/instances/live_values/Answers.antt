@@ -1,4 +1,7 @@
 use Rattle.std.proofs.Common.{◌≡◌, ◌+◌, ◌∙◌, List, [], ap, arith, cond, length, subst, sym, ℕ}
+use Rattle.std.specs.List.{All}
+use Rattle.std.specs.List.Sorted.{IsStrictlySortedBy}
+use Rattle.std.specs.Ordering.{nat_cmp}
 use Rattle.std.proofs.lemmas.List.{length-map}
 use Rattle.htn_model.specs.Schema.{EqualitySchema}
 use Rattle.htn_model.specs.State.{State}
@@ -31,7 +34,7 @@ live_assignments-requires c =
     let t = c.args.task.now in
     let s = c.args.conditions.now in
     let long : length s.parameters ≡ length c.deref.result.now =
-    sym (ap (λ (l : List (List ℕ)). length l) (c.deref.ensures.value ∙ c.in_ok-lists.ensures)
+    sym (ap (λ (l : List (List ℕ)). length l) (c.deref.ensures.value ∙ c.in_ok-lists.ensures.lists)
     ∙ length-narrowed (singles_of t s) 0 (domains_of t s.parameters) ∙ length-map s.parameters (objects_of t)) in
     let related : c.deref-2.result.now ≡ all_relations s.equalities =
     c.deref-2.ensures.value ∙ c.in_ok-relations.ensures ∙ ap (λ (es : List EqualitySchema). all_relations es) c.equalities.ensures in
@@ -40,6 +43,7 @@ live_assignments-requires c =
           subst (λ (rs : List Relation). AreRelationsOf rs (length c.deref.result.now)) (sym related)
           (subst (λ (n : ℕ). AreRelationsOf (all_relations s.equalities) n) long (relations_bound (length s.parameters) s.equalities c.requires.bound.equalities));
       literals = subst (λ (n : ℕ). AreLiteralsOf c.args.literals.now n) long c.requires.literals;
+      ascending = subst (λ (ls : List (List ℕ)). All (IsStrictlySortedBy nat_cmp) ls) (sym c.deref.ensures.value) c.in_ok-lists.ensures.ascending;
     }
 
 pub returns-clause-found : goal.returns-clause-found
@@ -52,7 +56,7 @@ returns-clause-found c =
     c.deref-2.ensures.value ∙ c.in_ok-relations.ensures ∙ ap (λ (es : List EqualitySchema). all_relations es) c.equalities.ensures in
     c.in_ok-found.ensures.found
     ∙ ap (λ (state : State). live_from state ls first (matches c.deref.result.now c.deref-2.result.now)) c.initial_atoms.ensures.value
-    ∙ (λ i. live_from t.initial_atoms ls first (matches ((c.deref.ensures.value ∙ c.in_ok-lists.ensures) i) (related i)))
+    ∙ (λ i. live_from t.initial_atoms ls first (matches ((c.deref.ensures.value ∙ c.in_ok-lists.ensures.lists) i) (related i)))
     ∙ ap (λ b. live_from t.initial_atoms ls first (cond b (matches (narrowed (singles_of t s) 0 (domains_of t s.parameters)) (all_relations_of s)) [])) c.if-not-constants_hold.ensures
     ∙ ap (λ (l : List (List ℕ)). live_from t.initial_atoms ls first l) (sym (instances_parts t s c.requires.bound))
 
@@ -64,6 +68,6 @@ returns-clause-next c =
     let related : c.deref-2.result.now ≡ all_relations s.equalities =
     c.deref-2.ensures.value ∙ c.in_ok-relations.ensures ∙ ap (λ (es : List EqualitySchema). all_relations es) c.equalities.ensures in
     c.in_ok-found.ensures.next
-    ∙ (λ i. first + length (matches ((c.deref.ensures.value ∙ c.in_ok-lists.ensures) i) (related i)))
+    ∙ (λ i. first + length (matches ((c.deref.ensures.value ∙ c.in_ok-lists.ensures.lists) i) (related i)))
     ∙ ap (λ b. first + length (cond b (matches (narrowed (singles_of t s) 0 (domains_of t s.parameters)) (all_relations_of s)) [])) c.if-not-constants_hold.ensures
     ∙ ap (λ (l : List (List ℕ)). first + length l) (sym (instances_parts t s c.requires.bound))

@@ -1,11 +1,14 @@
-use Rattle.std.proofs.Common.{◌≡◌, ◌∙◌, sym, ap, true, false, List, ℕ, ◌++◌, ◌∷◌, [], ◌<◌, ◌+◌, length, get_or, arith, append-nil, drop, subst, refl}
+use Rattle.std.proofs.Common.{◌≡◌, ◌∙◌, sym, ap, true, false, List, ℕ, ◌++◌, ◌∷◌, [], ◌<◌, ◌+◌, length, get_or, arith, append-nil, drop, take, subst, refl, ◌≤◌, ◌-◌}
 use Rattle.std.specs.List.{flat_map}
 use Rattle.std.proofs.lemmas.List.{take_all}
 use Rattle.htn_model.specs.Instances.{assignments}
 use Rattle.htn_ground.specs.Search.{bound_relations_hold, completions}
 use Rattle.htn_ground.specs.Search.{is_ruled_out_so_far, live_from, AreLiteralsOf}
 use Rattle.htn_ground.proofs.Completions.{completions_none, completions_leaf, completions_step}
-use Rattle.htn_ground.proofs.Counts.{live_none, live_leaf, live_more, popped}
+use Rattle.htn_ground.proofs.Counting.{live_none, live_leaf, live_more, popped}
+use Rattle.htn_ground.specs.Candidates.{is_left_out}
+use Rattle.htn_ground.proofs.Excluded.{left_out}
+use Rattle.htn_ground.proofs.Skipped.{live_skip}
 use Rattle.htn_ground.proofs.search.+complete_live.Goals as goal
 
 pub returns-then-not-bound_relations_hold_of-clause-found :
@@ -50,19 +53,42 @@ returns-then-depth-domains-clause-number t c =
     let one : length (completions c.args.domains.now c.args.relations.now values) ≡ 1 = ap length (completions_leaf c.args.domains.now c.args.relations.now values c.requires.relations long holds) in
     c.in_ok-number-2.ensures ∙ ap (λ (n : ℕ). c.args.number.now + n) (sym one)
 
-pub loop-object-preserved : goal.loop-object-preserved
-loop-object-preserved t c =
+pub loop-place-preserved : goal.loop-place-preserved
+loop-place-preserved t c =
     let values = c.args.values.now in
-    let object = get_or c.as_slice-object-items.result.now c.loop-object.object-index 0 in
+    let objects = c.as_slice-objects.result.now in
+    let place = c.loop-place.place in
+    let object = get_or objects place 0 in
     let pieces : ℕ → List (List ℕ) = λ o. completions c.args.domains.now c.args.relations.now (values ++ o ∷ []) in
-    let pushed : c.push-in-loop-object.new.self ≡ values ++ object ∷ [] = c.in_ok-push-2.ensures.ok ∙ ap (λ (v : List ℕ). v ++ object ∷ []) c.loop-object.invariant.0 in
+    let pushed : c.push-else-next-place.new.self ≡ values ++ object ∷ [] = c.in_ok-push-2.ensures.ok ∙ ap (λ (v : List ℕ). v ++ object ∷ []) c.loop-place.invariant.1 in
     let more = c.in_ok-complete_live.ensures in
-    let step = live_more c.args.state.now c.args.literals.now pieces c.as_slice-object-items.result.now c.loop-object.object-index object
-    c.args.number.now c.loop-object.number c.complete_live.new.number c.args.found.now.items c.loop-object.found.items c.complete_live.new.found.items
-    c.loop-object-test.true refl c.loop-object.invariant.1 c.loop-object.invariant.2
-    (more.found ∙ ap (λ (v : List ℕ). c.loop-object.found.items ++ live_from c.args.state.now c.args.literals.now c.loop-object.number (completions c.args.domains.now c.args.relations.now v)) pushed)
-    (more.number ∙ ap (λ (v : List ℕ). c.loop-object.number + length (completions c.args.domains.now c.args.relations.now v)) pushed) in
-    (popped values c.complete_live.new.values c.pop.new.self object (more.values ∙ pushed) c.pop.ensures, step.0, step.1)
+    let step = live_more c.args.state.now c.args.literals.now pieces objects place object
+    c.args.number.now c.loop-place.number c.complete_live.new.number c.args.found.now.items c.loop-place.found.items c.complete_live.new.found.items
+    c.loop-place-test.true refl c.loop-place.invariant.2 c.loop-place.invariant.3
+    (more.found ∙ ap (λ (v : List ℕ). c.loop-place.found.items ++ live_from c.args.state.now c.args.literals.now c.loop-place.number (completions c.args.domains.now c.args.relations.now v)) pushed)
+    (more.number ∙ ap (λ (v : List ℕ). c.loop-place.number + length (completions c.args.domains.now c.args.relations.now v)) pushed) in
+    (omega (arith, c.loop-place-test.true), popped values c.complete_live.new.values c.pop.new.self object (more.values ∙ pushed) c.pop.ensures, step.0, step.1)
+
+pub loop-place-preserved-then-next-place : goal.loop-place-preserved-then-next-place
+loop-place-preserved-then-next-place t c =
+    let state = c.args.state.now in
+    let literals = c.args.literals.now in
+    let domains = c.args.domains.now in
+    let relations = c.args.relations.now in
+    let values = c.args.values.now in
+    let objects = c.as_slice-objects.result.now in
+    let place = c.loop-place.place in
+    let next = c.in_ok-next.next in
+    let same : c.as_slice-in-loop-place.result.now ≡ values = c.as_slice-in-loop-place.ensures ∙ c.loop-place.invariant.1 in
+    let dead : (k d : ℕ) → place ≤ k → k < next → is_ruled_out_so_far state literals (values ++ get_or objects k d ∷ []) ≡ true = λ k d late inside.
+    left_out state literals c.args.candidates.now values (get_or objects k d) c.requires.candidates
+    (ap (λ (v : List ℕ). is_left_out state c.args.candidates.now v (get_or objects k d)) (sym same) ∙ c.in_ok-next.ensures.left_out k d late inside) in
+    let counted : c.in_ok-skipped-2.skipped ≡ length (flat_map (λ (o : ℕ). completions domains relations (values ++ o ∷ [])) (take (next - place) (drop place objects))) =
+    c.in_ok-skipped-2.ensures.count
+    ∙ ap (λ (v : List ℕ). length (flat_map (λ (o : ℕ). completions domains relations (v ++ o ∷ [])) (take (next - place) (drop place objects)))) c.loop-place.invariant.1 in
+    let step = live_skip state literals domains relations values objects place next c.args.number.now c.loop-place.number c.in_ok-number-3.field-0 c.in_ok-skipped-2.skipped
+    c.args.found.now.items c.loop-place.found.items (omega (arith, c.if-next-place.true)) c.in_ok-next.ensures.within.1 dead c.loop-place.invariant.2 c.loop-place.invariant.3 counted c.in_ok-number-3.ensures in
+    (c.in_ok-next.ensures.within.1, c.in_ok-skipped-2.ensures.values ∙ c.loop-place.invariant.1, step.0, step.1)
 
 pub returns-clause-found : goal.returns-clause-found
 returns-clause-found t c =
@@ -74,9 +100,9 @@ returns-clause-found t c =
     let below : length values < length domains = omega (arith, c.requires.small, c.len-depth.ensures, c.if-depth-domains.false) in
     let pieces : ℕ → List (List ℕ) = λ object. completions domains relations (values ++ object ∷ []) in
     let live : List (List ℕ) → List (ℕ × List ℕ) = λ l. c.args.found.now.items ++ live_from c.args.state.now c.args.literals.now c.args.number.now l in
-    c.loop-object.invariant.1
+    c.loop-place.invariant.2
     ∙ ap (λ (l : List ℕ). live (flat_map pieces l))
-    (take_all c.loop-object.object-index c.as_slice-object-items.result.now c.loop-object-test.false ∙ c.as_slice-object-items.ensures)
+    (take_all c.loop-place.place c.as_slice-objects.result.now c.loop-place-test.false ∙ c.as_slice-objects.ensures)
     ∙ ap live (sym (completions_step domains relations values domain below here))
 
 pub returns-clause-number : goal.returns-clause-number
@@ -88,7 +114,7 @@ returns-clause-number t c =
     let here : domain ≡ get_or domains (length values) domain = c.index-domains-depth.is ∙ ap (λ (n : ℕ). get_or domains n domain) c.len-depth.ensures in
     let below : length values < length domains = omega (arith, c.requires.small, c.len-depth.ensures, c.if-depth-domains.false) in
     let pieces : ℕ → List (List ℕ) = λ object. completions domains relations (values ++ object ∷ []) in
-    c.loop-object.invariant.2
+    c.loop-place.invariant.3
     ∙ ap (λ (l : List ℕ). c.args.number.now + length (flat_map pieces l))
-    (take_all c.loop-object.object-index c.as_slice-object-items.result.now c.loop-object-test.false ∙ c.as_slice-object-items.ensures)
+    (take_all c.loop-place.place c.as_slice-objects.result.now c.loop-place-test.false ∙ c.as_slice-objects.ensures)
     ∙ ap (λ (l : List (List ℕ)). c.args.number.now + length l) (sym (completions_step domains relations values domain below here))

@@ -12,7 +12,7 @@ returns-in-Some-clause-name c =
     let keys = c.self.inside.texts.keys in
     named_at (texts_of keys) c.args.number c.as_slice.result.now c.self.invariant
     (slice_get-map (λ (v : Vec ℕ Global). v.items) keys c.args.number ∙ ap (option_map (λ (v : Vec ℕ Global). v.items)) (sym c.in-Some.ensures.key)
-      ∙ ap (λ (l : List ℕ). Some l) (sym c.as_slice.ensures.value))
+    ∙ ap (λ (l : List ℕ). Some l) (sym c.as_slice.ensures.value))
 
 pub returns-in-None-clause-value : goal.returns-in-None-clause-value
 returns-in-None-clause-value c =

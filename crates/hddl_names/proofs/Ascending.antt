@@ -1,0 +1,172 @@
+-- Lists of objects that grow by one object after another.
+use Rattle.std.proofs.Common.{◌≡◌, ◌≢◌, ℕ, ◌<◌, ◌+◌, ◌||◌, Bool, true, false, cond, List, [], ◌∷◌, ◌++◌, refl, sym, ap, subst, ◌∙◌, arith, ⊎_elim, nat_eq, length, get_or, set, take, replicate, get_or-set_same, get_or-set_other}
+use Rattle.std.specs.List.{Contains, AllByRecursion, IsDistinct, list_any}
+use Rattle.std.specs.List.Sorted.{IsStrictlySortedBy}
+use Rattle.std.specs.Ordering.{nat_cmp}
+use Rattle.std.specs.declared.cmp.Ordering.TheVariants.{Less, Equal, Greater}
+use Rattle.std.specs.Cmp.{unsigned_Decides}
+use Rattle.std.proofs.lemmas.Cmp.{nat_eq_equiv}
+use Rattle.std.proofs.lemmas.Bool.{cases_Bool, cases_eq, cases_lt, eqb-true, eq-eqb, lt-ltb, or_left, or_right}
+use Rattle.std.proofs.lemmas.List.{take_more, get_or-take, length-take, append-nil, get_or-replicate, get_or_past, length-replicate, get_or_default}
+use Rattle.std.proofs.lemmas.List.Folds.{list_any-append}
+use Rattle.std.proofs.lemmas.List.Elements.{Contains-append_left, Contains-append_right, Contains-append_cases}
+use Rattle.std.proofs.lemmas.Map.Made.{AllPairs-from_IsDistinct}
+use Rattle.std.proofs.lemmas.Map.Views.{list_any-from_Contains, Contains-from_any}
+use Rattle.hddl_names.specs.Reach.{Reaches, IsAboveSome, IsReached}
+use Rattle.hddl_names.specs.Rows.{AreRows}
+use Rattle.hddl_names.specs.Members.{AreFilled}
+use Rattle.indexmap.specs.IndexSet.{insert_all}
+use Rattle.hddl_names.proofs.Distinct.{insert_all-old, insert_all-new, insert_all-cases}
+use Rattle.hddl_names.proofs.Within.{first, cons_cases, nothing}
+
+-- ## An object more for some types
+
+-- a number of a list without repeats is not among those before it
+pub not-before : (xs : List ℕ) (i : ℕ) → IsDistinct nat_eq xs → i < length xs → list_any (nat_eq (get_or xs i 0)) (take i xs) ≡ false
+not-before xs i different lt = ⊎_elim (λ e. absurd (twice (Contains-from_any eqb-true (get_or xs i 0) (take i xs) e))) (λ e. e) (cases_Bool (list_any (nat_eq (get_or xs i 0)) (take i xs)))
+  where
+    twice : Contains (take i xs) (get_or xs i 0) → ⊥
+    twice (j, below, is) =
+        let len = length-take i xs in
+        let less : j < i = omega (arith, below, len, lt) in
+        AllPairs-from_IsDistinct unsigned_Decides xs different j i 0 less lt (sym (get_or-take i xs j 0 less) ∙ get_or_default (take i xs) j 0 (get_or xs i 0) below ∙ is)
+
+pub any-more : (k : ℕ) (xs : List ℕ) (i : ℕ) → i < length xs → list_any (nat_eq k) (take (i + 1) xs) ≡ (list_any (nat_eq k) (take i xs) || (nat_eq k (get_or xs i 0) || false))
+any-more k xs i lt = ap (list_any (nat_eq k)) (take_more xs i 0 lt) ∙ list_any-append (nat_eq k) (take i xs) (get_or xs i 0 ∷ [])
+
+pub pushed-more : (start now new : List (List ℕ)) (types : List ℕ) (i o : ℕ) → IsDistinct nat_eq types → i < length types → get_or types i 0 < length now
+    → new ≡ set now (get_or types i 0) (get_or now (get_or types i 0) [] ++ o ∷ [])
+    → ((k : ℕ) → get_or now k [] ≡ get_or start k [] ++ cond (list_any (nat_eq k) (take i types)) (o ∷ []) [])
+    → (k : ℕ) → get_or new k [] ≡ get_or start k [] ++ cond (list_any (nat_eq k) (take (i + 1) types)) (o ∷ []) []
+pushed-more start now new types i o different lt small is before k = ⊎_elim same other (cases_eq k t)
+  where
+    t : ℕ
+    t = get_or types i 0
+
+    at : ℕ → Bool → List ℕ
+    at k b = get_or start k [] ++ cond b (o ∷ []) []
+
+    was : get_or now t [] ≡ get_or start t []
+    was = before t ∙ ap (λ b. get_or start t [] ++ cond b (o ∷ []) []) (not-before types i different lt) ∙ append-nil (get_or start t [])
+
+    here : list_any (nat_eq t) (take (i + 1) types) ≡ true
+    here = any-more t types i lt ∙ or_right (list_any (nat_eq t) (take i types)) (nat_eq t t || false) (or_left (nat_eq t t) false (eq-eqb t t refl))
+
+    at_t : get_or new t [] ≡ get_or start t [] ++ cond (list_any (nat_eq t) (take (i + 1) types)) (o ∷ []) []
+    at_t = ap (λ l. get_or l t []) is ∙ get_or-set_same now t (get_or now t [] ++ o ∷ []) [] small ∙ ap (λ l. l ++ o ∷ []) was
+        ∙ ap (λ b. get_or start t [] ++ cond b (o ∷ []) []) (sym here)
+
+    same : k ≡ t → get_or new k [] ≡ get_or start k [] ++ cond (list_any (nat_eq k) (take (i + 1) types)) (o ∷ []) []
+    same e = subst (λ k. get_or new k [] ≡ get_or start k [] ++ cond (list_any (nat_eq k) (take (i + 1) types)) (o ∷ []) []) (sym e) at_t
+
+    stays : k ≢ t → list_any (nat_eq k) (take (i + 1) types) ≡ list_any (nat_eq k) (take i types)
+    stays ne =
+        any-more k types i lt
+        ∙ ap (λ b. list_any (nat_eq k) (take i types) || (b || false)) (⊎_elim (λ e. absurd (ne (eqb-true k t e))) (λ e. e) (cases_Bool (nat_eq k t)))
+        ∙ no_more (list_any (nat_eq k) (take i types))
+      where
+        no_more : (b : Bool) → (b || (false || false)) ≡ b
+        no_more true = refl
+        no_more false = refl
+
+    other : k ≢ t → get_or new k [] ≡ get_or start k [] ++ cond (list_any (nat_eq k) (take (i + 1) types)) (o ∷ []) []
+    other ne = ap (λ l. get_or l k []) is ∙ get_or-set_other now t k (get_or now t [] ++ o ∷ []) [] ne ∙ before k ∙ ap (λ b. get_or start k [] ++ cond b (o ∷ []) []) (sym (stays ne))
+
+-- ## What some types lead to
+
+pub above-more : (pairs : List (ℕ × ℕ)) (rows : List (List ℕ)) (starts found above new : List ℕ) (i : ℕ) → i < length starts → AreRows pairs rows → IsReached rows (get_or starts i 0) above
+    → new ≡ insert_all nat_eq found above → IsAboveSome pairs (take i starts) found → IsAboveSome pairs (take (i + 1) starts) new
+above-more pairs rows starts found above new i lt are reached is some x = (to, from)
+  where
+    s : ℕ
+    s = get_or starts i 0
+
+    more : take (i + 1) starts ≡ take i starts ++ s ∷ []
+    more = take_more starts i 0 lt
+
+    to : Contains new x → (t : ℕ) × Contains (take (i + 1) starts) t × Reaches pairs t x
+    to h =
+        ⊎_elim
+        (λ old. let t = (some x).0 old in (t.0, subst (λ l. Contains l t.0) (sym more) (Contains-append_left (take i starts) (s ∷ []) t.0 t.1), t.2))
+        (λ there. (s, subst (λ l. Contains l s) (sym more) (Contains-append_right (take i starts) (s ∷ []) s (first s [])), (reached pairs are x).0 there))
+        (insert_all-cases nat_eq found above x (subst (λ l. Contains l x) is h))
+
+    from : ((t : ℕ) × Contains (take (i + 1) starts) t × Reaches pairs t x) → Contains new x
+    from (t, there, r) =
+        subst (λ l. Contains l x) (sym is)
+        (⊎_elim
+        (λ old. insert_all-old nat_eq eqb-true found above x ((some x).1 (t, old, r)))
+        (λ last. insert_all-new nat_eq eqb-true found above x ((reached pairs are x).1 (subst (λ k. Reaches pairs k x) (sym (only last)) r)))
+        (Contains-append_cases (take i starts) (s ∷ []) t (subst (λ l. Contains l t) more there)))
+      where
+        only : Contains (s ∷ []) t → s ≡ t
+        only h = ⊎_elim (λ e. e) (λ none. absurd (nothing t none)) (cons_cases s t [] h)
+
+-- ## The lists
+
+less : (x y : ℕ) → x < y → nat_cmp x y ≡ Less
+less x y lt = ap (λ b. cond b Less (cond (nat_eq x y) Equal Greater)) (lt-ltb x y lt)
+
+all-push : (x y : ℕ) (xs : List ℕ) → AllByRecursion (λ z. nat_cmp x z ≡ Less) xs → nat_cmp x y ≡ Less → AllByRecursion (λ z. nat_cmp x z ≡ Less) (xs ++ y ∷ [])
+all-push x y [] all lt = (lt, tt)
+all-push x y (z ∷ zs) all lt = (all.0, all-push x y zs all.1 lt)
+
+pub sorted-push : (xs : List ℕ) (y : ℕ) → IsStrictlySortedBy nat_cmp xs → ((x : ℕ) → Contains xs x → x < y) → IsStrictlySortedBy nat_cmp (xs ++ y ∷ [])
+unfolding IsStrictlySortedBy
+sorted-push [] y sorted below = (tt, tt)
+sorted-push (x ∷ xs) y sorted below =
+    (all-push x y xs sorted.0 (less x y (below x (first x xs))), sorted-push xs y sorted.1 (λ z h. below z (Contains-append_right (x ∷ []) xs z h)))
+
+sorted-none : IsStrictlySortedBy nat_cmp []
+unfolding IsStrictlySortedBy
+sorted-none = tt
+
+pub filled-start : (pairs : List (ℕ × ℕ)) (declared : List (List ℕ)) (n : ℕ) (lists : List (List ℕ)) → lists ≡ replicate n [] → AreFilled pairs declared n 0 lists
+filled-start pairs declared n lists is =
+    subst (AreFilled pairs declared n 0) (sym is)
+    record {
+      count = length-replicate {A = List ℕ} n [];
+      ascending = λ k. subst (IsStrictlySortedBy nat_cmp) (sym (empty k)) sorted-none;
+      members = λ k o. (λ h. absurd (nothing o (subst (λ l. Contains l o) (empty k) h)), λ h. let none = h.0 in absurd (omega (arith, none)));
+    }
+  where
+    empty : (k : ℕ) → get_or (replicate {A = List ℕ} n []) k [] ≡ []
+    empty k = ⊎_elim (λ lt. get_or-replicate n k [] [] lt) (λ past. get_or_past (replicate {A = List ℕ} n []) k [] (omega (arith, past, length-replicate {A = List ℕ} n []))) (cases_lt k n)
+
+pub filled-more : (pairs : List (ℕ × ℕ)) (declared : List (List ℕ)) (n i : ℕ) (lists new : List (List ℕ)) (above : List ℕ) → IsAboveSome pairs (get_or declared i []) above
+    → length new ≡ length lists → ((k : ℕ) → get_or new k [] ≡ get_or lists k [] ++ cond (list_any (nat_eq k) above) (i ∷ []) []) → AreFilled pairs declared n i lists
+    → AreFilled pairs declared n (i + 1) new
+filled-more pairs declared n i lists new above some same grown filled =
+    record {
+      count = same ∙ filled.count;
+      ascending = λ k. subst (IsStrictlySortedBy nat_cmp) (sym (grown k)) (sorted k (list_any (nat_eq k) above));
+      members = λ k o. (λ h. to k o (list_any (nat_eq k) above) refl (subst (λ l. Contains l o) (grown k) h), λ h. subst (λ l. Contains l o) (sym (grown k)) (from k o h));
+    }
+  where
+    sorted : (k : ℕ) (b : Bool) → IsStrictlySortedBy nat_cmp (get_or lists k [] ++ cond b (i ∷ []) [])
+    sorted k true = sorted-push (get_or lists k []) i (filled.ascending k) (λ x h. ((filled.members k x).0 h).0)
+    sorted k false = subst (IsStrictlySortedBy nat_cmp) (sym (append-nil (get_or lists k []))) (filled.ascending k)
+
+    widen : (k o : ℕ) → (o < i) × ((t : ℕ) × Contains (get_or declared o []) t × Reaches pairs t k) → (o < i + 1) × ((t : ℕ) × Contains (get_or declared o []) t × Reaches pairs t k)
+    widen k o m = (let lt = m.0 in omega (arith, lt), m.1)
+
+    last : (k o : ℕ) (b : Bool) → list_any (nat_eq k) above ≡ b → Contains (cond b (i ∷ []) []) o → (o < i + 1) × ((t : ℕ) × Contains (get_or declared o []) t × Reaches pairs t k)
+    last k o true e h =
+        ⊎_elim
+        (λ is. subst (λ o. (o < i + 1) × ((t : ℕ) × Contains (get_or declared o []) t × Reaches pairs t k)) is (omega arith, (some k).0 (Contains-from_any eqb-true k above e)))
+        (λ none. absurd (nothing o none)) (cons_cases i o [] h)
+    last k o false e h = absurd (nothing o h)
+
+    to : (k o : ℕ) (b : Bool) → list_any (nat_eq k) above ≡ b → Contains (get_or lists k [] ++ cond b (i ∷ []) []) o
+        → (o < i + 1) × ((t : ℕ) × Contains (get_or declared o []) t × Reaches pairs t k)
+    to k o b e h = ⊎_elim (λ old. widen k o ((filled.members k o).0 old)) (λ new. last k o b e new) (Contains-append_cases (get_or lists k []) (cond b (i ∷ []) []) o h)
+
+    from : (k o : ℕ) → (o < i + 1) × ((t : ℕ) × Contains (get_or declared o []) t × Reaches pairs t k) → Contains (get_or lists k [] ++ cond (list_any (nat_eq k) above) (i ∷ []) []) o
+    from k o (lt, t) =
+        ⊎_elim
+        (λ before. Contains-append_left (get_or lists k []) (cond (list_any (nat_eq k) above) (i ∷ []) []) o ((filled.members k o).1 (before, t)))
+        (λ past. let is : i ≡ o = omega (arith, past, lt) in
+        let there : list_any (nat_eq k) above ≡ true = list_any-from_Contains nat_eq_equiv k above ((some k).1 (subst (λ o. (t : ℕ) × Contains (get_or declared o []) t × Reaches pairs t k) (sym is) t)) in
+        Contains-append_right (get_or lists k []) (cond (list_any (nat_eq k) above) (i ∷ []) []) o
+        (subst (λ b. Contains (cond b (i ∷ []) []) o) (sym there) (subst (Contains (i ∷ [])) is (first i []))))
+        (cases_lt o i)

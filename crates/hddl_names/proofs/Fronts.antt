@@ -1,0 +1,97 @@
+-- A search that follows the rows of each number that it found, in turn.
+use Rattle.std.proofs.Common.{◌≡◌, ℕ, zero, suc, ◌<◌, ◌≤◌, ◌+◌, List, [], ◌∷◌, refl, sym, ap, subst, ◌∙◌, arith, inl, inr, ⊎_elim, nat_eq, length, get_or}
+use Rattle.std.specs.List.{All, Contains, IsDistinct}
+use Rattle.std.proofs.lemmas.Bool.{eqb-true, cases_lt}
+use Rattle.std.proofs.lemmas.List.{get_or_append_left, get_or_default}
+use Rattle.std.proofs.Common.{slice_get, Some}
+use Rattle.std.proofs.lemmas.Option.{get_or_from_slice_get, slice_get_within}
+use Rattle.std.proofs.lemmas.List.Elements.{All-get_or, All-contains}
+use Rattle.std.specs.Cmp.{nat_eq_equiv}
+use Rattle.std.proofs.lemmas.Map.Steps.{length-le_from_distinct_below}
+use Rattle.indexmap.specs.IndexSet.{insert_all}
+use Rattle.indexmap.proofs.CallerLemmas.{Contains-list_any}
+use Rattle.hddl_names.proofs.Distinct.{insert_all-more, insert_all-old, insert_all-new, insert_all-cases, insert-different, insert_all-different}
+use Rattle.htn_order.specs.Closure.{Precedes, Direct, Through}
+use Rattle.hddl_names.specs.Rows.{AreRows, AreWithin}
+use Rattle.hddl_names.specs.Reach.{Reaches, IsReached}
+
+-- ## The search
+
+-- the numbers that were found, of which the rows of the first i were followed
+pub record IsFront (rows : List (List ℕ)) (start : ℕ) (found : List ℕ) (i : ℕ) : Type 0 where
+  pub starts : Contains found start
+  pub different : IsDistinct nat_eq found
+  pub within : (x : ℕ) → Contains found x → x < length rows
+  pub sound : (pairs : List (ℕ × ℕ)) → AreRows pairs rows → (x : ℕ) → Contains found x → Reaches pairs start x
+  pub closed : (j y : ℕ) → j < i → j < length found → Contains (get_or rows (get_or found j 0) []) y → Contains found y
+
+only : (x y : ℕ) → Contains (x ∷ []) y → x ≡ y
+only x y (zero, lt, is) = is
+only x y (suc k, lt, is) = absurd (omega (arith, lt))
+
+pub front_start : (rows : List (List ℕ)) (start : ℕ) (found : List ℕ) → found ≡ start ∷ [] → start < length rows → IsFront rows start found 0
+unfolding IsDistinct
+front_start rows start found is lt =
+    subst (λ f. IsFront rows start f 0) (sym is)
+    record {
+      starts = (0, omega arith, refl);
+      different = insert-different nat_eq_equiv [] start tt;
+      within = λ x h. subst (λ k. k < length rows) (only start x h) lt;
+      sound = λ pairs are x h. inl (only start x h);
+      closed = λ j y below small h. absurd (omega (arith, below));
+    }
+
+pub one_more : (pairs : List (ℕ × ℕ)) (a b c : ℕ) → Reaches pairs a b → Contains {X = ℕ × ℕ} pairs (b, c) → Reaches pairs a c
+one_more pairs a b c (inl is) pair = inr (Direct a c (subst (λ x. Contains {X = ℕ × ℕ} pairs (x, c)) (sym is) pair))
+one_more pairs a b c (inr r) pair = inr (along a b r pair)
+  where
+    along : (x y : ℕ) → Precedes pairs x y → Contains {X = ℕ × ℕ} pairs (y, c) → Precedes pairs x c
+    along _ _ (Direct x y first) pair = Through x y c first (Direct y c pair)
+    along _ _ (Through x m y first rest) pair = Through x m c first (along m y rest pair)
+
+pub front_more : (rows : List (List ℕ)) (start : ℕ) (found new : List ℕ) (i t : ℕ) → AreWithin rows → slice_get found i ≡ Some t → new ≡ insert_all nat_eq found (get_or rows t [])
+    → IsFront rows start found i → IsFront rows start new (i + 1)
+front_more rows start found new i t square at is front =
+    subst (λ f. IsFront rows start f (i + 1)) (sym is)
+    record {
+      starts = insert_all-old nat_eq eqb-true found row start front.starts;
+      different = insert_all-different nat_eq_equiv found row front.different;
+      within = λ x h. ⊎_elim (front.within x) (λ there. All-contains (λ x. x < length rows) row x (All-get_or (All (λ x. x < length rows)) rows t [] (front.within t here) square) there) (insert_all-cases nat_eq found row x h);
+      sound = λ pairs are x h. ⊎_elim (front.sound pairs are x) (λ there. one_more pairs start t x (front.sound pairs are t here) ((are t x).0 there)) (insert_all-cases nat_eq found row x h);
+      closed = λ j y below small h. ⊎_elim
+          (λ less. insert_all-old nat_eq eqb-true found row y (front.closed j y less (omega (arith, less, inside)) (subst (λ x. Contains (get_or rows x []) y) (kept j (omega (arith, less, inside))) h)))
+          (λ past. let last : j ≡ i = omega (arith, past, below) in
+          insert_all-new nat_eq eqb-true found row y (subst (λ x. Contains (get_or rows x []) y) (ap (λ k. get_or (insert_all nat_eq found row) k 0) last ∙ kept i inside ∙ read) h))
+          (cases_lt j i);
+    }
+  where
+    row : List ℕ
+    row = get_or rows t []
+
+    inside : i < length found
+    inside = slice_get_within found i t at
+
+    read : get_or found i 0 ≡ t
+    read = get_or_from_slice_get found i t 0 at
+
+    here : Contains found t
+    here = (i, inside, get_or_from_slice_get found i t t at)
+
+    kept : (j : ℕ) → j < length found → get_or (insert_all nat_eq found row) j 0 ≡ get_or found j 0
+    kept j lt = let grown = insert_all-more nat_eq found row in ap (λ l. get_or l j 0) grown.1 ∙ get_or_append_left found grown.0 0 j lt
+
+pub front_end : (rows : List (List ℕ)) (start : ℕ) (found : List ℕ) (i : ℕ) → length found ≤ i → IsFront rows start found i → IsReached rows start found
+front_end rows start found i all front pairs are x = (front.sound pairs are x, λ r. ⊎_elim (λ is. subst (Contains found) is front.starts) (λ p. along start x p front.starts) r)
+  where
+    closed : (a b : ℕ) → Contains found a → Contains {X = ℕ × ℕ} pairs (a, b) → Contains found b
+    closed a b (k, lt, is) pair =
+        front.closed k b (omega (arith, lt, all)) lt (subst (λ x. Contains (get_or rows x []) b) (sym (get_or_default found k 0 a lt ∙ is)) ((are a b).1 pair))
+
+    along : (a b : ℕ) → Precedes pairs a b → Contains found a → Contains found b
+    along _ _ (Direct a b first) here = closed a b here first
+    along _ _ (Through a b c first rest) here = along b c rest (closed a b here first)
+
+-- there are at most as many numbers as rows
+pub front_small : (rows : List (List ℕ)) (start : ℕ) (found : List ℕ) (i : ℕ) → IsFront rows start found i → length found ≤ length rows
+front_small rows start found i front =
+    length-le_from_distinct_below found (length rows) front.different (λ q h. front.within q (Contains-list_any nat_eq eqb-true found q h))

@@ -1,0 +1,130 @@
+-- The types that the constants and objects have by their declarations.
+use Rattle.std.proofs.Common.{◌≡◌, ℕ, ◌<◌, ◌≤◌, ◌++◌, List, [], map, sym, ap, subst, ◌∙◌, arith, inl, inr, length, get_or}
+use Rattle.std.specs.List.{Contains, All}
+use Rattle.std.proofs.lemmas.List.{map-append}
+use Rattle.std.proofs.lemmas.List.Elements.{Contains-get_or, All-contains, All-from_get_or}
+use Rattle.htn_order.specs.Closure.{Precedes, Direct, Through, AreBelow}
+use Rattle.hddl_tree.specs.declared.term.NameGroup.{NameGroup}
+use Rattle.hddl_tree.specs.declared.domain.DomainText.{DomainText}
+use Rattle.hddl_tree.specs.declared.problem.ProblemText.{ProblemText}
+use Rattle.hddl_meaning.specs.Mentions.{Typed, typed_names, mentions_of, texts}
+use Rattle.hddl_meaning.specs.Names.{number_in, type_names, object_names, object_declarations}
+use Rattle.hddl_meaning.specs.Types.{text_or_object, HasType, IsBelow}
+use Rattle.hddl_meaning.specs.Building.{Vocabulary, vocabulary_of}
+use Rattle.hddl_names.specs.Rows.{AreRows}
+use Rattle.hddl_names.specs.Reach.{Reaches, IsAboveSome}
+use Rattle.hddl_names.specs.Members.{AreTyped, AreMembersOf, AreFilled, declared_in, number_typed, object_at}
+use Rattle.hddl_names.specs.TypeNumbers.{type_at, numbered_pairs}
+use Rattle.hddl_names.proofs.Texts.{distinct-has, distinct-different, number-small, number-names, number-at}
+use Rattle.hddl_names.proofs.Parents.{numbers-below, below-reaches, reaches-below, type-number}
+use Rattle.hddl_names.proofs.Within.{mapped, unmapped}
+
+-- ## What is reached is a type
+
+led-small : (n : ℕ) (ps : List (ℕ × ℕ)) (a b : ℕ) → AreBelow n ps → Precedes ps a b → b < n
+led-small n ps _ _ below (Direct a b pair) = (All-contains (λ (p : ℕ × ℕ). (p.0 < n) × (p.1 < n)) ps (a, b) below pair).1
+led-small n ps _ _ below (Through a b c pair rest) = led-small n ps b c below rest
+
+pub reached-small : (d : DomainText) (t x : ℕ) → t < length (type_names d) → Reaches (numbered_pairs d) t x → x < length (type_names d)
+reached-small d t x small (inl is) = subst (λ k. k < length (type_names d)) is small
+reached-small d t x small (inr r) = led-small (length (type_names d)) (numbered_pairs d) t x (numbers-below d) r
+
+pub above-small : (d : DomainText) (starts found all : List ℕ) (n : ℕ) → n ≡ length (type_names d) → All (λ t. t < length (type_names d)) starts → IsAboveSome (numbered_pairs d) starts found
+    → all ≡ found → All (λ x. x < n) all
+above-small d starts found all n count small some is =
+    subst (λ l. All (λ x. x < n) l) (sym is)
+    (All-from_get_or (λ x. x < n) found 0 (λ i lt. let t = (some (get_or found i 0)).0 (Contains-get_or found i 0 lt) in
+    subst (λ n. get_or found i 0 < n) (sym count) (reached-small d t.0 (get_or found i 0) (All-contains (λ t. t < length (type_names d)) starts t.0 small t.1) t.2)))
+
+-- ## Declarations by number
+
+pub object-name : (d : DomainText) (p : ProblemText) (t : Typed) → Contains (object_declarations d p) t → Contains (object_names d p) t.mention.text
+object-name d p t h =
+    distinct-has (texts (mentions_of (object_declarations d p))) t.mention.text
+    (mapped (λ m. m.text) (mentions_of (object_declarations d p)) t.mention (mapped (λ (t : Typed). t.mention) (object_declarations d p) t h))
+
+-- the pairs were collected with the names of the pair
+pub record AreDeclared (d : DomainText) (p : ProblemText) (v : Vocabulary) (constants objects : List NameGroup) (pairs : List (ℕ × ℕ)) : Type 0 where
+  pub vocabulary : v ≡ vocabulary_of d p
+  pub first : constants ≡ d.constants
+  pub second : objects ≡ p.objects
+  pub listed : pairs ≡ declared_in v.objects v.types constants ++ declared_in v.objects v.types objects
+
+pub declared-is : (d : DomainText) (p : ProblemText) (v : Vocabulary) (constants objects : List NameGroup) (pairs : List (ℕ × ℕ)) → AreDeclared d p v constants objects pairs
+    → pairs ≡ map (number_typed (object_names d p) (type_names d)) (object_declarations d p)
+declared-is d p v constants objects pairs h =
+    h.listed
+    ∙ ap (λ (v : Vocabulary). declared_in v.objects v.types constants ++ declared_in v.objects v.types objects) h.vocabulary
+    ∙ ap (λ (gs : List NameGroup). declared_in (object_names d p) (type_names d) gs ++ declared_in (object_names d p) (type_names d) objects) h.first
+    ∙ ap (λ (gs : List NameGroup). declared_in (object_names d p) (type_names d) d.constants ++ declared_in (object_names d p) (type_names d) gs) h.second
+    ∙ sym (map-append (number_typed (object_names d p) (type_names d)) (typed_names d.constants) (typed_names p.objects))
+
+pub declared-small : (d : DomainText) (p : ProblemText) (y : ℕ × ℕ) → AreTyped d p
+    → Contains {X = ℕ × ℕ} (map (number_typed (object_names d p) (type_names d)) (object_declarations d p)) y → (y.0 < length (object_names d p)) × (y.1 < length (type_names d))
+declared-small d p y typed h =
+    let t = unmapped (number_typed (object_names d p) (type_names d)) (object_declarations d p) y h in
+    subst (λ (y : ℕ × ℕ). (y.0 < length (object_names d p)) × (y.1 < length (type_names d))) t.2
+    (number-small (object_names d p) t.0.mention.text (object-name d p t.0 t.1), number-small (type_names d) (text_or_object t.0.of_type) (type-number d (text_or_object t.0.of_type) (typed t.0 t.1)))
+
+pub declared-below : (d : DomainText) (p : ProblemText) (pairs all : List (ℕ × ℕ)) (size : ℕ) → AreTyped d p
+    → pairs ≡ map (number_typed (object_names d p) (type_names d)) (object_declarations d p) → all ≡ pairs → length (object_names d p) ≤ size → length (type_names d) ≤ size → AreBelow size all
+declared-below d p pairs all size typed is same objects types =
+    subst (λ (ps : List (ℕ × ℕ)). AreBelow size ps) (sym (same ∙ is))
+    (All-from_get_or (λ (p : ℕ × ℕ). (p.0 < size) × (p.1 < size)) (map (number_typed (object_names d p) (type_names d)) (object_declarations d p)) (0, 0)
+    (λ i lt. let y = get_or (map (number_typed (object_names d p) (type_names d)) (object_declarations d p)) i (0, 0) in
+    let small = declared-small d p y typed (Contains-get_or (map (number_typed (object_names d p) (type_names d)) (object_declarations d p)) i (0, 0) lt) in
+    let a = small.0 in
+    let b = small.1 in
+    (omega (arith, a, objects), omega (arith, b, types))))
+
+pub rows-typed : (d : DomainText) (p : ProblemText) (all : List (ℕ × ℕ)) (rows : List (List ℕ)) → AreTyped d p
+    → all ≡ map (number_typed (object_names d p) (type_names d)) (object_declarations d p) → AreRows all rows → All (All (λ t. t < length (type_names d))) rows
+rows-typed d p all rows typed is are =
+    All-from_get_or (All (λ t. t < length (type_names d))) rows []
+    (λ o lt. All-from_get_or (λ t. t < length (type_names d)) (get_or rows o []) 0
+    (λ k small. let t = get_or (get_or rows o []) k 0 in
+    (declared-small d p (o, t) typed (subst (λ (ps : List (ℕ × ℕ)). Contains {X = ℕ × ℕ} ps (o, t)) is ((are o t).0 (Contains-get_or (get_or rows o []) k 0 small)))).1))
+
+-- ## The objects of each type
+
+pub filled-members : (d : DomainText) (p : ProblemText) (all : List (ℕ × ℕ)) (rows lists : List (List ℕ)) (n m : ℕ) → AreTyped d p
+    → all ≡ map (number_typed (object_names d p) (type_names d)) (object_declarations d p) → AreRows all rows → n ≡ length (type_names d) → m ≡ length (object_names d p)
+    → AreFilled (numbered_pairs d) rows n m lists → AreMembersOf d p lists
+filled-members d p all rows lists n m typed is are types count filled =
+    record {
+      count = filled.count ∙ types;
+      ascending = filled.ascending;
+      members = λ k o small few. (λ h. to k o ((filled.members k o).0 h).1, λ h. (filled.members k o).1 (from k o small few h));
+      within = λ k o h. subst (λ m. o < m) count ((filled.members k o).0 h).0;
+    }
+  where
+    has : (o t : ℕ) → Contains (get_or rows o []) t → (x : Typed) × Contains (object_declarations d p) x × ◌≡◌ {A = ℕ × ℕ} (number_typed (object_names d p) (type_names d) x) (o, t)
+    has o t h = unmapped (number_typed (object_names d p) (type_names d)) (object_declarations d p) (o, t) (subst (λ (ps : List (ℕ × ℕ)). Contains {X = ℕ × ℕ} ps (o, t)) is ((are o t).0 h))
+
+    to : (k o : ℕ) → ((t : ℕ) × Contains (get_or rows o []) t × Reaches (numbered_pairs d) t k) → HasType d p (object_at d p o) (type_at d k)
+    to k o (t, there, r) =
+        let x = has o t there in
+        let name : x.0.mention.text ≡ object_at d p o =
+        sym (number-names (object_names d p) x.0.mention.text (object-name d p x.0 x.1)) ∙ ap (λ (y : ℕ × ℕ). get_or (object_names d p) y.0 []) x.2 in
+        let type : type_at d t ≡ text_or_object x.0.of_type =
+        ap (λ (y : ℕ × ℕ). type_at d y.1) (sym x.2) ∙ number-names (type_names d) (text_or_object x.0.of_type) (type-number d (text_or_object x.0.of_type) (typed x.0 x.1)) in
+        (x.0, x.1, name, subst (λ u. IsBelow d u (type_at d k)) type (reaches-below d t k r))
+
+    from : (k o : ℕ) → k < length (type_names d) → o < length (object_names d p) → HasType d p (object_at d p o) (type_at d k)
+        → (o < m) × ((t : ℕ) × Contains (get_or rows o []) t × Reaches (numbered_pairs d) t k)
+    from k o small few (x, there, name, below) =
+        let type = type-number d (text_or_object x.of_type) (typed x there) in
+        let t = number_in (type_names d) (text_or_object x.of_type) in
+        let number : number_in (object_names d p) x.mention.text ≡ o =
+        ap (number_in (object_names d p)) name ∙ number-at (object_names d p) o (distinct-different (texts (mentions_of (object_declarations d p)))) few in
+        let pair : Contains {X = ℕ × ℕ} (map (number_typed (object_names d p) (type_names d)) (object_declarations d p)) (o, t) =
+        subst (λ o. Contains {X = ℕ × ℕ} (map (number_typed (object_names d p) (type_names d)) (object_declarations d p)) (o, t)) number
+        (mapped (number_typed (object_names d p) (type_names d)) (object_declarations d p) x there) in (
+          subst (λ m. o < m) (sym count) few,
+          (
+            t,
+            (are o t).1 (subst (λ (ps : List (ℕ × ℕ)). Contains {X = ℕ × ℕ} ps (o, t)) (sym is) pair),
+            below-reaches d t k (number-small (type_names d) (text_or_object x.of_type) type) small
+                (subst (λ u. IsBelow d u (type_at d k)) (sym (number-names (type_names d) (text_or_object x.of_type) type)) below),
+          ),
+        )

@@ -1,0 +1,15 @@
+use Rattle.std.proofs.Common.{◌≡◌, ◌↔◌, ◌<◌, true, sym, subst, length}
+use Rattle.hddl_tree.specs.declared.domain.DomainText.{DomainText}
+use Rattle.hddl_meaning.specs.Names.{type_names}
+use Rattle.hddl_meaning.specs.Types.{IsBelow}
+use Rattle.hddl_names.specs.TypeNumbers.{type_at}
+use Rattle.hddl_names.proofs.Found.{found-below}
+use Rattle.hddl_names.proofs.hierarchy.TypeHierarchy.is_below.Goals as goal
+
+pub returns : goal.returns
+returns c =
+    subst (λ (d : DomainText). (c.contains.result ≡ true) ↔ IsBelow d (type_at d c.args.t) (type_at d c.args.u)) c.self.view_is
+    (subst (λ b. (b ≡ true) ↔ IsBelow c.self.inside.domain.now (type_at c.self.inside.domain.now c.args.t) (type_at c.self.inside.domain.now c.args.u)) (sym c.contains.ensures)
+    (found-below c.self.inside.domain.now c.self.inside.names.now c.self.inside.parents c.self.inside.children c.args.t c.args.u c.in_ok-above.above.keys c.self.invariant
+    (subst (λ (d : DomainText). c.args.t < length (type_names d)) (sym c.self.view_is) c.requires.t)
+    (subst (λ (d : DomainText). c.args.u < length (type_names d)) (sym c.self.view_is) c.requires.u) c.in_ok-above.ensures))

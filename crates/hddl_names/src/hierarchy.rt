@@ -1,0 +1,167 @@
+//! Which types of a domain are below which.
+ghost use Rattle.std.specs.Prelude.{◌≡◌, ℕ, ◌<◌, ◌↔◌, IsTrue, IfOk, Contains, All, MatchOption, option_map, length};
+ghost use Rattle.std.specs.List.{position};
+ghost use Rattle.hddl_meaning.specs.Mentions.{mention_of};
+ghost use Rattle.hddl_meaning.specs.Names.{is_same_text, type_names};
+ghost use Rattle.hddl_meaning.specs.Types.{IsBelow, text_or_object};
+ghost use Rattle.hddl_meaning.specs.Items.{ShareSubtype};
+ghost use Rattle.hddl_meaning.specs.Types.{Leads, parent_pairs as declared_parents};
+ghost use Rattle.hddl_names.specs.Cycles.{HasNoCycle, IsFirstCycle};
+ghost use Rattle.hddl_names.specs.Reach.{IsAboveSome};
+ghost use Rattle.hddl_names.specs.TypeNumbers.{type_at, numbered_pairs};
+
+use crate::cycles::{leads_to, type_places};
+use crate::edges::{rows_of, turned};
+use crate::names::Names;
+use crate::pairs::parent_pairs;
+use crate::reach::{add_all, reached};
+use crate::rows::Rows;
+use crate::vocabulary::Vocabulary;
+use hddl_tree::{DomainText, Name};
+use indexmap::IndexSet;
+use std::alloc::{AllocError, Global};
+use std::marker::Model;
+
+/// The types of a domain by their numbers. Contracts see the domain.
+#[derive(Drop)]
+pub struct TypeHierarchy<'a> {
+    domain: &'a DomainText,
+    names: &'a Names,
+    /// Of each type.
+    parents: Rows,
+    /// What each type is a parent of.
+    children: Rows,
+}
+
+impl<'a> Model for TypeHierarchy<'a> {
+    ghost use Rattle.hddl_tree.specs.declared.domain.DomainText.{DomainText as Domain};
+    ghost use Rattle.hddl_tree.specs.contracts.condition.Condition as condition;
+    ghost use Rattle.std.specs.Coded.{codes};
+    ghost use Rattle.hddl_names.specs.TypeNumbers.{AreTypesOf};
+
+    ghost Value = { Domain };
+
+    ghost coded = { Prim.hlevel (codes, condition.the_row.coded) };
+
+    ghost view = { λ types. types.domain.now };
+
+    ghost invariant = { λ types. AreTypesOf types.domain.now types.names.now types.parents types.children };
+}
+
+/// Whether the two have a number in common.
+fn share(these: &IndexSet<usize>, those: &IndexSet<usize>) -> bool
+    ensures { IsTrue result ↔ ((x : ℕ) × Contains these.now.keys x × Contains those.now.keys x) }
+{
+    for x in these.as_slice() {
+        if those.contains(x) {
+            return true;
+        }
+    }
+    false
+}
+
+impl<'a> TypeHierarchy<'a> {
+    /// The types of a domain, with their numbers in its vocabulary, or an error where memory was refused.
+    pub fn of(
+        alloc: Global,
+        domain: &'a DomainText,
+        vocabulary: &'a Vocabulary,
+    ) -> Result<TypeHierarchy<'a>, AllocError>
+        requires { vocabulary.now.types ≡ type_names domain.now }
+        ensures { IfOk result (λ types. types ≡ domain.now) }
+    {
+        let names = vocabulary.types();
+        let pairs = parent_pairs(alloc, names, domain.types.as_slice())?;
+        let back = turned(alloc, &pairs)?;
+        let parents = rows_of(alloc, names.len(), &pairs)?;
+        let children = rows_of(alloc, names.len(), &back)?;
+        Ok(TypeHierarchy {
+            domain,
+            names,
+            parents,
+            children,
+        })
+    }
+
+    /// The domain.
+    pub fn domain(&self) -> &DomainText
+        ensures { result.now ≡ self.now }
+    {
+        self.domain
+    }
+
+    /// The number of a type that is written, or of `object` where none is. None where it isn't declared.
+    pub fn type_of(&self, alloc: Global, name: &Option<Name>) -> Result<Option<usize>, AllocError>
+        ensures { IfOk result (λ number. number ≡ position (is_same_text (text_or_object (option_map mention_of name.now))) (type_names self.now)) }
+    {
+        let mut buffer = Vec::new(alloc);
+        match name {
+            Some(written) => self.names.number_as_written(&mut buffer, written.text()),
+            None => Ok(self.names.number_of(b"object")),
+        }
+    }
+
+    /// Whether a type is below another, both by number. A type is below itself.
+    pub fn is_below(&self, alloc: Global, t: usize, u: usize) -> Result<bool, AllocError>
+        requires t { t < length (type_names self.now) }
+        requires u { u < length (type_names self.now) }
+        ensures { IfOk result (λ below. IsTrue below ↔ IsBelow self.now (type_at self.now t) (type_at self.now u)) }
+    {
+        let above = reached(alloc, &self.parents, t)?;
+        Ok(above.contains(&u))
+    }
+
+    /// Whether some type is below both, each by number.
+    pub fn share_subtype(&self, alloc: Global, t: usize, u: usize) -> Result<bool, AllocError>
+        requires t { t < length (type_names self.now) }
+        requires u { u < length (type_names self.now) }
+        ensures { IfOk result (λ some. IsTrue some ↔ ShareSubtype self.now (type_at self.now t) (type_at self.now u)) }
+    {
+        if self.is_below(alloc, t, u)? {
+            return Ok(true);
+        }
+        if self.is_below(alloc, u, t)? {
+            return Ok(true);
+        }
+        let below_t = reached(alloc, &self.children, t)?;
+        let below_u = reached(alloc, &self.children, u)?;
+        Ok(share(&below_t, &below_u))
+    }
+
+    /// The numbers of the types that some of these are below, each once.
+    pub fn all_above(&self, alloc: Global, starts: &[usize]) -> Result<IndexSet<usize>, AllocError>
+        requires { All (λ t. t < length (type_names self.now)) starts.now }
+        ensures { IfOk result (λ found. IsAboveSome (numbered_pairs self.now) starts.now found.keys) }
+    {
+        let mut found = IndexSet::new(alloc);
+        for start in starts {
+            let above = reached(alloc, &self.parents, *start)?;
+            add_all(&mut found, above.as_slice())?;
+        }
+        Ok(found)
+    }
+
+    /// Whether a type is below itself along one or more pairs.
+    fn is_on_cycle(&self, alloc: Global, t: usize) -> Result<bool, AllocError>
+        requires { t < length (type_names self.now) }
+        ensures { IfOk result (λ cycle. IsTrue cycle ↔ Leads (declared_parents self.now) (type_at self.now t) (type_at self.now t)) }
+    {
+        let above = reached(alloc, &self.parents, t)?;
+        let cycle = leads_to(&self.parents, above.as_slice(), t);
+        Ok(cycle)
+    }
+
+    /// The place of the first type in the text of `:types` that is below itself along one or more pairs, None where there is
+    /// none, or an error where memory was refused.
+    pub fn cycle_at(&self, alloc: Global) -> Result<Option<usize>, AllocError>
+        ensures { IfOk result (λ found. MatchOption found (HasNoCycle self.now) (IsFirstCycle self.now)) }
+    {
+        let places = type_places(alloc, self.names, self.domain.types.as_slice())?;
+        for place in places.as_slice() {
+            if self.is_on_cycle(alloc, place.0)? {
+                return Ok(Some(place.1));
+            }
+        }
+        Ok(None)
+    }
+}
