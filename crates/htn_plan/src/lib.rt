@@ -14,5 +14,5 @@ mod tests;
 pub use file::file_of;
 pub use plan_text::{
     ActionLine, DecompositionLine, MAX_BYTES, Out, PlanFault, PlanFile, Sink, Word, WriteFault,
-    one_file, read_plan, reads_back, write_plan,
+    one_file, put_all, read_plan, reads_back, write_plan,
 };

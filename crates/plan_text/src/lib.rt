@@ -24,4 +24,4 @@ pub use out::{Out, Sink};
 pub use plan_file::{ActionLine, DecompositionLine, PlanFile};
 pub use reader::read_plan;
 pub use word::Word;
-pub use writer::{WriteFault, write_plan};
+pub use writer::{WriteFault, put_all, write_plan};

@@ -21,8 +21,8 @@ pub enum WriteFault {
     Device,
 }
 
-/// Writes all of the bytes.
-fn put_all<O: Out>(out: &mut O, bytes: &[u8]) -> Result<(), WriteFault>
+/// Writes all of the bytes, and takes no memory. At a fault the output has failed, and has a beginning of them.
+pub fn put_all<O: Out>(out: &mut O, bytes: &[u8]) -> Result<(), WriteFault>
     ensures { Writes (O.contents out.old) (O.contents out.new) (O.has_failed out.old) (O.has_failed out.new) result bytes.now }
 {
     let mut rest = bytes;

@@ -1,0 +1,38 @@
+-- What the text of an answer says.
+use Rattle.std.proofs.Common.{◌≡◌, ℕ, List, Option, Result, Ok, Err, IfErr, codes, refl, sym, subst}
+use Rattle.std.specs.Io.KnownBytes.{Appends}
+use Rattle.htn_model.specs.Task.{Task}
+use Rattle.htn_model.specs.PlanFile.{PlanFile}
+use Rattle.htn_model.specs.Grounding.{problem_of}
+use Rattle.htn_model.specs.Numbered.{numbered}
+use Rattle.htn_ground.specs.declared.node.Solution.{Solution}
+use Rattle.htn_ground.specs.Trees.{solution_of}
+use Rattle.htn_plan.specs.Naming.{naming_of}
+use Rattle.plan_text.specs.Written.{written}
+use Rattle.plan_text.specs.Out.{TakesBeginning}
+use Rattle.htn_search.specs.Answer.{Answers}
+use Rattle.htn_search.specs.declared.answer.Answer.{Answer}
+use Rattle.htn_search.specs.declared.answer.Answer.TheVariants as answer
+use Rattle.htn_run.specs.Headline.{IsCutShort, Says}
+use Rattle.htn_run.specs.declared.outcome.Outcome.{Outcome}
+use Rattle.htn_run.specs.declared.outcome.Outcome.TheVariants.{Found, NoPlan, Unsolvable}
+
+module _ (task : Task) (bound : ℕ) (found : Answer) (answers : Answers (problem_of task) bound found) where
+  pub says_plan : (plan : Solution) (file : PlanFile) → found ≡ answer.Plan plan → file ≡ numbered (naming_of task) (solution_of plan)
+      → Says task bound Found (written file)
+  says_plan plan file is value =
+      subst (λ f. Says task bound Found (written f)) (sym value) (solution_of plan, (answers.plan (solution_of plan)).0 (plan, is, refl), refl)
+
+  pub says_none : found ≡ answer.None → Says task bound NoPlan (codes "none\n")
+  says_none is = let h = answers.none.0 is in (h.0, h.1, refl)
+
+  pub says_unsolvable : found ≡ answer.Unsolvable → Says task bound Unsolvable (codes "unsolvable\n")
+  says_unsolvable is = let h = answers.unsolvable.0 is in (h.0, h.1, refl)
+
+pub cut_short : (task : Task) (bound : ℕ) (outcome : Outcome) (text : List ℕ) (old new : Option (List ℕ)) → Says task bound outcome text
+    → TakesBeginning old new text → IsCutShort task bound old new
+cut_short task bound outcome text old new says begun = record { outcome = outcome; text = text; says = says; begun = begun }
+
+pub at_error : {T E : Type 0} (P : E → Type 0) (r : Result T E) → ((e : E) → P e) → IfErr r P
+at_error P (Ok x) h = tt
+at_error P (Err e) h = h e

@@ -1,0 +1,71 @@
+-- What a run answers for a domain's text, a problem's text and a bound, and what it writes.
+use Rattle.std.specs.Prelude.{◌≡◌, ℕ, ◌<◌, List, Option, Some, None, codes, ⊤}
+use Rattle.hddl_words.specs.Words.{Word}
+use Rattle.hddl_tree.specs.declared.domain.DomainText.{DomainText}
+use Rattle.hddl_tree.specs.declared.problem.ProblemText.{ProblemText}
+use Rattle.hddl_text.specs.Grammar.{DerivesDomain, DerivesProblem}
+use Rattle.hddl_text.specs.Spelling.{Spells, FaultAt}
+use Rattle.hddl_meaning.specs.Items.{IsWellTypedPair, FailsAt}
+use Rattle.hddl_meaning.specs.Building.{IsTaskOf}
+use Rattle.htn_model.specs.Task.{Task}
+use Rattle.htn_model.specs.Tree.{Solution}
+use Rattle.htn_model.specs.Answer.{IsAnswer}
+use Rattle.htn_model.specs.Exhaustion.{IsMet, IsUnsolvable}
+use Rattle.htn_model.specs.Grounding.{problem_of}
+use Rattle.htn_model.specs.Numbered.{numbered}
+use Rattle.htn_plan.specs.Naming.{naming_of}
+use Rattle.plan_text.specs.Written.{written}
+use Rattle.plan_text.specs.Out.{TakesBeginning}
+use Rattle.word_machine.specs.declared.bounds.Bounds.{Bounds}
+use Rattle.htn_run.specs.declared.outcome.Outcome.{Outcome}
+use Rattle.htn_run.specs.declared.outcome.Outcome.TheVariants.{Found, NoPlan, Unsolvable}
+use Rattle.htn_run.specs.declared.outcome.RunFault.{RunFault}
+use Rattle.htn_run.specs.declared.outcome.RunFault.TheVariants as fault
+
+-- the two texts spell trees that fit together, and this is their task
+pub record IsTaskOfTexts (domain problem : List ℕ) (task : Task) : Type 0 where
+  pub domain_tree : DomainText
+  pub problem_tree : ProblemText
+  pub domain_spelled : Spells DerivesDomain domain domain_tree
+  pub problem_spelled : Spells DerivesProblem problem problem_tree
+  pub fits : IsWellTypedPair domain_tree problem_tree
+  pub is_task : IsTaskOf domain_tree problem_tree task
+
+-- The plan text of the solution with fewest nodes and then least code, or `none` exactly when no solution is within the
+-- bound and the bound was met, or `unsolvable` exactly when there is no solution and the bound was not met.
+abbrev pub Says : Task → ℕ → Outcome → List ℕ → Type 0
+Says task bound Found text = (s : Solution) × IsAnswer (problem_of task) bound (Some s) × (text ≡ written (numbered (naming_of task) s))
+Says task bound NoPlan text = IsAnswer (problem_of task) bound None × IsMet (problem_of task) bound × (text ≡ codes "none\n")
+Says task bound Unsolvable text = IsUnsolvable (problem_of task) × (IsMet (problem_of task) bound → ⊥) × (text ≡ codes "unsolvable\n")
+
+-- the text that answers for the two texts within the bound
+abbrev pub Answers : List ℕ → List ℕ → ℕ → Outcome → List ℕ → Type 0
+Answers domain problem bound outcome text = (task : Task) × IsTaskOfTexts domain problem task × Says task bound outcome text
+
+-- no tree is spelled
+abbrev pub IsUnspelled : {Tree : Type 0} → (List Word → Tree → Type 0) → List ℕ → Type 0
+IsUnspelled {Tree = Tree} Derives text = (tree : Tree) → Spells Derives text tree → ⊥
+
+-- why there is no answer: the domain is read first, then the problem, and then the pair is checked
+abbrev pub Refuses : List ℕ → List ℕ → Bounds → RunFault → Type 0
+Refuses domain problem bounds (fault.Domain f) = IsUnspelled DerivesDomain domain × FaultAt DerivesDomain domain f
+Refuses domain problem bounds (fault.Problem f) =
+    (d : DomainText) × Spells DerivesDomain domain d × IsUnspelled DerivesProblem problem × FaultAt DerivesProblem problem f
+Refuses domain problem bounds (fault.Check f) =
+    (d : DomainText) × (p : ProblemText) × Spells DerivesDomain domain d × Spells DerivesProblem problem p × FailsAt d p f
+Refuses domain problem bounds fault.OutOfMemory = ⊤
+Refuses domain problem bounds fault.NoThread = 1 < bounds.workers
+Refuses domain problem bounds fault.Output = ⊥
+
+-- memory or a thread was refused; a thread only where there is more than one worker
+abbrev pub IsWant : Bounds → RunFault → Type 0
+IsWant bounds fault.OutOfMemory = ⊤
+IsWant bounds fault.NoThread = 1 < bounds.workers
+IsWant bounds _ = ⊥
+
+-- a beginning of the text that answers was added to the output
+pub record IsCutShort (task : Task) (bound : ℕ) (old new : Option (List ℕ)) : Type 0 where
+  pub outcome : Outcome
+  pub text : List ℕ
+  pub says : Says task bound outcome text
+  pub begun : TakesBeginning old new text

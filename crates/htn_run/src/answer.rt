@@ -1,0 +1,45 @@
+//! The text that says an answer.
+ghost use Rattle.std.specs.Prelude.{◌≡◌, ◌≢◌, List, ℕ, true, IfOk, IfErr, OnOk};
+ghost use Rattle.std.specs.Io.KnownBytes.{Appends};
+ghost use Rattle.htn_model.specs.Grounding.{problem_of};
+ghost use Rattle.htn_search.specs.Answer.{Answers};
+ghost use Rattle.htn_run.specs.Headline.{IsCutShort, Says};
+ghost use Rattle.htn_run.specs.declared.outcome.RunFault.TheVariants.{OutOfMemory, Output};
+
+use crate::outcome::{Outcome, RunFault};
+use htn_plan::{Out, file_of, put_all, write_plan};
+use htn_search::Answer;
+use htn_task::Task;
+use std::alloc::Global;
+
+/// Writes the plan of a solution, or `none`, or `unsolvable`, with a line feed.
+pub(crate) fn write_answer<O: Out>(
+    alloc: Global,
+    task: &Task,
+    bound: u64,
+    answer: &Answer,
+    out: &mut O,
+) -> Result<Outcome, RunFault>
+    requires { Answers (problem_of task.now) bound answer.now }
+    ensures says { IfOk result (λ outcome. (text : List ℕ) × Says task.now bound outcome text × Appends (O.contents out.old) (O.contents out.new) text) }
+    ensures works { OnOk result (O.has_failed out.new ≡ O.has_failed out.old) }
+    ensures faults { IfErr result (λ fault. fault ≢ Output → (fault ≡ OutOfMemory) × (out.new ≡ out.old)) }
+    ensures cut_short { IfErr result (λ fault. fault ≡ Output
+        → IsCutShort task.now bound (O.contents out.old) (O.contents out.new) × (O.has_failed out.new ≡ true)) }
+{
+    match answer {
+        Answer::Plan(solution) => {
+            let file = file_of(alloc, task, solution)?;
+            write_plan(&file, out)?;
+            Ok(Outcome::Found)
+        }
+        Answer::None => {
+            put_all(out, b"none\n")?;
+            Ok(Outcome::NoPlan)
+        }
+        Answer::Unsolvable => {
+            put_all(out, b"unsolvable\n")?;
+            Ok(Outcome::Unsolvable)
+        }
+    }
+}

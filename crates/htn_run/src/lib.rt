@@ -1,0 +1,15 @@
+//! `htnplan` as a library: from the bytes of a domain and a problem, or from the words of a command line, to the bytes
+//! of the answer.
+#![tactic(auto)]
+
+mod answer;
+mod line;
+mod outcome;
+mod run;
+mod source;
+
+pub use htn_plan::{Out, Sink};
+pub use htn_search::{Bounds, Gate, NoGate};
+pub use outcome::{Outcome, RunFault};
+pub use run::run_task;
+pub use source::{Disk, MAX_BYTES_READ, ReadFault, Source};

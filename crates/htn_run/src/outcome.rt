@@ -1,0 +1,78 @@
+//! How a run ends.
+
+use hddl_meaning::CheckFault;
+use hddl_text::TextFault;
+use htn_plan::WriteFault;
+use htn_search::SearchFault;
+use std::alloc::AllocError;
+use thiserror::Error;
+
+/// What a run found.
+#[derive(Debug, Clone, Copy, PartialEq, Eq)]
+pub enum Outcome {
+    /// A plan.
+    Found,
+    /// No plan within the bound.
+    NoPlan,
+    /// No plan of any size.
+    Unsolvable,
+}
+
+/// Why a run has no answer.
+#[derive(Debug, Clone, Copy, PartialEq, Eq, Error)]
+pub enum RunFault {
+    /// The domain's text is refused.
+    #[error("domain: {0}")]
+    Domain(TextFault),
+    /// The problem's text is refused.
+    #[error("problem: {0}")]
+    Problem(TextFault),
+    /// The domain and the problem don't fit together.
+    #[error("{0}")]
+    Check(CheckFault),
+    /// Memory was refused.
+    #[error("OutOfMemory")]
+    OutOfMemory,
+    /// The start of a thread was refused.
+    #[error("NoThread")]
+    NoThread,
+    /// The output failed.
+    #[error("output: cannot be written")]
+    Output,
+}
+
+impl From<AllocError> for RunFault {
+    ghost use Rattle.std.specs.Prelude.{◌≡◌};
+    ghost use Rattle.htn_run.specs.declared.outcome.RunFault.TheVariants.{OutOfMemory};
+
+    ghost from_gives = { λ _ e. e ≡ OutOfMemory };
+
+    fn from(_error: AllocError) -> RunFault {
+        RunFault::OutOfMemory
+    }
+}
+
+impl From<WriteFault> for RunFault {
+    ghost use Rattle.std.specs.Prelude.{◌≡◌};
+    ghost use Rattle.htn_run.specs.declared.outcome.RunFault.TheVariants.{Output};
+
+    ghost from_gives = { λ _ e. e ≡ Output };
+
+    fn from(_error: WriteFault) -> RunFault {
+        RunFault::Output
+    }
+}
+
+impl From<SearchFault> for RunFault {
+    ghost use Rattle.std.specs.Prelude.{◌≡◌};
+    ghost use Rattle.htn_run.specs.Faults.{of_search};
+
+    ghost from_gives = { λ fault e. e ≡ of_search fault };
+
+    fn from(fault: SearchFault) -> RunFault {
+        match fault {
+            SearchFault::OutOfMemory => RunFault::OutOfMemory,
+            SearchFault::NoThread => RunFault::NoThread,
+        }
+    }
+}

@@ -1,0 +1,39 @@
+//! The run of a planner.
+ghost use Rattle.std.specs.Prelude.{◌≡◌, ◌≢◌, List, ℕ, true, IfOk, IfErr, OnOk};
+ghost use Rattle.std.specs.Io.KnownBytes.{Appends};
+ghost use Rattle.htn_run.specs.Headline.{IsCutShort, IsWant, Says};
+ghost use Rattle.htn_run.specs.declared.outcome.RunFault.TheVariants.{Output};
+
+use crate::answer::write_answer;
+use crate::outcome::{Outcome, RunFault};
+use htn_plan::Out;
+use htn_search::{Bounds, Gate, search};
+use htn_task::Task;
+use std::alloc::Global;
+use std::sync::Wait;
+use std::thread::Threads;
+
+/// Searches a task within the bounds, and writes the answer: the text of the plan with the fewest nodes and then the
+/// least code, or `none`, or `unsolvable`, with a line feed. It is the same for every number of workers, size of the
+/// pieces and gate, and however the workers take turns. Nothing is written before the answer is known.
+///
+/// `NoThread` never comes with one worker. After `Output` the output has failed, and a beginning of the answer's text
+/// stands in it; after any other fault it is as it was.
+pub fn run_task<O: Out, G: Gate, R: Threads + Wait + Sync>(
+    rt: &R,
+    alloc: Global,
+    task: &Task,
+    bounds: Bounds,
+    gate: &G,
+    out: &mut O,
+) -> Result<Outcome, RunFault>
+    ensures answer { IfOk result (λ outcome. (text : List ℕ)
+        × Says task.now bounds.nodes outcome text × Appends (O.contents out.old) (O.contents out.new) text) }
+    ensures works { OnOk result (O.has_failed out.new ≡ O.has_failed out.old) }
+    ensures refused { IfErr result (λ fault. fault ≢ Output → IsWant bounds fault × (out.new ≡ out.old)) }
+    ensures cut_short { IfErr result (λ fault. fault ≡ Output
+        → IsCutShort task.now bounds.nodes (O.contents out.old) (O.contents out.new) × (O.has_failed out.new ≡ true)) }
+{
+    let answer = search(rt, alloc, task, bounds, gate)?;
+    write_answer(alloc, task, bounds.nodes, &answer, out)
+}

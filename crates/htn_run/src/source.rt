@@ -1,0 +1,49 @@
+//! Where the bytes of the files come from.
+
+use std::alloc::Global;
+use std::fs;
+use std::io::{ErrorKind, Read};
+use std::rt::Files;
+
+/// How many bytes of a file are read at most: one more than a text may have.
+pub const MAX_BYTES_READ: u64 = 16_777_217;
+
+/// Why a file was not read.
+#[derive(Debug, Clone, Copy, PartialEq, Eq)]
+pub enum ReadFault {
+    /// It can't be read.
+    Unreadable,
+    /// Memory was refused.
+    OutOfMemory,
+}
+
+/// Files by their names.
+pub trait Source {
+    /// The first 16,777,217 bytes of a file, or all if it has fewer.
+    fn read(&mut self, alloc: Global, name: &str) -> Result<Vec<u8>, ReadFault>;
+}
+
+/// The files of the system.
+pub struct Disk<'a, F: Files> {
+    files: &'a F,
+}
+
+impl<'a, F: Files> Disk<'a, F> {
+    pub fn new(files: &'a F) -> Disk<'a, F> {
+        Disk { files }
+    }
+}
+
+impl<'a, F: Files> Source for Disk<'a, F> {
+    fn read(&mut self, alloc: Global, name: &str) -> Result<Vec<u8>, ReadFault> {
+        let Ok(file) = fs::open(self.files, name) else {
+            return Err(ReadFault::Unreadable);
+        };
+        let mut bytes = Vec::new(alloc);
+        match file.take(MAX_BYTES_READ).read_to_end(&mut bytes) {
+            Ok(_) => Ok(bytes),
+            Err(error) if error.kind() == ErrorKind::OutOfMemory => Err(ReadFault::OutOfMemory),
+            Err(_) => Err(ReadFault::Unreadable),
+        }
+    }
+}
