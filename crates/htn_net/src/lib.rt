@@ -16,4 +16,3 @@ pub use choice::{Change, Choice, LiveChange, LiveChoice};
 pub use config::Config;
 pub use machine::WordMachine;
 pub use start::starts;
-

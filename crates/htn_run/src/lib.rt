@@ -3,7 +3,6 @@
 #![tactic(auto)]
 
 mod answer;
-mod line;
 mod outcome;
 mod run;
 mod source;

@@ -2,8 +2,8 @@
 ghost use Rattle.std.specs.Prelude.{◌≡◌, ◌∷◌, [], IfOk};
 ghost use Rattle.search_tests.specs.Counter.{clipped};
 
-use word_machine::Machine;
 use std::alloc::{AllocError, Global};
+use word_machine::Machine;
 
 /// Tasks that are open, and the value so far.
 #[derive(Clone, Copy, Debug, PartialEq, Eq, Hash)]

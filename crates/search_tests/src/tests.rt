@@ -1,13 +1,13 @@
 //! Searches over the small machine: each answer for several numbers of workers and sizes of pieces.
 
 use crate::counter::{Counter, Tally};
-use word_machine::{Bounds, Found, Gate, NoGate, find_word, finishes};
 use std::alloc::Global;
 use std::process::Abort;
 use std::sync::Wait;
 use std::sync::atomic::{AtomicU64, Ordering};
 use std::test::Fail;
 use std::thread::Threads;
+use word_machine::{Bounds, Found, Gate, NoGate, find_word, finishes};
 
 fn tally(tasks: u64, value: u64) -> Tally {
     Tally {

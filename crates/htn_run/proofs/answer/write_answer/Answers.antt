@@ -29,9 +29,11 @@ returns-in_err-put_all-in-Unsolvable-clause-cut_short g c =
 
 pub returns-in_ok-write_plan-in-Plan-clause-says :
     goal.returns-in_ok-write_plan-in-Plan-clause-says
-returns-in_ok-write_plan-in-Plan-clause-says g c =
-    (_, says_plan c.args.task.now c.args.bound c.args.answer.now c.requires c.in-Plan.solution _ c.in-Plan.is c.in_ok-file-in-Plan.ensures.value,
-      c.in_ok-write_plan-in-Plan.ensures.0)
+returns-in_ok-write_plan-in-Plan-clause-says g c = (
+  _,
+  says_plan c.args.task.now c.args.bound c.args.answer.now c.requires c.in-Plan.solution _ c.in-Plan.is c.in_ok-file-in-Plan.ensures.value,
+  c.in_ok-write_plan-in-Plan.ensures.0,
+)
 
 pub returns-in_ok-put_all-in-Unsolvable-clause-says :
     goal.returns-in_ok-put_all-in-Unsolvable-clause-says
