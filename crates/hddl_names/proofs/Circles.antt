@@ -1,7 +1,7 @@
 -- Types that lie on cycles.
-use Rattle.std.proofs.Common.{◌≡◌, ◌≢◌, ℕ, zero, suc, ◌<◌, ◌≤◌, ◌+◌, ◌↔◌, true, false, List, [], ◌∷◌, ◌++◌, map, refl, sym, ap, subst, ◌∙◌, arith, inl, inr, ⊎_elim, nat_eq, length, get_or, take, drop}
+use Rattle.std.proofs.Common.{◌≡◌, ℕ, suc, ◌<◌, ◌≤◌, ◌+◌, ◌↔◌, false, List, [], ◌++◌, refl, sym, ap, subst, ◌∙◌, arith, inl, inr, ⊎_elim, nat_eq, length, get_or, take, drop}
 use Rattle.std.specs.List.{Contains, All, list_any}
-use Rattle.std.proofs.lemmas.Bool.{true≢false, eqb-true}
+use Rattle.std.proofs.lemmas.Bool.{true≢false}
 use Rattle.std.proofs.lemmas.List.{take_more, take_all, get_or_default, get_or-map, length-map, take-append-drop}
 use Rattle.std.proofs.lemmas.List.Elements.{Contains-get_or, Contains-push_cases, All-from_get_or}
 use Rattle.std.proofs.lemmas.Cmp.{nat_eq_equiv}
@@ -11,9 +11,8 @@ use Rattle.htn_order.specs.Closure.{Precedes, Direct, Through}
 use Rattle.hddl_tree.specs.declared.term.NameGroup.{NameGroup}
 use Rattle.hddl_tree.specs.declared.domain.DomainText.{DomainText}
 use Rattle.hddl_meaning.specs.Mentions.{Text, Mention}
-use Rattle.hddl_meaning.specs.Names.{type_mentions, type_names, number_in}
+use Rattle.hddl_meaning.specs.Names.{type_mentions, type_names}
 use Rattle.hddl_meaning.specs.Types.{Leads, parent_pairs}
-use Rattle.hddl_names.specs.Rows.{AreRows}
 use Rattle.hddl_names.specs.Reach.{Reaches, IsReached}
 use Rattle.hddl_names.specs.Cycles.{IsOnCycle, HasNoCycle, IsFirstCycle, number_place, places_in}
 use Rattle.hddl_names.specs.TypeNumbers.{AreTypesOf, type_at, numbered_pairs}

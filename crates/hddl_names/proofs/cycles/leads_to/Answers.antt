@@ -1,4 +1,4 @@
-use Rattle.std.proofs.Common.{◌≡◌, sym}
+use Rattle.std.proofs.Common.{sym}
 use Rattle.std.proofs.lemmas.Bool.{true≢false}
 use Rattle.hddl_names.proofs.Circles.{none-leads}
 use Rattle.hddl_names.proofs.cycles.leads_to.Goals as goal

@@ -1,4 +1,4 @@
-use Rattle.std.proofs.Common.{◌≡◌, ℕ, ◌<◌, false, nat_eq, [], length, get_or}
+use Rattle.std.proofs.Common.{◌≡◌, ℕ, ◌<◌, false, nat_eq, [], get_or}
 use Rattle.std.specs.List.{list_any}
 use Rattle.hddl_names.proofs.cycles.leads_to.Given as goal
 

@@ -1,4 +1,4 @@
-use Rattle.std.proofs.Common.{◌≡◌, ◌++◌, map, ap, ◌∙◌, append_assoc}
+use Rattle.std.proofs.Common.{◌++◌, map, ap, ◌∙◌, append_assoc}
 use Rattle.hddl_meaning.specs.Mentions.{mention_of}
 use Rattle.hddl_meaning.specs.Names.{optional_mention}
 use Rattle.hddl_names.specs.Cycles.{number_place}

@@ -1,7 +1,5 @@
-use Rattle.std.proofs.Common.{◌≡◌, ◌∙◌, ℕ, List, sym, true}
+use Rattle.std.proofs.Common.{◌∙◌, sym}
 use Rattle.std.proofs.lemmas.Bool.{true≢false}
-use Rattle.hddl_names.specs.Cycles.{places_in}
-use Rattle.hddl_meaning.specs.Names.{type_names}
 use Rattle.hddl_names.proofs.Circles.{places-are, place-small, circle-more, circle-first, circle-none}
 use Rattle.hddl_names.proofs.hierarchy.TypeHierarchy.cycle_at.Goals as goal
 
