@@ -1,6 +1,6 @@
 -- The search for the values of an instance: conditions on no parameter, on one and on two, and the completions of a
 -- partial choice.
-use Rattle.std.specs.Prelude.{ℕ, Bool, true, false, not, max, min, nat_lt, cond, ◌+◌, ◌*◌, ◌≤◌, ◌==◌, ◌&&◌, ◌||◌, ◌≡◌, List, [], ◌∷◌, ◌++◌, map, drop, length, slice_index}
+use Rattle.std.specs.Prelude.{ℕ, Bool, nat_eq, true, false, not, max, min, nat_lt, cond, ◌+◌, ◌*◌, ◌≤◌, ◌==◌, ◌&&◌, ◌||◌, ◌≡◌, List, [], ◌∷◌, ◌++◌, map, drop, length, slice_index}
 use Rattle.std.specs.Bool.{beq}
 use Rattle.std.specs.List.{All, enumerate_from, filter, flat_map, list_all, list_any}
 use Rattle.htn_model.specs.Atom.{Atom}
@@ -122,6 +122,14 @@ relation_start (Different a b) = min a b
 -- whether each relation has a parameter among the first so many
 abbrev pub are_started : List Relation → ℕ → Bool
 are_started relations depth = list_all (λ r. nat_lt (relation_start r) depth) relations
+
+abbrev pub relation_names : Relation → ℕ → Bool
+relation_names (Same a b) j = nat_eq a j || nat_eq b j
+relation_names (Different a b) j = nat_eq a j || nat_eq b j
+
+-- whether no relation names parameter j
+abbrev pub are_apart_from : ℕ → List Relation → Bool
+are_apart_from j relations = list_all (λ r. not (relation_names r j)) relations
 
 -- a parameter: the object that it stands for, if it has a value
 abbrev pub term_after : List ℕ → ℕ → Term

@@ -1,7 +1,7 @@
 //! How many choices of objects there are of which all relations hold.
 ghost use Rattle.std.specs.Prelude.{◌≡◌, ◌≤◌, ◌<◌, ◌+◌, ◌*◌, ◌++◌, ◌∷◌, [], length, drop, OnOk, IfOk, IfSome, true};
 ghost use Rattle.std.specs.List.{filter, flat_map};
-ghost use Rattle.htn_ground.specs.Search.{AreRelationsOf, are_started, bound_relations_hold, completions, narrowed, product, relation_singles};
+ghost use Rattle.htn_ground.specs.Search.{AreRelationsOf, are_apart_from, are_started, bound_relations_hold, completions, narrowed, product, relation_singles};
 
 use crate::object_list::ObjectList;
 use crate::relation::Relation;
@@ -85,6 +85,13 @@ fn are_started_of(relations: &[Relation], depth: usize) -> bool
     relations.iter().all(|relation| relation.start() < depth)
 }
 
+/// Whether no relation names a parameter.
+fn are_apart(relations: &[Relation], place: usize) -> bool
+    ensures { result ≡ are_apart_from place relations.now }
+{
+    relations.iter().all(|relation| !relation.names(place))
+}
+
 /// Whether all relations allow an object at a place, where their other parameters have values.
 fn all_allow(relations: &[Relation], values: &[u16], place: usize, object: u16) -> bool
     ensures { result ≡ relation_singles relations.now values.now place object }
@@ -101,6 +108,9 @@ fn all_allow(relations: &[Relation], values: &[u16], place: usize, object: u16) 
 fn count_allowed(relations: &[Relation], values: &[u16], place: usize, objects: &[u16]) -> u64
     ensures { result ≡ length (filter (relation_singles relations.now values.now place) objects.now) }
 {
+    if are_apart(relations, place) {
+        return objects.len() as u64;
+    }
     let mut count: u64 = 0;
     for object in objects {
         if all_allow(relations, values, place, *object) {

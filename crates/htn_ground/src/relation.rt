@@ -1,6 +1,6 @@
 //! Equalities and negated equalities between the parameters of a schema.
 ghost use Rattle.std.specs.Prelude.{◌≡◌, ◌≤◌, length};
-ghost use Rattle.htn_ground.specs.Search.{relation_depth, relation_holds, relation_single, relation_start, term_after};
+ghost use Rattle.htn_ground.specs.Search.{relation_depth, relation_holds, relation_names, relation_single, relation_start, term_after};
 ghost use Rattle.htn_task.specs.Views.{term_of};
 
 use crate::instances::single_of;
@@ -39,6 +39,17 @@ impl Relation {
     {
         match self {
             Relation::Same(a, b) | Relation::Different(a, b) => (*a).min(*b) as usize,
+        }
+    }
+
+    /// Whether it is one of its parameters.
+    pub(crate) fn names(&self, place: usize) -> bool
+        ensures { result ≡ relation_names self.now place }
+    {
+        match self {
+            Relation::Same(a, b) | Relation::Different(a, b) => {
+                *a as usize == place || *b as usize == place
+            }
         }
     }
 
