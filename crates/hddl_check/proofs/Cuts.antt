@@ -49,7 +49,11 @@ names_more gs k g lt is =
 pub past_mapped : {X : Type 0} (limit : ℕ) (mention : X → Mention) (xs : List X) (x : X) (place : ℕ) → limit < length xs → x ≡ get_or xs limit x
     → place ≡ (mention x).place → Finds (IsPast limit (map mention xs)) (Some place)
 past_mapped limit mention xs x place lt is at =
-    Finds-some place
-    (map mention (take limit xs), mention x, map mention (drop (limit + 1) xs),
+    Finds-some place (
+      map mention (take limit xs),
+      mention x,
+      map mention (drop (limit + 1) xs),
       ap (map mention) (cut_at xs limit x lt is) ∙ map-append mention (take limit xs) (x ∷ drop (limit + 1) xs),
-      length-map (take limit xs) mention ∙ length-take-le limit xs (omega arith), at)
+      length-map (take limit xs) mention ∙ length-take-le limit xs (omega arith),
+      at,
+    )

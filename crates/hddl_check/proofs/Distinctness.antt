@@ -46,7 +46,7 @@ names-next known after first ms k m lt is put are =
 pub no_number : (known : Entries) (ms : List Mention) (t : Text) → AreNamesOf known ms → (number_at known t ≡ None) ↔ (IsIn t (texts ms) → ⊥)
 no_number known ms t are = (
   λ none at. true≢false (sym (in_distinct (texts ms) t at) ∙ sym test ∙ ap is_some none),
-  λ gone. none_from (number_at known t) (test ∙ by gone (list_any (is_same_text t) (distinct (texts ms))) refl)
+  λ gone. none_from (number_at known t) (test ∙ by gone (list_any (is_same_text t) (distinct (texts ms))) refl),
 )
   where
     test : is_some (number_at known t) ≡ list_any (is_same_text t) (distinct (texts ms))
@@ -79,14 +79,15 @@ pub Within-next : (known after : Entries) (first ms : List Mention) (k : ℕ) (m
 Within-next known after first ms k m lt is put not w = record {
   names = names-next known after first ms k m lt is put w.names;
   none = λ place (before, second, rest, cut, wide, new, at).
-    elim (snoc_cases (take k ms) m before second rest (ap (λ y. take k ms ++ y ∷ []) is ∙ sym (take_more ms k m lt) ∙ cut)) [
-      inl (all, last) ↦
-        not
-        (count known (first ++ take k ms) w.names ∙ ap (λ l. length (distinct (texts (first ++ l)))) (sym all) ∙ wide,
-          (no_number known (first ++ take k ms) m.text w.names).1
-          (λ h. new (subst (λ (l : List Mention). IsIn second.text (texts (first ++ l))) (sym all) (subst (λ (y : Mention). IsIn y.text (texts (first ++ take k ms))) (sym last) h))))
-      | inr (more, e) ↦ w.none place (before, second, more, e, wide, new, at)
-    ];
+      elim (snoc_cases (take k ms) m before second rest (ap (λ y. take k ms ++ y ∷ []) is ∙ sym (take_more ms k m lt) ∙ cut)) [
+        | inl (all, last) ↦
+            not (
+              count known (first ++ take k ms) w.names ∙ ap (λ l. length (distinct (texts (first ++ l)))) (sym all) ∙ wide,
+              (no_number known (first ++ take k ms) m.text w.names).1
+                  (λ h. new (subst (λ (l : List Mention). IsIn second.text (texts (first ++ l))) (sym all) (subst (λ (y : Mention). IsIn y.text (texts (first ++ take k ms))) (sym last) h))),
+            )
+        | inr (more, e) ↦ w.none place (before, second, more, e, wide, new, at)
+      ];
 }
 
 pub Within-past : (known : Entries) (first ms : List Mention) (k : ℕ) (m : Mention) (place : ℕ) → k < length ms → m ≡ get_or ms k m

@@ -49,7 +49,7 @@ Finds-either {X} {P} {Q} {a} {b} {found} ha hb one =
 pub mapped : {Z X : Type 0} (f : Z → X) (zs : List Z) (x : X) → IsIn x (map f zs) → (z : Z) × IsIn z zs × (x ≡ f z)
 mapped f [] x at = absurd (in_nothing x at)
 mapped f (z ∷ zs) x at = elim (in_cases (f z) x (map f zs) at) [
-  inl is ↦ (z, at_head z zs, sym is)
+  | inl is ↦ (z, at_head z zs, sym is)
   | inr later ↦ let (w, in', is) = mapped f zs x later in (w, at_tail z w zs in', is)
 ]
 
@@ -57,7 +57,7 @@ mapped f (z ∷ zs) x at = elim (in_cases (f z) x (map f zs) at) [
 pub flat_mapped : {Z X : Type 0} (f : Z → List X) (zs : List Z) (x : X) → IsIn x (flat_map f zs) → (z : Z) × IsIn z zs × IsIn x (f z)
 flat_mapped f [] x at = absurd (in_nothing x at)
 flat_mapped f (z ∷ zs) x at = elim (Contains-append_cases (f z) (flat_map f zs) x at) [
-  inl here ↦ (z, at_head z zs, here)
+  | inl here ↦ (z, at_head z zs, here)
   | inr later ↦ let (w, in', is) = flat_mapped f zs x later in (w, at_tail z w zs in', is)
 ]
 

@@ -36,7 +36,7 @@ module _ (w : List Variable) (gs : List VariableGroup) (cs : List Condition) whe
   quantifiers-Forall =
       ap (λ (f : List Variable → List Quantifier). flat_map quantifier_parts (f w)) (fold-Forall (List Variable → List Quantifier) quantifiers_step gs cs)
       ∙ ap (λ l. quantifier_parts (record { around = w; own = gs }) ++ l)
-        (ap (flat_map quantifier_parts) (body quantifiers_step within cs) ∙ flat_flat quantifier_parts (quantifiers_of within) cs)
+      (ap (flat_map quantifier_parts) (body quantifiers_step within cs) ∙ flat_flat quantifier_parts (quantifiers_of within) cs)
 
   pub atoms-Forall : atom_parts_of w (Forall gs cs) ≡ flat_map (atom_parts_of within) cs
   atoms-Forall =

@@ -93,7 +93,7 @@ naming t (s ∷ ss) h = by s.label h (naming t ss)
     by : (label : Option Name) → IsIn t (texts (optional_mention label ++ flat_map (λ s. optional_mention s.label) ss)) → (IsIn t rest → any ≡ true) → (is_text t label || any) ≡ true
     by None h later = later h
     by (Some l) h later = elim (in_cases (folded l.text) t rest h) [
-      inl is ↦ ap (λ b. b || any) ((texts_decide t (folded l.text)).1 (sym is))
+      | inl is ↦ ap (λ b. b || any) ((texts_decide t (folded l.text)).1 (sym is))
       | inr more ↦ or_right (is_same_text t (folded l.text)) (later more)
     ]
 

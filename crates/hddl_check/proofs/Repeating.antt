@@ -68,7 +68,7 @@ snoc_cases (x ∷ ms) m [] second after e = inr (ms, let same : x ≡ second = c
 snoc_cases (x ∷ ms) m (b ∷ bs) second after e =
     let same : x ≡ b = cc in
     elim (snoc_cases ms m bs second after (let rest : ms ++ m ∷ [] ≡ bs ++ second ∷ after = cc in rest)) [
-      inl (is, last) ↦ inl ((λ i. sym same i ∷ is i), last)
+      | inl (is, last) ↦ inl ((λ i. sym same i ∷ is i), last)
       | inr (rest, is) ↦ inr (rest, λ i. same i ∷ is i)
     ]
 
@@ -76,7 +76,7 @@ snoc_cases (x ∷ ms) m (b ∷ bs) second after e =
 pub stands : {X : Type 0} (xs : List X) (x : X) → IsIn x xs → (before : List X) × (after : List X) × (xs ≡ before ++ x ∷ after)
 stands [] x at = absurd (let gone : at.0 < 0 = at.1 in omega (arith, gone))
 stands (y ∷ ys) x at = elim (Contains-append_cases (y ∷ []) ys x at) [
-  inl one ↦ elim (Contains-push_cases [] y x one) [ inl (k, lt, is) ↦ absurd (let gone : k < 0 = lt in omega (arith, gone)) | inr e ↦ ([], ys, ap (λ z. z ∷ ys) e) ]
+  | inl one ↦ elim (Contains-push_cases [] y x one) [ inl (k, lt, is) ↦ absurd (let gone : k < 0 = lt in omega (arith, gone)) | inr e ↦ ([], ys, ap (λ z. z ∷ ys) e) ]
   | inr more ↦ let (before, after, is) = stands ys x more in (y ∷ before, after, ap (λ l. y ∷ l) is)
 ]
 
@@ -110,19 +110,19 @@ module _ (known : Entries) (ms : List Mention) (m : Mention) (found next : Optio
   kept_new : number_at known m.text ≡ None → Kept known ms found → IsOneOf found None next → Kept (known ++ (m.text, m.place) ∷ []) (ms ++ m ∷ []) next
   kept_new none k one = record {
     from = λ t n e. elim (number_at-cases known m.text m.place t n e) [
-      inl old ↦ Contains-append_left ms (m ∷ []) (record { text = t; place = n }) (k.from t n old)
+      | inl old ↦ Contains-append_left ms (m ∷ []) (record { text = t; place = n }) (k.from t n old)
       | inr is ↦ subst (λ x. IsIn x (ms ++ m ∷ [])) (λ i. record { text = sym is.0 i; place = is.1 i }) (Contains-push ms m)
     ];
     all = λ x at. elim (Contains-push_cases ms m x at) [
-      inl old ↦ number_at-still known m.text m.place x.text (k.all x old)
+      | inl old ↦ number_at-still known m.text m.place x.text (k.all x old)
       | inr is ↦ subst (λ (y : Mention). IsSome (number_at (known ++ (m.text, m.place) ∷ []) y.text)) is (ap is_some (number_at-new known m.text m.place none))
     ];
     none = λ e place (before, first, middle, second, after, cut, same, is). elim (snoc_cases ms m (before ++ first ∷ middle) second after cut) [
-      inl (all, last) ↦
-        let at : IsIn first ms = subst (IsIn first) all (Contains-middle before middle first) in
-        let there : IsSome (number_at known first.text) = k.all first at in
-        let gone : number_at known first.text ≡ None = ap (number_at known) (same ∙ ap (λ (y : Mention). y.text) last) ∙ none in
-        true≢false (sym there ∙ ap is_some gone)
+      | inl (all, last) ↦
+          let at : IsIn first ms = subst (IsIn first) all (Contains-middle before middle first) in
+          let there : IsSome (number_at known first.text) = k.all first at in
+          let gone : number_at known first.text ≡ None = ap (number_at known) (same ∙ ap (λ (y : Mention). y.text) last) ∙ none in
+          true≢false (sym there ∙ ap is_some gone)
       | inr (rest, e') ↦ k.none (one.none e).0 place (before, first, middle, second, rest, e', same, is)
     ];
     repeat = sound-one (IsRepeat (ms ++ m ∷ [])) (IfSome-weaker (IsRepeat ms) (IsRepeat (ms ++ m ∷ [])) (more ms m) found k.repeat) tt one;
@@ -137,7 +137,7 @@ module _ (known : Entries) (ms : List Mention) (m : Mention) (found next : Optio
       record {
         from = λ t n e. Contains-append_left ms (m ∷ []) (record { text = t; place = n }) (k.from t n e);
         all = λ x at. elim (Contains-push_cases ms m x at) [
-          inl old ↦ k.all x old
+          | inl old ↦ k.all x old
           | inr is ↦ subst (λ (y : Mention). IsSome (number_at known y.text)) is (ap is_some some)
         ];
         none = λ e. let none = (one.none e).1 in cc;

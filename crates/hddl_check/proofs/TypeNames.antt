@@ -38,7 +38,7 @@ module _ {X : Type 0} (mention : X → Mention) (of_type : Option Name) where
       by (Some n) [] at = absurd (in_nothing m at)
       by (Some n) (x ∷ xs) at =
           elim (in_cases (mention_of n) m (flat_map type_of (map (λ x. record { mention = mention x; of_type = Some (mention_of n) }) xs)) at) [
-            inl is ↦ subst (λ z. IsIn z (mention_of n ∷ [])) is (at_head (mention_of n) [])
+            | inl is ↦ subst (λ z. IsIn z (mention_of n ∷ [])) is (at_head (mention_of n) [])
             | inr later ↦ by (Some n) xs later
           ]
 
@@ -89,7 +89,7 @@ in_folded : (acc ts : List Text) (t : Text) → list_any (is_same_text t) (fold 
 in_folded acc [] t h = inl h
 in_folded acc (x ∷ ts) t h =
     elim (in_folded (with_name acc x) ts t h) [
-      inl old ↦ elim (named_cases acc x t old) [ inl is ↦ inl is | inr is ↦ inr (subst (λ z. IsIn z (x ∷ ts)) is (at_head x ts)) ]
+      | inl old ↦ elim (named_cases acc x t old) [ inl is ↦ inl is | inr is ↦ inr (subst (λ z. IsIn z (x ∷ ts)) is (at_head x ts)) ]
       | inr later ↦ inr (at_tail x t ts later)
     ]
 
@@ -100,15 +100,14 @@ of_distinct ts t h = elim (in_folded [] ts t h) [ inl none ↦ cc | inr at ↦ a
 pub is_number_of : (ts : List Text) (t : Text) → (is_some (position (is_same_text t) (distinct ts)) ≡ true) ↔ IsIn t ts
 is_number_of ts t = (
   λ h. of_distinct ts t (sym (has_position (is_same_text t) (distinct ts)) ∙ h),
-  λ at. has_position (is_same_text t) (distinct ts) ∙ in_distinct ts t at
+  λ at. has_position (is_same_text t) (distinct ts) ∙ in_distinct ts t at,
 )
 
 pub is_type_number : (d : DomainText) (t : Text) → (is_some (position (is_same_text t) (type_names d)) ≡ true) ↔ IsDeclaredType d t
 is_type_number d t =
-    let all = object ∷ texts (type_mentions d) in
-    (
+    let all = object ∷ texts (type_mentions d) in (
       λ h. elim (in_cases object t (texts (type_mentions d)) ((is_number_of all t).0 h)) [ inl is ↦ inl (sym is) | inr at ↦ inr at ],
-      λ h. (is_number_of all t).1 (elim h [ inl is ↦ subst (λ z. IsIn z all) (sym is) (at_head object (texts (type_mentions d))) | inr at ↦ at_tail object t (texts (type_mentions d)) at ])
+      λ h. (is_number_of all t).1 (elim h [ inl is ↦ subst (λ z. IsIn z all) (sym is) (at_head object (texts (type_mentions d))) | inr at ↦ at_tail object t (texts (type_mentions d)) at ]),
     )
 
 -- ## Findings

@@ -27,10 +27,7 @@ fn push_label(
 }
 
 /// The names of subtasks.
-pub(crate) fn labels_in(
-    alloc: Global,
-    subtasks: &[SubtaskText],
-) -> Result<Vec<Mention>, AllocError>
+pub(crate) fn labels_in(alloc: Global, subtasks: &[SubtaskText]) -> Result<Vec<Mention>, AllocError>
     ensures { IfOk result (λ mentions. mentions.items ≡ flat_map (λ s. optional_mention s.label) subtasks.now) }
 {
     let mut mentions = Vec::new(alloc);
@@ -59,10 +56,7 @@ fn number_label(
 }
 
 /// The positions of the subtasks that have names.
-pub(crate) fn label_numbers(
-    alloc: Global,
-    subtasks: &[SubtaskText],
-) -> Result<Numbers, AllocError>
+pub(crate) fn label_numbers(alloc: Global, subtasks: &[SubtaskText]) -> Result<Numbers, AllocError>
     ensures { IfOk result (λ numbers. (t : Text) → number_at numbers t ≡ position (λ s. is_text t s.label) subtasks.now) }
 {
     let mut numbers = Numbers::new(alloc);

@@ -5,7 +5,9 @@ ghost use Rattle.hddl_meaning.specs.Names.{optional_mention};
 ghost use Rattle.hddl_meaning.specs.Mentions.{mention_of, mentions_of, typed_names, typed_variables, variable_mention};
 
 use crate::mention::Mention;
-use hddl_tree::{ActionText, MethodText, Name, NameGroup, PredicateText, TaskText, Variable, VariableGroup};
+use hddl_tree::{
+    ActionText, MethodText, Name, NameGroup, PredicateText, TaskText, Variable, VariableGroup,
+};
 use std::alloc::{AllocError, Global};
 
 fn push_variables(
@@ -21,11 +23,7 @@ fn push_variables(
     Ok(())
 }
 
-fn push_names(
-    alloc: Global,
-    mentions: &mut Vec<Mention>,
-    names: &[Name],
-) -> Result<(), AllocError>
+fn push_names(alloc: Global, mentions: &mut Vec<Mention>, names: &[Name]) -> Result<(), AllocError>
     ensures { OnOk result (mentions.new.items ≡ mentions.old.items ++ map mention_of names.now) }
 {
     for name in names {

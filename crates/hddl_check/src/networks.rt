@@ -55,11 +55,7 @@ fn check_labels(
 }
 
 /// Whether the pairs have a cycle.
-fn is_cyclic(
-    alloc: Global,
-    size: usize,
-    pairs: &[(usize, usize)],
-) -> Result<bool, AllocError>
+fn is_cyclic(alloc: Global, size: usize, pairs: &[(usize, usize)]) -> Result<bool, AllocError>
     requires { AreBelow size pairs.now }
     ensures { IfOk result (λ cyclic. IsTrue cyclic ↔ Circles pairs.now) }
 {

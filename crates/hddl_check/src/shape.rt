@@ -70,10 +70,7 @@ fn check_declared(context: &Context<'_>) -> Result<Option<CheckFault>, AllocErro
     let method_fault = check_names(context, &methods)?;
     let task_fault = check_task_names(context, domain)?;
     let names = first_of(predicate_fault, first_of(method_fault, task_fault));
-    Ok(first_of(
-        types,
-        first_of(constants, first_of(constant_types, names)),
-    ))
+    Ok(first_of(types, first_of(constants, first_of(constant_types, names))))
 }
 
 /// A fault in a domain's declarations.

@@ -14,5 +14,5 @@ returns c =
     let gs = c.args.predicate.now.parameters in
     Finds-cons P (Limited most_parameters (mentions_of (typed_variables gs))) (type_parts (typed_variables gs))
     (subst (λ ms. Finds (P (Limited most_parameters ms)) c.check_limit-limit.result)
-      (c.deref.ensures.value ∙ c.in_ok-mentions.ensures ∙ ap (λ (g : List VariableGroup). mentions_of (typed_variables g)) c.as_slice.ensures) c.check_limit-limit.ensures)
+    (c.deref.ensures.value ∙ c.in_ok-mentions.ensures ∙ ap (λ (g : List VariableGroup). mentions_of (typed_variables g)) c.as_slice.ensures) c.check_limit-limit.ensures)
     (Finds-list P (ap (λ (g : List VariableGroup). type_parts (typed_variables g)) c.as_slice-2.ensures) c.in_ok-types.ensures) c.first_of.ensures

@@ -21,8 +21,8 @@ returns-then-is_some c =
     let rest : List Part = Network c.args.place n ∷ [] in
     Finds-enough P names (names ++ rest) (λ x at. in_left x names rest at) (some_of c.in_ok-repeated.repeated c.check_subtasks-limit.result c.first_of-named.result (sym c.is_some.ensures ∙ c.if-is_some.true) c.first_of-named.ensures)
     (Finds-cons P (Different (label_mentions n)) (Limited most_subtasks (subtask_mentions n) ∷ [])
-      (subst (λ ms. Finds (P (Different ms)) c.in_ok-repeated.repeated) labels c.in_ok-repeated.ensures)
-      (Finds-single P (Limited most_subtasks (subtask_mentions n)) c.check_subtasks-limit.ensures) c.first_of-named.ensures)
+    (subst (λ ms. Finds (P (Different ms)) c.in_ok-repeated.repeated) labels c.in_ok-repeated.ensures)
+    (Finds-single P (Limited most_subtasks (subtask_mentions n)) c.check_subtasks-limit.ensures) c.first_of-named.ensures)
 
 pub returns : goal.returns
 returns c =
@@ -33,6 +33,6 @@ returns c =
     let rest : List Part = Network c.args.place n ∷ [] in
     Finds-append P names rest
     (Finds-cons P (Different (label_mentions n)) (Limited most_subtasks (subtask_mentions n) ∷ [])
-      (subst (λ ms. Finds (P (Different ms)) c.in_ok-repeated.repeated) labels c.in_ok-repeated.ensures)
-      (Finds-single P (Limited most_subtasks (subtask_mentions n)) c.check_subtasks-limit.ensures) c.first_of-named.ensures)
+    (subst (λ ms. Finds (P (Different ms)) c.in_ok-repeated.repeated) labels c.in_ok-repeated.ensures)
+    (Finds-single P (Limited most_subtasks (subtask_mentions n)) c.check_subtasks-limit.ensures) c.first_of-named.ensures)
     (Finds-single P (Network c.args.place n) c.in_ok-order.ensures) c.first_of.ensures

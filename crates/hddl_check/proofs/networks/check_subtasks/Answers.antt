@@ -15,5 +15,5 @@ returns-in-Some c =
     let mention : SubtaskText → Mention = λ s. record { text = folded s.task.name.text; place = place_of s } in
     found_at TooMany c.args.context.now.source c.at.result
     (subst (λ (ss : List SubtaskText). Finds (IsPast most_subtasks (map mention ss)) (Some c.place.result)) c.as_slice.ensures
-      (past_mapped most_subtasks mention c.as_slice.result.now c.in-Some.subtask.now c.place.result found.3.0 found.1 c.place.ensures))
+    (past_mapped most_subtasks mention c.as_slice.result.now c.in-Some.subtask.now c.place.result found.3.0 found.1 c.place.ensures))
     c.at.ensures

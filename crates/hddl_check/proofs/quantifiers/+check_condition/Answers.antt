@@ -20,7 +20,7 @@ loop-part-preserved t c =
     Finds-next (Fails c.args.context.now) (quantifier_parts_of c.in_ok-within-in-Forall.within.items) c.as_slice-part-items.result.now c.loop-part.part-index
     c.part-item.result c.loop-part-test.true c.part-item.is c.loop-part.invariant
     (subst (λ w. Finds (AnyFails c.args.context.now (quantifier_parts_of w c.part-item.result)) c.in_ok-check_condition-in-Forall.field-0)
-      c.deref-in-loop-part.ensures.value c.in_ok-check_condition-in-Forall.ensures)
+    c.deref-in-loop-part.ensures.value c.in_ok-check_condition-in-Forall.ensures)
     c.first_of-found.ensures
 
 pub returns-then-is_some : goal.returns-then-is_some
@@ -34,7 +34,7 @@ returns-then-is_some t c =
     let whole : own ++ rest ≡ quantifier_parts_of scope c.args.condition.now = sym (ap (quantifier_parts_of scope) c.in-Forall.is ∙ quantifiers-Forall scope groups body) in
     Finds-list P whole
     (Finds-enough P own (own ++ rest) (λ x at. in_left x own rest at) (sym c.is_some.ensures ∙ c.if-is_some.true)
-      (Finds-list P (ap (λ g. quantifier_parts (record { around = scope; own = g })) c.as_slice-in-Forall.ensures) c.in_ok-own-in-Forall.ensures))
+    (Finds-list P (ap (λ g. quantifier_parts (record { around = scope; own = g })) c.as_slice-in-Forall.ensures) c.in_ok-own-in-Forall.ensures))
 
 pub returns-after-loop-part : goal.returns-after-loop-part
 returns-after-loop-part t c =
@@ -51,5 +51,5 @@ returns-after-loop-part t c =
     take_all c.loop-part.part-index c.as_slice-part-items.result.now c.loop-part-test.false ∙ c.as_slice-part-items.ensures in
     Finds-list P whole
     (Finds-append P own rest (Finds-list P (ap (λ g. quantifier_parts (record { around = scope; own = g })) c.as_slice-in-Forall.ensures) c.in_ok-own-in-Forall.ensures)
-      (Finds-list P (λ i. flat_map (quantifier_parts_of (within i)) (all i)) c.loop-part.invariant)
-      (after_none c.in_ok-own-in-Forall.own c.loop-part.found (none_from c.in_ok-own-in-Forall.own (sym c.is_some.ensures ∙ c.if-is_some.false))))
+    (Finds-list P (λ i. flat_map (quantifier_parts_of (within i)) (all i)) c.loop-part.invariant)
+    (after_none c.in_ok-own-in-Forall.own c.loop-part.found (none_from c.in_ok-own-in-Forall.own (sym c.is_some.ensures ∙ c.if-is_some.false))))

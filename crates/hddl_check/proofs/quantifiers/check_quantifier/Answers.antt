@@ -19,10 +19,10 @@ returns c =
     Finds-cons P (Different all) (Limited items.most_parameters own ∷ Limited items.most_variables all ∷ types)
     (subst (λ ms. Finds (P (Different ms)) c.in_ok-repeated.repeated) (c.deref.ensures.value ∙ whole) c.in_ok-repeated.ensures)
     (Finds-cons P (Limited items.most_parameters own) (Limited items.most_variables all ∷ types)
-      (subst (λ ms. Finds (P (Limited items.most_parameters ms)) c.check_limit-own_limit.result) (c.deref-2.ensures.value ∙ c.in_ok-own.ensures) c.check_limit-own_limit.ensures)
-      (Finds-cons P (Limited items.most_variables all) types
-        (subst (λ ms. Finds (P (Limited items.most_variables ms)) c.check_limit-limit.result) (c.deref-3.ensures.value ∙ whole) c.check_limit-limit.ensures)
-        c.in_ok-types.ensures
-        c.first_of.ensures)
-      c.first_of-2.ensures)
+    (subst (λ ms. Finds (P (Limited items.most_parameters ms)) c.check_limit-own_limit.result) (c.deref-2.ensures.value ∙ c.in_ok-own.ensures) c.check_limit-own_limit.ensures)
+    (Finds-cons P (Limited items.most_variables all) types
+    (subst (λ ms. Finds (P (Limited items.most_variables ms)) c.check_limit-limit.result) (c.deref-3.ensures.value ∙ whole) c.check_limit-limit.ensures)
+    c.in_ok-types.ensures
+    c.first_of.ensures)
+    c.first_of-2.ensures)
     c.first_of-3.ensures

@@ -18,14 +18,14 @@ returns-then-is_some c =
     let rest : List Part = flat_map quantifier_parts (quantifiers_in (parameters_of gs) c.args.conditions.now) in
     Finds-enough P (parameter_parts gs) (parameter_parts gs ++ rest) (λ x at. in_left x (parameter_parts gs) rest at)
     (some_of c.in_ok-repeated.repeated c.first_of-limited.result c.first_of-own.result
-      (some_of_first c.check_limit-limit.result c.in_ok-types.types c.first_of-limited.result (sym c.is_some.ensures ∙ c.if-is_some.true) c.first_of-limited.ensures)
-      c.first_of-own.ensures)
+    (some_of_first c.check_limit-limit.result c.in_ok-types.types c.first_of-limited.result (sym c.is_some.ensures ∙ c.if-is_some.true) c.first_of-limited.ensures)
+    c.first_of-own.ensures)
     (Finds-cons P (Different ms) (Limited most_parameters ms ∷ type_parts (typed_variables gs))
-      (subst (λ ms. Finds (P (Different ms)) c.in_ok-repeated.repeated) (c.deref.ensures.value ∙ c.in_ok-mentions.ensures) c.in_ok-repeated.ensures)
-      (Finds-cons P (Limited most_parameters ms) (type_parts (typed_variables gs))
-        (subst (λ ms. Finds (P (Limited most_parameters ms)) c.check_limit-limit.result) (c.deref-2.ensures.value ∙ c.in_ok-mentions.ensures) c.check_limit-limit.ensures)
-        c.in_ok-types.ensures c.first_of-limited.ensures)
-      c.first_of-own.ensures)
+    (subst (λ ms. Finds (P (Different ms)) c.in_ok-repeated.repeated) (c.deref.ensures.value ∙ c.in_ok-mentions.ensures) c.in_ok-repeated.ensures)
+    (Finds-cons P (Limited most_parameters ms) (type_parts (typed_variables gs))
+    (subst (λ ms. Finds (P (Limited most_parameters ms)) c.check_limit-limit.result) (c.deref-2.ensures.value ∙ c.in_ok-mentions.ensures) c.check_limit-limit.ensures)
+    c.in_ok-types.ensures c.first_of-limited.ensures)
+    c.first_of-own.ensures)
 
 pub returns : goal.returns
 returns c =
@@ -35,10 +35,10 @@ returns c =
     let rest : List Part = flat_map quantifier_parts (quantifiers_in (parameters_of gs) c.args.conditions.now) in
     Finds-append P (parameter_parts gs) rest
     (Finds-cons P (Different ms) (Limited most_parameters ms ∷ type_parts (typed_variables gs))
-      (subst (λ ms. Finds (P (Different ms)) c.in_ok-repeated.repeated) (c.deref.ensures.value ∙ c.in_ok-mentions.ensures) c.in_ok-repeated.ensures)
-      (Finds-cons P (Limited most_parameters ms) (type_parts (typed_variables gs))
-        (subst (λ ms. Finds (P (Limited most_parameters ms)) c.check_limit-limit.result) (c.deref-2.ensures.value ∙ c.in_ok-mentions.ensures) c.check_limit-limit.ensures)
-        c.in_ok-types.ensures c.first_of-limited.ensures)
-      c.first_of-own.ensures)
+    (subst (λ ms. Finds (P (Different ms)) c.in_ok-repeated.repeated) (c.deref.ensures.value ∙ c.in_ok-mentions.ensures) c.in_ok-repeated.ensures)
+    (Finds-cons P (Limited most_parameters ms) (type_parts (typed_variables gs))
+    (subst (λ ms. Finds (P (Limited most_parameters ms)) c.check_limit-limit.result) (c.deref-2.ensures.value ∙ c.in_ok-mentions.ensures) c.check_limit-limit.ensures)
+    c.in_ok-types.ensures c.first_of-limited.ensures)
+    c.first_of-own.ensures)
     (Finds-list P (ap (λ w. flat_map quantifier_parts (quantifiers_in w c.args.conditions.now)) (c.deref-3.ensures.value ∙ c.in_ok-scope.ensures)) c.in_ok-inner.ensures)
     c.first_of.ensures

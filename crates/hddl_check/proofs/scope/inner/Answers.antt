@@ -9,4 +9,4 @@ pub returns : goal.returns
 returns c =
     c.in_ok-push_groups.ensures
     ∙ (λ i. (c.loop-variable.invariant ∙ take_all c.loop-variable.variable-index c.args.around.now c.loop-variable-test.false) i
-      ++ scope_groups true c.args.groups.now i)
+    ++ scope_groups true c.args.groups.now i)

@@ -35,15 +35,15 @@ returns c =
     let names : List Part = name_parts predicates ++ (name_parts methods ++ tasks) in
     Finds-cons P Types (Objects ∷ (types ++ names)) c.in_ok-types.ensures
     (Finds-cons P Objects (types ++ names) c.in_ok-constants.ensures
-      (Finds-append P types names (Finds-list P (ap (λ (g : List NameGroup). type_parts (typed_names g)) c.as_slice-3.ensures) c.in_ok-constant_types.ensures)
-        (Finds-append P (name_parts predicates) (name_parts methods ++ tasks)
-          (Finds-list P (ap name_parts (c.deref.ensures.value ∙ c.in_ok-predicates.ensures ∙ ap (λ (xs : List PredicateText). map (λ x. mention_of x.name) xs) c.as_slice.ensures))
-            c.in_ok-predicate_fault.ensures)
-          (Finds-append P (name_parts methods) tasks
-            (Finds-list P (ap name_parts (c.deref-2.ensures.value ∙ c.in_ok-methods.ensures ∙ ap (λ (xs : List MethodText). map (λ x. mention_of x.name) xs) c.as_slice-2.ensures))
-              c.in_ok-method_fault.ensures)
-            c.in_ok-task_fault.ensures c.first_of.ensures)
-          c.first_of-names.ensures)
-        c.first_of-2.ensures)
-      c.first_of-3.ensures)
+    (Finds-append P types names (Finds-list P (ap (λ (g : List NameGroup). type_parts (typed_names g)) c.as_slice-3.ensures) c.in_ok-constant_types.ensures)
+    (Finds-append P (name_parts predicates) (name_parts methods ++ tasks)
+    (Finds-list P (ap name_parts (c.deref.ensures.value ∙ c.in_ok-predicates.ensures ∙ ap (λ (xs : List PredicateText). map (λ x. mention_of x.name) xs) c.as_slice.ensures))
+    c.in_ok-predicate_fault.ensures)
+    (Finds-append P (name_parts methods) tasks
+    (Finds-list P (ap name_parts (c.deref-2.ensures.value ∙ c.in_ok-methods.ensures ∙ ap (λ (xs : List MethodText). map (λ x. mention_of x.name) xs) c.as_slice-2.ensures))
+    c.in_ok-method_fault.ensures)
+    c.in_ok-task_fault.ensures c.first_of.ensures)
+    c.first_of-names.ensures)
+    c.first_of-2.ensures)
+    c.first_of-3.ensures)
     c.first_of-4.ensures

@@ -29,7 +29,7 @@ returns-in-Some c =
     let mentions : List NameGroup → List Mention = λ gs. flat_map (λ g. map mention_of g.names ++ optional_mention g.of_type) gs in
     found_at TooMany c.args.context.now.source c.at.result
     (subst (Finds (IsPastAfter [] (mentions c.args.context.now.domain.now.types))) c.in-Some.is
-      (subst (λ ms. Finds (IsPastAfter [] ms) c.in_ok-past.past) (c.deref.ensures.value ∙ c.in_ok-types.ensures ∙ ap mentions c.as_slice.ensures) c.in_ok-past.ensures))
+    (subst (λ ms. Finds (IsPastAfter [] ms) c.in_ok-past.past) (c.deref.ensures.value ∙ c.in_ok-types.ensures ∙ ap mentions c.as_slice.ensures) c.in_ok-past.ensures))
     c.at.ensures
 
 pub returns : goal.returns
@@ -37,4 +37,4 @@ returns c =
     let mentions : List NameGroup → List Mention = λ gs. flat_map (λ g. map mention_of g.names ++ optional_mention g.of_type) gs in
     none_at TooMany c.args.context.now.source
     (subst (Finds (IsPastAfter [] (mentions c.args.context.now.domain.now.types))) c.in-None.is
-      (subst (λ ms. Finds (IsPastAfter [] ms) c.in_ok-past.past) (c.deref.ensures.value ∙ c.in_ok-types.ensures ∙ ap mentions c.as_slice.ensures) c.in_ok-past.ensures))
+    (subst (λ ms. Finds (IsPastAfter [] ms) c.in_ok-past.past) (c.deref.ensures.value ∙ c.in_ok-types.ensures ∙ ap mentions c.as_slice.ensures) c.in_ok-past.ensures))
