@@ -27,6 +27,7 @@ use Rattle.hddl_meaning.specs.declared.fault.Source.TheVariants as source
 use Rattle.hddl_meaning.specs.declared.fault.At.{At}
 use Rattle.hddl_meaning.specs.declared.fault.CheckFault.{CheckFault}
 use Rattle.hddl_meaning.specs.declared.fault.CheckFault.TheVariants as fault
+use Rattle.hddl_check.specs.Findings.{AnyOf}
 use Rattle.hddl_check.specs.Repeats.{IsRepeat}
 
 pub data Part : Type 0 where
@@ -175,3 +176,7 @@ abbrev pub problem_parts : ProblemText → List Part
 problem_parts p =
     Objects ∷ (type_parts (typed_names p.objects) ++ (schema_parts (schema_of_network p) ++ (network_parts p.htn.place p.htn.network
     ++ schema_parts (schema_of_states p))))
+
+-- a part of what is declared fails
+abbrev pub DeclarationFails : DomainText → ProblemText → CheckFault → Type 0
+DeclarationFails d p f = AnyOf (FailsIn d p source.Domain) (domain_parts d) f ⊎ AnyOf (FailsIn d p source.Problem) (problem_parts p) f

@@ -8,6 +8,7 @@ use hddl_tree::{DomainText, ProblemText};
 use std::alloc::Global;
 
 /// The text that is checked, and what both texts declare.
+#[derive(Drop)]
 pub(crate) struct Context<'a> {
     pub(crate) alloc: Global,
     pub(crate) source: Source,

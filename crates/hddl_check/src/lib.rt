@@ -4,6 +4,7 @@
 mod context;
 mod declarations;
 mod distinct;
+mod faults;
 mod findings;
 mod labels;
 mod limits;
@@ -18,3 +19,5 @@ mod schemas;
 mod scope;
 mod shape;
 mod types;
+
+pub use faults::declaration_fault;
