@@ -10,3 +10,4 @@ pub mod Steps
 pub mod Pinned
 pub mod Numbered
 pub mod Sizes
+pub mod MethodOf
