@@ -15,3 +15,5 @@ pub mod Steps
 pub mod Pinned
 pub mod Numbered
 pub mod TreeSizes
+pub mod Sizes
+pub mod MethodOf

@@ -1,10 +1,10 @@
 -- The instances of one method for one ground task.
-use Rattle.std.specs.Prelude.{Bool, List, ℕ, ◌&&◌, length, map, nat_eq, not}
+use Rattle.std.specs.Prelude.{Bool, List, ℕ, ◌&&◌, length, map, nat_eq, not, Option, option_and_then, slice_get}
 use Rattle.std.specs.List.{filter}
 use Rattle.htn_model.specs.Exhaustion.{is_dead}
 use Rattle.htn_model.specs.Grounding.{problem_of}
 use Rattle.htn_model.specs.Instance.{Instance}
-use Rattle.htn_model.specs.Instances.{ground_task, instances, method_conditions, method_instance}
+use Rattle.htn_model.specs.Instances.{ground_task, instances, method_conditions, method_instance, methods_of}
 use Rattle.htn_model.specs.Problem.{GroundTask, ground_task_eq}
 use Rattle.htn_model.specs.Schema.{TaskSchema}
 use Rattle.htn_model.specs.Task.{MethodSchema, Task}
@@ -24,3 +24,7 @@ live_instances t found = filter (λ p. not (is_dead (problem_of t) p.1.network))
 -- whether a schema's task has the number of a ground task, and as many arguments
 abbrev pub fits_task : TaskSchema → GroundTask → Bool
 fits_task s g = nat_eq s.name g.name && nat_eq (length s.arguments) (length g.arguments)
+
+-- the method of the instance with this number, among those of a ground task's methods
+abbrev pub method_of : Task → GroundTask → ℕ → Option ℕ
+method_of t g number = option_and_then (λ i. i.method) (slice_get (methods_of t g) number)

@@ -22,6 +22,6 @@ pub use child::{Child, ChildList};
 pub use ground_task::GroundTask;
 pub use instance::Instance;
 pub use literals::goal_literals;
-pub use methods::{action_of, initials, live_methods_of, methods_of};
+pub use methods::{action_of, initials, live_methods_of, method_of, methods_of};
 pub use node::{Node, Solution, compound};
 pub use object_list::ObjectList;

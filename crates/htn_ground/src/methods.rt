@@ -3,7 +3,7 @@ ghost use Rattle.std.specs.Prelude.{◌≡◌, ◌+◌, ◌++◌, IfOk, OnOk, le
 ghost use Rattle.std.specs.List.{enumerate_from};
 ghost use Rattle.htn_model.specs.Instances as model;
 ghost use Rattle.htn_model.specs.Task.{IsMethodSchema};
-ghost use Rattle.htn_ground.specs.Methods.{fits_task, instances_for, live_instances, numbered_instances};
+ghost use Rattle.htn_ground.specs.Methods.{fits_task, instances_for, live_instances, method_of, numbered_instances};
 ghost use Rattle.htn_ground.specs.Search.{AreLiteralsOf, live_from};
 
 use crate::conditions::{action_conditions, initial_conditions, method_conditions, pin};
@@ -116,6 +116,28 @@ pub fn methods_of(
         push_instances(alloc, task, number, method, values, &mut found)?;
     }
     Ok(found)
+}
+
+/// The method of the instance with this number, among those of a ground task's methods; none where so
+/// many there aren't. The instances are counted and not made.
+pub fn method_of(
+    alloc: Global,
+    task: &Task,
+    goal: &GroundTask,
+    number: u64,
+) -> Result<Option<u16>, AllocError>
+    ensures { IfOk result (λ m. m ≡ method_of task.now goal.now number) }
+{
+    let mut first = 0;
+    for (place, method) in task.methods().iter().enumerate() {
+        let method_number = number_at(place)?;
+        let (_, next) = values_for(alloc, task, goal, method, &[], first)?;
+        if number < next {
+            return Ok(Some(method_number));
+        }
+        first = next;
+    }
+    Ok(None)
 }
 
 /// Appends those instances of a method at numbered values that are not dead, with their numbers.

@@ -1,8 +1,7 @@
 -- The names of a task: what the words of a plan file name in it, and the words of what stands in it.
-use Rattle.std.specs.Prelude.{ℕ, List, [], ◌∷◌, ◌++◌, map, get_or, codes, position, slice_get, Option, Some, None, option_and_then}
+use Rattle.std.specs.Prelude.{ℕ, List, [], ◌∷◌, ◌++◌, map, get_or, codes, position, Option, Some, None, option_and_then}
 use Rattle.std.specs.Str.{bytes_eq}
-use Rattle.htn_model.specs.Instance.{Instance}
-use Rattle.htn_model.specs.Instances.{methods_of}
+use Rattle.htn_ground.specs.Methods.{method_of}
 use Rattle.htn_model.specs.PlanFile.{Word, Naming, IsWithoutRepeats}
 use Rattle.htn_model.specs.Problem.{GroundTask}
 use Rattle.htn_model.specs.Task.{Task}
@@ -25,13 +24,9 @@ abbrev pub numbered_method_name : Task → Option ℕ → Word
 numbered_method_name t None = unnamed
 numbered_method_name t (Some m) = get_or (map (λ m. m.name) t.methods) m unnamed
 
-abbrev pub instance_name : Task → Option Instance → Word
-instance_name t None = unnamed
-instance_name t (Some i) = numbered_method_name t i.method
-
 -- the method of the instance with this number
 abbrev pub method_name : Task → GroundTask → ℕ → Word
-method_name t g number = instance_name t (slice_get (methods_of t g) number)
+method_name t g number = numbered_method_name t (method_of t g number)
 
 -- the first number of a word in a list
 abbrev pub number_of : List Word → Word → Option ℕ

@@ -1,9 +1,9 @@
 //! The names of what stands in a task.
-ghost use Rattle.std.specs.Prelude.{◌≡◌, Some, IfOk};
+ghost use Rattle.std.specs.Prelude.{◌≡◌, IfOk};
 ghost use Rattle.htn_model.specs.PlanWord.{IsName};
 ghost use Rattle.htn_plan.specs.Naming as spec;
 
-use htn_ground::{GroundTask, Instance, methods_of};
+use htn_ground::{GroundTask, method_of};
 use htn_task::Task;
 use std::alloc::{AllocError, Global};
 
@@ -42,20 +42,6 @@ pub(crate) fn task_name(task: &Task, number: u32) -> &[u8]
     }
 }
 
-/// The name of an instance's method.
-fn instance_name<'a>(task: &'a Task, instance: &Instance) -> &'a [u8]
-    ensures value { result.now ≡ spec.instance_name task.now (Some instance.now) }
-    ensures name { IsName result.now }
-{
-    let Some(number) = instance.method() else {
-        return unnamed();
-    };
-    match task.methods().get(number as usize) {
-        Some(method) => method.name().as_bytes(),
-        None => unnamed(),
-    }
-}
-
 /// The name of the method whose instance has this number, among the instances of a compound task.
 pub(crate) fn method_name<'a>(
     alloc: Global,
@@ -66,9 +52,11 @@ pub(crate) fn method_name<'a>(
     ensures value { IfOk result (λ w. w.now ≡ spec.method_name task.now goal.now number) }
     ensures name { IfOk result (λ w. IsName w.now) }
 {
-    let instances = methods_of(alloc, task, goal)?;
-    match instances.get(number as usize) {
-        Some(instance) => Ok(instance_name(task, instance)),
+    let Some(method) = method_of(alloc, task, goal, number)? else {
+        return Ok(unnamed());
+    };
+    match task.methods().get(method as usize) {
+        Some(method) => Ok(method.name().as_bytes()),
         None => Ok(unnamed()),
     }
 }
