@@ -1,6 +1,7 @@
 pub mod Cached
 pub mod Chosen
 pub mod First
+pub mod Jobs
 pub mod Numbers
 pub mod Offered
 pub mod Performed

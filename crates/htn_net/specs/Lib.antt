@@ -1,5 +1,6 @@
 pub mod Cache
 pub mod Choices
+pub mod Example
 pub mod Grounded
 pub mod Hashes
 pub mod Laws

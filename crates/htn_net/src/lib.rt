@@ -16,3 +16,8 @@ pub use choice::{Change, Choice, LiveChange, LiveChoice};
 pub use config::Config;
 pub use machine::WordMachine;
 pub use start::starts;
+
+#[cfg(test)]
+mod example;
+#[cfg(test)]
+mod tests;

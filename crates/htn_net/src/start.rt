@@ -1,14 +1,26 @@
 //! The configurations at the start.
 ghost use Rattle.std.specs.Prelude.{◌≡◌, Contains, IfOk, map};
+ghost use Rattle.std.specs.Arc.{arc_value};
 ghost use Rattle.htn_model.specs.Grounding.{problem_of};
 ghost use Rattle.htn_model.specs.Instances as model;
 ghost use Rattle.htn_model.specs.Machine.{start};
+ghost use Rattle.htn_model.specs.Task.{IsWellTyped};
 
 use crate::config::Config;
 use htn_ground::{Instance, initials};
+use htn_state::State;
 use htn_task::Task;
 use std::alloc::{AllocError, Global};
 use std::sync::Arc;
+
+/// The state at the start.
+fn initial_state(alloc: Global, task: &Task) -> Result<Arc<State>, AllocError>
+    ensures state { IfOk result (λ s. arc_value s ≡ task.now.initial_atoms) }
+    ensures typed { IsWellTyped task.now }
+{
+    let state = Arc::new(alloc, task.initial_atoms().clone()?)?;
+    Ok(state)
+}
 
 impl Config {
     /// The configuration at the start with an instance of the initial network: its nodes are open in
@@ -17,7 +29,7 @@ impl Config {
         requires { Contains (model.initials task.now) instance.now }
         ensures { IfOk result (λ c. c ≡ start (problem_of task.now) instance.now.network) }
     {
-        let state = Arc::new(alloc, task.initial_atoms().clone()?)?;
+        let state = initial_state(alloc, task)?;
         let config = Config::of(state, instance)?;
         Ok(config)
     }
@@ -27,7 +39,7 @@ impl Config {
 pub fn starts(alloc: Global, task: &Task) -> Result<Vec<Config>, AllocError>
     ensures { IfOk result (λ v. v.items ≡ map (start (problem_of task.now)) (problem_of task.now).initials) }
 {
-    let state = Arc::new(alloc, task.initial_atoms().clone()?)?;
+    let state = initial_state(alloc, task)?;
     let instances = initials(alloc, task)?;
     let mut found = Vec::new(alloc);
     for instance in &instances {

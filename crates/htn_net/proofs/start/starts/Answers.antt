@@ -11,7 +11,7 @@ use Rattle.htn_net.proofs.start.starts.Goals as goal
 pub of-requires : goal.of-requires
 of-requires c =
     let items = c.deref-instance-items.ensures.value ∙ c.in_ok-instances.ensures in
-    initial_whole c.args.task.now c.initial_atoms.ensures.typed c.instance-item.result
+    initial_whole c.args.task.now c.initial_state.ensures.typed c.instance-item.result
     (subst (λ l. Contains l c.instance-item.result) items (c.loop-instance.instance-index, c.loop-instance-test.true, sym c.instance-item.is))
 
 pub returns : goal.returns
