@@ -15,5 +15,4 @@ pub mod Steps
 pub mod Pinned
 pub mod Numbered
 pub mod TreeSizes
-pub mod Sizes
 pub mod MethodOf
