@@ -8,3 +8,4 @@ pub mod Folding
 pub mod Labelling
 pub mod Pairs
 pub mod Distinctness
+pub mod Whole

@@ -1,5 +1,6 @@
 //! Faults of what a domain and a problem declare.
-ghost use Rattle.std.specs.Prelude.{◌≡◌, IfOk};
+ghost use Rattle.std.specs.Prelude.{◌≡◌, IfOk, IfSome};
+ghost use Rattle.hddl_meaning.specs.Items.{FailsAt};
 ghost use Rattle.hddl_meaning.specs.Building.{vocabulary_of};
 ghost use Rattle.hddl_check.specs.Findings.{Finds};
 ghost use Rattle.hddl_check.specs.Parts.{DeclarationFails};
@@ -50,7 +51,9 @@ pub fn declaration_fault(
     domain: &DomainText,
     problem: &ProblemText,
 ) -> Result<Option<CheckFault>, AllocError>
-    ensures { IfOk result (Finds (DeclarationFails domain.now problem.now)) }
+    ensures found { IfOk result (Finds (DeclarationFails domain.now problem.now)) }
+    // The fault is one of the items', at its place.
+    ensures fault { IfOk result (λ found. IfSome found (FailsAt domain.now problem.now)) }
 {
     let vocabulary = Vocabulary::of(alloc, domain, problem)?;
     let fault = fault_among(alloc, domain, problem, &vocabulary)?;

@@ -1,0 +1,384 @@
+-- The parts of the two texts fail exactly where the items do.
+use Rattle.std.proofs.Common.{arith, ◌≡◌, ℕ, List, [], ◌∷◌, ◌++◌, map, ◌⊎◌, inl, inr, refl, sym, subst}
+use Rattle.std.specs.Bool.{⊤}
+use Rattle.std.specs.List.{flat_map}
+use Rattle.std.proofs.lemmas.List.Elements.{Contains-append_cases}
+use Rattle.hddl_tree.specs.declared.network.NetworkText.{NetworkText}
+use Rattle.hddl_tree.specs.declared.domain.DomainText.{DomainText}
+use Rattle.hddl_tree.specs.declared.domain.PredicateText.{PredicateText}
+use Rattle.hddl_tree.specs.declared.domain.TaskText.{TaskText}
+use Rattle.hddl_tree.specs.declared.domain.MethodText.{MethodText}
+use Rattle.hddl_tree.specs.declared.domain.ActionText.{ActionText}
+use Rattle.hddl_tree.specs.declared.problem.ProblemText.{ProblemText}
+use Rattle.hddl_meaning.specs.Mentions.{Mention, Typed, IsIn, mention_of, mentions_of, typed_names, typed_variables}
+use Rattle.hddl_meaning.specs.Uses.{Use, TermUse, Quantifier, Schema, schema_of_method, schema_of_action, schema_of_network, schema_of_states, domain_schemas, problem_schemas}
+use Rattle.hddl_meaning.specs.Items.{FailsAt, IsUnknownName, IsWrongArity, IsTypeClash, IsTooMany, schemas_in, networks_in, declared_objects, groups, IsPast, declaration_groups, schema_groups, label_mentions, type_of, type_uses, terms_in, tasks_in, arguments_of, flattened, declaration_lists, predicate_parameters, parameter_lists, variable_lists, variable_mentions, subtask_mentions, most_declarations, most_parameters, most_variables, most_subtasks}
+use Rattle.hddl_meaning.specs.declared.fault.Source.{Source}
+use Rattle.hddl_meaning.specs.declared.fault.Source.TheVariants as source
+use Rattle.hddl_meaning.specs.declared.fault.At.{At}
+use Rattle.hddl_meaning.specs.declared.fault.CheckFault.{CheckFault}
+use Rattle.hddl_meaning.specs.declared.fault.CheckFault.TheVariants as fault
+use Rattle.hddl_meaning.proofs.Listed.{at_head, at_tail, in_cases, in_nothing, in_left, in_right, in_map, in_flat_map}
+use Rattle.hddl_check.specs.Findings.{AnyOf}
+use Rattle.hddl_check.specs.Parts.{Part, FailsIn, DeclarationFails, type_parts, parameter_parts, quantifier_parts, schema_parts, network_parts, method_network_parts, method_parts, action_parts, predicate_parts, task_parts, name_parts, task_name_parts, declared_parts, body_parts, domain_parts, problem_parts}
+use Rattle.hddl_check.specs.Parts.Part.{Different, Limited, TypeName, Atom, Decomposed, Subtask, Side, Network, Types, Objects}
+use Rattle.hddl_check.proofs.Finding.{mapped, flat_mapped}
+
+-- ## Lists of which each item has a property
+
+abbrev Every : {X : Type 0} → (X → Type 0) → List X → Type 0
+Every {X} P xs = (x : X) → IsIn x xs → P x
+
+module _ {X : Type 0} (P : X → Type 0) where
+  every_nil : Every P []
+  every_nil x h = absurd (in_nothing x h)
+
+  every_cons : (y : X) (xs : List X) → P y → Every P xs → Every P (y ∷ xs)
+  every_cons y xs h rest x at = elim (in_cases y x xs at) [ inl e ↦ subst P e h | inr later ↦ rest x later ]
+
+  every_append : (xs ys : List X) → Every P xs → Every P ys → Every P (xs ++ ys)
+  every_append xs ys f g x at = elim (Contains-append_cases xs ys x at) [ inl i ↦ f x i | inr i ↦ g x i ]
+
+module _ {X Y : Type 0} (P : X → Type 0) where
+  every_map : (f : Y → X) (ys : List Y) → Every (λ y. P (f y)) ys → Every P (map f ys)
+  every_map f [] h = every_nil P
+  every_map f (y ∷ ys) h = every_cons P (f y) (map f ys) (h y (at_head y ys)) (every_map f ys (λ z at. h z (at_tail y z ys at)))
+
+  every_flat_map : (f : Y → List X) (ys : List Y) → ((y : Y) → IsIn y ys → Every P (f y)) → Every P (flat_map f ys)
+  every_flat_map f ys h x at = let (y, in', is) = flat_mapped f ys x at in h y in' x is
+
+-- ## The lists of parts, cut where they are joined
+
+module _ (d : DomainText) where
+  abbrev predicates : List Mention
+  predicates = map (λ x. mention_of x.name) d.predicates
+
+  abbrev tasks : List Mention
+  tasks = map (λ x. mention_of x.name) d.tasks
+
+  abbrev methods : List Mention
+  methods = map (λ x. mention_of x.name) d.methods
+
+  abbrev actions : List Mention
+  actions = map (λ x. mention_of x.name) d.actions
+
+  -- what follows in a list, from each place on
+  abbrev from_methods : List Part
+  from_methods = name_parts methods ++ task_name_parts d
+
+  abbrev from_predicates : List Part
+  from_predicates = name_parts predicates ++ from_methods
+
+  abbrev from_constants : List Part
+  from_constants = type_parts (typed_names d.constants) ++ from_predicates
+
+  abbrev body_from_networks : List Part
+  body_from_networks = flat_map method_network_parts d.methods ++ flat_map action_parts d.actions
+
+  abbrev body_from_methods : List Part
+  body_from_methods = flat_map method_parts d.methods ++ body_from_networks
+
+  abbrev body_from_tasks : List Part
+  body_from_tasks = flat_map task_parts d.tasks ++ body_from_methods
+
+module _ (p : ProblemText) where
+  abbrev from_network : List Part
+  from_network = network_parts p.htn.place p.htn.network ++ schema_parts (schema_of_states p)
+
+  abbrev from_initial : List Part
+  from_initial = schema_parts (schema_of_network p) ++ from_network
+
+  abbrev from_objects : List Part
+  from_objects = type_parts (typed_names p.objects) ++ from_initial
+
+-- ## What the parts of a text are
+
+module _ (d : DomainText) (p : ProblemText) where
+  abbrev parts_of : Source → List Part
+  parts_of source.Domain = domain_parts d
+  parts_of source.Problem = problem_parts p
+
+  -- the lists that have a limit
+  abbrev IsLimited : Source → ℕ → List Mention → Type 0
+  IsLimited text n m =
+      ((n ≡ most_declarations) × IsIn m (declaration_lists d text))
+      ⊎ ((n ≡ most_parameters) × IsIn m (parameter_lists d p text))
+      ⊎ ((n ≡ most_variables) × IsIn m (variable_lists d p text))
+      ⊎ ((n ≡ most_subtasks) × ((w : ℕ × NetworkText) × IsIn w (networks_in d p text) × (m ≡ subtask_mentions w.1)))
+
+  abbrev IsPart : Source → Part → Type 0
+  IsPart text (Different g) = IsIn g (groups d p text)
+  IsPart text (Limited n m) = IsLimited text n m
+  IsPart text (TypeName m) = IsIn m (type_uses d p text)
+  IsPart text (Atom u) = ⊥
+  IsPart text (Decomposed u) = ⊥
+  IsPart text (Subtask u) = ⊥
+  IsPart text (Side t) = ⊥
+  IsPart text (Network place n) = IsIn (place, n) (networks_in d p text)
+  IsPart text Types = text ≡ source.Domain
+  IsPart text Objects = ⊤
+
+  -- ## A part that fails is a fault
+
+  module _ (text : Source) where
+    abbrev at_place : ℕ → At
+    at_place place = record { source = text; place = place }
+
+    fails_by : (f g : CheckFault) → f ≡ g → FailsAt d p g → FailsAt d p f
+    fails_by f g e h = subst (FailsAt d p) (sym e) h
+
+    network_fails : (at : ℕ) (n : NetworkText) (f : CheckFault) → IsPart text (Network at n) → FailsIn d p text (Network at n) f → FailsAt d p f
+    network_fails at n f in' (inl (place, e, (a, cycle, is))) = fails_by f (fault.OrderCycle (at_place place)) e ((at, n), a, in', cycle, is)
+    network_fails at n f in' (inr (place, e, (name, named, missing))) =
+        fails_by f (fault.UnknownSubtask (at_place place)) e ((at, n), name, in', named, missing)
+
+    limited_fails : (n : ℕ) (m : List Mention) (f : CheckFault) → IsLimited text n m → FailsIn d p text (Limited n m) f → FailsAt d p f
+    limited_fails n m f (inl (limit, in')) (place, e, past) =
+        fails_by f (fault.TooMany (at_place place)) e (inr (inr (inl (m, in', subst (λ k. IsPast k m place) limit past))))
+    limited_fails n m f (inr (inl (limit, in'))) (place, e, past) =
+        fails_by f (fault.TooMany (at_place place)) e (inr (inr (inr (inl (m, in', subst (λ k. IsPast k m place) limit past)))))
+    limited_fails n m f (inr (inr (inl (limit, in')))) (place, e, past) =
+        fails_by f (fault.TooMany (at_place place)) e (inr (inr (inr (inr (inl (m, in', subst (λ k. IsPast k m place) limit past))))))
+    limited_fails n m f (inr (inr (inr (limit, (w, in', is))))) (place, e, past) =
+        fails_by f (fault.TooMany (at_place place)) e
+        (inr (inr (inr (inr (inr (w, in', subst (λ l. IsPast most_subtasks l place) is (subst (λ k. IsPast k m place) limit past)))))))
+
+    types_fail : (f : CheckFault) → text ≡ source.Domain → FailsIn d p text Types f → FailsAt d p f
+    types_fail f is (place, e, past) = fails_by f (fault.TooMany (at_place place)) e (inl (is, past))
+
+    part_fails : (x : Part) (f : CheckFault) → IsPart text x → FailsIn d p text x f → FailsAt d p f
+    part_fails (Different g) f in' (place, e, (before, first, middle, second, after, whole, same, is)) =
+        fails_by f (fault.Duplicate (at_place place)) e (g, before, first, middle, second, after, in', whole, same, is)
+    part_fails (Limited n m) f is h = limited_fails n m f is h
+    part_fails (TypeName m) f in' (place, e, (undeclared, is)) = fails_by f (fault.UnknownType (at_place place)) e (m, in', undeclared, is)
+    part_fails (Atom u) f in' h = absurd in'
+    part_fails (Decomposed u) f in' h = absurd in'
+    part_fails (Subtask u) f in' h = absurd in'
+    part_fails (Side t) f in' h = absurd in'
+    part_fails (Network at n) f in' h = network_fails at n f in' h
+    part_fails Types f is h = types_fail f is h
+    part_fails Objects f is (place, e, past) = fails_by f (fault.TooMany (at_place place)) e (inr (inl past))
+
+  -- ## Each part of a text is one
+
+  sub_types : (typed all : List Typed) → Every (λ t. IsIn t all) typed → Every (λ m. IsIn m (flat_map type_of all)) (flat_map type_of typed)
+  sub_types typed all sub m at = let (t, in', is) = flat_mapped type_of typed m at in in_flat_map type_of t m all (sub t in') is
+
+  -- the parameters of predicates and of compound tasks
+  abbrev declared_parameters : Source → List Typed
+  declared_parameters source.Domain =
+      flat_map (λ x. typed_variables x.parameters) d.predicates ++ flat_map (λ x. typed_variables x.parameters) d.tasks
+  declared_parameters source.Problem = []
+
+  module _ (text : Source) where
+    abbrev schemas : List Schema
+    schemas = schemas_in d p text
+
+    -- the types that are used stand in a list of typed names
+    type_parts_are : (typed all : List Typed) → flat_map type_of all ≡ type_uses d p text → Every (λ t. IsIn t all) typed → Every (IsPart text) (type_parts typed)
+    type_parts_are typed all is sub =
+        every_map (IsPart text) TypeName (flat_map type_of typed) (λ m at. subst (IsIn m) is (sub_types typed all sub m at))
+
+    abbrev typed_of : Schema → List Typed
+    typed_of s = typed_variables s.parameters ++ flat_map (λ q. typed_variables q.own) s.quantifiers
+
+    abbrev limited_of : Schema → List (List Mention)
+    limited_of s = mentions_of (typed_variables s.parameters) ∷ map (λ q. mentions_of (typed_variables q.own)) s.quantifiers
+
+    abbrev scopes_of : Schema → List (List Mention)
+    scopes_of s = map (λ q. variable_mentions q.around ++ mentions_of (typed_variables q.own)) s.quantifiers
+
+    abbrev used_before : List Typed
+    used_before = declared_objects d p text ++ declared_parameters text
+
+    abbrev used : List Typed
+    used = used_before ++ flat_map typed_of schemas
+
+    used_types : flat_map type_of used ≡ type_uses d p text
+    used_types = used_by text
+      where
+        used_by : (text : Source) → flat_map type_of (declared_objects d p text ++ declared_parameters text ++ flat_map typed_of (schemas_in d p text)) ≡ type_uses d p text
+        used_by source.Domain = refl
+        used_by source.Problem = refl
+
+    schema_typed : (s : Schema) → IsIn s schemas → Every (IsPart text) (type_parts (typed_of s))
+    schema_typed s has = type_parts_are (typed_of s) used used_types (λ t at. in_right t used_before (flat_map typed_of schemas) (in_flat_map typed_of s t schemas has at))
+
+    type_parts_left : (xs ys : List Typed) → Every (IsPart text) (type_parts (xs ++ ys)) → Every (IsPart text) (type_parts xs)
+    type_parts_left xs ys h x at =
+        let (m, in', is) = mapped TypeName (flat_map type_of xs) x at in
+        let (t, among, typed) = flat_mapped type_of xs m in' in
+        h x (subst (λ y. IsIn y (type_parts (xs ++ ys))) (sym is)
+        (in_map TypeName m (flat_map type_of (xs ++ ys)) (in_flat_map type_of t m (xs ++ ys) (in_left t xs ys among) typed)))
+
+    type_parts_among : (xs ys : List Typed) → Every (λ t. IsIn t ys) xs → Every (IsPart text) (type_parts ys) → Every (IsPart text) (type_parts xs)
+    type_parts_among xs ys sub h x at =
+        let (m, in', is) = mapped TypeName (flat_map type_of xs) x at in
+        let (t, among, typed) = flat_mapped type_of xs m in' in
+        h x (subst (λ y. IsIn y (type_parts ys)) (sym is) (in_map TypeName m (flat_map type_of ys) (in_flat_map type_of t m ys (sub t among) typed)))
+
+    group_of_schema : (s : Schema) (g : List Mention) → IsIn s schemas → IsIn g (schema_groups s) → IsIn g (groups d p text)
+    group_of_schema s g has in' =
+        in_left g (declaration_groups d text ++ flat_map schema_groups schemas) (map (λ n. label_mentions n.1) (networks_in d p text))
+        (in_right g (declaration_groups d text) (flat_map schema_groups schemas) (in_flat_map schema_groups s g schemas has in'))
+
+    limited_in_schema : (s : Schema) (m : List Mention) → IsIn s schemas → IsIn m (limited_of s) → IsLimited text most_parameters m
+    limited_in_schema s m has in' =
+        inr (inl (refl, in_right m (predicate_parameters d text) (flat_map limited_of schemas) (in_flat_map limited_of s m schemas has in')))
+
+    parameters_are : (s : Schema) → IsIn s schemas → Every (IsPart text) (parameter_parts s.parameters)
+    parameters_are s has =
+        let m = mentions_of (typed_variables s.parameters) in
+        every_cons (IsPart text) (Different m) (Limited most_parameters m ∷ type_parts (typed_variables s.parameters))
+        (group_of_schema s m has (at_head m _))
+        (every_cons (IsPart text) (Limited most_parameters m) (type_parts (typed_variables s.parameters)) (limited_in_schema s m has (at_head m _))
+        (type_parts_left (typed_variables s.parameters) (flat_map (λ q. typed_variables q.own) s.quantifiers) (schema_typed s has)))
+
+    quantifier_are : (s : Schema) (q : Quantifier) → IsIn s schemas → IsIn q s.quantifiers → Every (IsPart text) (quantifier_parts q)
+    quantifier_are s q has in' =
+        let own = mentions_of (typed_variables q.own) in
+        let all = variable_mentions q.around ++ own in
+        let rest = type_parts (typed_variables q.own) in
+        every_cons (IsPart text) (Different all) (Limited most_parameters own ∷ Limited most_variables all ∷ rest)
+        (group_of_schema s all has
+        (at_tail (mentions_of (typed_variables s.parameters)) all _ (in_map (λ q. variable_mentions q.around ++ mentions_of (typed_variables q.own)) q s.quantifiers in')))
+        (every_cons (IsPart text) (Limited most_parameters own) (Limited most_variables all ∷ rest)
+        (limited_in_schema s own has
+        (at_tail (mentions_of (typed_variables s.parameters)) own _ (in_map (λ q. mentions_of (typed_variables q.own)) q s.quantifiers in')))
+        (every_cons (IsPart text) (Limited most_variables all) rest
+        (inr (inr (inl (refl, in_flat_map scopes_of s all schemas has (in_map (λ q. variable_mentions q.around ++ mentions_of (typed_variables q.own)) q s.quantifiers in')))))
+        (type_parts_among (typed_variables q.own) (typed_of s)
+        (λ t at. in_right t (typed_variables s.parameters) (flat_map (λ q. typed_variables q.own) s.quantifiers)
+        (in_flat_map (λ q. typed_variables q.own) q t s.quantifiers in' at))
+        (schema_typed s has))))
+
+    schema_are : (s : Schema) → IsIn s schemas → Every (IsPart text) (schema_parts s)
+    schema_are s has =
+        every_append (IsPart text) (parameter_parts s.parameters) (flat_map quantifier_parts s.quantifiers) (parameters_are s has)
+        (every_flat_map (IsPart text) quantifier_parts s.quantifiers (λ q in'. quantifier_are s q has in'))
+
+    network_are : (place : ℕ) (n : NetworkText) → IsIn (place, n) (networks_in d p text) → Every (IsPart text) (network_parts place n)
+    network_are place n has =
+        every_cons (IsPart text) (Different (label_mentions n)) (Limited most_subtasks (subtask_mentions n) ∷ Network place n ∷ [])
+        (in_right (label_mentions n) (declaration_groups d text ++ flat_map schema_groups schemas) (map (λ n. label_mentions n.1) (networks_in d p text))
+        (in_map {X = ℕ × NetworkText} (λ n. label_mentions n.1) (place, n) (networks_in d p text) has))
+        (every_cons (IsPart text) (Limited most_subtasks (subtask_mentions n)) (Network place n ∷ []) (inr (inr (inr (refl, ((place, n), has, refl)))))
+        (every_cons (IsPart text) (Network place n) [] has (every_nil (IsPart text))))
+
+  -- ### The domain
+
+  of_declaration : (g : List Mention) → IsIn g (declaration_groups d source.Domain) → IsIn g (groups d p source.Domain)
+  of_declaration g in' =
+      in_left g (declaration_groups d source.Domain ++ flat_map schema_groups (domain_schemas d)) (map (λ n. label_mentions n.1) (networks_in d p source.Domain))
+      (in_left g (declaration_groups d source.Domain) (flat_map schema_groups (domain_schemas d)) in')
+
+  abbrev DomainPart : Part → Type 0
+  DomainPart = IsPart source.Domain
+
+  -- declarations of a kind that has a limit
+  limit_are : (m : List Mention) → IsIn m (declaration_lists d source.Domain) → IsLimited source.Domain most_declarations m
+  limit_are m at = inl (refl, at)
+
+  names_are : (m : List Mention) → IsIn m (declaration_groups d source.Domain) → IsIn m (declaration_lists d source.Domain) → Every DomainPart (name_parts m)
+  names_are m different limited =
+      every_cons DomainPart (Different m) (Limited most_declarations m ∷ []) (of_declaration m different)
+      (every_cons DomainPart (Limited most_declarations m) [] (limit_are m limited) (every_nil DomainPart))
+
+  task_names_are : Every DomainPart (task_name_parts d)
+  task_names_are =
+      every_cons DomainPart (Different (tasks d ++ actions d)) (Limited most_declarations (tasks d) ∷ Limited most_declarations (actions d) ∷ [])
+      (of_declaration (tasks d ++ actions d) (2, omega arith, refl))
+      (every_cons DomainPart (Limited most_declarations (tasks d)) (Limited most_declarations (actions d) ∷ []) (limit_are (tasks d) (1, omega arith, refl))
+        (every_cons DomainPart (Limited most_declarations (actions d)) [] (limit_are (actions d) (3, omega arith, refl)) (every_nil DomainPart)))
+
+  abbrev domain_used : List Typed
+  domain_used = used source.Domain
+
+  constants_are : Every DomainPart (type_parts (typed_names d.constants))
+  constants_are =
+      type_parts_are source.Domain (typed_names d.constants) domain_used (used_types source.Domain)
+      (λ t at. in_left t (used_before source.Domain) (flat_map (typed_of source.Domain) (domain_schemas d))
+      (in_left t (typed_names d.constants) (declared_parameters source.Domain) at))
+
+  parameter_types_are : (xs : List Typed) → Every (λ t. IsIn t (declared_parameters source.Domain)) xs → Every DomainPart (type_parts xs)
+  parameter_types_are xs sub =
+      type_parts_are source.Domain xs domain_used (used_types source.Domain)
+      (λ t at. in_left t (used_before source.Domain) (flat_map (typed_of source.Domain) (domain_schemas d))
+      (in_right t (typed_names d.constants) (declared_parameters source.Domain) (sub t at)))
+
+  predicate_are : (x : PredicateText) → IsIn x d.predicates → Every DomainPart (predicate_parts x)
+  predicate_are x has =
+      every_cons DomainPart (Limited most_parameters (mentions_of (typed_variables x.parameters))) (type_parts (typed_variables x.parameters))
+      (inr (inl (
+        refl,
+        in_left (mentions_of (typed_variables x.parameters)) (predicate_parameters d source.Domain) (flat_map (limited_of source.Domain) (domain_schemas d))
+            (in_map (λ x. mentions_of (typed_variables x.parameters)) x d.predicates has),
+      )))
+      (parameter_types_are (typed_variables x.parameters)
+      (λ t at. in_left t (flat_map (λ x. typed_variables x.parameters) d.predicates) (flat_map (λ x. typed_variables x.parameters) d.tasks)
+      (in_flat_map (λ x. typed_variables x.parameters) x t d.predicates has at)))
+
+  task_are : (x : TaskText) → IsIn x d.tasks → Every DomainPart (task_parts x)
+  task_are x has =
+      parameter_types_are (typed_variables x.parameters)
+      (λ t at. in_right t (flat_map (λ x. typed_variables x.parameters) d.predicates) (flat_map (λ x. typed_variables x.parameters) d.tasks)
+      (in_flat_map (λ x. typed_variables x.parameters) x t d.tasks has at))
+
+  method_schema_in : (m : MethodText) → IsIn m d.methods → IsIn (schema_of_method m) (domain_schemas d)
+  method_schema_in m has = in_left (schema_of_method m) (map schema_of_method d.methods) (map schema_of_action d.actions) (in_map schema_of_method m d.methods has)
+
+  action_schema_in : (a : ActionText) → IsIn a d.actions → IsIn (schema_of_action a) (domain_schemas d)
+  action_schema_in a has = in_right (schema_of_action a) (map schema_of_method d.methods) (map schema_of_action d.actions) (in_map schema_of_action a d.actions has)
+
+  declared_are : Every DomainPart (declared_parts d)
+  declared_are =
+      every_cons DomainPart Types (Objects ∷ from_constants d) refl
+      (every_cons DomainPart Objects (from_constants d) tt
+        (every_append DomainPart (type_parts (typed_names d.constants)) (from_predicates d) constants_are
+          (every_append DomainPart (name_parts (predicates d)) (from_methods d) (names_are (predicates d) (0, omega arith, refl) (0, omega arith, refl))
+            (every_append DomainPart (name_parts (methods d)) (task_name_parts d) (names_are (methods d) (1, omega arith, refl) (2, omega arith, refl)) task_names_are))))
+
+  bodies_are : Every DomainPart (body_parts d)
+  bodies_are =
+      every_append DomainPart (flat_map predicate_parts d.predicates) (body_from_tasks d) (every_flat_map DomainPart predicate_parts d.predicates predicate_are)
+      (every_append DomainPart (flat_map task_parts d.tasks) (body_from_methods d) (every_flat_map DomainPart task_parts d.tasks task_are)
+        (every_append DomainPart (flat_map method_parts d.methods) (body_from_networks d)
+          (every_flat_map DomainPart method_parts d.methods (λ m has. schema_are source.Domain (schema_of_method m) (method_schema_in m has)))
+          (every_append DomainPart (flat_map method_network_parts d.methods) (flat_map action_parts d.actions)
+            (every_flat_map DomainPart method_network_parts d.methods
+              (λ m has. network_are source.Domain m.place m.network (in_map {Y = ℕ × NetworkText} (λ m. (m.place, m.network)) m d.methods has)))
+            (every_flat_map DomainPart action_parts d.actions (λ a has. schema_are source.Domain (schema_of_action a) (action_schema_in a has))))))
+
+  domain_are : Every DomainPart (domain_parts d)
+  domain_are = every_append DomainPart (declared_parts d) (body_parts d) declared_are bodies_are
+
+  -- ### The problem
+
+  abbrev ProblemPart : Part → Type 0
+  ProblemPart = IsPart source.Problem
+
+  objects_are : Every ProblemPart (type_parts (typed_names p.objects))
+  objects_are =
+      type_parts_are source.Problem (typed_names p.objects) (used source.Problem) (used_types source.Problem)
+      (λ t at. in_left t (used_before source.Problem) (flat_map (typed_of source.Problem) (problem_schemas p))
+      (in_left t (typed_names p.objects) (declared_parameters source.Problem) at))
+
+  problem_are : Every ProblemPart (problem_parts p)
+  problem_are =
+      every_cons ProblemPart Objects (from_objects p) tt
+      (every_append ProblemPart (type_parts (typed_names p.objects)) (from_initial p) objects_are
+        (every_append ProblemPart (schema_parts (schema_of_network p)) (from_network p)
+          (schema_are source.Problem (schema_of_network p) (0, omega arith, refl))
+          (every_append ProblemPart (network_parts p.htn.place p.htn.network) (schema_parts (schema_of_states p))
+            (network_are source.Problem p.htn.place p.htn.network (0, omega arith, refl))
+            (schema_are source.Problem (schema_of_states p) (1, omega arith, refl)))))
+
+  is_part : (text : Source) → Every (IsPart text) (parts_of text)
+  is_part source.Domain = domain_are
+  is_part source.Problem = problem_are
+
+  -- ## The parts fail only where the items do
+
+  pub parts_sound : (f : CheckFault) → DeclarationFails d p f → FailsAt d p f
+  parts_sound f (inl (x, at, fails)) = part_fails source.Domain x f (is_part source.Domain x at) fails
+  parts_sound f (inr (x, at, fails)) = part_fails source.Problem x f (is_part source.Problem x at) fails
