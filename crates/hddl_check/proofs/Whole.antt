@@ -20,7 +20,7 @@ use Rattle.hddl_meaning.specs.declared.fault.CheckFault.{CheckFault}
 use Rattle.hddl_meaning.specs.declared.fault.CheckFault.TheVariants as fault
 use Rattle.hddl_meaning.proofs.Listed.{at_head, at_tail, in_cases, in_nothing, in_left, in_right, in_map, in_flat_map}
 use Rattle.hddl_check.specs.Findings.{AnyOf}
-use Rattle.hddl_check.specs.Parts.{Part, FailsIn, DeclarationFails, type_parts, parameter_parts, quantifier_parts, schema_parts, network_parts, method_network_parts, method_parts, action_parts, predicate_parts, task_parts, name_parts, task_name_parts, declared_parts, body_parts, domain_parts, problem_parts}
+use Rattle.hddl_check.specs.Parts.{Part, FailsIn, DeclarationFails, IsOfDeclarations, type_parts, parameter_parts, quantifier_parts, schema_parts, network_parts, method_network_parts, method_parts, action_parts, predicate_parts, task_parts, name_parts, task_name_parts, declared_parts, body_parts, domain_parts, problem_parts}
 use Rattle.hddl_check.specs.Parts.Part.{Different, Limited, TypeName, Atom, Decomposed, Subtask, Side, Network, Types, Objects}
 use Rattle.hddl_check.proofs.Finding.{mapped, flat_mapped}
 
@@ -289,7 +289,7 @@ module _ (d : DomainText) (p : ProblemText) where
       every_cons DomainPart (Different (tasks d ++ actions d)) (Limited most_declarations (tasks d) ∷ Limited most_declarations (actions d) ∷ [])
       (of_declaration (tasks d ++ actions d) (2, omega arith, refl))
       (every_cons DomainPart (Limited most_declarations (tasks d)) (Limited most_declarations (actions d) ∷ []) (limit_are (tasks d) (1, omega arith, refl))
-        (every_cons DomainPart (Limited most_declarations (actions d)) [] (limit_are (actions d) (3, omega arith, refl)) (every_nil DomainPart)))
+      (every_cons DomainPart (Limited most_declarations (actions d)) [] (limit_are (actions d) (3, omega arith, refl)) (every_nil DomainPart)))
 
   abbrev domain_used : List Typed
   domain_used = used source.Domain
@@ -334,20 +334,20 @@ module _ (d : DomainText) (p : ProblemText) where
   declared_are =
       every_cons DomainPart Types (Objects ∷ from_constants d) refl
       (every_cons DomainPart Objects (from_constants d) tt
-        (every_append DomainPart (type_parts (typed_names d.constants)) (from_predicates d) constants_are
-          (every_append DomainPart (name_parts (predicates d)) (from_methods d) (names_are (predicates d) (0, omega arith, refl) (0, omega arith, refl))
-            (every_append DomainPart (name_parts (methods d)) (task_name_parts d) (names_are (methods d) (1, omega arith, refl) (2, omega arith, refl)) task_names_are))))
+      (every_append DomainPart (type_parts (typed_names d.constants)) (from_predicates d) constants_are
+      (every_append DomainPart (name_parts (predicates d)) (from_methods d) (names_are (predicates d) (0, omega arith, refl) (0, omega arith, refl))
+      (every_append DomainPart (name_parts (methods d)) (task_name_parts d) (names_are (methods d) (1, omega arith, refl) (2, omega arith, refl)) task_names_are))))
 
   bodies_are : Every DomainPart (body_parts d)
   bodies_are =
       every_append DomainPart (flat_map predicate_parts d.predicates) (body_from_tasks d) (every_flat_map DomainPart predicate_parts d.predicates predicate_are)
       (every_append DomainPart (flat_map task_parts d.tasks) (body_from_methods d) (every_flat_map DomainPart task_parts d.tasks task_are)
-        (every_append DomainPart (flat_map method_parts d.methods) (body_from_networks d)
-          (every_flat_map DomainPart method_parts d.methods (λ m has. schema_are source.Domain (schema_of_method m) (method_schema_in m has)))
-          (every_append DomainPart (flat_map method_network_parts d.methods) (flat_map action_parts d.actions)
-            (every_flat_map DomainPart method_network_parts d.methods
-              (λ m has. network_are source.Domain m.place m.network (in_map {Y = ℕ × NetworkText} (λ m. (m.place, m.network)) m d.methods has)))
-            (every_flat_map DomainPart action_parts d.actions (λ a has. schema_are source.Domain (schema_of_action a) (action_schema_in a has))))))
+      (every_append DomainPart (flat_map method_parts d.methods) (body_from_networks d)
+      (every_flat_map DomainPart method_parts d.methods (λ m has. schema_are source.Domain (schema_of_method m) (method_schema_in m has)))
+      (every_append DomainPart (flat_map method_network_parts d.methods) (flat_map action_parts d.actions)
+      (every_flat_map DomainPart method_network_parts d.methods
+      (λ m has. network_are source.Domain m.place m.network (in_map {Y = ℕ × NetworkText} (λ m. (m.place, m.network)) m d.methods has)))
+      (every_flat_map DomainPart action_parts d.actions (λ a has. schema_are source.Domain (schema_of_action a) (action_schema_in a has))))))
 
   domain_are : Every DomainPart (domain_parts d)
   domain_are = every_append DomainPart (declared_parts d) (body_parts d) declared_are bodies_are
@@ -367,11 +367,11 @@ module _ (d : DomainText) (p : ProblemText) where
   problem_are =
       every_cons ProblemPart Objects (from_objects p) tt
       (every_append ProblemPart (type_parts (typed_names p.objects)) (from_initial p) objects_are
-        (every_append ProblemPart (schema_parts (schema_of_network p)) (from_network p)
-          (schema_are source.Problem (schema_of_network p) (0, omega arith, refl))
-          (every_append ProblemPart (network_parts p.htn.place p.htn.network) (schema_parts (schema_of_states p))
-            (network_are source.Problem p.htn.place p.htn.network (0, omega arith, refl))
-            (schema_are source.Problem (schema_of_states p) (1, omega arith, refl)))))
+      (every_append ProblemPart (schema_parts (schema_of_network p)) (from_network p)
+      (schema_are source.Problem (schema_of_network p) (0, omega arith, refl))
+      (every_append ProblemPart (network_parts p.htn.place p.htn.network) (schema_parts (schema_of_states p))
+      (network_are source.Problem p.htn.place p.htn.network (0, omega arith, refl))
+      (schema_are source.Problem (schema_of_states p) (1, omega arith, refl)))))
 
   is_part : (text : Source) → Every (IsPart text) (parts_of text)
   is_part source.Domain = domain_are
@@ -382,3 +382,330 @@ module _ (d : DomainText) (p : ProblemText) where
   pub parts_sound : (f : CheckFault) → DeclarationFails d p f → FailsAt d p f
   parts_sound f (inl (x, at, fails)) = part_fails source.Domain x f (is_part source.Domain x at) fails
   parts_sound f (inr (x, at, fails)) = part_fails source.Problem x f (is_part source.Problem x at) fails
+
+  -- ## Each part that stands in the items is one of the text
+
+  in_domain_head : (x : Part) → IsIn x (declared_parts d) → IsIn x (domain_parts d)
+  in_domain_head x at = in_left x (declared_parts d) (body_parts d) at
+
+  in_body : (x : Part) → IsIn x (body_parts d) → IsIn x (domain_parts d)
+  in_body x at = in_right x (declared_parts d) (body_parts d) at
+
+  -- what `:types` and the constants give, and the names of each kind
+  in_from_constants : (x : Part) → IsIn x (from_constants d) → IsIn x (domain_parts d)
+  in_from_constants x at = in_domain_head x (in_right x (Types ∷ Objects ∷ []) (from_constants d) at)
+
+  in_constants : (x : Part) → IsIn x (type_parts (typed_names d.constants)) → IsIn x (domain_parts d)
+  in_constants x at = in_from_constants x (in_left x (type_parts (typed_names d.constants)) (from_predicates d) at)
+
+  in_predicate_names : (x : Part) → IsIn x (name_parts (predicates d)) → IsIn x (domain_parts d)
+  in_predicate_names x at =
+      in_from_constants x (in_right x (type_parts (typed_names d.constants)) (from_predicates d) (in_left x (name_parts (predicates d)) (from_methods d) at))
+
+  in_method_names : (x : Part) → IsIn x (name_parts (methods d)) → IsIn x (domain_parts d)
+  in_method_names x at =
+      in_from_constants x
+      (in_right x (type_parts (typed_names d.constants)) (from_predicates d)
+      (in_right x (name_parts (predicates d)) (from_methods d) (in_left x (name_parts (methods d)) (task_name_parts d) at)))
+
+  in_task_names : (x : Part) → IsIn x (task_name_parts d) → IsIn x (domain_parts d)
+  in_task_names x at =
+      in_from_constants x
+      (in_right x (type_parts (typed_names d.constants)) (from_predicates d)
+      (in_right x (name_parts (predicates d)) (from_methods d) (in_right x (name_parts (methods d)) (task_name_parts d) at)))
+
+  in_predicates : (x : Part) → IsIn x (flat_map predicate_parts d.predicates) → IsIn x (domain_parts d)
+  in_predicates x at = in_body x (in_left x (flat_map predicate_parts d.predicates) (body_from_tasks d) at)
+
+  in_tasks : (x : Part) → IsIn x (flat_map task_parts d.tasks) → IsIn x (domain_parts d)
+  in_tasks x at =
+      in_body x (in_right x (flat_map predicate_parts d.predicates) (body_from_tasks d) (in_left x (flat_map task_parts d.tasks) (body_from_methods d) at))
+
+  in_methods : (x : Part) → IsIn x (flat_map method_parts d.methods) → IsIn x (domain_parts d)
+  in_methods x at =
+      in_body x
+      (in_right x (flat_map predicate_parts d.predicates) (body_from_tasks d)
+      (in_right x (flat_map task_parts d.tasks) (body_from_methods d) (in_left x (flat_map method_parts d.methods) (body_from_networks d) at)))
+
+  in_networks : (x : Part) → IsIn x (flat_map method_network_parts d.methods) → IsIn x (domain_parts d)
+  in_networks x at =
+      in_body x
+      (in_right x (flat_map predicate_parts d.predicates) (body_from_tasks d)
+      (in_right x (flat_map task_parts d.tasks) (body_from_methods d)
+      (in_right x (flat_map method_parts d.methods) (body_from_networks d)
+      (in_left x (flat_map method_network_parts d.methods) (flat_map action_parts d.actions) at))))
+
+  in_actions : (x : Part) → IsIn x (flat_map action_parts d.actions) → IsIn x (domain_parts d)
+  in_actions x at =
+      in_body x
+      (in_right x (flat_map predicate_parts d.predicates) (body_from_tasks d)
+      (in_right x (flat_map task_parts d.tasks) (body_from_methods d)
+      (in_right x (flat_map method_parts d.methods) (body_from_networks d)
+      (in_right x (flat_map method_network_parts d.methods) (flat_map action_parts d.actions) at))))
+
+  in_from_objects : (x : Part) → IsIn x (from_objects p) → IsIn x (problem_parts p)
+  in_from_objects x at = in_right x (Objects ∷ []) (from_objects p) at
+
+  in_objects : (x : Part) → IsIn x (type_parts (typed_names p.objects)) → IsIn x (problem_parts p)
+  in_objects x at = in_from_objects x (in_left x (type_parts (typed_names p.objects)) (from_initial p) at)
+
+  in_initial : (x : Part) → IsIn x (schema_parts (schema_of_network p)) → IsIn x (problem_parts p)
+  in_initial x at =
+      in_from_objects x (in_right x (type_parts (typed_names p.objects)) (from_initial p) (in_left x (schema_parts (schema_of_network p)) (from_network p) at))
+
+  in_initial_network : (x : Part) → IsIn x (network_parts p.htn.place p.htn.network) → IsIn x (problem_parts p)
+  in_initial_network x at =
+      in_from_objects x
+      (in_right x (type_parts (typed_names p.objects)) (from_initial p)
+      (in_right x (schema_parts (schema_of_network p)) (from_network p)
+      (in_left x (network_parts p.htn.place p.htn.network) (schema_parts (schema_of_states p)) at)))
+
+  in_states : (x : Part) → IsIn x (schema_parts (schema_of_states p)) → IsIn x (problem_parts p)
+  in_states x at =
+      in_from_objects x
+      (in_right x (type_parts (typed_names p.objects)) (from_initial p)
+      (in_right x (schema_parts (schema_of_network p)) (from_network p)
+      (in_right x (network_parts p.htn.place p.htn.network) (schema_parts (schema_of_states p)) at)))
+
+  schema_in : (text : Source) (s : Schema) (x : Part) → IsIn s (schemas_in d p text) → IsIn x (schema_parts s) → IsIn x (parts_of text)
+  schema_in source.Domain s x has at =
+      elim (Contains-append_cases (map schema_of_method d.methods) (map schema_of_action d.actions) s has) [
+        | inl i ↦ let (m, in', is) = mapped schema_of_method d.methods s i in
+            in_methods x (in_flat_map method_parts m x d.methods in' (subst (λ s. IsIn x (schema_parts s)) is at))
+        | inr i ↦ let (a, in', is) = mapped schema_of_action d.actions s i in
+            in_actions x (in_flat_map action_parts a x d.actions in' (subst (λ s. IsIn x (schema_parts s)) is at))
+      ]
+  schema_in source.Problem s x has at =
+      elim (in_cases (schema_of_network p) s (schema_of_states p ∷ []) has) [
+        | inl e ↦ in_initial x (subst (λ s. IsIn x (schema_parts s)) (sym e) at)
+        | inr later ↦ elim (in_cases (schema_of_states p) s [] later) [
+          | inl e ↦ in_states x (subst (λ s. IsIn x (schema_parts s)) (sym e) at)
+          | inr none ↦ absurd (in_nothing s none)
+        ]
+      ]
+
+  network_in : (text : Source) (w : ℕ × NetworkText) (x : Part) → IsIn w (networks_in d p text) → IsIn x (network_parts w.0 w.1) → IsIn x (parts_of text)
+  network_in source.Domain w x has at =
+      let (m, in', is) = mapped {X = ℕ × NetworkText} (λ m. (m.place, m.network)) d.methods w has in
+      in_networks x (in_flat_map method_network_parts m x d.methods in' (subst (λ w. IsIn x (network_parts w.0 w.1)) is at))
+  network_in source.Problem w x has at =
+      elim (in_cases (p.htn.place, p.htn.network) w [] has) [
+        | inl e ↦ in_initial_network x (subst (λ w. IsIn x (network_parts w.0 w.1)) (sym e) at)
+        | inr none ↦ absurd (in_nothing w none)
+      ]
+
+  declaration_in_parts : (text : Source) (g : List Mention) → IsIn g (declaration_groups d text) → IsIn (Different g) (parts_of text)
+  declaration_in_parts source.Domain g at =
+      elim (in_cases (predicates d) g (methods d ∷ (tasks d ++ actions d) ∷ []) at) [
+        | inl e ↦ subst (λ g. IsIn (Different g) (domain_parts d)) e (in_predicate_names (Different (predicates d)) (0, omega arith, refl))
+        | inr later ↦ elim (in_cases (methods d) g ((tasks d ++ actions d) ∷ []) later) [
+          | inl e ↦ subst (λ g. IsIn (Different g) (domain_parts d)) e (in_method_names (Different (methods d)) (0, omega arith, refl))
+          | inr last ↦ elim (in_cases (tasks d ++ actions d) g [] last) [
+            | inl e ↦ subst (λ g. IsIn (Different g) (domain_parts d)) e (in_task_names (Different (tasks d ++ actions d)) (0, omega arith, refl))
+            | inr none ↦ absurd (in_nothing g none)
+          ]
+        ]
+      ]
+  declaration_in_parts source.Problem g at = absurd (in_nothing g at)
+
+  limit_in_parts : (text : Source) (m : List Mention) → IsIn m (declaration_lists d text) → IsIn (Limited most_declarations m) (parts_of text)
+  limit_in_parts source.Domain m at =
+      elim (in_cases (predicates d) m (tasks d ∷ methods d ∷ actions d ∷ []) at) [
+        | inl e ↦ subst (λ m. IsIn (Limited most_declarations m) (domain_parts d)) e (in_predicate_names (Limited most_declarations (predicates d)) (1, omega arith, refl))
+        | inr later ↦ elim (in_cases (tasks d) m (methods d ∷ actions d ∷ []) later) [
+          | inl e ↦ subst (λ m. IsIn (Limited most_declarations m) (domain_parts d)) e (in_task_names (Limited most_declarations (tasks d)) (1, omega arith, refl))
+          | inr third ↦ elim (in_cases (methods d) m (actions d ∷ []) third) [
+            | inl e ↦ subst (λ m. IsIn (Limited most_declarations m) (domain_parts d)) e (in_method_names (Limited most_declarations (methods d)) (1, omega arith, refl))
+            | inr last ↦ elim (in_cases (actions d) m [] last) [
+              | inl e ↦ subst (λ m. IsIn (Limited most_declarations m) (domain_parts d)) e (in_task_names (Limited most_declarations (actions d)) (2, omega arith, refl))
+              | inr none ↦ absurd (in_nothing m none)
+            ]
+          ]
+        ]
+      ]
+  limit_in_parts source.Problem m at = absurd (in_nothing m at)
+
+  in_parameters : (s : Schema) (x : Part) → IsIn x (parameter_parts s.parameters) → IsIn x (schema_parts s)
+  in_parameters s x at = in_left x (parameter_parts s.parameters) (flat_map quantifier_parts s.quantifiers) at
+
+  in_quantifiers : (s : Schema) (q : Quantifier) (x : Part) → IsIn q s.quantifiers → IsIn x (quantifier_parts q) → IsIn x (schema_parts s)
+  in_quantifiers s q x in' at =
+      in_right x (parameter_parts s.parameters) (flat_map quantifier_parts s.quantifiers) (in_flat_map quantifier_parts q x s.quantifiers in' at)
+
+  network_part_in : (text : Source) (place : ℕ) (n : NetworkText) → IsPart text (Network place n) → IsIn (Network place n) (parts_of text)
+  network_part_in text place n has =
+      network_in text (place, n) (Network place n) has
+      (2, omega arith, refl)
+
+  schema_group_in : (text : Source) (s : Schema) (g : List Mention) → IsIn s (schemas_in d p text) → IsIn g (schema_groups s) → IsIn (Different g) (parts_of text)
+  schema_group_in text s g has at =
+      let scope : Quantifier → List Mention = λ q. variable_mentions q.around ++ mentions_of (typed_variables q.own) in
+      schema_in text s (Different g) has
+      (elim (in_cases (mentions_of (typed_variables s.parameters)) g (map scope s.quantifiers) at) [
+        | inl e ↦ in_parameters s (Different g)
+            (subst (λ g. IsIn (Different g) (parameter_parts s.parameters)) e (0, omega arith, refl))
+        | inr later ↦ let (q, in', is) = mapped scope s.quantifiers g later in
+            in_quantifiers s q (Different g) in' (subst (λ g. IsIn (Different g) (quantifier_parts q)) (sym is) (0, omega arith, refl))
+      ])
+
+  group_in : (text : Source) (g : List Mention) → IsPart text (Different g) → IsIn (Different g) (parts_of text)
+  group_in text g in' =
+      elim (Contains-append_cases (declaration_groups d text ++ flat_map schema_groups (schemas_in d p text)) (map (λ n. label_mentions n.1) (networks_in d p text)) g in') [
+        | inl before ↦ elim (Contains-append_cases (declaration_groups d text) (flat_map schema_groups (schemas_in d p text)) g before) [
+          | inl at ↦ declaration_in_parts text g at
+          | inr at ↦ let (s, has, is) = flat_mapped schema_groups (schemas_in d p text) g at in schema_group_in text s g has is
+        ]
+        | inr at ↦ let (w, has, is) = mapped {Z = ℕ × NetworkText} (λ n. label_mentions n.1) (networks_in d p text) g at in
+            network_in text w (Different g) has (subst (λ g. IsIn (Different g) (network_parts w.0 w.1)) (sym is) (0, omega arith, refl))
+      ]
+
+  predicate_limit_in : (text : Source) (m : List Mention) → IsIn m (predicate_parameters d text) → IsIn (Limited most_parameters m) (parts_of text)
+  predicate_limit_in source.Domain m at =
+      let (x, in', is) = mapped (λ x. mentions_of (typed_variables x.parameters)) d.predicates m at in
+      in_predicates (Limited most_parameters m)
+      (in_flat_map predicate_parts x (Limited most_parameters m) d.predicates in'
+      (subst (λ m. IsIn (Limited most_parameters m) (predicate_parts x)) (sym is) (0, omega arith, refl)))
+  predicate_limit_in source.Problem m at = absurd (in_nothing m at)
+
+  schema_limit_in : (text : Source) (s : Schema) (m : List Mention) → IsIn s (schemas_in d p text) → IsIn m (limited_of text s) → IsIn (Limited most_parameters m) (parts_of text)
+  schema_limit_in text s m has at =
+      let own : Quantifier → List Mention = λ q. mentions_of (typed_variables q.own) in
+      let first : List Mention = mentions_of (typed_variables s.parameters) in
+      schema_in text s (Limited most_parameters m) has
+      (elim (in_cases first m (map own s.quantifiers) at) [
+        | inl e ↦ in_parameters s (Limited most_parameters m)
+            (subst (λ m. IsIn (Limited most_parameters m) (parameter_parts s.parameters)) e
+            (1, omega arith, refl))
+        | inr later ↦ let (q, in', is) = mapped own s.quantifiers m later in
+            in_quantifiers s q (Limited most_parameters m) in'
+            (subst (λ m. IsIn (Limited most_parameters m) (quantifier_parts q)) (sym is)
+            (1, omega arith, refl))
+      ])
+
+  limited_in : (text : Source) (n : ℕ) (m : List Mention) → IsLimited text n m → IsIn (Limited n m) (parts_of text)
+  limited_in text n m (inl (is, at)) = subst (λ n. IsIn (Limited n m) (parts_of text)) (sym is) (limit_in_parts text m at)
+  limited_in text n m (inr (inl (is, at))) =
+      subst (λ n. IsIn (Limited n m) (parts_of text)) (sym is)
+      (elim (Contains-append_cases (predicate_parameters d text) (flat_map (limited_of text) (schemas_in d p text)) m at) [
+        | inl i ↦ predicate_limit_in text m i
+        | inr i ↦ let (s, has, in') = flat_mapped (limited_of text) (schemas_in d p text) m i in schema_limit_in text s m has in'
+      ])
+  limited_in text n m (inr (inr (inl (is, at)))) =
+      let scope : Quantifier → List Mention = λ q. variable_mentions q.around ++ mentions_of (typed_variables q.own) in
+      let (s, has, in') = flat_mapped (scopes_of text) (schemas_in d p text) m at in
+      let (q, among, same) = mapped scope s.quantifiers m in' in
+      subst (λ n. IsIn (Limited n m) (parts_of text)) (sym is)
+      (schema_in text s (Limited most_variables m) has
+      (in_quantifiers s q (Limited most_variables m) among
+      (subst (λ m. IsIn (Limited most_variables m) (quantifier_parts q)) (sym same)
+      (2, omega arith, refl))))
+  limited_in text n m (inr (inr (inr (is, (w, has, same))))) =
+      subst (λ n. IsIn (Limited n m) (parts_of text)) (sym is)
+      (subst (λ m. IsIn (Limited most_subtasks m) (parts_of text)) (sym same)
+      (network_in text w (Limited most_subtasks (subtask_mentions w.1)) has
+      (1, omega arith, refl)))
+
+  -- types that are named
+
+  type_in : (typed : List Typed) (t : Typed) (m : Mention) → IsIn t typed → IsIn m (type_of t) → IsIn (TypeName m) (type_parts typed)
+  type_in typed t m has at = in_map TypeName m (flat_map type_of typed) (in_flat_map type_of t m typed has at)
+
+  objects_type_in : (text : Source) (t : Typed) (m : Mention) → IsIn t (declared_objects d p text) → IsIn m (type_of t) → IsIn (TypeName m) (parts_of text)
+  objects_type_in source.Domain t m has at = in_constants (TypeName m) (type_in (typed_names d.constants) t m has at)
+  objects_type_in source.Problem t m has at =
+      in_objects (TypeName m) (type_in (typed_names p.objects) t m has at)
+
+  parameters_type_in : (text : Source) (t : Typed) (m : Mention) → IsIn t (declared_parameters text) → IsIn m (type_of t) → IsIn (TypeName m) (parts_of text)
+  parameters_type_in source.Domain t m has at =
+      elim (Contains-append_cases (flat_map (λ x. typed_variables x.parameters) d.predicates) (flat_map (λ x. typed_variables x.parameters) d.tasks) t has) [
+        | inl i ↦ let (x, in', is) = flat_mapped (λ x. typed_variables x.parameters) d.predicates t i in
+            in_predicates (TypeName m)
+            (in_flat_map predicate_parts x (TypeName m) d.predicates in'
+            (at_tail (Limited most_parameters (mentions_of (typed_variables x.parameters))) (TypeName m) (type_parts (typed_variables x.parameters))
+            (type_in (typed_variables x.parameters) t m is at)))
+        | inr i ↦ let (x, in', is) = flat_mapped (λ x. typed_variables x.parameters) d.tasks t i in
+            in_tasks (TypeName m) (in_flat_map task_parts x (TypeName m) d.tasks in' (type_in (typed_variables x.parameters) t m is at))
+      ]
+  parameters_type_in source.Problem t m has at = absurd (in_nothing t has)
+
+  schema_type_in : (text : Source) (s : Schema) (t : Typed) (m : Mention) → IsIn s (schemas_in d p text) → IsIn t (typed_of text s) → IsIn m (type_of t)
+      → IsIn (TypeName m) (parts_of text)
+  schema_type_in text s t m has in' at =
+      let first : List Mention = mentions_of (typed_variables s.parameters) in
+      schema_in text s (TypeName m) has
+      (elim (Contains-append_cases (typed_variables s.parameters) (flat_map (λ q. typed_variables q.own) s.quantifiers) t in') [
+        | inl i ↦ in_parameters s (TypeName m)
+            (in_right (TypeName m) (Different first ∷ Limited most_parameters first ∷ []) (type_parts (typed_variables s.parameters))
+            (type_in (typed_variables s.parameters) t m i at))
+        | inr i ↦ let (q, among, is) = flat_mapped (λ q. typed_variables q.own) s.quantifiers t i in
+            let own : List Mention = mentions_of (typed_variables q.own) in
+            let all : List Mention = variable_mentions q.around ++ own in
+            in_quantifiers s q (TypeName m) among
+            (in_right (TypeName m) (Different all ∷ Limited most_parameters own ∷ Limited most_variables all ∷ []) (type_parts (typed_variables q.own))
+            (type_in (typed_variables q.own) t m is at))
+      ])
+
+  used_in : (text : Source) (m : Mention) → IsIn m (flat_map type_of (used text)) → IsIn (TypeName m) (parts_of text)
+  used_in text m in' =
+      let (t, has, at) = flat_mapped type_of (used text) m in' in
+      elim (Contains-append_cases (used_before text) (flat_map (typed_of text) (schemas_in d p text)) t has) [
+        | inl before ↦ elim (Contains-append_cases (declared_objects d p text) (declared_parameters text) t before) [
+          | inl i ↦ objects_type_in text t m i at
+          | inr i ↦ parameters_type_in text t m i at
+        ]
+        | inr i ↦ let (s, among, is) = flat_mapped (typed_of text) (schemas_in d p text) t i in schema_type_in text s t m among is at
+      ]
+
+  objects_in : (text : Source) → IsIn Objects (parts_of text)
+  objects_in source.Domain = in_domain_head Objects (1, omega arith, refl)
+  objects_in source.Problem = (0, omega arith, refl)
+
+  types_in : (text : Source) → text ≡ source.Domain → IsIn Types (parts_of text)
+  types_in text is = subst (λ text. IsIn Types (parts_of text)) (sym is) (in_domain_head Types (0, omega arith, refl))
+
+  has_part : (text : Source) (x : Part) → IsPart text x → IsIn x (parts_of text)
+  has_part text (Different g) is = group_in text g is
+  has_part text (Limited n m) is = limited_in text n m is
+  has_part text (TypeName m) is = used_in text m (subst (IsIn m) (sym (used_types text)) is)
+  has_part text (Atom u) is = absurd is
+  has_part text (Decomposed u) is = absurd is
+  has_part text (Subtask u) is = absurd is
+  has_part text (Side t) is = absurd is
+  has_part text (Network place n) is = network_part_in text place n is
+  has_part text Types is = types_in text is
+  has_part text Objects is = objects_in text
+
+  -- ## A fault of what is declared is a part that fails
+
+  abbrev Failing : CheckFault → Type 0
+  Failing f = (text : Source) × (x : Part) × IsPart text x × FailsIn d p text x f
+
+  many_failing : (text : Source) (place : ℕ) → IsTooMany d p (at_place text place) → Failing (fault.TooMany (at_place text place))
+  many_failing text place (inl (is, past)) = (text, Types, is, (place, refl, past))
+  many_failing text place (inr (inl past)) = (text, Objects, tt, (place, refl, past))
+  many_failing text place (inr (inr (inl (m, in', past)))) = (text, Limited most_declarations m, inl (refl, in'), (place, refl, past))
+  many_failing text place (inr (inr (inr (inl (m, in', past))))) = (text, Limited most_parameters m, inr (inl (refl, in')), (place, refl, past))
+  many_failing text place (inr (inr (inr (inr (inl (m, in', past)))))) = (text, Limited most_variables m, inr (inr (inl (refl, in'))), (place, refl, past))
+  many_failing text place (inr (inr (inr (inr (inr (w, in', past)))))) =
+      (text, Limited most_subtasks (subtask_mentions w.1), inr (inr (inr (refl, (w, in', refl)))), (place, refl, past))
+
+  fails_somewhere : (f : CheckFault) → IsOfDeclarations f → FailsAt d p f → Failing f
+  fails_somewhere (fault.Duplicate at) kind (g, before, first, middle, second, after, in', whole, same, is) =
+      (at.source, Different g, in', (at.place, refl, (before, first, middle, second, after, whole, same, is)))
+  fails_somewhere (fault.UnknownType at) kind (m, in', undeclared, is) = (at.source, TypeName m, in', (at.place, refl, (undeclared, is)))
+  fails_somewhere (fault.TypeCycle at) kind h = absurd kind
+  fails_somewhere (fault.UnknownName at) kind h = absurd kind
+  fails_somewhere (fault.Arity at) kind h = absurd kind
+  fails_somewhere (fault.TypeClash at) kind h = absurd kind
+  fails_somewhere (fault.OrderCycle at) kind (w, a, in', cycle, is) = (at.source, Network w.0 w.1, in', inl (at.place, refl, (a, cycle, is)))
+  fails_somewhere (fault.UnknownSubtask at) kind (w, name, in', named, missing) =
+      (at.source, Network w.0 w.1, in', inr (at.place, refl, (name, named, missing)))
+  fails_somewhere (fault.TooMany at) kind h = many_failing at.source at.place h
+  fails_somewhere fault.OutOfMemory kind h = absurd h
+
+  failing_part : (f : CheckFault) (text : Source) (x : Part) → IsPart text x → FailsIn d p text x f → DeclarationFails d p f
+  failing_part f source.Domain x is fails = inl (x, has_part source.Domain x is, fails)
+  failing_part f source.Problem x is fails = inr (x, has_part source.Problem x is, fails)
+
+  pub parts_complete : (f : CheckFault) → IsOfDeclarations f → FailsAt d p f → DeclarationFails d p f
+  parts_complete f kind h = let (text, x, is, fails) = fails_somewhere f kind h in failing_part f text x is fails

@@ -1,9 +1,10 @@
 //! Faults of what a domain and a problem declare.
-ghost use Rattle.std.specs.Prelude.{◌≡◌, IfOk, IfSome};
+ghost use Rattle.std.specs.Prelude.{◌≡◌, IfOk, IfSome, None};
+ghost use Rattle.hddl_meaning.specs.declared.fault.CheckFault.{CheckFault};
 ghost use Rattle.hddl_meaning.specs.Items.{FailsAt};
 ghost use Rattle.hddl_meaning.specs.Building.{vocabulary_of};
 ghost use Rattle.hddl_check.specs.Findings.{Finds};
-ghost use Rattle.hddl_check.specs.Parts.{DeclarationFails};
+ghost use Rattle.hddl_check.specs.Parts.{DeclarationFails, IsOfDeclarations};
 
 use crate::context::Context;
 use crate::findings::first_of;
@@ -51,9 +52,10 @@ pub fn declaration_fault(
     domain: &DomainText,
     problem: &ProblemText,
 ) -> Result<Option<CheckFault>, AllocError>
-    ensures found { IfOk result (Finds (DeclarationFails domain.now problem.now)) }
-    // The fault is one of the items', at its place.
+    // The fault holds at its place.
     ensures fault { IfOk result (λ found. IfSome found (FailsAt domain.now problem.now)) }
+    // Where none is answered, there is none of these kinds.
+    ensures none { IfOk result (λ found. found ≡ None → (fault : CheckFault) → IsOfDeclarations fault → FailsAt domain.now problem.now fault → ⊥) }
 {
     let vocabulary = Vocabulary::of(alloc, domain, problem)?;
     let fault = fault_among(alloc, domain, problem, &vocabulary)?;
