@@ -9,3 +9,4 @@ pub mod Labelling
 pub mod Pairs
 pub mod Distinctness
 pub mod Whole
+pub mod Cyclic

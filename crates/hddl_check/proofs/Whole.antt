@@ -20,7 +20,8 @@ use Rattle.hddl_meaning.specs.declared.fault.CheckFault.{CheckFault}
 use Rattle.hddl_meaning.specs.declared.fault.CheckFault.TheVariants as fault
 use Rattle.hddl_meaning.proofs.Listed.{at_head, at_tail, in_cases, in_nothing, in_left, in_right, in_map, in_flat_map}
 use Rattle.hddl_check.specs.Findings.{AnyOf}
-use Rattle.hddl_check.specs.Parts.{Part, FailsIn, DeclarationFails, IsOfDeclarations, type_parts, parameter_parts, quantifier_parts, schema_parts, network_parts, method_network_parts, method_parts, action_parts, predicate_parts, task_parts, name_parts, task_name_parts, declared_parts, body_parts, domain_parts, problem_parts}
+use Rattle.hddl_check.specs.Parts.{Part, FailsIn, DeclarationFails, type_parts, parameter_parts, quantifier_parts, schema_parts, network_parts, method_network_parts, method_parts, action_parts, predicate_parts, task_parts, name_parts, task_name_parts, declared_parts, body_parts, domain_parts, problem_parts}
+use Rattle.hddl_check.specs.Cycles.{IsCycleFault, IsOfDeclarations}
 use Rattle.hddl_check.specs.Parts.Part.{Different, Limited, TypeName, Atom, Decomposed, Subtask, Side, Network, Types, Objects}
 use Rattle.hddl_check.proofs.Finding.{mapped, flat_mapped}
 
@@ -689,23 +690,28 @@ module _ (d : DomainText) (p : ProblemText) where
   many_failing text place (inr (inr (inr (inr (inr (w, in', past)))))) =
       (text, Limited most_subtasks (subtask_mentions w.1), inr (inr (inr (refl, (w, in', refl)))), (place, refl, past))
 
-  fails_somewhere : (f : CheckFault) → IsOfDeclarations f → FailsAt d p f → Failing f
-  fails_somewhere (fault.Duplicate at) kind (g, before, first, middle, second, after, in', whole, same, is) =
-      (at.source, Different g, in', (at.place, refl, (before, first, middle, second, after, whole, same, is)))
-  fails_somewhere (fault.UnknownType at) kind (m, in', undeclared, is) = (at.source, TypeName m, in', (at.place, refl, (undeclared, is)))
-  fails_somewhere (fault.TypeCycle at) kind h = absurd kind
-  fails_somewhere (fault.UnknownName at) kind h = absurd kind
-  fails_somewhere (fault.Arity at) kind h = absurd kind
-  fails_somewhere (fault.TypeClash at) kind h = absurd kind
-  fails_somewhere (fault.OrderCycle at) kind (w, a, in', cycle, is) = (at.source, Network w.0 w.1, in', inl (at.place, refl, (a, cycle, is)))
-  fails_somewhere (fault.UnknownSubtask at) kind (w, name, in', named, missing) =
-      (at.source, Network w.0 w.1, in', inr (at.place, refl, (name, named, missing)))
-  fails_somewhere (fault.TooMany at) kind h = many_failing at.source at.place h
-  fails_somewhere fault.OutOfMemory kind h = absurd h
-
   failing_part : (f : CheckFault) (text : Source) (x : Part) → IsPart text x → FailsIn d p text x f → DeclarationFails d p f
   failing_part f source.Domain x is fails = inl (x, has_part source.Domain x is, fails)
   failing_part f source.Problem x is fails = inr (x, has_part source.Problem x is, fails)
 
-  pub parts_complete : (f : CheckFault) → IsOfDeclarations f → FailsAt d p f → DeclarationFails d p f
-  parts_complete f kind h = let (text, x, is, fails) = fails_somewhere f kind h in failing_part f text x is fails
+  -- a fault of what is declared is a part that fails, or a cycle of types
+  pub declarations_complete : (f : CheckFault) → IsOfDeclarations f → FailsAt d p f → IsCycleFault d f ⊎ DeclarationFails d p f
+  declarations_complete (fault.Duplicate at) kind (g, before, first, middle, second, after, in', whole, same, is) =
+      inr (failing_part (fault.Duplicate at) at.source (Different g) in' (at.place, refl, (before, first, middle, second, after, whole, same, is)))
+  declarations_complete (fault.UnknownType at) kind (m, in', undeclared, is) =
+      inr (failing_part (fault.UnknownType at) at.source (TypeName m) in' (at.place, refl, (undeclared, is)))
+  declarations_complete (fault.TypeCycle at) kind h = inl (at, refl, h)
+  declarations_complete (fault.UnknownName at) kind h = absurd kind
+  declarations_complete (fault.Arity at) kind h = absurd kind
+  declarations_complete (fault.TypeClash at) kind h = absurd kind
+  declarations_complete (fault.OrderCycle at) kind (w, a, in', cycle, is) =
+      inr (failing_part (fault.OrderCycle at) at.source (Network w.0 w.1) in' (inl (at.place, refl, (a, cycle, is))))
+  declarations_complete (fault.UnknownSubtask at) kind (w, name, in', named, missing) =
+      inr (failing_part (fault.UnknownSubtask at) at.source (Network w.0 w.1) in' (inr (at.place, refl, (name, named, missing))))
+  declarations_complete (fault.TooMany at) kind h =
+      let (text, x, is, fails) = many_failing at.source at.place h in inr (failing_part (fault.TooMany at) text x is fails)
+  declarations_complete fault.OutOfMemory kind h = absurd h
+
+  pub declarations_sound : (f : CheckFault) → IsCycleFault d f ⊎ DeclarationFails d p f → FailsAt d p f
+  declarations_sound f (inl (at, is, cycle)) = subst (FailsAt d p) (sym is) cycle
+  declarations_sound f (inr fails) = parts_sound f fails

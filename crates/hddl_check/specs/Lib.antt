@@ -5,3 +5,4 @@ pub mod Parts
 pub mod Contexts
 pub mod Scopes
 pub mod Labels
+pub mod Cycles

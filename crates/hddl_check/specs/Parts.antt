@@ -1,5 +1,5 @@
 -- What a text says that has to fit, part by part, and how each part fails.
-use Rattle.std.specs.Prelude.{⊤, ◌≡◌, ◌⊎◌, ◌<◌, ℕ, List, [], ◌∷◌, ◌++◌, map, length, Some}
+use Rattle.std.specs.Prelude.{◌≡◌, ◌⊎◌, ◌<◌, ℕ, List, [], ◌∷◌, ◌++◌, map, length, Some}
 use Rattle.std.specs.List.{flat_map, zip}
 use Rattle.hddl_tree.specs.Places.{place_of}
 use Rattle.hddl_tree.specs.declared.term.Term.{Term}
@@ -180,12 +180,3 @@ problem_parts p =
 -- a part of what is declared fails
 abbrev pub DeclarationFails : DomainText → ProblemText → CheckFault → Type 0
 DeclarationFails d p f = AnyOf (FailsIn d p source.Domain) (domain_parts d) f ⊎ AnyOf (FailsIn d p source.Problem) (problem_parts p) f
-
--- a fault of what is declared, and not of what is used, nor a cycle of types
-abbrev pub IsOfDeclarations : CheckFault → Type 0
-IsOfDeclarations (fault.Duplicate at) = ⊤
-IsOfDeclarations (fault.UnknownType at) = ⊤
-IsOfDeclarations (fault.OrderCycle at) = ⊤
-IsOfDeclarations (fault.UnknownSubtask at) = ⊤
-IsOfDeclarations (fault.TooMany at) = ⊤
-IsOfDeclarations _ = ⊥

@@ -4,9 +4,11 @@ ghost use Rattle.hddl_meaning.specs.declared.fault.CheckFault.{CheckFault};
 ghost use Rattle.hddl_meaning.specs.Items.{FailsAt};
 ghost use Rattle.hddl_meaning.specs.Building.{vocabulary_of};
 ghost use Rattle.hddl_check.specs.Findings.{Finds};
-ghost use Rattle.hddl_check.specs.Parts.{DeclarationFails, IsOfDeclarations};
+ghost use Rattle.hddl_check.specs.Cycles.{IsOfDeclarations};
+ghost use Rattle.hddl_check.specs.Parts.{DeclarationFails};
 
 use crate::context::Context;
+use crate::cycles::type_cycle;
 use crate::findings::first_of;
 use crate::shape::{check_domain, check_problem};
 use hddl_meaning::{CheckFault, Source};
@@ -42,8 +44,8 @@ fn fault_among<'a>(
     Ok(first_of(of_domain, of_problem))
 }
 
-/// A fault of what a domain and a problem declare: names that stand twice, types that aren't declared, names in orderings
-/// that no subtask has, orders with a cycle, and more than the limits. None where there is no such fault, and an error
+/// A fault of what a domain and a problem declare: names that stand twice, types that aren't declared, cycles of types,
+/// names in orderings that no subtask has, orders with a cycle, and more than the limits. None where there is no such fault, and an error
 /// where memory was refused. Of several faults it is the one that comes first in the texts, the domain before the problem;
 /// conditions of a schema with too many parameters, bodies of a `forall` whose variables have a fault, and the orders of
 /// networks with too many subtasks aren't looked at.
@@ -58,6 +60,7 @@ pub fn declaration_fault(
     ensures none { IfOk result (λ found. found ≡ None → (fault : CheckFault) → IsOfDeclarations fault → FailsAt domain.now problem.now fault → ⊥) }
 {
     let vocabulary = Vocabulary::of(alloc, domain, problem)?;
+    let cycle = type_cycle(alloc, domain, &vocabulary)?;
     let fault = fault_among(alloc, domain, problem, &vocabulary)?;
-    Ok(fault)
+    Ok(first_of(cycle, fault))
 }

@@ -2,6 +2,7 @@
 #![tactic(auto)]
 
 mod context;
+mod cycles;
 mod declarations;
 mod distinct;
 mod faults;
