@@ -25,13 +25,7 @@ pub trait Source {
 
 /// The files of the system.
 pub struct Disk<'a, F: Files> {
-    files: &'a F,
-}
-
-impl<'a, F: Files> Disk<'a, F> {
-    pub fn new(files: &'a F) -> Disk<'a, F> {
-        Disk { files }
-    }
+    pub files: &'a F,
 }
 
 impl<'a, F: Files> Source for Disk<'a, F> {
