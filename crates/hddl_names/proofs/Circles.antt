@@ -1,5 +1,5 @@
 -- Types that lie on cycles.
-use Rattle.std.proofs.Common.{◌≡◌, ℕ, suc, ◌<◌, ◌≤◌, ◌+◌, ◌↔◌, false, List, [], ◌++◌, refl, sym, ap, subst, ◌∙◌, arith, inl, inr, ⊎_elim, nat_eq, length, get_or, take, drop}
+use Rattle.std.proofs.Common.{◌≡◌, ℕ, suc, ◌<◌, ◌≤◌, ◌+◌, ◌↔◌, Bool, false, List, [], ◌++◌, refl, sym, ap, subst, ◌∙◌, arith, inl, inr, ⊎_elim, nat_eq, length, get_or, take, drop}
 use Rattle.std.specs.List.{Contains, All, list_any}
 use Rattle.std.proofs.lemmas.Bool.{true≢false}
 use Rattle.std.proofs.lemmas.List.{take_more, take_all, get_or_default, get_or-map, length-map, take-append-drop}
@@ -14,6 +14,7 @@ use Rattle.hddl_meaning.specs.Mentions.{Text, Mention}
 use Rattle.hddl_meaning.specs.Names.{type_mentions, type_names}
 use Rattle.hddl_meaning.specs.Types.{Leads, parent_pairs}
 use Rattle.hddl_names.specs.Reach.{Reaches, IsReached}
+use Rattle.hddl_names.specs.Ranks.{HasAllOnCycles}
 use Rattle.hddl_names.specs.Cycles.{IsOnCycle, HasNoCycle, IsFirstCycle, number_place, places_in}
 use Rattle.hddl_names.specs.TypeNumbers.{AreTypesOf, type_at, numbered_pairs}
 use Rattle.hddl_names.proofs.Texts.{number-small, number-names}
@@ -65,6 +66,13 @@ found-within d names up down t found all types small reached is =
     (All-from_get_or (λ x. x < length up) found 0 (λ i lt.
     let within = reached-small d t (get_or found i 0) small ((reached (numbered_pairs d) types.parents (get_or found i 0)).0 (Contains-get_or found i 0 lt)) in
     subst (λ n. get_or found i 0 < n) (sym (types.up_count ∙ ap length types.all)) within))
+
+-- a type that isn't marked is on no cycle
+pub unmarked : (d : DomainText) (names : List Text) (up down : List (List ℕ)) (t : ℕ) (marks : List Bool) → AreTypesOf d names up down → t < length (type_names d) → HasAllOnCycles up marks
+    → get_or marks t false ≡ false → Leads (parent_pairs d) (type_at d t) (type_at d t) → ⊥
+unmarked d names up down t marks types small all off h =
+    let p : Precedes (numbered_pairs d) t t = subst (λ k. Precedes (numbered_pairs d) k k) (at-number d t small) (to-precedes d (type_at d t) (type_at d t) h) in
+    true≢false (sym (all (numbered_pairs d) types.parents t p) ∙ off)
 
 -- ## The mentions in turn
 

@@ -7,6 +7,7 @@ pub mod Found
 pub mod FromPairs
 pub mod Fronts
 pub mod GroupPairs
+pub mod Levels
 pub mod Parents
 pub mod RowLists
 pub mod Searched

@@ -1,7 +1,7 @@
 -- A domain's types and their parents by number.
-use Rattle.std.proofs.Common.{◌≡◌, ℕ, ◌<◌, Bool, true, false, not, List, [], ◌∷◌, ◌++◌, map, Option, Some, None, option_map, refl, sym, ap, ap₂, subst, ◌∙◌, inl, inr, ⊎_elim, length, get_or, nat_eq}
+use Rattle.std.proofs.Common.{◌≡◌, ℕ, ◌<◌, Bool, true, false, not, ◌&&◌, List, [], ◌∷◌, ◌++◌, map, Option, Some, None, option_map, refl, sym, ap, ap₂, subst, ◌∙◌, inl, inr, ⊎_elim, length, get_or, nat_eq}
 use Rattle.std.specs.List.{Contains, filter}
-use Rattle.std.proofs.lemmas.Bool.{true≢false, and_parts, and_from, eqb-true, eq-eqb}
+use Rattle.std.proofs.lemmas.Bool.{cases_Bool, true≢false, and_parts, and_from, eqb-true, eq-eqb}
 use Rattle.std.proofs.lemmas.List.{map-append}
 use Rattle.std.proofs.lemmas.List.Elements.{Contains-append_left, Contains-append_right, Contains-append_cases, Contains-get_or, All-from_get_or, All-contains}
 use Rattle.htn_order.specs.Closure.{Precedes, Direct, Through, AreBelow}
@@ -216,6 +216,28 @@ pub number-type : (d : DomainText) (k : ℕ) → k < length (type_names d) → I
 number-type d k lt =
     ⊎_elim (λ is. inl (sym is)) (λ h. inr h)
     (cons_cases object (type_at d k) (texts (type_mentions d)) (distinct-from (object ∷ texts (type_mentions d)) (type_at d k) (Contains-get_or (type_names d) k [] lt)))
+
+object-at : (d : DomainText) → type_at d 0 ≡ object
+object-at d = ap (type_at d) (sym (object-number d)) ∙ number-names (type_names d) object (object-type d)
+
+-- each type is below `object`
+pub below-object : (d : DomainText) (a : ℕ) → a < length (type_names d) → IsBelow d (type_at d a) (type_at d 0)
+below-object d a lt = by (number-type d a lt)
+  where
+    x : Text
+    x = type_at d a
+
+    by : IsType d x → IsBelow d x (type_at d 0)
+    by (inl is) = inl (is ∙ sym (object-at d))
+    by (inr h) = ⊎_elim (λ is. inl (same x object is ∙ sym (object-at d))) apart (cases_Bool (is_same_text x object))
+      where
+        apart : is_same_text x object ≡ false → IsBelow d x (type_at d 0)
+        apart differs =
+            inr (subst (Leads (parent_pairs d) x) (sym (object-at d))
+            (leads.Direct x object
+            (kept (λ pair. not (is_object_pair pair)) (written_pairs d) (x, object)
+            (Contains-append_right (declared_pairs d) (map (λ text. (text, object)) (texts (type_mentions d))) (x, object) (mapped (λ text. (text, object)) (texts (type_mentions d)) x h))
+            (ap (λ b. not (b && is_same_text object object)) differs))))
 
 pub share-number : (d : DomainText) (a b : ℕ) → a < length (type_names d) → b < length (type_names d) → ShareSubtype d (type_at d a) (type_at d b)
     → (s : ℕ) × (s < length (type_names d)) × Reaches (numbered_pairs d) s a × Reaches (numbered_pairs d) s b

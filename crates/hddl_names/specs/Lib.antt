@@ -1,5 +1,6 @@
 pub mod Cycles
 pub mod Members
+pub mod Ranks
 pub mod Reach
 pub mod Rows
 pub mod Texts

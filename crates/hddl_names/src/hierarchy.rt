@@ -14,6 +14,7 @@ use crate::cycles::{leads_to, type_places};
 use crate::edges::{rows_of, turned};
 use crate::names::Names;
 use crate::pairs::parent_pairs;
+use crate::ranks::may_return;
 use crate::reach::{add_all, reached};
 use crate::rows::Rows;
 use crate::vocabulary::Vocabulary;
@@ -47,6 +48,9 @@ impl<'a> Model for TypeHierarchy<'a> {
 
     ghost invariant = { λ types. AreTypesOf types.domain.now types.names.now types.parents types.children };
 }
+
+/// The number of `object`, the first of the types.
+const OBJECT: usize = 0;
 
 /// Whether the two have a number in common.
 fn share(these: &IndexSet<usize>, those: &IndexSet<usize>) -> bool
@@ -107,6 +111,9 @@ impl<'a> TypeHierarchy<'a> {
         requires u { u < length (type_names self.now) }
         ensures { IfOk result (λ below. IsTrue below ↔ IsBelow self.now (type_at self.now t) (type_at self.now u)) }
     {
+        if t == u || u == OBJECT {
+            return Ok(true);
+        }
         let above = reached(alloc, &self.parents, t)?;
         Ok(above.contains(&u))
     }
@@ -157,8 +164,9 @@ impl<'a> TypeHierarchy<'a> {
         ensures { IfOk result (λ found. MatchOption found (HasNoCycle self.now) (IsFirstCycle self.now)) }
     {
         let places = type_places(alloc, self.names, self.domain.types.as_slice())?;
+        let may = may_return(alloc, &self.parents, &self.children)?;
         for place in places.as_slice() {
-            if self.is_on_cycle(alloc, place.0)? {
+            if may[place.0] && self.is_on_cycle(alloc, place.0)? {
                 return Ok(Some(place.1));
             }
         }

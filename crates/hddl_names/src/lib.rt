@@ -7,6 +7,7 @@ mod hierarchy;
 mod members;
 mod names;
 mod pairs;
+mod ranks;
 mod reach;
 mod rows;
 mod text;

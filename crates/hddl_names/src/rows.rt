@@ -51,6 +51,16 @@ impl Rows {
         self.rows[number].as_slice()
     }
 
+    /// The list of a number, empty where it has none.
+    pub fn row_or_empty(&self, number: usize) -> &[usize]
+        ensures { result.now ≡ get_or self.now number [] }
+    {
+        match self.rows.get(number) {
+            Some(row) => row.as_slice(),
+            None => &[],
+        }
+    }
+
     /// Adds a number to the list of another.
     pub fn push(&mut self, number: usize, item: usize) -> Result<(), AllocError>
         requires number { number < length self.old }

@@ -1,10 +1,21 @@
-use Rattle.std.proofs.Common.{◌≡◌, ◌↔◌, ◌<◌, true, sym, subst, length}
+use Rattle.std.proofs.Common.{◌≡◌, ◌↔◌, ◌<◌, true, refl, sym, ap, inl, subst, length}
 use Rattle.hddl_tree.specs.declared.domain.DomainText.{DomainText}
 use Rattle.hddl_meaning.specs.Names.{type_names}
 use Rattle.hddl_meaning.specs.Types.{IsBelow}
 use Rattle.hddl_names.specs.TypeNumbers.{type_at}
 use Rattle.hddl_names.proofs.Found.{found-below}
+use Rattle.hddl_names.proofs.Parents.{below-object}
 use Rattle.hddl_names.proofs.hierarchy.TypeHierarchy.is_below.Goals as goal
+use Rattle.hddl_names.proofs.hierarchy.TypeHierarchy.is_below.Goals.{then-t-u-via-then-t-u, then-t-u-via-else-t-u+then-u-eq-OBJECT}
+
+pub returns-then-t-u : goal.returns-then-t-u
+returns-then-t-u c =
+    let below : IsBelow c.args.self.now (type_at c.args.self.now c.args.t) (type_at c.args.self.now c.args.u) = elim c.then-t-u.branch [
+      | then-t-u-via-then-t-u w ↦ inl (ap (type_at c.args.self.now) w.if-t-u.true)
+      | then-t-u-via-else-t-u+then-u-eq-OBJECT w ↦
+          subst (λ u. IsBelow c.args.self.now (type_at c.args.self.now c.args.t) (type_at c.args.self.now u)) (sym w.if-u-eq-OBJECT.true) (below-object c.args.self.now c.args.t c.requires.t)
+    ] in
+    (λ _. below, λ _. refl)
 
 pub returns : goal.returns
 returns c =
