@@ -72,36 +72,6 @@ pushed-more start now new types i o different lt small is before k = ⊎_elim sa
     other : k ≢ t → get_or new k [] ≡ get_or start k [] ++ cond (list_any (nat_eq k) (take (i + 1) types)) (o ∷ []) []
     other ne = ap (λ l. get_or l k []) is ∙ get_or-set_other now t k (get_or now t [] ++ o ∷ []) [] ne ∙ before k ∙ ap (λ b. get_or start k [] ++ cond b (o ∷ []) []) (sym (stays ne))
 
--- ## What some types lead to
-
-pub above-more : (pairs : List (ℕ × ℕ)) (rows : List (List ℕ)) (starts found above new : List ℕ) (i : ℕ) → i < length starts → AreRows pairs rows → IsReached rows (get_or starts i 0) above
-    → new ≡ insert_all nat_eq found above → IsAboveSome pairs (take i starts) found → IsAboveSome pairs (take (i + 1) starts) new
-above-more pairs rows starts found above new i lt are reached is some x = (to, from)
-  where
-    s : ℕ
-    s = get_or starts i 0
-
-    more : take (i + 1) starts ≡ take i starts ++ s ∷ []
-    more = take_more starts i 0 lt
-
-    to : Contains new x → (t : ℕ) × Contains (take (i + 1) starts) t × Reaches pairs t x
-    to h =
-        ⊎_elim
-        (λ old. let t = (some x).0 old in (t.0, subst (λ l. Contains l t.0) (sym more) (Contains-append_left (take i starts) (s ∷ []) t.0 t.1), t.2))
-        (λ there. (s, subst (λ l. Contains l s) (sym more) (Contains-append_right (take i starts) (s ∷ []) s (first s [])), (reached pairs are x).0 there))
-        (insert_all-cases nat_eq found above x (subst (λ l. Contains l x) is h))
-
-    from : ((t : ℕ) × Contains (take (i + 1) starts) t × Reaches pairs t x) → Contains new x
-    from (t, there, r) =
-        subst (λ l. Contains l x) (sym is)
-        (⊎_elim
-        (λ old. insert_all-old nat_eq eqb-true found above x ((some x).1 (t, old, r)))
-        (λ last. insert_all-new nat_eq eqb-true found above x ((reached pairs are x).1 (subst (λ k. Reaches pairs k x) (sym (only last)) r)))
-        (Contains-append_cases (take i starts) (s ∷ []) t (subst (λ l. Contains l t) more there)))
-      where
-        only : Contains (s ∷ []) t → s ≡ t
-        only h = ⊎_elim (λ e. e) (λ none. absurd (nothing t none)) (cons_cases s t [] h)
-
 -- ## The lists
 
 less : (x y : ℕ) → x < y → nat_cmp x y ≡ Less

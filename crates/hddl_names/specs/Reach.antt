@@ -15,3 +15,7 @@ IsReached rows start found =
 -- the list has exactly what some of the numbers reach
 abbrev pub IsAboveSome : List (ℕ × ℕ) → List ℕ → List ℕ → Type 0
 IsAboveSome pairs starts found = (x : ℕ) → Contains found x ↔ ((t : ℕ) × Contains starts t × Reaches pairs t x)
+
+-- the same along the pairs of the rows
+abbrev pub AreReached : List (List ℕ) → List ℕ → List ℕ → Type 0
+AreReached rows starts found = (pairs : List (ℕ × ℕ)) → AreRows pairs rows → IsAboveSome pairs starts found

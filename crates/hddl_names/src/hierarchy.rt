@@ -15,7 +15,7 @@ use crate::edges::{rows_of, turned};
 use crate::names::Names;
 use crate::pairs::parent_pairs;
 use crate::ranks::may_return;
-use crate::reach::{add_all, reached};
+use crate::reach::{all_reached, reached};
 use crate::rows::Rows;
 use crate::vocabulary::Vocabulary;
 use hddl_tree::{DomainText, Name};
@@ -140,11 +140,7 @@ impl<'a> TypeHierarchy<'a> {
         requires { All (λ t. t < length (type_names self.now)) starts.now }
         ensures { IfOk result (λ found. IsAboveSome (numbered_pairs self.now) starts.now found.keys) }
     {
-        let mut found = IndexSet::new(alloc);
-        for start in starts {
-            let above = reached(alloc, &self.parents, *start)?;
-            add_all(&mut found, above.as_slice())?;
-        }
+        let found = all_reached(alloc, &self.parents, starts)?;
         Ok(found)
     }
 

@@ -1,7 +1,7 @@
 //! What a number leads to along pairs.
-ghost use Rattle.std.specs.Prelude.{◌≡◌, ◌<◌, length, nat_eq, IfOk, OnOk};
+ghost use Rattle.std.specs.Prelude.{◌≡◌, ◌<◌, length, nat_eq, IfOk, OnOk, All};
 ghost use Rattle.indexmap.specs.IndexSet.{insert_all};
-ghost use Rattle.hddl_names.specs.Reach.{IsReached};
+ghost use Rattle.hddl_names.specs.Reach.{IsReached, AreReached};
 
 use crate::rows::Rows;
 use indexmap::IndexSet;
@@ -17,13 +17,17 @@ pub fn add_all(found: &mut IndexSet<usize>, numbers: &[usize]) -> Result<(), All
     Ok(())
 }
 
-/// The number and all that it leads to, each once. The work is that of going over their rows.
-pub fn reached(alloc: Global, rows: &Rows, start: usize) -> Result<IndexSet<usize>, AllocError>
-    requires { start < length rows.now }
-    ensures { IfOk result (λ found. IsReached rows.now start found.keys) }
+/// The numbers and all that they lead to, each once. The work is that of going over their rows.
+pub fn all_reached(
+    alloc: Global,
+    rows: &Rows,
+    starts: &[usize],
+) -> Result<IndexSet<usize>, AllocError>
+    requires { All (λ t. t < length rows.now) starts.now }
+    ensures { IfOk result (λ found. AreReached rows.now starts.now found.keys) }
 {
     let mut found = IndexSet::new(alloc);
-    let _ = found.insert(start)?;
+    add_all(&mut found, starts)?;
     for i in 0..rows.len() {
         match found.get_index(i) {
             Some(number) => {
@@ -33,5 +37,15 @@ pub fn reached(alloc: Global, rows: &Rows, start: usize) -> Result<IndexSet<usiz
             None => return Ok(found),
         }
     }
+    Ok(found)
+}
+
+/// The number and all that it leads to, each once. The work is that of going over their rows.
+pub fn reached(alloc: Global, rows: &Rows, start: usize) -> Result<IndexSet<usize>, AllocError>
+    requires { start < length rows.now }
+    ensures { IfOk result (λ found. IsReached rows.now start found.keys) }
+{
+    let starts = [start];
+    let found = all_reached(alloc, rows, starts.as_slice())?;
     Ok(found)
 }

@@ -1,4 +1,4 @@
-use Rattle.std.proofs.Common.{◌≤◌, length, subst}
+use Rattle.std.proofs.Common.{◌≤◌, subst}
 use Rattle.hddl_names.proofs.Levels.{marked_end}
 use Rattle.hddl_names.proofs.ranks.may_return.Goals as goal
 

@@ -1,5 +1,0 @@
-use Rattle.hddl_names.proofs.Fronts.{IsFront}
-use Rattle.hddl_names.proofs.reach.reached.Given as goal
-
-abbrev pub invariant-loop-i : goal.invariant-loop-i
-invariant-loop-i l = IsFront l.rows l.start l.found.keys l.i
