@@ -1,6 +1,6 @@
 -- At a parameter where no relation starts, the objects that all relations allow have equally many completions, and the
 -- others have none.
-use Rattle.std.proofs.Common.{◌≡◌, ℕ, zero, suc, Bool, true, false, true≢false, cond, not, ◌||◌, ◌&&◌, ◌⊎◌, inl, inr, min, eqb, List, [], ◌∷◌, ◌++◌, map, length, drop, get_or, ◌+◌, ◌*◌, ◌<◌, refl, sym, ap, ◌∙◌, arith, length-append}
+use Rattle.std.proofs.Common.{◌≡◌, ℕ, zero, suc, Bool, true, false, true≢false, cond, not, ◌||◌, ◌&&◌, ◌⊎◌, inl, inr, min, eqb, List, [], ◌∷◌, ◌++◌, map, length, drop, get_or, ◌+◌, ◌*◌, ◌<◌, ◌≤◌, refl, sym, ap, ◌∙◌, arith, length-append}
 use Rattle.std.specs.Bool.{beq}
 use Rattle.std.specs.List.{filter, flat_map}
 use Rattle.std.proofs.lemmas.Bool.Decides.{nat_tests}
