@@ -44,7 +44,7 @@ fails (r ∷ relations) values rest e =
           ap (λ b. b && relations_hold relations (values ++ rest)) (relation_holds-append r values rest (ltb_false _ _ parts.0) ∙ parts.1)
     ] refl e
 
-filter_none : (p : List ℕ → Bool) (values : List ℕ) → ((rest : List ℕ) → p (values ++ rest) ≡ false) → (rests : List (List ℕ)) → filter p (map (λ rest. values ++ rest) rests) ≡ []
+pub filter_none : (p : List ℕ → Bool) (values : List ℕ) → ((rest : List ℕ) → p (values ++ rest) ≡ false) → (rests : List (List ℕ)) → filter p (map (λ rest. values ++ rest) rests) ≡ []
 filter_none p values none [] = refl
 filter_none p values none (rest ∷ rests) =
     ap (λ b. cond b ((values ++ rest) ∷ filter p (map (λ w. values ++ w) rests)) (filter p (map (λ w. values ++ w) rests))) (none rest) ∙ filter_none p values none rests

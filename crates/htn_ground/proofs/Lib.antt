@@ -1,3 +1,4 @@
+pub mod Alike
 pub mod Lists
 pub mod FirstStep
 pub mod Bodies
@@ -9,7 +10,7 @@ pub mod Gaps
 pub mod Moved
 pub mod Excluded
 pub mod Skipped
-pub mod Started
+pub mod Apart
 pub mod Classified
 pub mod Steps
 pub mod Pinned

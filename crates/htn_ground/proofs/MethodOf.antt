@@ -1,6 +1,6 @@
 -- The method of an instance, found by counting.
-use Rattle.std.proofs.Common.{◌≡◌, ℕ, zero, suc, ◌+◌, ◌<◌, ◌≤◌, ◌-◌, List, [], ◌∷◌, ◌++◌, length, map, take, drop, get_or, slice_get, Option, Some, None, option_and_then, refl, ap, ap₂, sym, ◌∙◌, append_assoc, arith}
-use Rattle.std.specs.List.{enumerate_from, filter, flat_map}
+use Rattle.std.proofs.Common.{◌≡◌, ℕ, zero, suc, ◌+◌, ◌<◌, ◌≤◌, ◌-◌, List, [], ◌∷◌, ◌++◌, length, map, take, drop, get_or, slice_get, Some, None, option_and_then, refl, ap, sym, ◌∙◌, append_assoc, arith}
+use Rattle.std.specs.List.{enumerate_from, flat_map}
 use Rattle.std.proofs.lemmas.List.{length-map}
 use Rattle.std.proofs.lemmas.Option.{slice_get_past}
 use Rattle.htn_model.specs.Instance.{Instance}

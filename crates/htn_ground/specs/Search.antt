@@ -119,9 +119,9 @@ abbrev pub relation_start : Relation → ℕ
 relation_start (Same a b) = min a b
 relation_start (Different a b) = min a b
 
--- whether each relation has a parameter among the first so many
-abbrev pub are_started : List Relation → ℕ → Bool
-are_started relations depth = list_all (λ r. nat_lt (relation_start r) depth) relations
+-- whether some relation has its first parameter at this place
+abbrev pub some_starts_at : List Relation → ℕ → Bool
+some_starts_at relations place = list_any (λ r. nat_eq (relation_start r) place) relations
 
 abbrev pub relation_names : Relation → ℕ → Bool
 relation_names (Same a b) j = nat_eq a j || nat_eq b j

@@ -1,7 +1,7 @@
 //! How many choices of objects there are of which all relations hold.
-ghost use Rattle.std.specs.Prelude.{◌≡◌, ◌≤◌, ◌<◌, ◌+◌, ◌*◌, ◌++◌, ◌∷◌, [], length, drop, OnOk, IfOk, IfSome, true};
+ghost use Rattle.std.specs.Prelude.{◌≡◌, ◌≤◌, ◌<◌, ◌+◌, ◌*◌, ◌++◌, ◌∷◌, [], length, OnOk, IfNone, IfOk, IfSome, true};
 ghost use Rattle.std.specs.List.{filter, flat_map};
-ghost use Rattle.htn_ground.specs.Search.{AreRelationsOf, are_apart_from, are_started, bound_relations_hold, completions, narrowed, product, relation_singles};
+ghost use Rattle.htn_ground.specs.Search.{AreRelationsOf, are_apart_from, bound_relations_hold, completions, product, relation_singles, some_starts_at};
 
 use crate::object_list::ObjectList;
 use crate::relation::Relation;
@@ -45,44 +45,11 @@ fn product_of(a: u64, b: u64) -> Result<u64, AllocError>
     }
 }
 
-/// The number of the completions of `values`. They are enumerated only while
-/// a relation is left between two parameters without values.
-pub(crate) fn count_completions(
-    domains: &[ObjectList],
-    relations: &[Relation],
-    values: &mut ObjectList,
-) -> Result<u64, AllocError>
-    requires small { length values.old ≤ length domains.now }
-    requires relations { AreRelationsOf relations.now (length domains.now) }
-    ensures count { IfOk result (λ n. n ≡ length (completions domains.now relations.now values.old)) }
-    ensures values { OnOk result (values.new ≡ values.old) }
+/// Whether some relation has its first parameter at this place.
+fn some_starts_at(relations: &[Relation], place: usize) -> bool
+    ensures { result ≡ some_starts_at relations.now place }
 {
-    if !bound_relations_hold_of(relations, values.as_slice()) {
-        return Ok(0);
-    }
-    let depth = values.len();
-    if depth == domains.len() {
-        return Ok(1);
-    }
-    if are_started_of(relations, depth) {
-        let count = count_choices(domains, relations, values.as_slice(), depth)?;
-        return Ok(count);
-    }
-    let mut count: u64 = 0;
-    for object in domains[depth].as_slice() {
-        values.push(*object)?;
-        let more = count_completions(domains, relations, values)?;
-        values.pop();
-        count = sum(count, more)?;
-    }
-    Ok(count)
-}
-
-/// Whether each relation has a parameter among the first so many.
-fn are_started_of(relations: &[Relation], depth: usize) -> bool
-    ensures { result ≡ are_started relations.now depth }
-{
-    relations.iter().all(|relation| relation.start() < depth)
+    relations.iter().any(|relation| relation.start() == place)
 }
 
 /// Whether no relation names a parameter.
@@ -120,21 +87,61 @@ fn count_allowed(relations: &[Relation], values: &[u16], place: usize, objects: 
     count
 }
 
-/// The number of choices of an object for each parameter from `from` on, where all relations allow
-/// each.
-fn count_choices(
-    domains: &[ObjectList],
+/// The first object that all relations allow at a place.
+fn first_allowed(
     relations: &[Relation],
     values: &[u16],
-    from: usize,
-) -> Result<u64, AllocError>
-    requires { from ≤ length domains.now }
-    ensures { IfOk result (λ n. n ≡ product (narrowed (relation_singles relations.now values.now) from (drop from domains.now))) }
+    place: usize,
+    objects: &[u16],
+) -> Option<u16>
+    ensures some { IfSome result (λ o. relation_singles relations.now values.now place o ≡ true) }
+    ensures none { IfNone result (filter (relation_singles relations.now values.now place) objects.now ≡ []) }
 {
-    let mut count: u64 = 1;
-    for place in from..domains.len() {
-        let objects = domains[place].as_slice();
-        count = product_of(count, count_allowed(relations, values, place, objects))?;
+    for object in objects {
+        if all_allow(relations, values, place, *object) {
+            return Some(*object);
+        }
+    }
+    None
+}
+
+/// The number of the completions of `values`. Objects of a parameter are gone through only where a
+/// relation to a later parameter starts; at any other, those that are allowed count alike.
+pub(crate) fn count_completions(
+    domains: &[ObjectList],
+    relations: &[Relation],
+    values: &mut ObjectList,
+) -> Result<u64, AllocError>
+    requires small { length values.old ≤ length domains.now }
+    requires relations { AreRelationsOf relations.now (length domains.now) }
+    ensures count { IfOk result (λ n. n ≡ length (completions domains.now relations.now values.old)) }
+    ensures values { OnOk result (values.new ≡ values.old) }
+{
+    if !bound_relations_hold_of(relations, values.as_slice()) {
+        return Ok(0);
+    }
+    let depth = values.len();
+    if depth == domains.len() {
+        return Ok(1);
+    }
+    let objects = domains[depth].as_slice();
+    if !some_starts_at(relations, depth) {
+        let Some(object) = first_allowed(relations, values.as_slice(), depth, objects) else {
+            return Ok(0);
+        };
+        let allowed = count_allowed(relations, values.as_slice(), depth, objects);
+        values.push(object)?;
+        let each = count_completions(domains, relations, values)?;
+        values.pop();
+        let count = product_of(allowed, each)?;
+        return Ok(count);
+    }
+    let mut count: u64 = 0;
+    for object in objects {
+        values.push(*object)?;
+        let more = count_completions(domains, relations, values)?;
+        values.pop();
+        count = sum(count, more)?;
     }
     Ok(count)
 }
@@ -148,14 +155,18 @@ pub(crate) fn count_run(
 ) -> Result<u64, AllocError>
     requires small { length values.old < length domains.now }
     requires relations { AreRelationsOf relations.now (length domains.now) }
-    requires hold { bound_relations_hold relations.now values.old ≡ true }
     ensures count { IfOk result (λ n. n ≡ length (flat_map (λ object. completions domains.now relations.now (values.old ++ object ∷ [])) run.now)) }
     ensures values { OnOk result (values.new ≡ values.old) }
 {
     let depth = values.len();
-    if are_started_of(relations, depth) {
+    if !some_starts_at(relations, depth) {
+        let Some(object) = first_allowed(relations, values.as_slice(), depth, run) else {
+            return Ok(0);
+        };
         let allowed = count_allowed(relations, values.as_slice(), depth, run);
-        let each = count_choices(domains, relations, values.as_slice(), depth + 1)?;
+        values.push(object)?;
+        let each = count_completions(domains, relations, values)?;
+        values.pop();
         let count = product_of(allowed, each)?;
         return Ok(count);
     }

@@ -12,6 +12,7 @@ ghost use Rattle.htn_ground.specs.Search as search;
 ghost use Rattle.htn_ground.specs.Search.{AreBound, AreLiteralsOf, live_from};
 
 use crate::conditions::{Conditions, Place};
+use crate::counts::count_completions;
 use crate::fixed::FixedLiteral;
 use crate::literals::value_of;
 use crate::object_list::ObjectList;
@@ -236,6 +237,25 @@ pub(crate) fn live_values(
         first,
     )?;
     Ok(found)
+}
+
+/// How many instances a schema has under these conditions.
+pub(crate) fn count_values(
+    alloc: Global,
+    task: &Task,
+    conditions: &Conditions,
+) -> Result<u64, AllocError>
+    requires { AreBound conditions.now }
+    ensures { IfOk result (λ n. n ≡ length (model.instances task.now conditions.now)) }
+{
+    if !constants_hold(task, conditions) {
+        return Ok(0);
+    }
+    let lists = narrow_all(alloc, task, conditions)?;
+    let relations = relations_between(alloc, conditions.equalities())?;
+    let mut values = ObjectList::new(alloc);
+    let count = count_completions(&lists, &relations, &mut values)?;
+    Ok(count)
 }
 
 /// Whether an equality holds of values.

@@ -1,17 +1,19 @@
 //! The instances of a task's methods, of its initial network and of its actions.
-ghost use Rattle.std.specs.Prelude.{◌≡◌, ◌+◌, ◌++◌, IfOk, OnOk, length, map};
+ghost use Rattle.std.specs.Prelude.{◌≡◌, ◌+◌, ◌++◌, [], IfNone, IfOk, IfSome, OnOk, length, map};
 ghost use Rattle.std.specs.List.{enumerate_from};
 ghost use Rattle.htn_model.specs.Instances as model;
 ghost use Rattle.htn_model.specs.Task.{IsMethodSchema};
 ghost use Rattle.htn_ground.specs.Methods.{fits_task, instances_for, live_instances, method_of, numbered_instances};
-ghost use Rattle.htn_ground.specs.Search.{AreLiteralsOf, live_from};
+ghost use Rattle.htn_ground.specs.Search.{AreBound, AreLiteralsOf, live_from};
 
-use crate::conditions::{action_conditions, initial_conditions, method_conditions, pin};
+use crate::conditions::{
+    Conditions, action_conditions, initial_conditions, method_conditions, pin,
+};
 use crate::dead::{fixed_literals, is_dead};
 use crate::fixed::FixedLiteral;
 use crate::ground_task::GroundTask;
 use crate::instance::Instance;
-use crate::instances::{is_instance, live_values};
+use crate::instances::{count_values, is_instance, live_values};
 use crate::literals::{ground_atom, state_literals};
 use crate::network::{children_for, order_for};
 use crate::object_list::ObjectList;
@@ -37,6 +39,28 @@ fn fits_task(schema: &TaskSchema, goal: &GroundTask) -> bool
     schema.name() == goal.name() && schema.arguments().len() == goal.arguments().len()
 }
 
+/// The conditions on the values of a method's instances for a ground task; none where the method is for
+/// another task.
+fn conditions_for(
+    alloc: Global,
+    task: &Task,
+    goal: &GroundTask,
+    method: &MethodSchema,
+) -> Result<Option<Conditions>, AllocError>
+    requires { IsMethodSchema task.now method.now }
+    ensures none { IfOk result (λ o. IfNone o (instances_for task.now goal.now method.now ≡ [])) }
+    ensures instances { IfOk result (λ o. IfSome o (λ c. model.instances task.now c ≡ instances_for task.now goal.now method.now)) }
+    ensures parameters { IfOk result (λ o. IfSome o (λ c. c.parameters ≡ method.now.parameters)) }
+    ensures bound { IfOk result (λ o. IfSome o (λ c. AreBound c)) }
+{
+    if !fits_task(method.task(), goal) {
+        return Ok(None);
+    }
+    let conditions = method_conditions(alloc, task, method)?;
+    let pinned = pin(conditions, method.task().arguments(), goal.arguments())?;
+    Ok(Some(pinned))
+}
+
 /// The values of a method's instances for a ground task that no literal rules out, each with its
 /// number among all of them, from `first` on; and the number after the last.
 fn values_for(
@@ -52,13 +76,28 @@ fn values_for(
     ensures found { IfOk result (λ r. r.0.items ≡ live_from task.now.initial_atoms literals.now first (instances_for task.now goal.now method.now)) }
     ensures next { IfOk result (λ r. r.1 ≡ first + length (instances_for task.now goal.now method.now)) }
 {
-    if !fits_task(method.task(), goal) {
+    let Some(conditions) = conditions_for(alloc, task, goal, method)? else {
         return Ok((Vec::new(alloc), first));
-    }
-    let conditions = method_conditions(alloc, task, method)?;
-    let pinned = pin(conditions, method.task().arguments(), goal.arguments())?;
-    let found = live_values(alloc, task, &pinned, literals, first)?;
+    };
+    let found = live_values(alloc, task, &conditions, literals, first)?;
     Ok(found)
+}
+
+/// How many instances of a method there are for a ground task.
+fn count_for(
+    alloc: Global,
+    task: &Task,
+    goal: &GroundTask,
+    method: &MethodSchema,
+) -> Result<u64, AllocError>
+    requires { IsMethodSchema task.now method.now }
+    ensures { IfOk result (λ n. n ≡ length (instances_for task.now goal.now method.now)) }
+{
+    let Some(conditions) = conditions_for(alloc, task, goal, method)? else {
+        return Ok(0);
+    };
+    let count = count_values(alloc, task, &conditions)?;
+    Ok(count)
 }
 
 /// The instance of a method at values.
@@ -119,7 +158,8 @@ pub fn methods_of(
 }
 
 /// The method of the instance with this number, among those of a ground task's methods; none where so
-/// many there aren't. The instances are counted and not made.
+/// many there aren't. The instances are counted, by products of lists where the equalities allow it, and
+/// neither made nor gone through.
 pub fn method_of(
     alloc: Global,
     task: &Task,
@@ -128,14 +168,14 @@ pub fn method_of(
 ) -> Result<Option<u16>, AllocError>
     ensures { IfOk result (λ m. m ≡ method_of task.now goal.now number) }
 {
-    let mut first = 0;
+    let mut first: u64 = 0;
     for (place, method) in task.methods().iter().enumerate() {
         let method_number = number_at(place)?;
-        let (_, next) = values_for(alloc, task, goal, method, &[], first)?;
-        if number < next {
+        let count = count_for(alloc, task, goal, method)?;
+        if number - first < count {
             return Ok(Some(method_number));
         }
-        first = next;
+        first += count;
     }
     Ok(None)
 }

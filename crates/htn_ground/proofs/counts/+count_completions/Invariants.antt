@@ -9,4 +9,4 @@ decreases-count_completions l = length l.domains.now - length l.values.now
 abbrev pub invariant-loop-object : goal.invariant-loop-object
 invariant-loop-object l =
     (l.values ≡ l.initial.values)
-    × (l.count ≡ length (flat_map (λ object. completions l.domains l.relations (l.initial.values ++ object ∷ [])) (take l.object-index l.object-items)))
+    × (l.count ≡ length (flat_map (λ object. completions l.domains l.relations (l.initial.values ++ object ∷ [])) (take l.object-index l.objects)))

@@ -1,5 +1,5 @@
 use Rattle.std.proofs.Common.{sym}
-use Rattle.htn_ground.proofs.Started.{allowed_apart}
+use Rattle.htn_ground.proofs.Apart.{allowed_apart}
 use Rattle.htn_ground.proofs.counts.count_allowed.Goals as goal
 
 pub returns-then-are_apart : goal.returns-then-are_apart

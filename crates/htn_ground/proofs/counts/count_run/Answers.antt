@@ -1,20 +1,28 @@
-use Rattle.std.proofs.Common.{◌≡◌, ◌∙◌, ◌*◌, ◌+◌, ap, drop, length, sym, true}
+use Rattle.std.proofs.Common.{◌≡◌, ◌∙◌, [], ap, false, length, sym, true}
 use Rattle.std.specs.List.{filter}
-use Rattle.htn_ground.specs.Search.{are_started, narrowed, product, relation_singles}
-use Rattle.htn_ground.proofs.Started.{run_count}
+use Rattle.htn_ground.specs.Search.{relation_singles, some_starts_at}
+use Rattle.htn_ground.proofs.Alike.{counted_once, run_none}
 use Rattle.htn_ground.proofs.counts.count_run.Goals as goal
 
-pub returns-then-are_started_of-clause-count : goal.returns-then-are_started_of-clause-count
-returns-then-are_started_of-clause-count c =
-    let domains = c.args.domains.now in
+pub returns-in_default-clause-count : goal.returns-in_default-clause-count
+returns-in_default-clause-count c =
     let relations = c.args.relations.now in
     let values = c.args.values.now in
     let run = c.args.run.now in
-    let started : are_started relations (length values) ≡ true = ap (are_started relations) (sym c.len-depth.ensures) ∙ sym c.if-are_started_of.ensures in
-    let allowed : c.count_allowed-allowed.result ≡ length (filter (relation_singles relations values (length values)) run) =
-    c.count_allowed-allowed.ensures ∙ (λ i. length (filter (relation_singles relations (c.as_slice.ensures i) (c.len-depth.ensures i)) run)) in
-    let each : c.in_ok-each.each ≡ product (narrowed (relation_singles relations values) (length values + 1) (drop (length values + 1) domains)) =
-    c.in_ok-each.ensures
-    ∙ (λ i. product (narrowed (relation_singles relations (c.as_slice-then-are_started_of.ensures i)) (c.len-depth.ensures i + 1) (drop (c.len-depth.ensures i + 1) domains))) in
-    c.in_ok-count.ensures ∙ (λ i. allowed i * each i)
-    ∙ sym (run_count domains relations values run c.requires.small c.requires.relations started c.requires.hold)
+    let starts : some_starts_at relations (length values) ≡ false = ap (some_starts_at relations) (sym c.len-depth.ensures) ∙ sym c.if-not-some_starts_at.ensures in
+    let none : filter (relation_singles relations values (length values)) run ≡ [] =
+    (λ i. filter (relation_singles relations (sym c.as_slice.ensures i) (sym c.len-depth.ensures i)) run) ∙ c.in_default.ensures.none in
+    sym (run_none c.args.domains.now relations values starts run none)
+
+pub returns-then-not-some_starts_at-clause-count : goal.returns-then-not-some_starts_at-clause-count
+returns-then-not-some_starts_at-clause-count c =
+    let relations = c.args.relations.now in
+    let values = c.args.values.now in
+    let run = c.args.run.now in
+    let starts : some_starts_at relations (length values) ≡ false = ap (some_starts_at relations) (sym c.len-depth.ensures) ∙ sym c.if-not-some_starts_at.ensures in
+    let allows : relation_singles relations values (length values) c.in-Some.object ≡ true =
+    (λ i. relation_singles relations (sym c.as_slice.ensures i) (sym c.len-depth.ensures i) c.in-Some.object) ∙ c.in-Some.ensures.some in
+    let many : c.count_allowed-allowed.result ≡ length (filter (relation_singles relations values (length values)) run) =
+    c.count_allowed-allowed.ensures ∙ (λ i. length (filter (relation_singles relations (c.as_slice-then-not-some_starts_at.ensures i) (c.len-depth.ensures i)) run)) in
+    c.in_ok-count.ensures
+    ∙ counted_once c.args.domains.now relations values starts c.in-Some.object c.count_allowed-allowed.result c.in_ok-each.each run c.push.new.self allows many c.in_ok-push.ensures.ok c.in_ok-each.ensures.count

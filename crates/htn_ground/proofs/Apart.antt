@@ -1,0 +1,71 @@
+-- Relations where some parameters have values, and those that name no other parameter.
+use Rattle.std.proofs.Common.{◌≡◌, ℕ, Bool, true, false, cond, not, ◌||◌, ◌&&◌, eqb, ltb, List, [], ◌∷◌, length, get_or, ◌<◌, ◌≤◌, refl, sym, ap, ◌∙◌, arith, suc}
+use Rattle.std.specs.Bool.{beq}
+use Rattle.std.specs.List.{filter}
+use Rattle.std.proofs.lemmas.Bool.Decides.{nat_tests}
+use Rattle.htn_model.specs.Schema.{Term, object, parameter}
+use Rattle.htn_ground.specs.declared.relation.Relation.{Relation}
+use Rattle.htn_ground.specs.declared.relation.Relation.TheVariants.{Different, Same}
+use Rattle.htn_ground.specs.Search.{are_apart_from, relation_names, relation_single, relation_singles, single_of, term_after}
+
+-- ## Values
+
+pub known : (values : List ℕ) (p : ℕ) → p < length values → term_after values p ≡ object (get_or values p 0)
+known values p h = ap (λ b. cond b (object (get_or values p 0)) (parameter p)) (below p (length values) h)
+  where
+    below : (m n : ℕ) → m < n → ltb m n ≡ true
+    below m n h = grind (arith, nat_tests)
+
+pub unknown : (values : List ℕ) (p : ℕ) → length values ≤ p → term_after values p ≡ parameter p
+unknown values p h = ap (λ b. cond b (object (get_or values p 0)) (parameter p)) (above p (length values) h)
+  where
+    above : (m n : ℕ) → n ≤ m → ltb m n ≡ false
+    above m n h = grind (arith, nat_tests)
+
+and_first : (a b : Bool) → (a && b) ≡ true → a ≡ true
+and_first true b e = refl
+and_first false b e = cc
+
+and_second : (a b : Bool) → (a && b) ≡ true → b ≡ true
+and_second true b e = e
+and_second false b e = cc
+
+-- ## Parameters that no relation names
+
+not_or : (a b : Bool) → not (a || b) ≡ true → (not a ≡ true) × (not b ≡ true)
+not_or true b e = cc
+not_or false b e = (refl, e)
+
+other : (p j : ℕ) → not (eqb p j) ≡ true → eqb j p ≡ false
+other p j e = grind (arith, nat_tests)
+
+-- a parameter's value or its name
+split_term : (values : List ℕ) (p : ℕ) → (P : Term → Type 0) → P (object (get_or values p 0)) → P (parameter p) → P (term_after values p)
+split_term values p P known unknown = by (ltb p (length values))
+  where
+    by : (b : Bool) → P (cond b (object (get_or values p 0)) (parameter p))
+    by true = known
+    by false = unknown
+
+single_apart : (positive : Bool) (a b : ℕ) (values : List ℕ) (j o : ℕ) → not (eqb a j || eqb b j) ≡ true → single_of positive (term_after values a) (term_after values b) j o ≡ true
+single_apart positive a b values j o apart =
+    let parts = not_or (eqb a j) (eqb b j) apart in
+    let left : eqb j a ≡ false = other a j parts.0 in
+    let right : eqb j b ≡ false = other b j parts.1 in
+    split_term values a (λ s. single_of positive s (term_after values b) j o ≡ true)
+    (split_term values b (λ t. single_of positive (object (get_or values a 0)) t j o ≡ true) refl (ap (λ c. not c || beq positive (eqb o (get_or values a 0))) right))
+    (split_term values b (λ t. single_of positive (parameter a) t j o ≡ true) (ap (λ c. not c || beq positive (eqb o (get_or values b 0))) left) refl)
+
+pub relation_apart : (r : Relation) (values : List ℕ) (j o : ℕ) → not (relation_names r j) ≡ true → relation_single values r j o ≡ true
+relation_apart (Same a b) values j o apart = single_apart true a b values j o apart
+relation_apart (Different a b) values j o apart = single_apart false a b values j o apart
+
+relations_apart : (relations : List Relation) (values : List ℕ) (j o : ℕ) → are_apart_from j relations ≡ true → relation_singles relations values j o ≡ true
+relations_apart [] values j o apart = refl
+relations_apart (r ∷ relations) values j o apart = (λ i. relation_apart r values j o (and_first _ _ apart) i && relations_apart relations values j o (and_second _ _ apart) i)
+
+pub allowed_apart : (relations : List Relation) (values : List ℕ) (j : ℕ) → are_apart_from j relations ≡ true → (objects : List ℕ) → length objects ≡ length (filter (relation_singles relations values j) objects)
+allowed_apart relations values j apart [] = refl
+allowed_apart relations values j apart (o ∷ objects) =
+    ap (λ n. suc n) (allowed_apart relations values j apart objects)
+    ∙ sym (ap (λ b. length (cond b (o ∷ filter (relation_singles relations values j) objects) (filter (relation_singles relations values j) objects))) (relations_apart relations values j o apart))
