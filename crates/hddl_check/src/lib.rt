@@ -1,6 +1,7 @@
 //! Checks that a domain and a problem fit together.
 #![tactic(auto)]
 
+mod check;
 mod context;
 mod cycles;
 mod declarations;
@@ -21,4 +22,5 @@ mod scope;
 mod shape;
 mod types;
 
+pub use check::check;
 pub use faults::declaration_fault;
