@@ -10,3 +10,5 @@ pub mod Pairs
 pub mod Distinctness
 pub mod Whole
 pub mod Cyclic
+pub mod Searching
+pub mod Placing
