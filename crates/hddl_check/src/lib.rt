@@ -25,8 +25,6 @@ mod schemas;
 mod scope;
 mod shape;
 mod signatures;
-#[cfg(test)]
-mod tests;
 mod types;
 mod uses;
 
