@@ -1,6 +1,6 @@
 -- Tables of declarations: how they grow, and what they find.
-use Rattle.std.proofs.Common.{◌≡◌, ◌⊎◌, ℕ, ◌+◌, ◌<◌, ◌≤◌, min, Bool, true, false, cond, List, [], ◌∷◌, ◌++◌, length, map, take, drop, get_or, slice_get, Vec, Option, Some, None, is_some, true≢false, option_map, refl, sym, ap, subst, ◌∙◌, arith, append_assoc, nat_lt}
-use Rattle.std.specs.List.{find, list_any, position, position_or_len}
+use Rattle.std.proofs.Common.{◌≡◌, ℕ, ◌+◌, ◌<◌, ◌≤◌, min, Bool, true, false, cond, List, [], ◌∷◌, ◌++◌, length, map, take, drop, get_or, slice_get, Vec, Option, Some, None, is_some, true≢false, option_map, refl, sym, ap, subst, ◌∙◌, arith, append_assoc, nat_lt}
+use Rattle.std.specs.List.{list_any, position, position_or_len}
 use Rattle.std.proofs.lemmas.Bool.Decides.{Decides-ltb}
 use Rattle.std.proofs.lemmas.Iterator.Adapters.{position_from-zero}
 use Rattle.std.proofs.lemmas.List.{take_more, take-append-drop, length-take, length-map, map-append, get_or-take}
@@ -122,13 +122,6 @@ module _ (signatures : List Signature) (table : Signatures) (count : ℕ) (text 
       let number_is : k ≡ number = cc in
       let below : number < count = subst (λ n. n < count) number_is early in omega (arith, below, late)
 
-  -- a number has places
-  pub placed : (number : ℕ) → number_at table.numbers text ≡ Some number → slice_get table.places.items number ≡ None → ⊥
-  placed number some none =
-      let at : position (has_name text) signatures ≡ Some number = sym (is.numbers text) ∙ some in
-      let (within, passes, before) = position-Some (has_name text) signatures number nobody at in
-      let gone : slice_get (lists_of table.places.items) number ≡ None = slice_get-map (λ v. v.items) table.places.items number ∙ ap (option_map (λ v. v.items)) none in
-      let clash : None ≡ Some (map as_parameter (get_or signatures number nobody).places) = sym gone ∙ (ap (λ l. slice_get l number) is.places ∙ places_at signatures number within) in cc
   -- what stands at the number of a name among the first ones is its first declaration
   pub row : (number : ℕ) (places : List Variable) → number_at table.numbers text ≡ Some number → number < count
       → option_map (λ v. v.items) (slice_get table.places.items number) ≡ Some places → IsAmong (take count signatures) text × HasPlaces signatures text places

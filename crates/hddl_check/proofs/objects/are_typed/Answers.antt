@@ -1,4 +1,4 @@
-use Rattle.std.proofs.Common.{◌≡◌, ◌∙◌, ap, sym, subst, true, false, option_map, refl}
+use Rattle.std.proofs.Common.{◌≡◌, subst, true, false, option_map, refl}
 use Rattle.std.proofs.lemmas.List.{take_all}
 use Rattle.hddl_meaning.specs.Mentions.{mention_of, typed_names}
 use Rattle.hddl_meaning.specs.Types.{text_or_object}

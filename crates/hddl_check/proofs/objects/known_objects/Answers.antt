@@ -1,4 +1,4 @@
-use Rattle.std.proofs.Common.{◌≡◌, ◌∙◌, ap, sym, subst, true, false, ◌≤◌, arith, length, true≢false}
+use Rattle.std.proofs.Common.{◌≡◌, ◌∙◌, ap, sym, subst, ◌≤◌, arith, length, true≢false}
 use Rattle.hddl_meaning.specs.Mentions.{typed_names}
 use Rattle.hddl_meaning.specs.Names.{object_names}
 use Rattle.hddl_check.specs.Known.{AllTyped}

@@ -1,6 +1,6 @@
 use Rattle.std.proofs.Common.{◌≡◌, ◌∙◌, ◌++◌, ◌∷◌, [], ap, sym, length, refl, is_some}
 use Rattle.std.proofs.lemmas.List.{map-append}
-use Rattle.hddl_meaning.specs.Mentions.{Text, folded}
+use Rattle.hddl_meaning.specs.Mentions.{folded}
 use Rattle.hddl_meaning.specs.Items.{signature}
 use Rattle.hddl_check.specs.Numbers.{number_at}
 use Rattle.hddl_check.specs.Tables.{lists_of}
