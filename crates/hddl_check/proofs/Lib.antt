@@ -6,6 +6,8 @@ pub mod ScopeLists
 pub mod TypeNames
 pub mod Folding
 pub mod Labelling
+pub mod Tabling
+pub mod KnownTypes
 pub mod Pairs
 pub mod Distinctness
 pub mod Whole
