@@ -15,11 +15,11 @@ pub fold-Forall : (X : Type 0) (step : Condition-F X → X) (gs : List VariableG
     → fold-Condition X step (Forall gs body) ≡ step (Condition-F.Forall gs (map (fold-Condition X step) body))
 fold-Forall X step gs body = search (rules, the_lemmas)
 
-flat_flat : {X Y Z : Type 0} (h : Y → List Z) (g : X → List Y) (xs : List X) → flat_map h (flat_map g xs) ≡ flat_map (λ x. flat_map h (g x)) xs
+pub flat_flat : {X Y Z : Type 0} (h : Y → List Z) (g : X → List Y) (xs : List X) → flat_map h (flat_map g xs) ≡ flat_map (λ x. flat_map h (g x)) xs
 flat_flat h g [] = refl
 flat_flat h g (x ∷ xs) = flat_map-append h (g x) (flat_map g xs) ∙ ap (λ l. flat_map h (g x) ++ l) (flat_flat h g xs)
 
-map_flat : {X Y Z : Type 0} (h : Y → Z) (g : X → List Y) (xs : List X) → map h (flat_map g xs) ≡ flat_map (λ x. map h (g x)) xs
+pub map_flat : {X Y Z : Type 0} (h : Y → Z) (g : X → List Y) (xs : List X) → map h (flat_map g xs) ≡ flat_map (λ x. map h (g x)) xs
 map_flat h g [] = refl
 map_flat h g (x ∷ xs) = map-append h (g x) (flat_map g xs) ∙ ap (λ l. map h (g x) ++ l) (map_flat h g xs)
 

@@ -14,3 +14,5 @@ pub mod Whole
 pub mod Cyclic
 pub mod Searching
 pub mod Placing
+pub mod Using
+pub mod Counting

@@ -26,11 +26,7 @@ AllTyped d typed = (t : Typed) → IsIn t typed → IsTyped d t
 -- the types of the argument are declared
 abbrev pub IsKnown : DomainText → ProblemText → List Variable → Term → Type 0
 IsKnown d p variables (term.Variable x) = (v : Variable) × (variable_in variables (folded x.text) ≡ Some v) × IsTyped d v.typed
-<<<<<<< HEAD
 IsKnown d p variables (term.Object x) = ∥ AreKnown d p ∥₁
-=======
-IsKnown d p variables (term.Object x) = AreKnown d p
->>>>>>> check-tables
 
 -- a clash between declared types
 pub record IsKnownClash (d : DomainText) (p : ProblemText) (variables : List Variable) (argument : Term) (at_place : Typed) (place : ℕ) : Type 0 where

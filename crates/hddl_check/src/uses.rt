@@ -37,7 +37,8 @@ fn check_use(
     if atom.terms.len() != places.len() {
         return Ok(Some(CheckFault::Arity(context.at(atom.name.place()))));
     }
-    check_arguments(context, scope, atom.terms.as_slice(), places)
+    let found = check_arguments(context, scope, atom.terms.as_slice(), places)?;
+    Ok(found)
 }
 
 /// A fault of an atom.

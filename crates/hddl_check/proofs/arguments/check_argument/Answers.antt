@@ -1,16 +1,5 @@
-use Rattle.std.proofs.Common.{rules, ◌≡◌, ◌↔◌, IfOk, IsTrue, length, option_map, ℕ, ◌+◌, ◌-◌, ◌*◌, ◌<◌, ◌≤◌, ◌/◌, ◌%◌, Bool, true, false, nat_eq, nat_lt, List, [], ◌∷◌, ◌++◌, slice_index_or, slice_set, bit_and, bit_or, Fits, w8, w32, w64, Bor, MutBor}
-use Rattle.std.specs.List.{position, zip}
-use Rattle.hddl_tree.specs.declared.term.Term.TheVariants as term
-use Rattle.hddl_meaning.specs.Mentions.{IsIn}
-use Rattle.hddl_meaning.specs.Names.{is_same_text, object_names, type_names}
-use Rattle.hddl_meaning.specs.Types.{text_or_object, HasType}
-use Rattle.hddl_meaning.specs.Items.{MayStand, variable_in}
-use Rattle.hddl_check.specs.Contexts.{AnyArgumentFails, ArgumentFails, Clashes, Fails}
-use Rattle.hddl_check.specs.Findings.{Finds}
-use Rattle.hddl_check.specs.Known.{AreKnown, IsTyped}
-use Rattle.hddl_check.specs.Parts.{Side}
+use Rattle.hddl_check.proofs.Finding.{Finds-either}
 use Rattle.hddl_check.proofs.arguments.check_argument.Goals as goal
 
--- src/arguments.rt:175:1
 pub returns : goal.returns
-returns c = ?
+returns c = Finds-either c.in_ok-unknown.ensures c.in_ok-clash.ensures c.first_of.ensures

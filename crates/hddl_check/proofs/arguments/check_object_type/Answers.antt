@@ -1,16 +1,17 @@
-use Rattle.std.proofs.Common.{rules, ◌≡◌, ◌↔◌, IfOk, IsTrue, length, option_map, ℕ, ◌+◌, ◌-◌, ◌*◌, ◌<◌, ◌≤◌, ◌/◌, ◌%◌, Bool, true, false, nat_eq, nat_lt, List, [], ◌∷◌, ◌++◌, slice_index_or, slice_set, bit_and, bit_or, Fits, w8, w32, w64, Bor, MutBor}
-use Rattle.std.specs.List.{position, zip}
+use Rattle.std.proofs.Common.{◌≡◌, ◌↔◌, ◌∙◌, IsTrue, ap, subst}
 use Rattle.hddl_tree.specs.declared.term.Term.TheVariants as term
-use Rattle.hddl_meaning.specs.Mentions.{IsIn}
-use Rattle.hddl_meaning.specs.Names.{is_same_text, object_names, type_names}
-use Rattle.hddl_meaning.specs.Types.{text_or_object, HasType}
-use Rattle.hddl_meaning.specs.Items.{MayStand, variable_in}
-use Rattle.hddl_check.specs.Contexts.{AnyArgumentFails, ArgumentFails, Clashes, Fails}
-use Rattle.hddl_check.specs.Findings.{Finds}
-use Rattle.hddl_check.specs.Known.{AreKnown, IsTyped}
-use Rattle.hddl_check.specs.Parts.{Side}
+use Rattle.hddl_meaning.specs.Mentions.{Text, folded}
+use Rattle.hddl_meaning.specs.declared.fault.CheckFault.TheVariants.{TypeClash}
+use Rattle.hddl_check.specs.Known.{IsKnownClash}
+use Rattle.hddl_check.proofs.Finding.{Finds-none, none_at}
+use Rattle.hddl_check.proofs.Placing.{Lacks}
 use Rattle.hddl_check.proofs.arguments.check_object_type.Goals as goal
 
--- src/arguments.rt:143:1
 pub returns : goal.returns
-returns c = ?
+returns c =
+    let d = c.args.context.now.domain.now in
+    let p = c.args.context.now.problem.now in
+    let told : IsTrue c.lacks_type.result ↔ Lacks d p (folded c.args.name.now.text) c.args.place.now =
+    subst (λ (t : Text). IsTrue c.lacks_type.result ↔ Lacks d p t c.args.place.now) (c.deref.ensures.value ∙ c.in_ok-text.ensures ∙ ap folded c.text.ensures.value) c.lacks_type.ensures in
+    none_at TypeClash c.args.context.now.source {P = IsKnownClash d p c.args.scope.now (term.Object c.args.name.now) c.args.place.now.typed}
+    (Finds-none (λ place k. let some = told.1 (k.known, k.known_place, k.clash.0, k.clash.1) in let none = c.if-lacks_type.false in cc))

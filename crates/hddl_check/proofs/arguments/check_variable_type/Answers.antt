@@ -1,16 +1,19 @@
-use Rattle.std.proofs.Common.{rules, ◌≡◌, ◌↔◌, IfOk, IsTrue, length, option_map, ℕ, ◌+◌, ◌-◌, ◌*◌, ◌<◌, ◌≤◌, ◌/◌, ◌%◌, Bool, true, false, nat_eq, nat_lt, List, [], ◌∷◌, ◌++◌, slice_index_or, slice_set, bit_and, bit_or, Fits, w8, w32, w64, Bor, MutBor}
-use Rattle.std.specs.List.{position, zip}
+use Rattle.std.proofs.Common.{◌≡◌, ◌∙◌, Some, ap, option_map, sym}
 use Rattle.hddl_tree.specs.declared.term.Term.TheVariants as term
-use Rattle.hddl_meaning.specs.Mentions.{IsIn}
-use Rattle.hddl_meaning.specs.Names.{is_same_text, object_names, type_names}
-use Rattle.hddl_meaning.specs.Types.{text_or_object, HasType}
-use Rattle.hddl_meaning.specs.Items.{MayStand, variable_in}
-use Rattle.hddl_check.specs.Contexts.{AnyArgumentFails, ArgumentFails, Clashes, Fails}
-use Rattle.hddl_check.specs.Findings.{Finds}
-use Rattle.hddl_check.specs.Known.{AreKnown, IsTyped}
-use Rattle.hddl_check.specs.Parts.{Side}
+use Rattle.hddl_meaning.specs.Mentions.{folded}
+use Rattle.hddl_meaning.specs.Items.{variable_in}
+use Rattle.hddl_meaning.specs.declared.fault.CheckFault.TheVariants.{TypeClash}
+use Rattle.hddl_check.specs.Known.{IsKnownClash}
+use Rattle.hddl_check.proofs.Finding.{Finds-some, found_at}
 use Rattle.hddl_check.proofs.arguments.check_variable_type.Goals as goal
 
--- src/arguments.rt:137:9
 pub returns : goal.returns
-returns c = ?
+returns c =
+    let context = c.args.context.now in
+    let scope = c.args.scope.now in
+    let v = c.in-Some.declared.now in
+    let is : variable_in scope (folded c.args.variable.now.text) ≡ Some v =
+    ap (variable_in scope) (sym (c.deref.ensures.value ∙ c.in_ok-text.ensures ∙ ap folded c.text.ensures.value)) ∙ sym c.in_force.ensures ∙ ap (option_map (λ x. x.now)) c.in-Some.is in
+    let barred = c.in_ok-is_barred.ensures.0 c.if-branch.true in
+    found_at TypeClash context.source {P = IsKnownClash context.domain.now context.problem.now scope (term.Variable c.args.variable.now) c.args.place.now.typed} c.at.result
+    (Finds-some c.place.result (record { clash = (v, is, barred.2, c.place.ensures); known = (v, is, barred.0); known_place = barred.1 })) c.at.ensures

@@ -1,13 +1,11 @@
-use Rattle.std.proofs.Common.{rules, IfOk, List, map, take, ◌≡◌, ℕ, ◌+◌, ◌-◌, ◌*◌, ◌<◌, ◌≤◌, length, ◌/◌, ◌%◌, Bool, true, false, nat_eq, nat_lt, [], ◌∷◌, ◌++◌, slice_index_or, slice_set, bit_and, bit_or, Fits, w8, w32, w64, Bor, MutBor}
-use Rattle.std.specs.List.{flat_map}
-use Rattle.hddl_meaning.specs.Items.{Signature}
-use Rattle.hddl_meaning.specs.Uses.{sides}
-use Rattle.hddl_check.specs.Contexts.{AnyFails, Fails}
-use Rattle.hddl_check.specs.Findings.{Finds}
-use Rattle.hddl_check.specs.Parts.{Atom, Decomposed, Side, Subtask, UseFails}
-use Rattle.hddl_check.specs.Tables.{IsTableOf}
+use Rattle.std.proofs.Common.{[], ◌∷◌}
+use Rattle.hddl_check.specs.Contexts.{Fails}
+use Rattle.hddl_check.specs.Parts.{Side}
+use Rattle.hddl_check.proofs.Finding.{Finds-cons, Finds-single}
 use Rattle.hddl_check.proofs.uses.check_equality.Goals as goal
 
--- src/uses.rt:83:1
 pub returns : goal.returns
-returns c = ?
+returns c =
+    let P = Fails c.args.context.now in
+    let right = Side (record { variables = c.args.scope.now; term = c.args.equality.now.right }) in
+    Finds-cons P (Side (record { variables = c.args.scope.now; term = c.args.equality.now.left })) (right ∷ []) c.in_ok-left.ensures (Finds-single P right c.in_ok-right.ensures) c.first_of.ensures
