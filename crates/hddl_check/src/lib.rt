@@ -25,6 +25,8 @@ mod schemas;
 mod scope;
 mod shape;
 mod signatures;
+#[cfg(test)]
+mod tests;
 mod types;
 mod uses;
 
