@@ -10,7 +10,10 @@ pub mod Tabling
 pub mod KnownTypes
 pub mod Pairs
 pub mod Distinctness
+pub mod TextParts
 pub mod Whole
 pub mod Cyclic
 pub mod Searching
 pub mod Placing
+pub mod InForce
+pub mod Typing
