@@ -19,3 +19,4 @@ pub mod Using
 pub mod Counting
 pub mod InForce
 pub mod Typing
+pub mod SchemaLists
