@@ -165,3 +165,12 @@ some_of_first {X} a b found some one = by found refl
     by : (o : Option X) → found ≡ o → IsSome o
     by None e = absurd (true≢false (sym some ∙ ap is_some (one.none e).0))
     by (Some x) e = refl
+
+-- what is found of one item is found among all
+pub some_among : {X Y : Type 0} (P : X → Y → Type 0) (x : X) (xs : List X) {a found : Option Y} → IsIn x xs → IsSome a → Finds (P x) a → Finds (AnyOf P xs) found → IsSome found
+some_among {X} {Y} P x xs {a} {found} at some one h = by a refl found refl
+  where
+    by : (o : Option Y) → a ≡ o → (f : Option Y) → found ≡ f → IsSome f
+    by None e f is = absurd (true≢false (sym some ∙ ap is_some e))
+    by (Some y) e None is = absurd (h.complete is y (x, at, subst (λ o. IfSome o (P x)) e one.sound))
+    by (Some y) e (Some z) is = refl

@@ -4,7 +4,7 @@ use Rattle.std.specs.List.{position, position_from}
 use Rattle.std.proofs.lemmas.Iterator.Adapters.{position_from-zero}
 use Rattle.std.proofs.lemmas.List.{take_more, length-take-le}
 
-push_from : {X : Type 0} (p : X → Bool) (i : ℕ) (xs : List X) (x : X)
+pub push_from : {X : Type 0} (p : X → Bool) (i : ℕ) (xs : List X) (x : X)
     → position_from p i (xs ++ x ∷ []) ≡ cond (is_some (position_from p i xs)) (position_from p i xs) (cond (p x) (Some (i + length xs)) None)
 push_from p i [] x = ap (λ n. cond (p x) (Some n) None) (omega arith)
 push_from p i (y ∷ xs) x = by (p y) (push_from p (i + 1) xs x)

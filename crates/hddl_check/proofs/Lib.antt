@@ -6,7 +6,17 @@ pub mod ScopeLists
 pub mod TypeNames
 pub mod Folding
 pub mod Labelling
+pub mod Tabling
+pub mod KnownTypes
 pub mod Pairs
 pub mod Distinctness
+pub mod TextParts
 pub mod Whole
 pub mod Cyclic
+pub mod Searching
+pub mod Placing
+pub mod Using
+pub mod Counting
+pub mod InForce
+pub mod Typing
+pub mod SchemaLists

@@ -1,5 +1,5 @@
 -- Cycles of types as faults.
-use Rattle.std.specs.Prelude.{◌≡◌, ⊤}
+use Rattle.std.specs.Prelude.{◌≡◌}
 use Rattle.hddl_tree.specs.declared.domain.DomainText.{DomainText}
 use Rattle.hddl_meaning.specs.Items.{IsTypeCycle}
 use Rattle.hddl_meaning.specs.declared.fault.At.{At}
@@ -8,11 +8,3 @@ use Rattle.hddl_meaning.specs.declared.fault.CheckFault.TheVariants as fault
 
 abbrev pub IsCycleFault : DomainText → CheckFault → Type 0
 IsCycleFault d f = (at : At) × (f ≡ fault.TypeCycle at) × IsTypeCycle d at
-
--- a fault of what is declared, and not of what is used
-abbrev pub IsOfDeclarations : CheckFault → Type 0
-IsOfDeclarations (fault.UnknownName at) = ⊥
-IsOfDeclarations (fault.Arity at) = ⊥
-IsOfDeclarations (fault.TypeClash at) = ⊥
-IsOfDeclarations fault.OutOfMemory = ⊥
-IsOfDeclarations _ = ⊤

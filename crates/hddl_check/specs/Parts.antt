@@ -19,7 +19,7 @@ use Rattle.hddl_meaning.specs.Mentions.{Text, Mention, Typed, IsIn, mention_of, 
 use Rattle.hddl_meaning.specs.Names.{type_mentions, object_names, predicate_names, compound_names, task_names}
 use Rattle.hddl_meaning.specs.Types.{Leads, parent_pairs}
 use Rattle.hddl_meaning.specs.Networks.{order_pairs}
-use Rattle.hddl_meaning.specs.Uses.{Variable, Use, TermUse, Quantifier, Schema, schema_of_method, schema_of_action, schema_of_network, schema_of_states}
+use Rattle.hddl_meaning.specs.Uses.{Variable, Use, TermUse, Quantifier, Schema, atoms_in, quantifiers_in, sides_in, schema_of_method, schema_of_action, schema_of_network, schema_of_states}
 use Rattle.hddl_meaning.specs.Items as items
 use Rattle.hddl_meaning.specs.Items.{Signature, type_of, variable_mentions, label_mentions, subtask_mentions, ordering_names, declared_objects}
 use Rattle.hddl_meaning.specs.declared.fault.Source.{Source}
@@ -28,6 +28,7 @@ use Rattle.hddl_meaning.specs.declared.fault.At.{At}
 use Rattle.hddl_meaning.specs.declared.fault.CheckFault.{CheckFault}
 use Rattle.hddl_meaning.specs.declared.fault.CheckFault.TheVariants as fault
 use Rattle.hddl_check.specs.Findings.{AnyOf}
+use Rattle.hddl_check.specs.Known.{IsKnownClash}
 use Rattle.hddl_check.specs.Repeats.{IsRepeat}
 
 pub data Part : Type 0 where
@@ -62,13 +63,22 @@ abbrev pub IsWrongCount : List Signature → Use → ℕ → Type 0
 IsWrongCount signatures u place =
     (s : Signature) × (items.declaration_in signatures u.atom.name ≡ Some s) × (length u.atom.terms ≡ length s.places → ⊥) × (place ≡ u.atom.name.place)
 
-abbrev pub Clashes : DomainText → ProblemText → List Signature → Use → ℕ → Type 0
-Clashes d p signatures u place =
-    (s : Signature) × (argument : Term) × (at_place : Typed) × (items.declaration_in signatures u.atom.name ≡ Some s)
-    × IsIn (argument, at_place) (zip u.atom.terms s.places) × items.IsClash d p u.variables argument at_place place
+abbrev pub ClashesAt : DomainText → ProblemText → List Variable → Term × Typed → ℕ → Type 0
+ClashesAt d p variables a place = IsKnownClash d p variables a.0 a.1 place
+
+-- an argument and its place
+abbrev pub ArgumentFailsIn : DomainText → ProblemText → Source → List Variable → Term × Typed → CheckFault → Type 0
+ArgumentFailsIn d p text variables a f =
+    Faulted fault.UnknownName text (items.IsUnknownTerm (object_names d p) (record { variables = variables; term = a.0 })) f
+    ⊎ Faulted fault.TypeClash text (ClashesAt d p variables a) f
 
 abbrev pub HasUnknownArgument : DomainText → ProblemText → Use → ℕ → Type 0
 HasUnknownArgument d p u place = (t : TermUse) × IsIn t (items.arguments_of u) × items.IsUnknownTerm (object_names d p) t place
+
+abbrev pub HasClash : DomainText → ProblemText → List Signature → Use → ℕ → Type 0
+HasClash d p signatures u place =
+    (s : Signature) × (argument : Term) × (at_place : Typed) × (items.declaration_in signatures u.atom.name ≡ Some s)
+    × IsIn (argument, at_place) (zip u.atom.terms s.places) × IsKnownClash d p u.variables argument at_place place
 
 -- the names among which its name has to be, and the declarations that its arguments have to fit
 abbrev pub UseFails : DomainText → ProblemText → Source → List Text → List Signature → Use → CheckFault → Type 0
@@ -76,7 +86,7 @@ UseFails d p text names signatures u f =
     Faulted fault.UnknownName text (items.IsMissing names u.atom.name) f
     ⊎ Faulted fault.UnknownName text (HasUnknownArgument d p u) f
     ⊎ Faulted fault.Arity text (IsWrongCount signatures u) f
-    ⊎ Faulted fault.TypeClash text (Clashes d p signatures u) f
+    ⊎ Faulted fault.TypeClash text (HasClash d p signatures u) f
 
 -- the first position of its order that leads to itself, at the place of the whole
 abbrev pub IsCyclic : ℕ → NetworkText → ℕ → Type 0
@@ -124,9 +134,18 @@ quantifier_parts q =
     let all = variable_mentions q.around ++ own in
     Different all ∷ Limited items.most_parameters own ∷ Limited items.most_variables all ∷ type_parts (typed_variables q.own)
 
--- the variables that a schema declares
+-- what conditions use and declare
+abbrev pub conditions_parts : List Variable → List Condition → List Part
+conditions_parts variables cs =
+    map Atom (atoms_in variables cs) ++ (flat_map quantifier_parts (quantifiers_in variables cs) ++ map Side (sides_in variables cs))
+
+-- what a schema uses and declares, but for its parameters
+abbrev pub inner_parts : Schema → List Part
+inner_parts s =
+    map Atom s.atoms ++ (flat_map quantifier_parts s.quantifiers ++ (map Side s.sides ++ (map Decomposed s.decomposed ++ map Subtask s.subtasks)))
+
 abbrev pub schema_parts : Schema → List Part
-schema_parts s = parameter_parts s.parameters ++ flat_map quantifier_parts s.quantifiers
+schema_parts s = parameter_parts s.parameters ++ inner_parts s
 
 abbrev pub network_parts : ℕ → NetworkText → List Part
 network_parts place n = Different (label_mentions n) ∷ Limited items.most_subtasks (subtask_mentions n) ∷ Network place n ∷ []
@@ -157,7 +176,7 @@ task_name_parts d =
     let actions = map (λ x. mention_of x.name) d.actions in
     Different (tasks ++ actions) ∷ Limited items.most_declarations tasks ∷ Limited items.most_declarations actions ∷ []
 
--- what a domain declares by name, and then in its declarations
+-- what a domain declares by name, and then what its declarations say
 abbrev pub declared_parts : DomainText → List Part
 declared_parts d =
     Types ∷ Objects ∷ (type_parts (typed_names d.constants)
@@ -171,12 +190,12 @@ body_parts d =
 abbrev pub domain_parts : DomainText → List Part
 domain_parts d = declared_parts d ++ body_parts d
 
--- what a problem declares
+-- what a problem says
 abbrev pub problem_parts : ProblemText → List Part
 problem_parts p =
     Objects ∷ (type_parts (typed_names p.objects) ++ (schema_parts (schema_of_network p) ++ (network_parts p.htn.place p.htn.network
     ++ schema_parts (schema_of_states p))))
 
--- a part of what is declared fails
-abbrev pub DeclarationFails : DomainText → ProblemText → CheckFault → Type 0
-DeclarationFails d p f = AnyOf (FailsIn d p source.Domain) (domain_parts d) f ⊎ AnyOf (FailsIn d p source.Problem) (problem_parts p) f
+-- a part of one of the texts fails
+abbrev pub PartFails : DomainText → ProblemText → CheckFault → Type 0
+PartFails d p f = AnyOf (FailsIn d p source.Domain) (domain_parts d) f ⊎ AnyOf (FailsIn d p source.Problem) (problem_parts p) f

@@ -1,5 +1,5 @@
 -- The variables that a typed list puts in force, and what conditions use under them.
-use Rattle.std.specs.Prelude.{Bool, List, map, option_map}
+use Rattle.std.specs.Prelude.{Bool, List, ◌++◌, map, option_map}
 use Rattle.hddl_tree.specs.declared.term.VariableGroup.{VariableGroup}
 use Rattle.hddl_meaning.specs.Mentions.{mention_of, variable_mention}
 use Rattle.hddl_meaning.specs.Uses.{Variable, Use, TermUse, Quantifier, quantifiers_step, atoms_step, sides_step}
@@ -30,3 +30,7 @@ atom_parts_of variables c = map Atom (atoms_of variables c)
 
 abbrev pub side_parts_of : List Variable → Condition → List Part
 side_parts_of variables c = map Side (sides_of variables c)
+
+-- what one condition uses and declares
+abbrev pub condition_parts : List Variable → Condition → List Part
+condition_parts variables c = atom_parts_of variables c ++ (quantifier_parts_of variables c ++ side_parts_of variables c)

@@ -1,9 +1,13 @@
 //! What a check knows of the texts.
-ghost use Rattle.std.specs.Prelude.{◌≡◌};
+ghost use Rattle.std.specs.Prelude.{◌≡◌, MatchOption};
 ghost use Rattle.hddl_meaning.specs.Building.{vocabulary_of};
+ghost use Rattle.hddl_names.specs.Members.{AreMembersOf};
+ghost use Rattle.hddl_check.specs.Known.{AreKnown};
+ghost use Rattle.hddl_check.specs.Declarations.{AreDeclarationsOf};
 
+use crate::declared::Declarations;
 use hddl_meaning::{At, Source};
-use hddl_names::Vocabulary;
+use hddl_names::{ObjectsByType, TypeHierarchy, Vocabulary};
 use hddl_tree::{DomainText, ProblemText};
 use std::alloc::Global;
 
@@ -15,7 +19,14 @@ pub(crate) struct Context<'a> {
     pub(crate) domain: &'a DomainText,
     pub(crate) problem: &'a ProblemText,
     pub(crate) vocabulary: &'a Vocabulary,
+    pub(crate) types: &'a TypeHierarchy<'a>,
+    /// The objects of each type, unless one has a type that isn't declared, or there are too many.
+    pub(crate) objects: Option<&'a ObjectsByType>,
+    pub(crate) declared: &'a Declarations,
     ghost known: { vocabulary.now ≡ vocabulary_of domain.now problem.now },
+    ghost known_types: { types.now ≡ domain.now },
+    ghost known_objects: { ∥ MatchOption objects (AreKnown domain.now problem.now → ⊥) (λ o. AreKnown domain.now problem.now × AreMembersOf domain.now problem.now o.now) ∥₁ },
+    ghost known_declared: { AreDeclarationsOf domain.now declared.now },
 }
 
 impl Context<'_> {

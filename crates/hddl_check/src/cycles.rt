@@ -2,13 +2,11 @@
 ghost use Rattle.std.specs.Prelude.{◌≡◌, IfOk, option_map};
 ghost use Rattle.hddl_meaning.specs.declared.fault.CheckFault.TheVariants as fault;
 ghost use Rattle.hddl_meaning.specs.declared.fault.Source.TheVariants as source;
-ghost use Rattle.hddl_meaning.specs.Names.{type_names};
 ghost use Rattle.hddl_check.specs.Cycles.{IsCycleFault};
 ghost use Rattle.hddl_check.specs.Findings.{Finds};
 
 use hddl_meaning::{At, CheckFault, Source};
-use hddl_names::{TypeHierarchy, Vocabulary};
-use hddl_tree::DomainText;
+use hddl_names::TypeHierarchy;
 use std::alloc::{AllocError, Global};
 
 fn cycle_fault(place: Option<usize>) -> Option<CheckFault>
@@ -26,13 +24,10 @@ fn cycle_fault(place: Option<usize>) -> Option<CheckFault>
 /// The first type in the text of `:types` that is below itself.
 pub(crate) fn type_cycle(
     alloc: Global,
-    domain: &DomainText,
-    vocabulary: &Vocabulary,
+    types: &TypeHierarchy,
 ) -> Result<Option<CheckFault>, AllocError>
-    requires { vocabulary.now.types ≡ type_names domain.now }
-    ensures { IfOk result (Finds (IsCycleFault domain.now)) }
+    ensures { IfOk result (Finds (IsCycleFault types.now)) }
 {
-    let types = TypeHierarchy::of(alloc, domain, vocabulary)?;
     let place = types.cycle_at(alloc)?;
     Ok(cycle_fault(place))
 }

@@ -1,75 +1,125 @@
-//! The variables that schemas declare: methods, actions, the initial network and the goal.
-ghost use Rattle.std.specs.Prelude.{◌++◌, IfOk};
+//! What schemas declare and use: methods, actions, the initial network, and the initial atoms with the goal.
+ghost use Rattle.std.specs.Prelude.{IfOk};
 ghost use Rattle.std.specs.List.{flat_map};
-ghost use Rattle.hddl_meaning.specs.Uses.{parameters_of, quantifiers_in};
-ghost use Rattle.hddl_check.specs.Contexts.{AnyFails};
+ghost use Rattle.hddl_meaning.specs.Items.{most_parameters};
+ghost use Rattle.hddl_meaning.specs.Mentions.{mentions_of, typed_variables};
+ghost use Rattle.hddl_meaning.specs.Uses.{schema_of_network, schema_of_states};
+ghost use Rattle.hddl_check.specs.Contexts.{AnyFails, Fails};
 ghost use Rattle.hddl_check.specs.Findings.{Finds};
-ghost use Rattle.hddl_check.specs.Parts.{action_parts, method_network_parts, method_parts, parameter_parts, quantifier_parts};
+ghost use Rattle.hddl_check.specs.Parts.{Limited, action_parts, method_network_parts, method_parts, parameter_parts, schema_parts};
 
+use crate::conditions::check_conditions;
 use crate::context::Context;
 use crate::findings::first_of;
 use crate::limits::MOST_PARAMETERS;
 use crate::lists::variables_in;
 use crate::mentions::{check_different, check_limit};
 use crate::networks::check_network;
-use crate::quantifiers::check_quantifiers;
 use crate::scope::parameters;
 use crate::types::check_variable_types;
+use crate::uses::{check_atoms, check_constraints, check_decomposed, check_effects, check_tasks_used};
 use hddl_meaning::CheckFault;
-use hddl_tree::{ActionText, Condition, MethodText, VariableGroup};
+use hddl_tree::{ActionText, MethodText, ProblemText, VariableGroup};
 use std::alloc::AllocError;
 
-/// A fault of the variables that a schema declares. Its conditions aren't looked at where it has too many parameters.
-pub(crate) fn check_schema(
+/// The first parameter past the limit.
+fn check_count(
     context: &Context<'_>,
     groups: &[VariableGroup],
-    conditions: &[Condition],
 ) -> Result<Option<CheckFault>, AllocError>
-    ensures { IfOk result (Finds (AnyFails context.now (parameter_parts groups.now ++ flat_map quantifier_parts (quantifiers_in (parameters_of groups.now) conditions.now)))) }
+    ensures { IfOk result (Finds (Fails context.now (Limited most_parameters (mentions_of (typed_variables groups.now))))) }
+{
+    let mentions = variables_in(context.alloc, groups)?;
+    Ok(check_limit(context, MOST_PARAMETERS, &mentions))
+}
+
+/// A fault of parameters.
+fn check_parameters(
+    context: &Context<'_>,
+    groups: &[VariableGroup],
+) -> Result<Option<CheckFault>, AllocError>
+    ensures { IfOk result (Finds (AnyFails context.now (parameter_parts groups.now))) }
 {
     let mentions = variables_in(context.alloc, groups)?;
     let repeated = check_different(context, &mentions)?;
     let limit = check_limit(context, MOST_PARAMETERS, &mentions);
     let types = check_variable_types(context, groups)?;
-    let limited = first_of(limit, types);
-    let own = first_of(repeated, limited);
-    if limit.is_some() {
-        return Ok(own);
-    }
-    let scope = parameters(context.alloc, groups)?;
-    let inner = check_quantifiers(context, &scope, conditions)?;
-    Ok(first_of(own, inner))
+    Ok(first_of(repeated, first_of(limit, types)))
 }
 
+/// A fault of a method, but for its network's order. What it uses isn't looked at where it has too many parameters.
 fn check_method(
     context: &Context<'_>,
     method: &MethodText,
 ) -> Result<Option<CheckFault>, AllocError>
     ensures { IfOk result (Finds (AnyFails context.now (method_parts method.now))) }
 {
-    let found = check_schema(
-        context,
-        method.parameters.as_slice(),
-        method.precondition.as_slice(),
-    )?;
-    Ok(found)
+    let groups = method.parameters.as_slice();
+    let own = check_parameters(context, groups)?;
+    if check_count(context, groups)?.is_some() {
+        return Ok(own);
+    }
+    let scope = parameters(context.alloc, groups)?;
+    let network = &method.network;
+    let conditions = check_conditions(context, &scope, method.precondition.as_slice())?;
+    let constraints = check_constraints(context, &scope, network.constraints.as_slice())?;
+    let task = check_decomposed(context, &scope, &method.task)?;
+    let subtasks = check_tasks_used(context, &scope, network.subtasks.as_slice())?;
+    let used = first_of(constraints, first_of(task, subtasks));
+    Ok(first_of(own, first_of(conditions, used)))
 }
 
+/// A fault of an action. What it uses isn't looked at where it has too many parameters.
 fn check_action(
     context: &Context<'_>,
     action: &ActionText,
 ) -> Result<Option<CheckFault>, AllocError>
     ensures { IfOk result (Finds (AnyFails context.now (action_parts action.now))) }
 {
-    let found = check_schema(
-        context,
-        action.parameters.as_slice(),
-        action.precondition.as_slice(),
-    )?;
-    Ok(found)
+    let groups = action.parameters.as_slice();
+    let own = check_parameters(context, groups)?;
+    if check_count(context, groups)?.is_some() {
+        return Ok(own);
+    }
+    let scope = parameters(context.alloc, groups)?;
+    let conditions = check_conditions(context, &scope, action.precondition.as_slice())?;
+    let effects = check_effects(context, &scope, action.effect.as_slice())?;
+    Ok(first_of(own, first_of(conditions, effects)))
 }
 
-/// A fault of the variables of methods.
+/// A fault of the initial network, but for its order. What it uses isn't looked at where it has too many parameters.
+pub(crate) fn check_initial(
+    context: &Context<'_>,
+    problem: &ProblemText,
+) -> Result<Option<CheckFault>, AllocError>
+    ensures { IfOk result (Finds (AnyFails context.now (schema_parts (schema_of_network problem.now)))) }
+{
+    let groups = problem.htn.parameters.as_slice();
+    let network = &problem.htn.network;
+    let own = check_parameters(context, groups)?;
+    if check_count(context, groups)?.is_some() {
+        return Ok(own);
+    }
+    let scope = parameters(context.alloc, groups)?;
+    let constraints = check_constraints(context, &scope, network.constraints.as_slice())?;
+    let subtasks = check_tasks_used(context, &scope, network.subtasks.as_slice())?;
+    Ok(first_of(own, first_of(constraints, subtasks)))
+}
+
+/// A fault of the initial atoms and the goal.
+pub(crate) fn check_states(
+    context: &Context<'_>,
+    problem: &ProblemText,
+) -> Result<Option<CheckFault>, AllocError>
+    ensures { IfOk result (Finds (AnyFails context.now (schema_parts (schema_of_states problem.now)))) }
+{
+    let none = check_parameters(context, &[])?;
+    let atoms = check_atoms(context, &[], problem.init.as_slice())?;
+    let goal = check_conditions(context, &[], problem.goal.as_slice())?;
+    Ok(first_of(none, first_of(atoms, goal)))
+}
+
+/// A fault of methods.
 pub(crate) fn check_methods(
     context: &Context<'_>,
     methods: &[MethodText],
@@ -98,7 +148,7 @@ pub(crate) fn check_method_networks(
     Ok(found)
 }
 
-/// A fault of the variables of actions.
+/// A fault of actions.
 pub(crate) fn check_actions(
     context: &Context<'_>,
     actions: &[ActionText],

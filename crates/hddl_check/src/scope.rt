@@ -44,6 +44,27 @@ fn type_of(alloc: Global, of_type: &Option<Name>) -> Result<Option<Mention>, All
 }
 
 impl Declared {
+    /// Its bytes in lower case.
+    pub(crate) fn text(&self) -> &[u8]
+        ensures { result.now ≡ self.now.typed.mention.text }
+    {
+        self.mention.text()
+    }
+
+    /// The type that is written for it.
+    pub(crate) fn of_type(&self) -> &Option<Mention>
+        ensures { result.now ≡ self.now.typed.of_type }
+    {
+        &self.of_type
+    }
+
+    /// Whether a `forall` declares it.
+    pub(crate) fn is_quantified(&self) -> bool
+        ensures { result ≡ self.now.is_quantified }
+    {
+        self.is_quantified
+    }
+
     fn copied(&self, alloc: Global) -> Result<Declared, AllocError>
         ensures { IfOk result (λ copy. copy ≡ self.now) }
     {

@@ -1,4 +1,4 @@
-//! What a domain and a problem declare.
+//! What a domain and a problem say, part by part.
 ghost use Rattle.std.specs.Prelude.{◌≡◌, IfOk};
 ghost use Rattle.hddl_meaning.specs.declared.fault.Source.TheVariants as source;
 ghost use Rattle.hddl_check.specs.Contexts.{AnyFails, Fails};
@@ -11,7 +11,7 @@ use crate::distinct::past_distinct;
 use crate::findings::first_of;
 use crate::lists::{method_names, names_in, predicate_names, types_in};
 use crate::networks::check_network;
-use crate::schemas::{check_actions, check_method_networks, check_methods, check_schema};
+use crate::schemas::{check_actions, check_initial, check_method_networks, check_methods, check_states};
 use crate::types::check_name_types;
 use hddl_meaning::CheckFault;
 use std::alloc::AllocError;
@@ -73,7 +73,7 @@ fn check_declared(context: &Context<'_>) -> Result<Option<CheckFault>, AllocErro
     Ok(first_of(types, first_of(constants, first_of(constant_types, names))))
 }
 
-/// A fault in a domain's declarations.
+/// A fault in what a domain declares, and what that uses.
 fn check_bodies(context: &Context<'_>) -> Result<Option<CheckFault>, AllocError>
     ensures { IfOk result (Finds (AnyFails context.now (body_parts context.now.domain.now))) }
 {
@@ -87,7 +87,7 @@ fn check_bodies(context: &Context<'_>) -> Result<Option<CheckFault>, AllocError>
     Ok(first_of(predicates, first_of(tasks, schemas)))
 }
 
-/// A fault of what a domain declares.
+/// A fault of a domain.
 pub(crate) fn check_domain(context: &Context<'_>) -> Result<Option<CheckFault>, AllocError>
     requires { context.now.source ≡ source.Domain }
     ensures { IfOk result (Finds (AnyFails context.now (domain_parts context.now.domain.now))) }
@@ -97,7 +97,7 @@ pub(crate) fn check_domain(context: &Context<'_>) -> Result<Option<CheckFault>, 
     Ok(first_of(declared, bodies))
 }
 
-/// A fault of what a problem declares.
+/// A fault of a problem.
 pub(crate) fn check_problem(context: &Context<'_>) -> Result<Option<CheckFault>, AllocError>
     requires { context.now.source ≡ source.Problem }
     ensures { IfOk result (Finds (AnyFails context.now (problem_parts context.now.problem.now))) }
@@ -105,9 +105,9 @@ pub(crate) fn check_problem(context: &Context<'_>) -> Result<Option<CheckFault>,
     let problem = context.problem;
     let objects = check_objects(context)?;
     let types = check_name_types(context, problem.objects.as_slice())?;
-    let schema = check_schema(context, problem.htn.parameters.as_slice(), &[])?;
+    let schema = check_initial(context, problem)?;
     let network = check_network(context, problem.htn.place, &problem.htn.network)?;
-    let goal = check_schema(context, &[], problem.goal.as_slice())?;
-    let htn = first_of(schema, first_of(network, goal));
+    let states = check_states(context, problem)?;
+    let htn = first_of(schema, first_of(network, states));
     Ok(first_of(objects, first_of(types, htn)))
 }

@@ -1,13 +1,46 @@
-use Rattle.std.proofs.Common.{◌++◌}
-use Rattle.std.specs.List.{flat_map}
-use Rattle.hddl_meaning.specs.Uses.{parameters_of, quantifiers_in}
-use Rattle.hddl_check.specs.Contexts.{Fails}
-use Rattle.hddl_check.specs.Parts.{parameter_parts, quantifier_parts}
-use Rattle.hddl_check.proofs.Finding.{Finds-list}
+use Rattle.std.proofs.Common.{◌≡◌, ◌∙◌, ◌++◌, ◌∷◌, [], ap, sym, subst, List, map}
+use Rattle.hddl_tree.specs.declared.term.VariableGroup.{VariableGroup}
+use Rattle.hddl_tree.specs.declared.condition.LiteralText.{LiteralText}
+use Rattle.hddl_meaning.specs.Items.{most_parameters}
+use Rattle.hddl_meaning.specs.Mentions.{mentions_of, typed_variables}
+use Rattle.hddl_meaning.specs.Uses.{Variable, Use, parameters_of, schema_of_action}
+use Rattle.hddl_meaning.proofs.Listed.{in_left}
+use Rattle.hddl_check.specs.Contexts.{Fails, AnyFails}
+use Rattle.hddl_check.specs.Findings.{Finds}
+use Rattle.hddl_check.specs.Parts.{Part, Limited, Atom, conditions_parts, inner_parts, parameter_parts}
+use Rattle.hddl_check.proofs.Finding.{Finds-append, Finds-enough, Finds-list, Finds-within, some_among}
+use Rattle.hddl_check.proofs.SchemaLists.{limit_in, action_inner, to_action, from_action}
 use Rattle.hddl_check.proofs.schemas.check_action.Goals as goal
+
+pub returns-then-is_some : goal.returns-then-is_some
+returns-then-is_some c =
+    let P = Fails c.args.context.now in
+    let gs : List VariableGroup = c.args.action.now.parameters in
+    let own : List Part = parameter_parts gs in
+    let inner : List Part = inner_parts (schema_of_action c.args.action.now) in
+    let found = Finds-list P (ap (λ (g : List VariableGroup). parameter_parts g) c.as_slice-groups.ensures) c.in_ok-own.ensures in
+    let limit : Part = Limited most_parameters (mentions_of (typed_variables gs)) in
+    let past =
+    subst (λ (g : List VariableGroup). Finds (P (Limited most_parameters (mentions_of (typed_variables g)))) c.in_ok-check_count.field-0) c.as_slice-groups.ensures
+    c.in_ok-check_count.ensures in
+    Finds-enough P own (own ++ inner) (λ x at. in_left x own inner at) (some_among P limit own (limit_in gs) (sym c.is_some.ensures ∙ c.if-is_some.true) past found) found
 
 pub returns : goal.returns
 returns c =
-    Finds-list (Fails c.args.context.now)
-    (λ i. parameter_parts (c.as_slice.ensures i) ++ flat_map quantifier_parts (quantifiers_in (parameters_of (c.as_slice.ensures i)) (c.as_slice-2.ensures i)))
-    c.in_ok-found.ensures
+    let P = Fails c.args.context.now in
+    let a = c.args.action.now in
+    let own : List Part = parameter_parts a.parameters in
+    let inner : List Part = inner_parts (schema_of_action a) in
+    let w : List Variable = parameters_of a.parameters in
+    let scope : c.in_ok-scope.scope.items ≡ w = c.in_ok-scope.ensures ∙ ap parameters_of c.as_slice-groups.ensures in
+    let conditions : List Part = conditions_parts w a.precondition in
+    let effects : List Part = map Atom (map (λ l. record { variables = w; atom = l.atom }) a.effect) in
+    Finds-append P own inner
+    (Finds-list P (ap (λ (g : List VariableGroup). parameter_parts g) c.as_slice-groups.ensures) c.in_ok-own.ensures)
+    (Finds-within P (action_inner a) inner (to_action a) (from_action a)
+    (Finds-append P conditions effects
+    (Finds-list P (λ i. conditions_parts ((c.deref.ensures.value ∙ scope) i) (c.as_slice.ensures i)) c.in_ok-conditions.ensures)
+    (Finds-list P (λ i. map Atom (map (λ (l : LiteralText). record { variables = (c.deref-2.ensures.value ∙ scope) i; atom = l.atom }) (c.as_slice-2.ensures i)))
+    c.in_ok-effects.ensures)
+    c.first_of.ensures))
+    c.first_of-2.ensures

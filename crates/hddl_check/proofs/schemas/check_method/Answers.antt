@@ -1,13 +1,57 @@
-use Rattle.std.proofs.Common.{◌++◌}
+use Rattle.std.proofs.Common.{◌≡◌, ◌∙◌, ◌++◌, ◌∷◌, [], ap, sym, subst, List, map}
+use Rattle.hddl_tree.specs.declared.term.VariableGroup.{VariableGroup}
+use Rattle.hddl_tree.specs.declared.condition.Condition.{Condition}
+use Rattle.hddl_tree.specs.declared.condition.EqualityText.{EqualityText}
+use Rattle.hddl_tree.specs.declared.network.SubtaskText.{SubtaskText}
 use Rattle.std.specs.List.{flat_map}
-use Rattle.hddl_meaning.specs.Uses.{parameters_of, quantifiers_in}
-use Rattle.hddl_check.specs.Contexts.{Fails}
-use Rattle.hddl_check.specs.Parts.{parameter_parts, quantifier_parts}
-use Rattle.hddl_check.proofs.Finding.{Finds-list}
+use Rattle.hddl_meaning.specs.Items.{most_parameters}
+use Rattle.hddl_meaning.specs.Mentions.{mentions_of, typed_variables}
+use Rattle.hddl_meaning.specs.Uses.{Variable, Use, parameters_of, sides, subtasks_in, constraints_in, schema_of_method}
+use Rattle.hddl_meaning.proofs.Listed.{in_left}
+use Rattle.hddl_check.specs.Contexts.{Fails, AnyFails}
+use Rattle.hddl_check.specs.Findings.{Finds}
+use Rattle.hddl_check.specs.Parts.{Part, Limited, Decomposed, Side, Subtask, conditions_parts, inner_parts, parameter_parts}
+use Rattle.hddl_check.proofs.Finding.{Finds-append, Finds-cons, Finds-enough, Finds-list, some_among}
+use Rattle.hddl_check.proofs.SchemaLists.{limit_in, method_is}
 use Rattle.hddl_check.proofs.schemas.check_method.Goals as goal
+
+pub returns-then-is_some : goal.returns-then-is_some
+returns-then-is_some c =
+    let P = Fails c.args.context.now in
+    let gs : List VariableGroup = c.args.method.now.parameters in
+    let own : List Part = parameter_parts gs in
+    let inner : List Part = inner_parts (schema_of_method c.args.method.now) in
+    let found = Finds-list P (ap (λ (g : List VariableGroup). parameter_parts g) c.as_slice-groups.ensures) c.in_ok-own.ensures in
+    let limit : Part = Limited most_parameters (mentions_of (typed_variables gs)) in
+    let past =
+    subst (λ (g : List VariableGroup). Finds (P (Limited most_parameters (mentions_of (typed_variables g)))) c.in_ok-check_count.field-0) c.as_slice-groups.ensures
+    c.in_ok-check_count.ensures in
+    Finds-enough P own (own ++ inner) (λ x at. in_left x own inner at) (some_among P limit own (limit_in gs) (sym c.is_some.ensures ∙ c.if-is_some.true) past found) found
 
 pub returns : goal.returns
 returns c =
-    Finds-list (Fails c.args.context.now)
-    (λ i. parameter_parts (c.as_slice.ensures i) ++ flat_map quantifier_parts (quantifiers_in (parameters_of (c.as_slice.ensures i)) (c.as_slice-2.ensures i)))
-    c.in_ok-found.ensures
+    let P = Fails c.args.context.now in
+    let m = c.args.method.now in
+    let own : List Part = parameter_parts m.parameters in
+    let w : List Variable = parameters_of m.parameters in
+    let scope : c.in_ok-scope.scope.items ≡ w = c.in_ok-scope.ensures ∙ ap parameters_of c.as_slice-groups.ensures in
+    let conditions : List Part = conditions_parts w m.precondition in
+    let constraints : List Part = map Side (constraints_in w m.network) in
+    let task : Part = Decomposed (record { variables = w; atom = m.task }) in
+    let subtasks : List Part = map Subtask (subtasks_in w m.network) in
+    Finds-append P own (inner_parts (schema_of_method m))
+    (Finds-list P (ap (λ (g : List VariableGroup). parameter_parts g) c.as_slice-groups.ensures) c.in_ok-own.ensures)
+    (Finds-list P (method_is m)
+    (Finds-append P conditions (constraints ++ (task ∷ subtasks))
+    (Finds-list P (λ i. conditions_parts ((c.deref.ensures.value ∙ scope) i) (c.as_slice.ensures i)) c.in_ok-conditions.ensures)
+    (Finds-append P constraints (task ∷ subtasks)
+    (Finds-list P (λ i. map Side (flat_map (sides ((c.deref-2.ensures.value ∙ scope) i)) (c.as_slice-2.ensures i))) c.in_ok-constraints.ensures)
+    (Finds-cons P task subtasks
+    (subst (λ (w : List Variable). Finds (P (Decomposed (record { variables = w; atom = m.task }))) c.in_ok-task.task) (c.deref-3.ensures.value ∙ scope) c.in_ok-task.ensures)
+    (Finds-list P
+    (λ i. map Subtask (map (λ (s : SubtaskText). record { variables = (c.deref-4.ensures.value ∙ scope) i; atom = s.task }) (c.as_slice-3.ensures i)))
+    c.in_ok-subtasks.ensures)
+    c.first_of.ensures)
+    c.first_of-used.ensures)
+    c.first_of-2.ensures))
+    c.first_of-3.ensures

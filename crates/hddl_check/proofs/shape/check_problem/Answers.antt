@@ -34,10 +34,8 @@ returns c =
     let states : List Part = schema_parts (schema_of_states p) in
     Finds-cons P Objects (types ++ (htn ++ (network ++ states))) c.in_ok-objects.ensures
     (Finds-append P types (htn ++ (network ++ states)) (Finds-list P (ap (λ (g : List NameGroup). type_parts (typed_names g)) c.as_slice.ensures) c.in_ok-types.ensures)
-    (Finds-append P htn (network ++ states)
-    (Finds-list P (ap (λ (g : List VariableGroup). parameter_parts g ++ flat_map quantifier_parts (quantifiers_in (parameters_of g) [])) c.as_slice-2.ensures) c.in_ok-schema.ensures)
-    (Finds-append P network states c.in_ok-network.ensures
-    (Finds-list P (ap (λ (cs : List Condition). parameter_parts [] ++ flat_map quantifier_parts (quantifiers_in [] cs)) c.as_slice-3.ensures) c.in_ok-goal.ensures)
+    (Finds-append P htn (network ++ states) c.in_ok-schema.ensures
+    (Finds-append P network states c.in_ok-network.ensures c.in_ok-states.ensures
     c.first_of.ensures)
     c.first_of-htn.ensures)
     c.first_of-2.ensures)

@@ -1,0 +1,255 @@
+use crate::check;
+use hddl_meaning::{At, CheckFault, Source};
+use hddl_text::{read_domain, read_problem};
+use std::alloc::Global;
+use std::test::Fail;
+
+/// The fault of two texts, or none where one isn't read or they fit together.
+fn fault(alloc: Global, domain: &str, problem: &str) -> Option<CheckFault> {
+    let domain = read_domain(alloc, domain.as_bytes()).ok()?;
+    let problem = read_problem(alloc, problem.as_bytes()).ok()?;
+    check(alloc, &domain, &problem).err()
+}
+
+fn in_domain(place: usize) -> At {
+    At {
+        source: Source::Domain,
+        place,
+    }
+}
+
+fn in_problem(place: usize) -> At {
+    At {
+        source: Source::Problem,
+        place,
+    }
+}
+
+/// Names, types and orders that are declared.
+#[test]
+fn declarations(rt: HostRuntime) -> Result<(), Fail> {
+    let rows: [(&str, &str, Option<CheckFault>); 10] = [
+        (
+            "(define (domain d) (:action y) (:action x))",
+            "(define (problem x) (:domain d) (:htn :ordered-subtasks (and (s1 (x)) (s2 (y))) :ordering (< s2 s1)))",
+            Some(CheckFault::OrderCycle(in_problem(32))),
+        ),
+        (
+            "(define (domain d) (:predicates (p) (p)))",
+            "(define (problem x) (:domain d) (:htn))",
+            Some(CheckFault::Duplicate(in_domain(37))),
+        ),
+        (
+            "(define (domain d) (:predicates (p ?x - t)))",
+            "(define (problem x) (:domain d) (:htn))",
+            Some(CheckFault::UnknownType(in_domain(40))),
+        ),
+        (
+            "(define (domain d) (:action y) (:action x))",
+            "(define (problem x) (:domain d) (:htn :subtasks (and (s1 (x)) (s2 (y))) :ordering (s1 < s3)))",
+            Some(CheckFault::UnknownSubtask(in_problem(88))),
+        ),
+        (
+            "(define (domain d) (:predicates (p) (P)))",
+            "(define (problem x) (:domain d) (:htn))",
+            Some(CheckFault::Duplicate(in_domain(37))),
+        ),
+        (
+            "(define (domain d) (:types t) (:predicates (p ?x - T ?y - object)))",
+            "(define (problem x) (:domain d) (:htn))",
+            None,
+        ),
+        (
+            "(define (domain d) (:task x :parameters ()) (:action X))",
+            "(define (problem x) (:domain d) (:htn))",
+            Some(CheckFault::Duplicate(in_domain(53))),
+        ),
+        (
+            "(define (domain d) (:action a :parameters (?x ?X)))",
+            "(define (problem x) (:domain d) (:htn))",
+            Some(CheckFault::Duplicate(in_domain(46))),
+        ),
+        (
+            "(define (domain d) (:action a :parameters (?x) :precondition (forall (?y ?x) ())))",
+            "(define (problem x) (:domain d) (:htn))",
+            Some(CheckFault::Duplicate(in_domain(73))),
+        ),
+        (
+            "(define (domain d) (:action a :precondition (and (forall (?x) ()) (forall (?x) ()))))",
+            "(define (problem x) (:domain d) (:htn))",
+            None,
+        ),
+    ];
+    for (domain, problem, expected) in rows {
+        assert_eq!(rt; fault(rt.alloc(), domain, problem), expected);
+    }
+    Ok(())
+}
+
+/// More of them, and the limits.
+#[test]
+fn declarations_and_limits(rt: HostRuntime) -> Result<(), Fail> {
+    let rows: [(&str, &str, Option<CheckFault>); 9] = [
+        (
+            "(define (domain d) (:action a :precondition (forall (?x) (forall (?y - u) ()))))",
+            "(define (problem x) (:domain d) (:htn))",
+            Some(CheckFault::UnknownType(in_domain(71))),
+        ),
+        (
+            "(define (domain d) (:constants c - t))",
+            "(define (problem x) (:domain d) (:objects o - u) (:htn))",
+            Some(CheckFault::UnknownType(in_domain(35))),
+        ),
+        (
+            "(define (domain d))",
+            "(define (problem x) (:domain d) (:objects o o) (:htn :parameters (?x - u)))",
+            Some(CheckFault::UnknownType(in_problem(71))),
+        ),
+        (
+            "(define (domain d) (:action a) (:action b))",
+            "(define (problem x) (:domain d) (:htn :subtasks (and (s (a)) (S (b)))))",
+            Some(CheckFault::Duplicate(in_problem(62))),
+        ),
+        (
+            "(define (domain d) (:predicates (p ?x0 ?x1 ?x2 ?x3 ?x4 ?x5 ?x6 ?x7 ?x8 ?x9 ?x10 ?x11 ?x12 ?x13 ?x14 ?x15 ?x16 ?x17 ?x18 ?x19 ?x20 ?x21 ?x22 ?x23 ?x24 ?x25 ?x26 ?x27 ?x28 ?x29 ?x30 ?x31)))",
+            "(define (problem x) (:domain d) (:htn))",
+            None,
+        ),
+        (
+            "(define (domain d) (:predicates (p ?x0 ?x1 ?x2 ?x3 ?x4 ?x5 ?x6 ?x7 ?x8 ?x9 ?x10 ?x11 ?x12 ?x13 ?x14 ?x15 ?x16 ?x17 ?x18 ?x19 ?x20 ?x21 ?x22 ?x23 ?x24 ?x25 ?x26 ?x27 ?x28 ?x29 ?x30 ?x31 ?x32)))",
+            "(define (problem x) (:domain d) (:htn))",
+            Some(CheckFault::TooMany(in_domain(185))),
+        ),
+        (
+            "(define (domain d) (:task t :parameters (?x0 ?x1 ?x2 ?x3 ?x4 ?x5 ?x6 ?x7 ?x8 ?x9 ?x10 ?x11 ?x12 ?x13 ?x14 ?x15 ?x16 ?x17 ?x18 ?x19 ?x20 ?x21 ?x22 ?x23 ?x24 ?x25 ?x26 ?x27 ?x28 ?x29 ?x30 ?x31 ?x32)))",
+            "(define (problem x) (:domain d) (:htn))",
+            None,
+        ),
+        (
+            "(define (domain d) (:predicates (p) (p) (q ?x - u)))",
+            "(define (problem x) (:domain d) (:htn :parameters (?x ?x)))",
+            Some(CheckFault::Duplicate(in_domain(37))),
+        ),
+        (
+            "(define (domain d) (:predicates (q ?x - u) (p) (p)))",
+            "(define (problem x) (:domain d) (:htn))",
+            Some(CheckFault::UnknownType(in_domain(40))),
+        ),
+    ];
+    for (domain, problem, expected) in rows {
+        assert_eq!(rt; fault(rt.alloc(), domain, problem), expected);
+    }
+    Ok(())
+}
+
+/// Names, arguments and their types where they are used.
+#[test]
+fn uses(rt: HostRuntime) -> Result<(), Fail> {
+    let rows: [(&str, &str, Option<CheckFault>); 9] = [
+        (
+            "(define (domain d) (:action a :precondition (p)))",
+            "(define (problem x) (:domain d) (:htn :subtasks ()))",
+            Some(CheckFault::UnknownName(in_domain(45))),
+        ),
+        (
+            "(define (domain d) (:types p q) (:predicates (at ?x - p)) (:action a :parameters (?y - q) :precondition (at ?y)))",
+            "(define (problem x) (:domain d) (:htn :subtasks ()))",
+            Some(CheckFault::TypeClash(in_domain(108))),
+        ),
+        (
+            "(define (domain d) (:predicates (p ?x)) (:action a :precondition (p)))",
+            "(define (problem x) (:domain d) (:htn :subtasks ()))",
+            Some(CheckFault::Arity(in_domain(66))),
+        ),
+        (
+            "(define (domain d) (:types a - b b - a))",
+            "(define (problem x) (:domain d) (:htn :subtasks ()))",
+            Some(CheckFault::TypeCycle(in_domain(27))),
+        ),
+        (
+            "(define (domain d) (:types object - object))",
+            "(define (problem x) (:domain d) (:htn :subtasks ()))",
+            None,
+        ),
+        (
+            "(define (domain d) (:types box - thing) (:predicates (done ?b - box)) (:action ship :precondition (forall (?x - thing) (done ?x))))",
+            "(define (problem x) (:domain d) (:htn :subtasks ()))",
+            Some(CheckFault::TypeClash(in_domain(125))),
+        ),
+        (
+            "(define (domain d) (:types box - thing) (:predicates (done ?b - thing)) (:action ship :precondition (forall (?x - box) (done ?x))))",
+            "(define (problem x) (:domain d) (:htn :subtasks ()))",
+            None,
+        ),
+        (
+            "(define (domain d) (:types box - thing) (:predicates (done ?b - box)) (:action ship :parameters (?x - thing) :precondition (done ?x)))",
+            "(define (problem x) (:domain d) (:htn :subtasks ()))",
+            None,
+        ),
+        (
+            "(define (domain d) (:types a b) (:constants c - a) (:predicates (p ?x - a) (q ?x - b)))",
+            "(define (problem x) (:domain d) (:objects c - b) (:init (p c) (q C)) (:htn))",
+            None,
+        ),
+    ];
+    for (domain, problem, expected) in rows {
+        assert_eq!(rt; fault(rt.alloc(), domain, problem), expected);
+    }
+    Ok(())
+}
+
+/// The same in methods, problems and together with other faults.
+#[test]
+fn more_uses(rt: HostRuntime) -> Result<(), Fail> {
+    let rows: [(&str, &str, Option<CheckFault>); 9] = [
+        (
+            "(define (domain d) (:types a b) (:constants c - a) (:predicates (p ?x - a) (q ?x - b)))",
+            "(define (problem x) (:domain d) (:init (p c) (q C)) (:htn))",
+            Some(CheckFault::TypeClash(in_problem(48))),
+        ),
+        (
+            "(define (domain d) (:types a b) (:constants c - a) (:predicates (p ?x - a) (q ?x - b)))",
+            "(define (problem x) (:domain d) (:goal (p e)) (:htn))",
+            Some(CheckFault::UnknownName(in_problem(42))),
+        ),
+        (
+            "(define (domain d) (:action a) (:method m :task (a)))",
+            "(define (problem x) (:domain d) (:htn :subtasks ()))",
+            Some(CheckFault::UnknownName(in_domain(49))),
+        ),
+        (
+            "(define (domain d) (:task t :parameters ()) (:method m :task (T) :subtasks (u)))",
+            "(define (problem x) (:domain d) (:htn :subtasks ()))",
+            Some(CheckFault::UnknownName(in_domain(76))),
+        ),
+        (
+            "(define (domain d) (:predicates (p ?x)) (:action a :parameters (?x) :effect (p ?y)))",
+            "(define (problem x) (:domain d) (:htn :subtasks ()))",
+            Some(CheckFault::UnknownName(in_domain(79))),
+        ),
+        (
+            "(define (domain d))",
+            "(define (problem x) (:domain d) (:htn :parameters (?x) :subtasks () :constraints (not (= ?x ?y))))",
+            Some(CheckFault::UnknownName(in_problem(92))),
+        ),
+        (
+            "(define (domain d) (:action a :precondition (p)) (:action a))",
+            "(define (problem x) (:domain d) (:htn :subtasks ()))",
+            Some(CheckFault::UnknownName(in_domain(45))),
+        ),
+        (
+            "(define (domain d) (:types t - t) (:action a :precondition (p)))",
+            "(define (problem x) (:domain d) (:htn :subtasks ()))",
+            Some(CheckFault::TypeCycle(in_domain(27))),
+        ),
+        (
+            "(define (domain d) (:types t) (:predicates (p ?x - t)))",
+            "(define (problem x) (:domain d) (:objects o - u) (:init (p o)) (:htn))",
+            Some(CheckFault::UnknownType(in_problem(46))),
+        ),
+    ];
+    for (domain, problem, expected) in rows {
+        assert_eq!(rt; fault(rt.alloc(), domain, problem), expected);
+    }
+    Ok(())
+}
