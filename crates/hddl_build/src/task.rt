@@ -77,5 +77,5 @@ pub fn build(
 {
     tasks_are_well_typed();
     let parts = parts_of(alloc, domain, problem, vocabulary, objects.into_lists())?;
-    Ok(Task::new(parts))
+    Task::new(alloc, parts)
 }

@@ -91,7 +91,7 @@ fn trip(alloc: Global) -> Result<Task, AllocError> {
     let goal = FormulaList::of(Vec::new(alloc));
     let types = Vec::new(alloc);
     let predicates = Vec::new(alloc);
-    Ok(Task::new(TaskParts {
+    let parts = TaskParts {
         objects,
         types,
         predicates,
@@ -101,7 +101,8 @@ fn trip(alloc: Global) -> Result<Task, AllocError> {
         initial_network,
         initial_atoms,
         goal,
-    }))
+    };
+    Task::new(alloc, parts)
 }
 
 fn leaf(alloc: Global) -> Result<Node, AllocError> {

@@ -1,5 +1,5 @@
 -- What a binary search in an ascending list of numbers finds.
-use Rattle.std.proofs.Common.{◌≡◌, ◌+◌, ◌<◌, ◌∙◌, Bool, Err, List, Ok, Result, ap, arith, false, get_or, length, nat_eq, refl, sym, true, ⊎_elim, ℕ}
+use Rattle.std.proofs.Common.{◌≡◌, ◌+◌, ◌∙◌, Err, List, Ok, Result, ap, arith, false, get_or, length, nat_eq, refl, sym, ⊎_elim, ℕ}
 use Rattle.std.specs.Prelude.{is_ok}
 use Rattle.std.specs.List.{AllWithin, list_any}
 use Rattle.std.specs.List.Sorted.{IsBinarySearchResult, IsSearchInRange, IsSortedBy, IsStrictlySortedBy}

@@ -1,2 +1,4 @@
 pub mod Views
 pub mod Formulas
+pub mod Numbers
+pub mod TaskNumbers

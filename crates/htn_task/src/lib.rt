@@ -3,8 +3,10 @@
 
 mod formula;
 mod name;
+mod numbers;
 mod schema;
 mod task;
+mod task_numbers;
 mod term;
 
 pub use formula::{Formula, FormulaList};

@@ -1,14 +1,17 @@
 //! Planning tasks.
-ghost use Rattle.std.specs.Prelude.{◌≡◌, MatchOption};
+ghost use Rattle.std.specs.Prelude.{◌≡◌, IfOk, MatchOption};
 ghost use Rattle.std.specs.List.Sorted.{IsStrictlySortedBy};
 ghost use Rattle.std.specs.Ordering.{nat_cmp};
 ghost use Rattle.htn_model.specs.Instances.{action_at};
 ghost use Rattle.htn_model.specs.Task.{IsWellTyped, has_type, is_compound, objects_of, predicate_types, task_types};
+ghost use Rattle.htn_task.specs.Numbers.{number_of, type_names, predicate_names, task_names, method_names};
 
 use crate::formula::FormulaList;
 use crate::name::Name;
 use crate::schema::{ActionSchema, InitialSchema, MethodSchema};
+use crate::task_numbers::TaskNumbers;
 use htn_state::State;
+use std::alloc::{AllocError, Global};
 use std::marker::Model;
 
 /// A type, with the objects that have it.
@@ -132,11 +135,13 @@ impl Model for TaskParts {
 #[derive(Drop)]
 pub struct Task {
     parts: TaskParts,
+    numbers: TaskNumbers,
 }
 
 impl Model for Task {
     ghost use Rattle.htn_model.specs.Task as model;
     ghost use Rattle.htn_model.specs.TaskCode.{task_code};
+    ghost use Rattle.htn_task.specs.TaskNumbers.{AreNumbersIn};
 
     ghost Value = { model.Task };
 
@@ -144,16 +149,17 @@ impl Model for Task {
 
     ghost view = { λ t. t.parts };
 
-    ghost invariant = { λ t. model.IsWellTyped t.parts };
+    ghost invariant = { λ t. model.IsWellTyped t.parts × AreNumbersIn t.parts t.numbers };
 }
 
 impl Task {
-    /// The task of these parts.
-    pub fn new(parts: TaskParts) -> Task
+    /// The task of these parts, or an error where memory was refused.
+    pub fn new(alloc: Global, parts: TaskParts) -> Result<Task, AllocError>
         requires { IsWellTyped parts }
-        ensures { result ≡ parts }
+        ensures { IfOk result (λ t. t ≡ parts) }
     {
-        Task { parts }
+        let numbers = TaskNumbers::of(alloc, &parts)?;
+        Ok(Task { parts, numbers })
     }
 
     /// The objects' names, by first declaration.
@@ -283,5 +289,40 @@ impl Task {
             return None;
         }
         self.parts.actions.get(name - count)
+    }
+
+    /// The number of the object with a name: its place among the objects. Takes no memory.
+    pub fn object_number(&self, name: &[u8]) -> Option<usize>
+        ensures { result ≡ number_of self.now.objects name.now }
+    {
+        self.numbers.objects.get(name)
+    }
+
+    /// The number of the type with a name. Takes no memory.
+    pub fn type_number(&self, name: &[u8]) -> Option<usize>
+        ensures { result ≡ number_of (type_names self.now) name.now }
+    {
+        self.numbers.types.get(name)
+    }
+
+    /// The number of the predicate with a name. Takes no memory.
+    pub fn predicate_number(&self, name: &[u8]) -> Option<usize>
+        ensures { result ≡ number_of (predicate_names self.now) name.now }
+    {
+        self.numbers.predicates.get(name)
+    }
+
+    /// The number of the compound task or the action with a name. Takes no memory.
+    pub fn task_number(&self, name: &[u8]) -> Option<usize>
+        ensures { result ≡ number_of (task_names self.now) name.now }
+    {
+        self.numbers.tasks.get(name)
+    }
+
+    /// The number of the method with a name: its place among the methods. Takes no memory.
+    pub fn method_number(&self, name: &[u8]) -> Option<usize>
+        ensures { result ≡ number_of (method_names self.now) name.now }
+    {
+        self.numbers.methods.get(name)
     }
 }

@@ -130,5 +130,5 @@ pub fn jobs(alloc: Global) -> Result<Task, AllocError>
     ensures { IfOk result (λ t. t ≡ example.jobs) }
 {
     let parts = parts(alloc)?;
-    Ok(Task::new(parts))
+    Task::new(alloc, parts)
 }

@@ -80,3 +80,15 @@ fn the_plan_has_its_trees(rt: HostRuntime) -> Result<(), Fail> {
     assert_eq!(rt; places.as_str(), "[[0, 0], [1, 0]]");
     Ok(())
 }
+
+#[test]
+fn names_have_their_first_numbers(rt: HostRuntime) -> Result<(), Fail> {
+    let task = jobs(rt.alloc())?;
+    assert_eq!(rt; task.object_number(b"n"), None);
+    assert_eq!(rt; task.type_number(b"n"), None);
+    assert_eq!(rt; task.predicate_number(b"n"), Some(0));
+    assert_eq!(rt; task.task_number(b"n"), Some(0));
+    assert_eq!(rt; task.method_number(b"n"), Some(0));
+    assert_eq!(rt; task.method_number(b"m"), None);
+    Ok(())
+}

@@ -1,4 +1,6 @@
-use Rattle.std.proofs.Common.{sym, subst}
+use Rattle.std.proofs.Common.{◌≡◌, sym, subst}
+use Rattle.std.proofs.lemmas.Result.{IfOk-weaker}
+use Rattle.hddl_meaning.specs.Building.{IsTaskOf}
 use Rattle.hddl_names.specs.Members.{AreMembersOf}
 use Rattle.hddl_meaning.proofs.Limits.{initial_order_acyclic}
 use Rattle.hddl_build.proofs.Bounds.{actions_bounded, goal_bounded, initial_bounded, methods_bounded}
@@ -28,3 +30,8 @@ parts_of-requires-clause-goal c = goal_bounded c.args.domain.now c.args.problem.
 
 pub parts_of-requires-clause-objects : goal.parts_of-requires-clause-objects
 parts_of-requires-clause-objects c = subst (AreMembersOf c.args.domain.now c.args.problem.now) (sym c.into_lists.ensures) c.requires.objects
+
+pub returns : goal.returns
+returns c =
+    let is_task = IsTaskOf c.args.domain.now c.args.problem.now in
+    IfOk-weaker c.new.result (λ t. t ≡ c.in_ok-parts.parts) is_task (λ t e. subst is_task (sym e) c.in_ok-parts.ensures) c.new.ensures

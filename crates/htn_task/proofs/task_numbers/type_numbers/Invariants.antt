@@ -1,0 +1,6 @@
+use Rattle.std.proofs.Common.{map, take}
+use Rattle.htn_task.specs.Numbers.{AreNumbersOf}
+use Rattle.htn_task.proofs.task_numbers.type_numbers.Given as goal
+
+abbrev pub invariant-loop-number : goal.invariant-loop-number
+invariant-loop-number l = AreNumbersOf (map (λ d. d.name) (take l.number l.types)) l.numbers

@@ -1,0 +1,42 @@
+-- The numbers of names: the places at which they stand among the names of their kind.
+use Rattle.std.specs.Prelude.{◌≡◌, ℕ, cond, is_some, List, [], ◌∷◌, ◌++◌, map, position, Option, Vec}
+use Rattle.std.specs.Map.{lookup}
+use Rattle.std.specs.Str.{bytes_eq}
+use Rattle.htn_model.specs.Schema.{Name}
+use Rattle.htn_model.specs.Task.{Task}
+
+-- the place of the first declaration with this name
+abbrev pub number_of : List Name → Name → Option ℕ
+number_of names name = position (bytes_eq name) names
+
+abbrev pub type_names : Task → List Name
+type_names t = map (λ d. d.name) t.types
+
+abbrev pub predicate_names : Task → List Name
+predicate_names t = map (λ d. d.name) t.predicates
+
+-- the compound tasks, and then the actions
+abbrev pub task_names : Task → List Name
+task_names t = map (λ d. d.name) t.tasks ++ map (λ a. a.name) t.actions
+
+abbrev pub method_names : Task → List Name
+method_names t = map (λ m. m.name) t.methods
+
+-- ## Names with their numbers
+
+abbrev pub Entries : Type 0
+Entries = List (Name × ℕ)
+
+abbrev pub entries_of : {A : Type 0} → List (Vec ℕ A × ℕ) → Entries
+entries_of es = map (λ e. (e.0.items, e.1)) es
+
+abbrev pub entry_of : Entries → Name → Option ℕ
+entry_of es name = lookup (bytes_eq name) es
+
+-- with a number for one more name, unless it has one
+abbrev pub with_number : Entries → Name → ℕ → Entries
+with_number es name number = cond (is_some (entry_of es name)) es (es ++ (name, number) ∷ [])
+
+-- each of these names has the number of its first place, and no other name has one
+pub record AreNumbersOf (names : List Name) (es : Entries) : Type 0 where
+  pub each : (name : Name) → entry_of es name ≡ number_of names name
