@@ -4,5 +4,6 @@ pub mod Limits
 pub mod Numbers
 pub mod Conditions
 pub mod WellTyped
+pub mod OneTask
 pub mod Examples
 pub mod Packing
