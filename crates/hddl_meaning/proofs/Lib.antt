@@ -5,5 +5,6 @@ pub mod Numbers
 pub mod Conditions
 pub mod WellTyped
 pub mod OneTask
+pub mod SomeTask
 pub mod Examples
 pub mod Packing

@@ -11,3 +11,6 @@ TasksAreWellTyped = (d : DomainText) (p : ProblemText) (t : Task) → IsWellType
 
 abbrev pub TasksAreUnique : Type 0
 TasksAreUnique = (d : DomainText) (p : ProblemText) (t u : Task) → IsTaskOf d p t → IsTaskOf d p u → t ≡ u
+
+abbrev pub TasksExist : Type 0
+TasksExist = (d : DomainText) (p : ProblemText) → (t : Task) × IsTaskOf d p t

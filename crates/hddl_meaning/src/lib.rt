@@ -6,7 +6,7 @@ mod fault;
 #[cfg(test)]
 mod tests;
 
-ghost use Rattle.hddl_meaning.specs.Agreement.{TasksAreUnique, TasksAreWellTyped};
+ghost use Rattle.hddl_meaning.specs.Agreement.{TasksAreUnique, TasksAreWellTyped, TasksExist};
 ghost use Rattle.hddl_meaning.specs.Examples.{FaultsHavePlaces, PackingIsATask, TreesHaveMeanings};
 
 pub use fault::{At, CheckFault, Source};
@@ -14,6 +14,11 @@ pub use fault::{At, CheckFault, Source};
 /// A domain and a problem have one task at most: two that are theirs are equal, also where the pair doesn't fit together.
 pub fn pairs_have_one_task()
     ensures unique { TasksAreUnique }
+{}
+
+/// Each domain and problem have a task, also where the pair doesn't fit together.
+pub fn pairs_have_a_task()
+    ensures exist { TasksExist }
 {}
 
 /// The task of a domain and a problem that fit together is well typed: each number in it is that of something declared, each
