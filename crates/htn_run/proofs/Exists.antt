@@ -1,4 +1,4 @@
--- A task and a bound have an answer.
+-- Texts that fit together have a task, and a task and a bound have an answer.
 use Rattle.std.proofs.Common.{◌≡◌, ℕ, zero, suc, ◌+◌, ◌<◌, ◌⊎◌, ◌↔◌, inl, inr, Bool, true, false, cond, List, [], ◌∷◌, length, filter, flat_map, Option, Some, None, slice_get, codes, sym, refl, ap, ◌∙◌, subst, arith}
 use Rattle.std.specs.List.{list_any}
 use Rattle.std.proofs.lemmas.Bool.{both_ways, cases_order, lt-leb}
@@ -17,12 +17,13 @@ use Rattle.htn_model.proofs.Answers.{least_word_answers}
 use Rattle.htn_model.proofs.Exhaustion.{exhaustion_decides}
 use Rattle.htn_model.proofs.LiveSearch.{live_numbers, met_is_left_out}
 use Rattle.htn_model.proofs.OneToOne.{one_to_one}
+use Rattle.hddl_meaning.proofs.SomeTask.{tasks_exist}
 use Rattle.htn_plan.specs.Naming.{naming_of}
 use Rattle.plan_text.specs.Written.{written}
 use Rattle.htn_run.specs.declared.outcome.Outcome.{Outcome}
 use Rattle.htn_run.specs.declared.outcome.Outcome.TheVariants.{Found, NoPlan, Unsolvable}
 use Rattle.htn_run.specs.Headline.{Says}
-use Rattle.htn_run.specs.Laws.{AnswersExist}
+use Rattle.htn_run.specs.Laws.{AnswersExist, TextsHaveATask}
 use Rattle.htn_run.proofs.OneAnswer.{is_grounded}
 
 -- ## Lists
@@ -188,3 +189,17 @@ pub answers_exist : AnswersExist
 answers_exist domain problem bound task is =
     let says = said task (is_grounded domain problem task is) bound in
     (says.0, says.1, (task, is, says.2))
+
+pub texts_have_a_task : TextsHaveATask
+texts_have_a_task domain problem d p domain_spelled problem_spelled fits =
+    let task = tasks_exist d p in (
+      task.0,
+      record {
+        domain_tree = d;
+        problem_tree = p;
+        domain_spelled = domain_spelled;
+        problem_spelled = problem_spelled;
+        fits = fits;
+        is_task = task.1;
+      },
+    )

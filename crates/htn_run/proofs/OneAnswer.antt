@@ -18,7 +18,7 @@ use Rattle.plan_text.specs.Written.{written}
 use Rattle.htn_run.specs.declared.outcome.Outcome.{Outcome}
 use Rattle.htn_run.specs.declared.outcome.Outcome.TheVariants.{Found, NoPlan, Unsolvable}
 use Rattle.htn_run.specs.declared.outcome.RunFault.TheVariants as fault
-use Rattle.htn_run.specs.Headline.{Answers, IsTaskOfTexts, Says}
+use Rattle.htn_run.specs.Headline.{IsTaskOfTexts, Says}
 use Rattle.htn_run.specs.Laws.{AnswersAreUnique, FaultyHaveNoAnswer, TextsHaveOneTask}
 
 -- ## The texts

@@ -1,5 +1,10 @@
 -- What follows of what a run answers: the two texts and the bound determine it.
 use Rattle.std.specs.Prelude.{◌≡◌, ℕ, List, ⊤}
+use Rattle.hddl_tree.specs.declared.domain.DomainText.{DomainText}
+use Rattle.hddl_tree.specs.declared.problem.ProblemText.{ProblemText}
+use Rattle.hddl_text.specs.Grammar.{DerivesDomain, DerivesProblem}
+use Rattle.hddl_text.specs.Spelling.{Spells}
+use Rattle.hddl_meaning.specs.Items.{IsWellTypedPair}
 use Rattle.htn_model.specs.Task.{Task}
 use Rattle.htn_plan.specs.Naming.{HasDistinctNames}
 use Rattle.word_machine.specs.declared.bounds.Bounds.{Bounds}
@@ -18,7 +23,13 @@ AnswersAreUnique =
     (domain problem : List ℕ) (bound : ℕ) (outcome other : Outcome) (text second : List ℕ)
     → Answers domain problem bound outcome text → Answers domain problem bound other second → (outcome ≡ other) × (text ≡ second)
 
--- texts that fit together have an answer for each bound
+-- texts that spell trees which fit together have a task
+abbrev pub TextsHaveATask : Type 0
+TextsHaveATask =
+    (domain problem : List ℕ) (d : DomainText) (p : ProblemText) → Spells DerivesDomain domain d → Spells DerivesProblem problem p → IsWellTypedPair d p
+    → (task : Task) × IsTaskOfTexts domain problem task
+
+-- texts that have a task have an answer for each bound
 abbrev pub AnswersExist : Type 0
 AnswersExist =
     (domain problem : List ℕ) (bound : ℕ) (task : Task) → IsTaskOfTexts domain problem task
