@@ -1,5 +1,5 @@
 -- A pair of trees has a task.
-use Rattle.std.proofs.Common.{◌≡◌, ℕ, zero, suc, ◌+◌, ◌-◌, ◌<◌, ◌≤◌, ◌⊎◌, ◌↔◌, inl, inr, Bool, true, false, cond, List, [], ◌∷◌, ◌++◌, length, map, get_or, slice_get, Option, Some, None, sym, refl, ap, ◌∙◌, subst, arith, nat_eq, ◌&&◌, ◌||◌}
+use Rattle.std.proofs.Common.{◌≡◌, ℕ, zero, suc, ◌+◌, ◌-◌, ◌<◌, ◌≤◌, ◌⊎◌, ◌↔◌, inl, inr, Bool, true, false, cond, List, [], ◌∷◌, ◌++◌, length, map, get_or, slice_get, Option, Some, None, sym, refl, ap, ◌∙◌, subst, arith, nat_eq, ◌&&◌}
 use Rattle.std.specs.List.{AllByRecursion, AllZip, Contains, filter, flat_map, list_any, position, range_with_len}
 use Rattle.std.specs.List.Sorted.{IsStrictlySortedBy}
 use Rattle.std.specs.Ordering.{nat_cmp}
@@ -16,7 +16,7 @@ use Rattle.htn_model.specs.Problem.{Order, is_before}
 use Rattle.htn_model.specs.Machine.{table}
 use Rattle.htn_model.specs.State.{set_of}
 use Rattle.htn_model.specs.Schema as model
-use Rattle.htn_model.specs.Task.{MethodSchema, ObjectType, Task, has_type, objects_of}
+use Rattle.htn_model.specs.Task.{MethodSchema, ObjectType, Task}
 use Rattle.htn_model.specs.Instances.{ground_atom}
 use Rattle.htn_model.proofs.Splices.{table_past_left, table_past_right, table_square, table_within}
 use Rattle.htn_order.specs.Closure as closure
@@ -33,7 +33,7 @@ use Rattle.hddl_meaning.specs.Names.{is_same_text, object_declarations, object_n
 use Rattle.hddl_meaning.specs.Types as leads
 use Rattle.hddl_meaning.specs.Types.{HasType, IsBelow, Leads, parent_pairs, text_or_object}
 use Rattle.hddl_meaning.specs.Networks.{IsOrderOf, is_text, labelled, order_pairs, pair_of, written_pairs}
-use Rattle.hddl_meaning.specs.Building.{IsMethodOf, IsNetworkOf, IsTaskOf, Vocabulary, action_of, atom_of, compound_of, equality_of, formulas_of, predicate_of, subtask_of, types_of, variables_of, vocabulary_of}
+use Rattle.hddl_meaning.specs.Building.{IsMethodOf, IsNetworkOf, Vocabulary, action_of, atom_of, compound_of, equality_of, formulas_of, predicate_of, subtask_of, types_of, variables_of, vocabulary_of}
 use Rattle.hddl_meaning.specs.Agreement.{TasksExist}
 use Rattle.hddl_meaning.proofs.Listed.{at_head, at_tail, in_cases, in_nothing, texts_decide}
 
