@@ -4,5 +4,7 @@ pub mod Limits
 pub mod Numbers
 pub mod Conditions
 pub mod WellTyped
+pub mod OneTask
+pub mod SomeTask
 pub mod Examples
 pub mod Packing

@@ -1,4 +1,5 @@
--- The task of a pair that fits together is well typed.
+-- What follows from the definitions: a pair has one task, and the task of a pair that fits together is well typed.
+use Rattle.std.specs.Prelude.{◌≡◌}
 use Rattle.hddl_tree.specs.declared.domain.DomainText.{DomainText}
 use Rattle.hddl_tree.specs.declared.problem.ProblemText.{ProblemText}
 use Rattle.htn_model.specs.Task.{Task, IsWellTyped}
@@ -7,3 +8,9 @@ use Rattle.hddl_meaning.specs.Building.{IsTaskOf}
 
 abbrev pub TasksAreWellTyped : Type 0
 TasksAreWellTyped = (d : DomainText) (p : ProblemText) (t : Task) → IsWellTypedPair d p → IsTaskOf d p t → IsWellTyped t
+
+abbrev pub TasksAreUnique : Type 0
+TasksAreUnique = (d : DomainText) (p : ProblemText) (t u : Task) → IsTaskOf d p t → IsTaskOf d p u → t ≡ u
+
+abbrev pub TasksExist : Type 0
+TasksExist = (d : DomainText) (p : ProblemText) → (t : Task) × IsTaskOf d p t

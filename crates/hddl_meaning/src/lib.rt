@@ -6,10 +6,20 @@ mod fault;
 #[cfg(test)]
 mod tests;
 
-ghost use Rattle.hddl_meaning.specs.Agreement.{TasksAreWellTyped};
+ghost use Rattle.hddl_meaning.specs.Agreement.{TasksAreUnique, TasksAreWellTyped, TasksExist};
 ghost use Rattle.hddl_meaning.specs.Examples.{FaultsHavePlaces, PackingIsATask, TreesHaveMeanings};
 
 pub use fault::{At, CheckFault, Source};
+
+/// A domain and a problem have one task at most: two that are theirs are equal, also where the pair doesn't fit together.
+pub fn pairs_have_one_task()
+    ensures unique { TasksAreUnique }
+{}
+
+/// Each domain and problem have a task, also where the pair doesn't fit together.
+pub fn pairs_have_a_task()
+    ensures exist { TasksExist }
+{}
 
 /// The task of a domain and a problem that fit together is well typed: each number in it is that of something declared, each
 /// atom and each task has as many arguments as its declaration has places, and orders are closed and have no cycle.

@@ -175,6 +175,7 @@ module _ {Tree : Type 0} (B : Phrase Tree) (b : Reader Tree) (g : (N : ℕ) → 
 pub record TextLaws {Tree : Type 0} (Derives : List Word → Tree → Type 0) (p : Reader Tree) : Type 0 where
   pub found : (text : List ℕ) (ws rest : List Word) (tree : Tree) → HasNested text ws → whole p ws ≡ read tree rest → Spells Derives text tree
   pub only : (text : List ℕ) (ws rest : List Word) (tree other : Tree) → HasNested text ws → whole p ws ≡ read tree rest → Spells Derives text other → other ≡ tree
+  pub one : (text : List ℕ) (tree other : Tree) → Spells Derives text tree → Spells Derives text other → tree ≡ other
   pub refused : (text : List ℕ) (ws : List Word) (stop : Stop) (tree : Tree) → HasNested text ws → (stop ≢ Memory → whole p ws ≡ failed stop) → fault_of (length text) ws stop ≢ OutOfMemory → Spells Derives text tree → ⊥
   pub fault : (text : List ℕ) (ws : List Word) (stop : Stop) → HasNested text ws → (stop ≢ Memory → whole p ws ≡ failed stop) → FaultAt Derives text (fault_of (length text) ws stop)
 
@@ -184,6 +185,11 @@ text_laws B b g = record {
   only = λ text ws rest tree other has e s.
       let same = same_words text s.parts ws s.lexed has.lexed in
       let found : whole (reading.◌>>◌ opening b) ws ≡ read other [] = rw same at (whole_only B b g s.parts other s.derived) in
+      cc;
+  one = λ text tree other s r.
+      let same = same_words text s.parts r.parts s.lexed r.lexed in
+      let first : whole (reading.◌>>◌ opening b) r.parts ≡ read tree [] = rw same at (whole_only B b g s.parts tree s.derived) in
+      let second : whole (reading.◌>>◌ opening b) r.parts ≡ read other [] = whole_only B b g r.parts other r.derived in
       cc;
   refused = λ text ws stop tree has h some s.
       let same = same_words text s.parts ws s.lexed has.lexed in

@@ -21,4 +21,4 @@ pub use hddl_tree::{
     Requirement, SubtaskText, TaskText, Term, Variable, VariableGroup,
 };
 pub use hddl_words::{Kind, TextFault, Token, lex};
-pub use text::{read_domain, read_problem};
+pub use text::{read_domain, read_problem, texts_spell_one_tree};

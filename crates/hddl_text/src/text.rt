@@ -1,6 +1,6 @@
 //! Reads the texts of domains and problems.
 
-ghost use Rattle.std.specs.Prelude.{◌≡◌, ◌≢◌, map, IfOk, IfErr};
+ghost use Rattle.std.specs.Prelude.{◌≡◌, ◌≢◌, ℕ, List, map, IfOk, IfErr};
 ghost use Rattle.hddl_words.specs.Class.{class_of as class};
 ghost use Rattle.hddl_words.specs.Words.{word_of};
 ghost use Rattle.hddl_tree.specs.declared.domain.DomainText.{DomainText as Domain};
@@ -56,6 +56,12 @@ pub fn read_problem(alloc: Global, text: &[u8]) -> Result<ProblemText, TextFault
         Err(stop) => Err(fault_of(stop, tokens.as_slice(), text.len())),
     }
 }
+
+/// A text spells one domain at most, and one problem at most. A law, with an empty body.
+pub fn texts_spell_one_tree()
+    ensures domain { (text : List ℕ) (tree other : Domain) → Spells DerivesDomain text tree → Spells DerivesDomain text other → tree ≡ other }
+    ensures problem { (text : List ℕ) (tree other : Problem) → Spells DerivesProblem text tree → Spells DerivesProblem text other → tree ≡ other }
+{}
 
 /// The words of a text whose brackets nest.
 fn nested_words<'a>(alloc: Global, text: &'a [u8]) -> Result<Vec<Token<'a>>, TextFault>

@@ -1,1 +1,4 @@
 mod Saying
+mod Names
+mod OneAnswer
+mod Exists

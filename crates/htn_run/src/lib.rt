@@ -3,12 +3,14 @@
 #![tactic(auto)]
 
 mod answer;
+mod laws;
 mod outcome;
 mod run;
 mod source;
 
 pub use htn_plan::{Out, Sink};
 pub use htn_search::{Bounds, Gate, NoGate};
+pub use laws::{answers_are_unique, answers_exist, faulty_texts_have_no_answer, names_differ};
 pub use outcome::{Outcome, RunFault};
 pub use run::run_task;
 pub use source::{Disk, MAX_BYTES_READ, ReadFault, Source};
