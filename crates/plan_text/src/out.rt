@@ -4,7 +4,7 @@ use std::io::Write;
 
 /// An output that takes bytes, and that may fail.
 pub trait Out {
-    ghost use Rattle.std.specs.Prelude.{◌≡◌, ◌≤◌, ◌<◌, ℕ, Bool, true, List, Option, length, take, IfSome, IfNone};
+    ghost use Rattle.std.specs.Prelude.{◌≡◌, ◌≤◌, ◌<◌, ℕ, Bool, true, false, List, Option, length, take, IfSome, IfNone};
     ghost use Rattle.std.specs.Io.KnownBytes.{Keeps, Appends};
 
     /// The bytes that it took so far, where it tells them.
@@ -19,6 +19,7 @@ pub trait Out {
         requires { 0 < length bytes.now }
         ensures count { IfSome result (λ n. (1 ≤ n) × (n ≤ length bytes.now)) }
         ensures taken { IfSome result (λ n. Appends (contents self.old) (contents self.new) (take n bytes.now)) }
+        ensures worked { IfSome result (λ n. has_failed self.old ≡ false) }
         ensures works { IfSome result (λ n. has_failed self.new ≡ has_failed self.old) }
         ensures kept { IfNone result (Keeps (contents self.old) (contents self.new)) }
         ensures failed { IfNone result (has_failed self.new ≡ true) };

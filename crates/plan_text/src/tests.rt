@@ -70,27 +70,22 @@ fn lends_its_lines(rt: HostRuntime) -> Result<(), Fail> {
 
 #[test]
 fn accepts(rt: HostRuntime) -> Result<(), Fail> {
-    let rows: [(&[u8], &[u8]); 6] = [
+    let rows: [(&[u8], &[u8]); 5] = [
         (b"==>\nroot\n<==\n", b"==>\nroot\n<==\n"),
-        // The greatest id, and leading zeros.
-        (
-            b"==>\n18446744073709551615 a\nroot 018446744073709551615\n<==",
-            b"==>\n18446744073709551615 a\nroot 18446744073709551615\n<==\n",
-        ),
         // Any bytes stand outside the markers, and blanks round these.
         (
             b"\x80\n<==\n (==>)\r\nRoot 0\n0 ROOT 7\n\t<==\n\xff 0\n==>",
             b"==>\n0 root 7\nroot 0\n<==\n",
         ),
-        // A number of any size is a word like any other where no number is read.
-        (
-            b"==>\n0 99999999999999999999 00\nroot\n<==\n",
-            b"==>\n0 99999999999999999999 00\nroot\n<==\n",
-        ),
         (b"==>\n0 t->m\nroot 0\n<==\n", b"==>\n0 t->m\nroot 0\n<==\n"),
         (
             b"==>\nroot 0\n0 T -> M\n<==\n",
             b"==>\nroot 0\n0 t -> m\n<==\n",
+        ),
+        // Lines of different kinds stand in any order.
+        (
+            b"==>\n1 t -> m 0\nrOOt 1\n\n0 a\n<==\n",
+            b"==>\n0 a\nroot 1\n1 t -> m 0\n<==\n",
         ),
     ];
     for (text, expected) in rows {
@@ -101,16 +96,66 @@ fn accepts(rt: HostRuntime) -> Result<(), Fail> {
 }
 
 #[test]
+fn accepts_numbers(rt: HostRuntime) -> Result<(), Fail> {
+    let rows: [(&[u8], &[u8]); 4] = [
+        // The greatest id, and leading zeros.
+        (
+            b"==>\n18446744073709551615 a\nroot 018446744073709551615\n<==",
+            b"==>\n18446744073709551615 a\nroot 18446744073709551615\n<==\n",
+        ),
+        (
+            b"==>\n0000000000000000000000000 a\nroot 00000000000000000000000000000007\n<==\n",
+            b"==>\n0 a\nroot 7\n<==\n",
+        ),
+        // A number of any size is a word like any other where no number is read.
+        (
+            b"==>\n0 99999999999999999999 00\nroot\n<==\n",
+            b"==>\n0 99999999999999999999 00\nroot\n<==\n",
+        ),
+        (
+            b"==>\nroot 0\n0 05 06 -> 99999999999999999999 007\n<==\n",
+            b"==>\nroot 0\n0 05 06 -> 99999999999999999999 7\n<==\n",
+        ),
+    ];
+    for (text, expected) in rows {
+        let written = rewritten(rt.alloc(), text).ok_or("refused")?;
+        assert_eq!(rt; written.as_slice(), expected);
+    }
+    Ok(())
+}
+
+#[test]
+fn accepts_blanks(rt: HostRuntime) -> Result<(), Fail> {
+    let rows: [(&[u8], &[u8]); 4] = [
+        // Round brackets part words, and needn't pair.
+        (
+            b"==>\n0(go)a)\nroot(0\n)<==(\n",
+            b"==>\n0 go a\nroot 0\n<==\n",
+        ),
+        (b"==>\n()\nroot\n((\n<==\n", b"==>\nroot\n<==\n"),
+        // A carriage return alone ends no line.
+        (
+            b"==>\r\n0\rgo\x0ca\tb\r\r\nroot 0\r\n<==\r\n",
+            b"==>\n0 go a b\nroot 0\n<==\n",
+        ),
+        (b"==>\nroot\n \t\x0c\r\n<==", b"==>\nroot\n<==\n"),
+    ];
+    for (text, expected) in rows {
+        let written = rewritten(rt.alloc(), text).ok_or("refused")?;
+        assert_eq!(rt; written.as_slice(), expected);
+    }
+    Ok(())
+}
+
+#[test]
 fn refuses(rt: HostRuntime) -> Result<(), Fail> {
-    let rows: [(&[u8], PlanFault); 20] = [
+    let rows: [(&[u8], PlanFault); 10] = [
         (b"", PlanFault::NoStart),
         (b"==> 1\n<==\n", PlanFault::NoStart),
+        (b"==>\r<==\n", PlanFault::NoStart),
         (b"==>\n<==\n", PlanFault::NoRoot),
-        (b"==>\n0\nroot 0\n<==\n", PlanFault::BadLine(4)),
-        (
-            b"==>\nroot 18446744073709551616\n<==\n",
-            PlanFault::NumberTooLarge(9),
-        ),
+        (b"==>\n0 a\nroot 0\n", PlanFault::NoEnd),
+        (b"==>\nroot\n<== 1\n", PlanFault::NoEnd),
         // The end marker is looked for first.
         (b"<==\n==>\n0\n", PlanFault::NoEnd),
         (b"==>\nroot\nroot\n<==\n", PlanFault::TwoRoots(9)),
@@ -119,23 +164,59 @@ fn refuses(rt: HostRuntime) -> Result<(), Fail> {
             PlanFault::TwoRoots(9),
         ),
         (b"==>\nroot\nroot x\n<==\n", PlanFault::BadLine(9)),
-        (b"==>\nroot 0 x\n<==\n", PlanFault::BadLine(4)),
+    ];
+    for (text, expected) in rows {
+        assert_eq!(rt; fault(rt.alloc(), text), Some(expected));
+    }
+    Ok(())
+}
+
+#[test]
+fn refuses_lines(rt: HostRuntime) -> Result<(), Fail> {
+    let rows: [&[u8]; 12] = [
+        b"==>\n0\nroot 0\n<==\n",
+        b"==>\nroot 0 x\n<==\n",
+        b"==>\nroots 0\n<==\n",
+        b"==>\n99999999999999999999\nroot\n<==\n",
+        b"==>\n0 -> m\nroot\n<==\n",
+        b"==>\n0 t ->\nroot\n<==\n",
+        b"==>\n0 t -> m x\nroot\n<==\n",
+        b"==>\n0 t -> m -> n\nroot\n<==\n",
+        b"==>\n==>\nroot\n<==\n",
+        b"==>\n+1 a\nroot\n<==\n",
+        b"==>\n-1 a\nroot\n<==\n",
+        b"==>\n  a 1\nroot\n<==\n",
+    ];
+    for text in rows {
+        assert_eq!(rt; fault(rt.alloc(), text), Some(PlanFault::BadLine(4)));
+    }
+    Ok(())
+}
+
+#[test]
+fn refuses_numbers_and_bytes(rt: HostRuntime) -> Result<(), Fail> {
+    let rows: [(&[u8], PlanFault); 8] = [
         (
-            b"==>\n99999999999999999999\nroot\n<==\n",
-            PlanFault::BadLine(4),
+            b"==>\nroot 18446744073709551616\n<==\n",
+            PlanFault::NumberTooLarge(9),
         ),
-        (b"==>\n0 \x80\nroot\n<==\n", PlanFault::NotAscii(6)),
-        (b"==>\nx \x7f\nroot\n<==\n", PlanFault::NotAscii(6)),
-        (b"==>\n0 -> m\nroot\n<==\n", PlanFault::BadLine(4)),
-        (b"==>\n0 t ->\nroot\n<==\n", PlanFault::BadLine(4)),
-        (b"==>\n0 t -> m x\nroot\n<==\n", PlanFault::BadLine(4)),
-        (b"==>\n0 t -> m -> n\nroot\n<==\n", PlanFault::BadLine(4)),
-        (b"==>\n==>\nroot\n<==\n", PlanFault::BadLine(4)),
+        (
+            b"==>\n00018446744073709551616 a\nroot\n<==\n",
+            PlanFault::NumberTooLarge(4),
+        ),
         (
             b"==>\n0 t -> m 7 99999999999999999999\nroot\n<==\n",
             PlanFault::NumberTooLarge(15),
         ),
-        (b"==>\n+1 a\nroot\n<==\n", PlanFault::BadLine(4)),
+        (b"==>\n0 \x80\nroot\n<==\n", PlanFault::NotAscii(6)),
+        (b"==>\nx \x7f\nroot\n<==\n", PlanFault::NotAscii(6)),
+        (b"==>\nroot\n\x00\n<==\n", PlanFault::NotAscii(9)),
+        (b"==>\nroot \x0b\n<==\n", PlanFault::NotAscii(9)),
+        // In a line the bytes come first.
+        (
+            b"==>\nroot 99999999999999999999 \xff\n<==\n",
+            PlanFault::NotAscii(30),
+        ),
     ];
     for (text, expected) in rows {
         assert_eq!(rt; fault(rt.alloc(), text), Some(expected));
@@ -202,8 +283,54 @@ fn stops_where_the_output_fails(rt: HostRuntime) -> Result<(), Fail> {
             if room < 113 {
                 assert_eq!(rt; result, Err(WriteFault::Device));
             }
-            assert_eq!(rt; ROAD.starts_with(sink.into_inner().taken.as_slice()), true);
+            let taken = sink.into_inner().taken;
+            assert_eq!(rt; taken.len(), room.min(113));
+            assert_eq!(rt; ROAD.starts_with(taken.as_slice()), true);
         }
+    }
+    Ok(())
+}
+
+/// A writer whose first write takes nothing, or answers an error. Each later one takes all.
+#[derive(Drop)]
+struct Late {
+    taken: Vec<u8>,
+    answers_error: bool,
+    has_failed: bool,
+}
+
+impl Write for Late {
+    fn write(&mut self, bytes: &[u8]) -> io::Result<usize> {
+        if !self.has_failed {
+            self.has_failed = true;
+            if self.answers_error {
+                return Err(io::Error::from(io::ErrorKind::Other));
+            }
+            return Ok(0);
+        }
+        self.taken.extend_from_slice(bytes)?;
+        Ok(bytes.len())
+    }
+
+    fn flush(&mut self) -> io::Result<()> {
+        Ok(())
+    }
+}
+
+#[test]
+fn stays_failed(rt: HostRuntime) -> Result<(), Fail> {
+    let file = read_plan(rt.alloc(), ROAD).ok().ok_or("refused")?;
+    for answers_error in [false, true] {
+        let mut sink = Sink::new(Late {
+            taken: Vec::new(rt.alloc()),
+            answers_error,
+            has_failed: false,
+        });
+        for _ in 0..2 {
+            assert_eq!(rt; write_plan(&file, &mut sink), Err(WriteFault::Device));
+            assert!(rt; sink.has_failed());
+        }
+        assert!(rt; sink.into_inner().taken.is_empty());
     }
     Ok(())
 }
