@@ -1,20 +1,40 @@
 //! Whether a domain and a problem fit together, and the task that they are.
-ghost use Rattle.std.specs.Prelude.{◌≢◌, IfOk, IfErr};
-ghost use Rattle.hddl_meaning.specs.Building.{IsTaskOf};
+ghost use Rattle.std.specs.Prelude.{◌≡◌, ◌≢◌, IfOk, IfErr, MatchOption};
+ghost use Rattle.hddl_meaning.specs.Building.{IsTaskOf, vocabulary_of};
 ghost use Rattle.hddl_meaning.specs.Items.{FailsAt, IsWellTypedPair};
 ghost use Rattle.hddl_meaning.specs.declared.fault.CheckFault.TheVariants.{OutOfMemory};
+ghost use Rattle.hddl_names.specs.Members.{AreMembersOf};
+ghost use Rattle.hddl_check.specs.Known.{AreKnown};
 
-use crate::cycles::type_cycle;
 use crate::declared::Declarations;
 use crate::faults::fault_among;
-use crate::findings::first_of;
 use crate::objects::known_objects;
 use hddl_build::build;
 use hddl_meaning::CheckFault;
-use hddl_names::{TypeHierarchy, Vocabulary};
+use hddl_names::{ObjectsByType, TypeHierarchy, Vocabulary};
 use hddl_tree::{DomainText, ProblemText};
 use htn_task::Task;
-use std::alloc::Global;
+use std::alloc::{AllocError, Global};
+
+/// The task of a pair that fits together.
+fn task_of(
+    alloc: Global,
+    domain: &DomainText,
+    problem: &ProblemText,
+    vocabulary: &Vocabulary,
+    objects: Option<ObjectsByType>,
+) -> Result<Task, AllocError>
+    requires fits { IsWellTypedPair domain.now problem.now }
+    requires vocabulary { vocabulary.now ≡ vocabulary_of domain.now problem.now }
+    requires known { AreKnown domain.now problem.now }
+    requires objects { MatchOption objects (AreKnown domain.now problem.now → ⊥) (λ o. AreKnown domain.now problem.now × AreMembersOf domain.now problem.now o) }
+    ensures { IfOk result (IsTaskOf domain.now problem.now) }
+{
+    match objects {
+        Some(objects) => build(alloc, domain, problem, vocabulary, objects),
+        None => unreachable!(),
+    }
+}
 
 /// The task of a domain and a problem that fit together.
 ///
@@ -31,7 +51,6 @@ pub fn check(alloc: Global, domain: &DomainText, problem: &ProblemText) -> Resul
     let types = TypeHierarchy::of(alloc, domain, &vocabulary)?;
     let objects = known_objects(alloc, problem, &vocabulary, &types)?;
     let declared = Declarations::of(alloc, domain)?;
-    let cycle = type_cycle(alloc, &types)?;
     let fault = fault_among(
         alloc,
         domain,
@@ -41,11 +60,9 @@ pub fn check(alloc: Global, domain: &DomainText, problem: &ProblemText) -> Resul
         objects.as_ref(),
         &declared,
     )?;
-    if let Some(fault) = first_of(cycle, fault) {
+    if let Some(fault) = fault {
         return Err(fault);
     }
-    match objects {
-        Some(objects) => Ok(build(alloc, domain, problem, &vocabulary, objects)?),
-        None => unreachable!(),
-    }
+    let task = task_of(alloc, domain, problem, &vocabulary, objects)?;
+    Ok(task)
 }
