@@ -1,9 +1,10 @@
 //! Whether a domain and a problem fit together, and the task that they are.
-ghost use Rattle.std.specs.Prelude.{◌≡◌, ◌≢◌, IfOk, IfErr, MatchOption};
+ghost use Rattle.std.specs.Prelude.{◌≡◌, ◌≢◌, IfOk, IfErr};
 ghost use Rattle.hddl_meaning.specs.Building.{IsTaskOf, vocabulary_of};
 ghost use Rattle.hddl_meaning.specs.Items.{FailsAt, IsWellTypedPair};
 ghost use Rattle.hddl_meaning.specs.declared.fault.CheckFault.TheVariants.{OutOfMemory};
-ghost use Rattle.hddl_names.specs.Members.{AreMembersOf};
+ghost use Rattle.hddl_check.specs.Cycles.{PairFails};
+ghost use Rattle.hddl_check.specs.Findings.{Finds};
 ghost use Rattle.hddl_check.specs.Known.{AreKnown};
 
 use crate::declared::Declarations;
@@ -16,24 +17,47 @@ use hddl_tree::{DomainText, ProblemText};
 use htn_task::Task;
 use std::alloc::{AllocError, Global};
 
+/// A fault of a pair.
+fn fault_of(
+    alloc: Global,
+    domain: &DomainText,
+    problem: &ProblemText,
+    vocabulary: &Vocabulary,
+) -> Result<Option<CheckFault>, AllocError>
+    requires { vocabulary.now ≡ vocabulary_of domain.now problem.now }
+    ensures { IfOk result (Finds (PairFails domain.now problem.now)) }
+{
+    let types = TypeHierarchy::of(alloc, domain, vocabulary)?;
+    let objects = known_objects(alloc, problem, vocabulary, &types)?;
+    let declared = Declarations::of(alloc, domain)?;
+    let fault = fault_among(
+        alloc,
+        domain,
+        problem,
+        vocabulary,
+        &types,
+        objects.as_ref(),
+        &declared,
+    )?;
+    Ok(fault)
+}
+
 /// The task of a pair that fits together.
 fn task_of(
     alloc: Global,
     domain: &DomainText,
     problem: &ProblemText,
     vocabulary: &Vocabulary,
-    objects: Option<ObjectsByType>,
 ) -> Result<Task, AllocError>
     requires fits { IsWellTypedPair domain.now problem.now }
     requires vocabulary { vocabulary.now ≡ vocabulary_of domain.now problem.now }
     requires known { AreKnown domain.now problem.now }
-    requires objects { MatchOption objects (AreKnown domain.now problem.now → ⊥) (λ o. AreKnown domain.now problem.now × AreMembersOf domain.now problem.now o) }
     ensures { IfOk result (IsTaskOf domain.now problem.now) }
 {
-    match objects {
-        Some(objects) => build(alloc, domain, problem, vocabulary, objects),
-        None => unreachable!(),
-    }
+    let types = TypeHierarchy::of(alloc, domain, vocabulary)?;
+    let objects = ObjectsByType::of(alloc, problem, vocabulary, &types)?;
+    let task = build(alloc, domain, problem, vocabulary, objects)?;
+    Ok(task)
 }
 
 /// The task of a domain and a problem that fit together.
@@ -48,21 +72,10 @@ pub fn check(alloc: Global, domain: &DomainText, problem: &ProblemText) -> Resul
     ensures fault { IfErr result (λ fault. fault ≢ OutOfMemory → FailsAt domain.now problem.now fault) }
 {
     let vocabulary = Vocabulary::of(alloc, domain, problem)?;
-    let types = TypeHierarchy::of(alloc, domain, &vocabulary)?;
-    let objects = known_objects(alloc, problem, &vocabulary, &types)?;
-    let declared = Declarations::of(alloc, domain)?;
-    let fault = fault_among(
-        alloc,
-        domain,
-        problem,
-        &vocabulary,
-        &types,
-        objects.as_ref(),
-        &declared,
-    )?;
+    let fault = fault_of(alloc, domain, problem, &vocabulary)?;
     if let Some(fault) = fault {
         return Err(fault);
     }
-    let task = task_of(alloc, domain, problem, &vocabulary, objects)?;
+    let task = task_of(alloc, domain, problem, &vocabulary)?;
     Ok(task)
 }
