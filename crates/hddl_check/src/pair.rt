@@ -60,6 +60,25 @@ fn task_of(
     Ok(task)
 }
 
+/// The task of a pair, or a fault, or an error where memory was refused.
+fn answer_of(
+    alloc: Global,
+    domain: &DomainText,
+    problem: &ProblemText,
+) -> Result<Result<Task, CheckFault>, AllocError>
+    ensures fits { IfOk result (λ answer. IfOk answer (λ _. IsWellTypedPair domain.now problem.now)) }
+    ensures task { IfOk result (λ answer. IfOk answer (IsTaskOf domain.now problem.now)) }
+    ensures fault { IfOk result (λ answer. IfErr answer (FailsAt domain.now problem.now)) }
+{
+    let vocabulary = Vocabulary::of(alloc, domain, problem)?;
+    let fault = fault_of(alloc, domain, problem, &vocabulary)?;
+    if let Some(fault) = fault {
+        return Ok(Err(fault));
+    }
+    let task = task_of(alloc, domain, problem, &vocabulary)?;
+    Ok(Ok(task))
+}
+
 /// The task of a domain and a problem that fit together.
 ///
 /// Of several faults it is the one that comes first in the texts, the domain before the problem; what a schema with too many
@@ -71,11 +90,8 @@ pub fn check(alloc: Global, domain: &DomainText, problem: &ProblemText) -> Resul
     // The fault holds at its place.
     ensures fault { IfErr result (λ fault. fault ≢ OutOfMemory → FailsAt domain.now problem.now fault) }
 {
-    let vocabulary = Vocabulary::of(alloc, domain, problem)?;
-    let fault = fault_of(alloc, domain, problem, &vocabulary)?;
-    if let Some(fault) = fault {
-        return Err(fault);
+    match answer_of(alloc, domain, problem) {
+        Ok(answer) => answer,
+        Err(_) => Err(CheckFault::OutOfMemory),
     }
-    let task = task_of(alloc, domain, problem, &vocabulary)?;
-    Ok(task)
 }
