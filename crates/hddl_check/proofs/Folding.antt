@@ -95,11 +95,11 @@ module _ {X Z : Type 0} (a q s : Z → List X) (zs : List Z) (x : X) where
       elim (Contains-append_cases (a z) (q z ++ s z) x here) [
         | inl i ↦ in_left x (flat_map a zs) (flat_map q zs ++ flat_map s zs) (in_flat_map a z x zs in' i)
         | inr later ↦
-          in_right x (flat_map a zs) (flat_map q zs ++ flat_map s zs)
-          (elim (Contains-append_cases (q z) (s z) x later) [
-            | inl i ↦ in_left x (flat_map q zs) (flat_map s zs) (in_flat_map q z x zs in' i)
-            | inr i ↦ in_right x (flat_map q zs) (flat_map s zs) (in_flat_map s z x zs in' i)
-          ])
+            in_right x (flat_map a zs) (flat_map q zs ++ flat_map s zs)
+            (elim (Contains-append_cases (q z) (s z) x later) [
+              | inl i ↦ in_left x (flat_map q zs) (flat_map s zs) (in_flat_map q z x zs in' i)
+              | inr i ↦ in_right x (flat_map q zs) (flat_map s zs) (in_flat_map s z x zs in' i)
+            ])
       ]
 
   pub mingled : IsIn x (flat_map a zs ++ (flat_map q zs ++ flat_map s zs)) → IsIn x (flat_map mixed zs)
@@ -108,9 +108,9 @@ module _ {X Z : Type 0} (a q s : Z → List X) (zs : List Z) (x : X) where
         | inl here ↦ let (z, in', i) = flat_mapped a zs x here in in_flat_map mixed z x zs in' (in_left x (a z) (q z ++ s z) i)
         | inr later ↦ elim (Contains-append_cases (flat_map q zs) (flat_map s zs) x later) [
           | inl here ↦
-            let (z, in', i) = flat_mapped q zs x here in in_flat_map mixed z x zs in' (in_right x (a z) (q z ++ s z) (in_left x (q z) (s z) i))
+              let (z, in', i) = flat_mapped q zs x here in in_flat_map mixed z x zs in' (in_right x (a z) (q z ++ s z) (in_left x (q z) (s z) i))
           | inr here ↦
-            let (z, in', i) = flat_mapped s zs x here in in_flat_map mixed z x zs in' (in_right x (a z) (q z ++ s z) (in_right x (q z) (s z) i))
+              let (z, in', i) = flat_mapped s zs x here in in_flat_map mixed z x zs in' (in_right x (a z) (q z ++ s z) (in_right x (q z) (s z) i))
         ]
       ]
 
@@ -144,11 +144,11 @@ module _ (w : List Variable) (gs : List VariableGroup) (cs : List Condition) whe
       elim (Contains-append_cases atoms (qs ++ ss) x at) [
         | inl i ↦ in_left x atoms ((own_parts ++ qs) ++ ss) i
         | inr later ↦
-          in_right x atoms ((own_parts ++ qs) ++ ss)
-          (elim (Contains-append_cases qs ss x later) [
-            | inl i ↦ in_left x (own_parts ++ qs) ss (in_right x own_parts qs i)
-            | inr i ↦ in_right x (own_parts ++ qs) ss i
-          ])
+            in_right x atoms ((own_parts ++ qs) ++ ss)
+            (elim (Contains-append_cases qs ss x later) [
+              | inl i ↦ in_left x (own_parts ++ qs) ss (in_right x own_parts qs i)
+              | inr i ↦ in_right x (own_parts ++ qs) ss i
+            ])
       ]
 
   from : (x : Part) → IsIn x apart → IsIn x (own_parts ++ body_parts)

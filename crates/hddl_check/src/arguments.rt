@@ -133,7 +133,9 @@ fn check_variable_type(
     ensures { IfOk result (Finds (Clashes context.now scope.now (term.Variable variable.now) place.now.typed)) }
 {
     let text = fold(context.alloc, variable.text())?;
-    if let Some(declared) = in_force(scope, &text) && is_barred(context, declared, place)? {
+    if let Some(declared) = in_force(scope, &text)
+        && is_barred(context, declared, place)?
+    {
         return Ok(Some(CheckFault::TypeClash(context.at(variable.place()))));
     }
     Ok(None)

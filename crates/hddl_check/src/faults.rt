@@ -5,9 +5,10 @@ ghost use Rattle.hddl_names.specs.Members.{AreMembersOf};
 ghost use Rattle.hddl_check.specs.Declarations.{AreDeclarationsOf};
 ghost use Rattle.hddl_check.specs.Findings.{Finds};
 ghost use Rattle.hddl_check.specs.Known.{AreKnown};
-ghost use Rattle.hddl_check.specs.Parts.{PartFails};
+ghost use Rattle.hddl_check.specs.Cycles.{PairFails};
 
 use crate::context::Context;
+use crate::cycles::type_cycle;
 use crate::declared::Declarations;
 use crate::findings::first_of;
 use crate::shape::{check_domain, check_problem};
@@ -16,7 +17,7 @@ use hddl_names::{ObjectsByType, TypeHierarchy, Vocabulary};
 use hddl_tree::{DomainText, ProblemText};
 use std::alloc::{AllocError, Global};
 
-/// A fault of the two texts, but for cycles of types.
+/// A fault of the two texts.
 pub(crate) fn fault_among<'a>(
     alloc: Global,
     domain: &'a DomainText,
@@ -30,7 +31,7 @@ pub(crate) fn fault_among<'a>(
     requires types { types.now ≡ domain.now }
     requires objects { MatchOption objects (AreKnown domain.now problem.now → ⊥) (λ o. AreKnown domain.now problem.now × AreMembersOf domain.now problem.now o.now) }
     requires declared { AreDeclarationsOf domain.now declared.now }
-    ensures { IfOk result (Finds (PartFails domain.now problem.now)) }
+    ensures { IfOk result (Finds (PairFails domain.now problem.now)) }
 {
     let in_domain = Context {
         alloc,
@@ -54,5 +55,6 @@ pub(crate) fn fault_among<'a>(
         declared,
     };
     let of_problem = check_problem(&in_problem)?;
-    Ok(first_of(of_domain, of_problem))
+    let cycle = type_cycle(alloc, types)?;
+    Ok(first_of(cycle, first_of(of_domain, of_problem)))
 }

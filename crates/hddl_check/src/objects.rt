@@ -14,11 +14,7 @@ use std::alloc::{AllocError, Global};
 const MOST_OBJECTS: usize = 65_536;
 
 /// Whether the type of each name of a typed list is declared.
-fn are_typed(
-    alloc: Global,
-    types: &TypeHierarchy,
-    groups: &[NameGroup],
-) -> Result<bool, AllocError>
+fn are_typed(alloc: Global, types: &TypeHierarchy, groups: &[NameGroup]) -> Result<bool, AllocError>
     ensures { IfOk result (λ typed. IsTrue typed ↔ AllTyped types.now (typed_names groups.now)) }
 {
     for group in groups {

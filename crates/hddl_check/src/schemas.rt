@@ -17,7 +17,9 @@ use crate::mentions::{check_different, check_limit};
 use crate::networks::check_network;
 use crate::scope::parameters;
 use crate::types::check_variable_types;
-use crate::uses::{check_atoms, check_constraints, check_decomposed, check_effects, check_tasks_used};
+use crate::uses::{
+    check_atoms, check_constraints, check_decomposed, check_effects, check_tasks_used,
+};
 use hddl_meaning::CheckFault;
 use hddl_tree::{ActionText, MethodText, ProblemText, VariableGroup};
 use std::alloc::AllocError;

@@ -11,7 +11,9 @@ use crate::distinct::past_distinct;
 use crate::findings::first_of;
 use crate::lists::{method_names, names_in, predicate_names, types_in};
 use crate::networks::check_network;
-use crate::schemas::{check_actions, check_initial, check_method_networks, check_methods, check_states};
+use crate::schemas::{
+    check_actions, check_initial, check_method_networks, check_methods, check_states,
+};
 use crate::types::check_name_types;
 use hddl_meaning::CheckFault;
 use std::alloc::AllocError;

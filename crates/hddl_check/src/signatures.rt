@@ -73,7 +73,11 @@ impl Signatures {
         Ok(())
     }
 
-    pub(crate) fn push_actions(&mut self, alloc: Global, actions: &[ActionText]) -> Result<(), AllocError>
+    pub(crate) fn push_actions(
+        &mut self,
+        alloc: Global,
+        actions: &[ActionText],
+    ) -> Result<(), AllocError>
         ensures { OnOk result ((signatures : List Signature) → IsTableOf signatures self.old → IsTableOf (signatures ++ map (λ x. signature x.name x.parameters) actions.now) self.new) }
     {
         for action in actions {

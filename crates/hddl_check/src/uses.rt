@@ -28,7 +28,7 @@ fn check_use(
 ) -> Result<Option<CheckFault>, AllocError>
     ensures { IfOk result (λ found. (signatures : List Signature) → IsTableOf signatures declared.now
         → Finds (UseFails context.now.domain.now context.now.problem.now context.now.source (map (λ s. s.name) (take count signatures)) signatures
-          (record { variables = scope.now; atom = atom.now })) found) }
+        (record { variables = scope.now; atom = atom.now })) found) }
 {
     let text = fold(context.alloc, atom.name.text())?;
     let Some(places) = declared.get(count, &text) else {

@@ -1,12 +1,12 @@
-use Rattle.std.proofs.Common.{◌≡◌, ◌++◌, ◌∷◌, [], ◌∙◌, ap, sym, subst, List, take, map}
+use Rattle.std.proofs.Common.{◌≡◌, ◌++◌, ◌∙◌, ap, sym, subst, List, take}
 use Rattle.std.proofs.lemmas.List.{take_all}
 use Rattle.std.proofs.lemmas.Result.{IfOk-weaker}
 use Rattle.std.specs.List.{flat_map}
 use Rattle.hddl_tree.specs.declared.condition.Condition.{Forall}
-use Rattle.hddl_meaning.specs.Uses.{quantified_of, sides}
+use Rattle.hddl_meaning.specs.Uses.{quantified_of}
 use Rattle.hddl_check.specs.Contexts.{Fails, AnyFails}
 use Rattle.hddl_check.specs.Findings.{Finds}
-use Rattle.hddl_check.specs.Parts.{Part, Atom, Side, quantifier_parts}
+use Rattle.hddl_check.specs.Parts.{Part, Atom, quantifier_parts}
 use Rattle.hddl_check.specs.Scopes.{condition_parts}
 use Rattle.hddl_check.proofs.Finding.{Finds-next, Finds-append, Finds-list, Finds-nil, Finds-single, Finds-within, none_from, after_none, Finds-enough}
 use Rattle.hddl_check.proofs.Folding.{literal_parts, equality_parts, own_parts, body_parts, own_of_forall, to_forall, from_forall}

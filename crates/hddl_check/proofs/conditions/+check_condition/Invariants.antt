@@ -1,4 +1,4 @@
-use Rattle.std.proofs.Common.{◌≡◌, ◌++◌, take}
+use Rattle.std.proofs.Common.{take}
 use Rattle.std.specs.List.{flat_map}
 use Rattle.hddl_check.specs.Contexts.{AnyFails}
 use Rattle.hddl_check.specs.Findings.{Finds}

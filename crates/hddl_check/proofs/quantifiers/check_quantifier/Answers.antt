@@ -1,4 +1,4 @@
-use Rattle.std.proofs.Common.{◌≡◌, ◌++◌, ◌∙◌, ap, subst, List, [], ◌∷◌}
+use Rattle.std.proofs.Common.{◌≡◌, ◌++◌, ◌∙◌, ap, subst, List, ◌∷◌}
 use Rattle.hddl_meaning.specs.Mentions.{Mention, mentions_of, typed_variables}
 use Rattle.hddl_meaning.specs.Items as items
 use Rattle.hddl_meaning.specs.Items.{variable_mentions}

@@ -1,11 +1,11 @@
-use Rattle.std.proofs.Common.{◌≡◌, ◌∙◌, ◌++◌, ◌∷◌, [], ap, sym, subst, List, map}
+use Rattle.std.proofs.Common.{◌≡◌, ◌∙◌, ◌++◌, ap, sym, subst, List, map}
 use Rattle.hddl_tree.specs.declared.term.VariableGroup.{VariableGroup}
 use Rattle.hddl_tree.specs.declared.condition.LiteralText.{LiteralText}
 use Rattle.hddl_meaning.specs.Items.{most_parameters}
 use Rattle.hddl_meaning.specs.Mentions.{mentions_of, typed_variables}
-use Rattle.hddl_meaning.specs.Uses.{Variable, Use, parameters_of, schema_of_action}
+use Rattle.hddl_meaning.specs.Uses.{Variable, parameters_of, schema_of_action}
 use Rattle.hddl_meaning.proofs.Listed.{in_left}
-use Rattle.hddl_check.specs.Contexts.{Fails, AnyFails}
+use Rattle.hddl_check.specs.Contexts.{Fails}
 use Rattle.hddl_check.specs.Findings.{Finds}
 use Rattle.hddl_check.specs.Parts.{Part, Limited, Atom, conditions_parts, inner_parts, parameter_parts}
 use Rattle.hddl_check.proofs.Finding.{Finds-append, Finds-enough, Finds-list, Finds-within, some_among}

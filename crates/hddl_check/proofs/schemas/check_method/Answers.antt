@@ -1,14 +1,12 @@
-use Rattle.std.proofs.Common.{◌≡◌, ◌∙◌, ◌++◌, ◌∷◌, [], ap, sym, subst, List, map}
+use Rattle.std.proofs.Common.{◌≡◌, ◌∙◌, ◌++◌, ◌∷◌, ap, sym, subst, List, map}
 use Rattle.hddl_tree.specs.declared.term.VariableGroup.{VariableGroup}
-use Rattle.hddl_tree.specs.declared.condition.Condition.{Condition}
-use Rattle.hddl_tree.specs.declared.condition.EqualityText.{EqualityText}
 use Rattle.hddl_tree.specs.declared.network.SubtaskText.{SubtaskText}
 use Rattle.std.specs.List.{flat_map}
 use Rattle.hddl_meaning.specs.Items.{most_parameters}
 use Rattle.hddl_meaning.specs.Mentions.{mentions_of, typed_variables}
-use Rattle.hddl_meaning.specs.Uses.{Variable, Use, parameters_of, sides, subtasks_in, constraints_in, schema_of_method}
+use Rattle.hddl_meaning.specs.Uses.{Variable, parameters_of, sides, subtasks_in, constraints_in, schema_of_method}
 use Rattle.hddl_meaning.proofs.Listed.{in_left}
-use Rattle.hddl_check.specs.Contexts.{Fails, AnyFails}
+use Rattle.hddl_check.specs.Contexts.{Fails}
 use Rattle.hddl_check.specs.Findings.{Finds}
 use Rattle.hddl_check.specs.Parts.{Part, Limited, Decomposed, Side, Subtask, conditions_parts, inner_parts, parameter_parts}
 use Rattle.hddl_check.proofs.Finding.{Finds-append, Finds-cons, Finds-enough, Finds-list, some_among}
