@@ -1,7 +1,6 @@
 //! Checks that a domain and a problem fit together.
 #![tactic(auto)]
 
-mod check;
 mod context;
 mod cycles;
 mod declarations;
@@ -15,6 +14,7 @@ mod mention;
 mod mentions;
 mod networks;
 mod numbers;
+mod pair;
 mod quantifiers;
 mod repeated;
 mod schemas;
@@ -22,5 +22,5 @@ mod scope;
 mod shape;
 mod types;
 
-pub use check::check;
 pub use faults::declaration_fault;
+pub use pair::check;

@@ -3,12 +3,17 @@
 #![tactic(auto)]
 
 mod answer;
+mod line;
 mod outcome;
 mod run;
 mod source;
+mod stop;
+mod texts;
+mod words;
 
 pub use htn_plan::{Out, Sink};
 pub use htn_search::{Bounds, Gate, NoGate};
 pub use outcome::{Outcome, RunFault};
-pub use run::run_task;
+pub use run::{run_plan, run_task};
 pub use source::{Disk, MAX_BYTES_READ, ReadFault, Source};
+pub use words::run_words;

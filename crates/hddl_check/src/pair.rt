@@ -10,16 +10,13 @@ use htn_task::Task;
 use std::alloc::Global;
 
 /// The task of a domain and a problem that fit together.
-pub fn check(
-    alloc: Global,
-    domain: &DomainText,
-    problem: &ProblemText,
-) -> Result<Task, CheckFault>
+pub fn check(alloc: Global, domain: &DomainText, problem: &ProblemText) -> Result<Task, CheckFault>
     ensures fits { IfOk result (λ _. IsWellTypedPair domain.now problem.now) }
     ensures task { IfOk result (IsTaskOf domain.now problem.now) }
     ensures fault { IfErr result (λ fault. fault ≢ OutOfMemory → FailsAt domain.now problem.now fault) }
 {
     let _alloc = alloc;
-    let _pair = (domain, problem);
+    let _domain = domain;
+    let _problem = problem;
     Err(CheckFault::OutOfMemory)
 }
