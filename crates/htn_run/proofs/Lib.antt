@@ -1,3 +1,4 @@
+mod Refusing
 mod Saying
 mod Names
 mod OneAnswer

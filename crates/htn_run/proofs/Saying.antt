@@ -1,6 +1,5 @@
 -- What the text of an answer says.
 use Rattle.std.proofs.Common.{◌≡◌, ℕ, List, Option, Result, Ok, Err, IfErr, codes, refl, sym, subst}
-use Rattle.std.specs.Io.KnownBytes.{Appends}
 use Rattle.htn_model.specs.Task.{Task}
 use Rattle.htn_model.specs.PlanFile.{PlanFile}
 use Rattle.htn_model.specs.Grounding.{problem_of}

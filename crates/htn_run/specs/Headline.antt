@@ -69,3 +69,7 @@ pub record IsCutShort (task : Task) (bound : ℕ) (old new : Option (List ℕ)) 
   pub text : List ℕ
   pub says : Says task bound outcome text
   pub begun : TakesBeginning old new text
+
+-- a beginning of the text that answers for the two texts was added to the output
+abbrev pub IsAnswerCutShort : List ℕ → List ℕ → ℕ → Option (List ℕ) → Option (List ℕ) → Type 0
+IsAnswerCutShort domain problem bound old new = (task : Task) × IsTaskOfTexts domain problem task × IsCutShort task bound old new

@@ -1,3 +1,4 @@
 pub mod Faults
 pub mod Headline
 pub mod Laws
+pub mod Stops

@@ -4,13 +4,18 @@
 
 mod answer;
 mod laws;
+mod line;
 mod outcome;
 mod run;
 mod source;
+mod stop;
+mod texts;
+mod words;
 
 pub use htn_plan::{Out, Sink};
 pub use htn_search::{Bounds, Gate, NoGate};
 pub use laws::{answers_are_unique, answers_exist, faulty_texts_have_no_answer, names_differ};
 pub use outcome::{Outcome, RunFault};
-pub use run::run_task;
+pub use run::{run_plan, run_task};
 pub use source::{Disk, MAX_BYTES_READ, ReadFault, Source};
+pub use words::run_words;

@@ -24,6 +24,7 @@ pub trait Source {
 }
 
 /// The files of the system.
+#[derive(Drop)]
 pub struct Disk<'a, F: Files> {
     pub files: &'a F,
 }

@@ -1,8 +1,4 @@
-use Rattle.std.proofs.Common.{◌≡◌, ℕ, List, true, codes}
-use Rattle.plan_text.specs.Written.{written}
-use Rattle.htn_run.specs.Headline.{IsCutShort, Says}
 use Rattle.htn_run.specs.declared.outcome.Outcome.TheVariants.{Found, NoPlan, Unsolvable}
-use Rattle.htn_run.specs.declared.outcome.RunFault.TheVariants.{Output}
 use Rattle.htn_run.proofs.Saying.{says_plan, says_none, says_unsolvable, cut_short, at_error}
 use Rattle.htn_run.proofs.answer.write_answer.Goals as goal
 

@@ -1,0 +1,26 @@
+use Rattle.std.proofs.lemmas.Result.{err_from_is_err_and}
+use Rattle.htn_run.proofs.texts.task_of.Goals as goal
+
+pub returns-in_err-domain_tree-clause-refused :
+    goal.returns-in_err-domain_tree-clause-refused
+returns-in_err-domain_tree-clause-refused c =
+    let p = err_from_is_err_and c.from_residual.result c.from_residual.ensures.1 in
+    rw (p.1, p.2) (λ bounds. c.in_err-domain_tree.ensures.refused c.args.problem.now bounds)
+
+pub returns-in_err-problem_tree-clause-refused :
+    goal.returns-in_err-problem_tree-clause-refused
+returns-in_err-problem_tree-clause-refused c =
+    let p = err_from_is_err_and c.from_residual-in_err-problem_tree.result c.from_residual-in_err-problem_tree.ensures.1 in
+    rw (p.1, p.2) (λ bounds. c.in_err-problem_tree.ensures.refused c.args.domain.now c.in_ok-domain_tree.domain_tree bounds c.in_ok-domain_tree.ensures.spelled)
+
+pub returns : goal.returns
+returns c = record {
+  task = tt;
+  refused = λ bounds. (
+    c.in_ok-domain_tree.domain_tree,
+    c.in_ok-problem_tree.problem_tree,
+    c.in_ok-domain_tree.ensures.spelled,
+    c.in_ok-problem_tree.ensures.spelled,
+    c.in-Err.ensures.fault (λ e. c.in_default.not-OutOfMemory e),
+  );
+}

@@ -1,0 +1,133 @@
+//! The run of a command line.
+ghost use Rattle.std.specs.Prelude.{◌≡◌, ◌≢◌, ◌≤◌, ◌⊎◌, true, IfOk, IfErr, OnOk};
+ghost use Rattle.htn_run.specs.Stops.{AddsAnswer, AddsNoPlan, FaultLeaves, Leaves};
+
+use crate::line::Line;
+use crate::outcome::{Outcome, RunFault};
+use crate::run::run_plan;
+use crate::source::{ReadFault, Source};
+use crate::stop::Stop;
+use clap::Error;
+use clap::error::ErrorKind;
+use htn_command::{Request, parse};
+use htn_plan::{Out, put_all};
+use htn_search::NoGate;
+use std::alloc::Global;
+use std::fmt::Write;
+use std::sync::Wait;
+use std::thread::Threads;
+
+/// Does what the words ask for, of which the first is the program's name, and answers the status of the program.
+///
+/// | Status | When | On `err` |
+/// |---|---|---|
+/// | 0 | a plan, or help that was asked for | nothing |
+/// | 1 | `none` or `unsolvable` | nothing |
+/// | 2 | the words are refused | the text of `clap` |
+/// | 3 | a text is refused | one line: which text, the fault and its place |
+/// | 4 | want of memory, or no thread | one line |
+/// | 5 | a file can't be read, or the output can't be written | one line |
+///
+/// The files are read in the order of the words. Nothing is written to `out` before the answer is known. A write to
+/// `err` that fails changes no status. What the words mean is shown by tests.
+pub fn run_words<S: Source, O: Out, E: Out, R: Threads + Wait + Sync>(
+    rt: &R,
+    alloc: Global,
+    words: &[String],
+    files: &mut S,
+    out: &mut O,
+    err: &mut E,
+) -> u8
+    ensures status { result ≤ 5 }
+    ensures works { result ≤ 1 → O.has_failed out.new ≡ O.has_failed out.old }
+    ensures none { result ≡ 1 → AddsNoPlan (O.contents out.old) (O.contents out.new) }
+    ensures kept { 2 ≤ result → result ≤ 4 → out.new ≡ out.old }
+    ensures failed { result ≡ 5 → (out.new ≡ out.old) ⊎ (O.has_failed out.new ≡ true) }
+{
+    match parse(alloc, words) {
+        Ok(request) => match run_request(rt, alloc, request, files, out) {
+            Ok(Outcome::Found) => 0,
+            Ok(Outcome::NoPlan | Outcome::Unsolvable) => 1,
+            Err(stop) => stop.tell(err),
+        },
+        Err(error) => refuse_words(alloc, &error, out, err),
+    }
+}
+
+// Help goes to the standard output, and what `clap` refuses to the standard error.
+fn refuse_words<O: Out, E: Out>(alloc: Global, error: &Error, out: &mut O, err: &mut E) -> u8
+    ensures status { result ≤ 5 }
+    ensures other { result ≢ 1 }
+    ensures works { result ≡ 0 → O.has_failed out.new ≡ O.has_failed out.old }
+    ensures kept { 2 ≤ result → result ≤ 4 → out.new ≡ out.old }
+    ensures failed { result ≡ 5 → (out.new ≡ out.old) ⊎ (O.has_failed out.new ≡ true) }
+{
+    if error.kind() == ErrorKind::OutOfMemory {
+        return Stop::Run(RunFault::OutOfMemory).tell(err);
+    }
+    if error.use_stderr() {
+        let _refused = write!(Line::new(err), "{error}");
+        return 2;
+    }
+    match write_help(alloc, error, out) {
+        Ok(()) => 0,
+        Err(fault) => Stop::Run(fault).tell(err),
+    }
+}
+
+fn write_help<O: Out>(alloc: Global, error: &Error, out: &mut O) -> Result<(), RunFault>
+    ensures works { OnOk result (O.has_failed out.new ≡ O.has_failed out.old) }
+    ensures stopped { IfErr result (FaultLeaves O.has_failed out.old out.new) }
+{
+    let text = error.to_string(alloc)?;
+    put_all(out, text.as_bytes())?;
+    Ok(())
+}
+
+fn run_request<S: Source, O: Out, R: Threads + Wait + Sync>(
+    rt: &R,
+    alloc: Global,
+    request: Request<'_>,
+    files: &mut S,
+    out: &mut O,
+) -> Result<Outcome, Stop>
+    ensures answered { IfOk result (λ outcome. AddsAnswer outcome (O.contents out.old) (O.contents out.new)) }
+    ensures works { OnOk result (O.has_failed out.new ≡ O.has_failed out.old) }
+    ensures stopped { IfErr result (Leaves O.has_failed out.old out.new) }
+{
+    match request {
+        Request::Plan {
+            domain,
+            problem,
+            bounds,
+        } => {
+            let domain = read_file(alloc, files, "domain", domain)?;
+            let problem = read_file(alloc, files, "problem", problem)?;
+            Ok(run_plan(
+                rt,
+                alloc,
+                domain.as_slice(),
+                problem.as_slice(),
+                bounds,
+                &NoGate,
+                out,
+            )?)
+        }
+    }
+}
+
+// A file's bytes; `text` says on the standard error which one can't be read.
+fn read_file<S: Source>(
+    alloc: Global,
+    files: &mut S,
+    text: &'static str,
+    name: &str,
+) -> Result<Vec<u8>, Stop>
+    ensures { IfErr result (λ stop. stop ≢ Stop.Run RunFault.Output) }
+{
+    match files.read(alloc, name) {
+        Ok(bytes) => Ok(bytes),
+        Err(ReadFault::Unreadable) => Err(Stop::Unreadable(text)),
+        Err(ReadFault::OutOfMemory) => Err(Stop::Run(RunFault::OutOfMemory)),
+    }
+}
