@@ -1,0 +1,145 @@
+//! Command lines: statuses, and the lines on the standard error.
+
+use crate::pairs::{ROAD, TRIP, text_of};
+use crate::words_of;
+use crate::writers::Narrow;
+use htn_run::{ReadFault, Sink, Source, run_words};
+use std::alloc::Global;
+use std::process::Abort;
+use std::sync::Wait;
+use std::test::Fail;
+use std::thread::Threads;
+
+// Files in memory: `d` and `p` are the road's, `full` is refused memory, and no other can be read. Each name that is
+// asked for is noted.
+#[derive(Drop)]
+struct Shelf {
+    asked: String,
+}
+
+impl Source for Shelf {
+    fn read(&mut self, alloc: Global, name: &str) -> Result<Vec<u8>, ReadFault> {
+        if self.asked.push_str(name).is_err() {
+            return Err(ReadFault::OutOfMemory);
+        }
+        let text = match name {
+            "d" => ROAD.domain,
+            "p" => ROAD.problem,
+            "full" => return Err(ReadFault::OutOfMemory),
+            _ => return Err(ReadFault::Unreadable),
+        };
+        match text.as_bytes().to_vec(alloc) {
+            Ok(bytes) => Ok(bytes),
+            Err(_) => Err(ReadFault::OutOfMemory),
+        }
+    }
+}
+
+// The names of the files that were asked for, the standard output, the standard error and the status, in one line.
+fn run<R: Threads + Wait + Sync>(
+    rt: &R,
+    alloc: Global,
+    line: &str,
+    room: usize,
+    room_of_errors: usize,
+) -> Result<String, Fail> {
+    let words = words_of(alloc, line)?;
+    let mut files = Shelf {
+        asked: String::new(alloc),
+    };
+    let mut out = Sink::new(Narrow {
+        taken: Vec::new(alloc),
+        step: 1_000,
+        room,
+    });
+    let mut err = Sink::new(Narrow {
+        taken: Vec::new(alloc),
+        step: 1_000,
+        room: room_of_errors,
+    });
+    let status = run_words(rt, alloc, words.as_slice(), &mut files, &mut out, &mut err);
+    let printed = text_of(alloc, out.into_inner().taken.as_slice())?;
+    let told = text_of(alloc, err.into_inner().taken.as_slice())?;
+    let asked = files.asked.as_str();
+    Ok(format!(in alloc; "{asked}|{printed}|{told}|{status}")?)
+}
+
+#[test]
+fn statuses_and_lines(rt: HostRuntime) -> Result<(), Fail> {
+    let alloc = rt.alloc();
+    let trip = format!(in alloc; "dp|{TRIP}||0")?;
+    let rows = [
+        ("plan d p --nodes 8", 1_000, trip.as_str()),
+        ("plan d p", 1_000, trip.as_str()),
+        ("plan d p --nodes 7", 1_000, "dp|none\n||1"),
+        ("plan p d", 1_000, "pd||domain: Expected at 9\n|3"),
+        ("plan d d", 1_000, "dd||problem: Expected at 9\n|3"),
+        ("plan x p", 1_000, "x||domain: cannot be read\n|5"),
+        ("plan d x", 1_000, "dx||problem: cannot be read\n|5"),
+        ("plan full x", 1_000, "full||OutOfMemory\n|4"),
+        ("plan d full", 1_000, "dfull||OutOfMemory\n|4"),
+        (
+            "plan d p --nodes 8",
+            10,
+            "dp|==>\n0 driv|output: cannot be written\n|5",
+        ),
+        ("plan d p --nodes 7", 0, "dp||output: cannot be written\n|5"),
+        ("--help", 0, "||output: cannot be written\n|5"),
+    ];
+    for (line, room, text) in rows {
+        let found = run(&rt, alloc, line, room, 1_000)?;
+        assert_eq!(rt; found.as_str(), text, "{line}");
+    }
+    Ok(())
+}
+
+// A write to the standard error that fails changes no status.
+#[test]
+fn a_failed_error_output(rt: HostRuntime) -> Result<(), Fail> {
+    let alloc = rt.alloc();
+    let rows = [
+        ("plan x p", "x|||5"),
+        ("plan p d", "pd|||3"),
+        ("plan full p", "full|||4"),
+        ("plan d", "|||2"),
+    ];
+    for (line, text) in rows {
+        let found = run(&rt, alloc, line, 1_000, 0)?;
+        assert_eq!(rt; found.as_str(), text, "{line}");
+    }
+    Ok(())
+}
+
+#[test]
+fn refused_command_lines(rt: HostRuntime) -> Result<(), Fail> {
+    let alloc = rt.alloc();
+    let rows = [
+        "plan d p --workers 0",
+        "plan d p --workers 65",
+        "plan d p --nodes 10001",
+        "plan d p --piece 0",
+        "plan d p --piece 1000001",
+        "plan d p --nodes x",
+        "plan d",
+        "plan d p f",
+        "verify d p f",
+        "paint",
+    ];
+    for line in rows {
+        let found = run(&rt, alloc, line, 1_000, 10_000)?;
+        assert!(rt; found.as_str().starts_with("||error: "), "{line}");
+        assert!(rt; found.as_str().ends_with("|2"), "{line}");
+    }
+    Ok(())
+}
+
+#[test]
+fn help_goes_to_the_standard_output(rt: HostRuntime) -> Result<(), Fail> {
+    let alloc = rt.alloc();
+    for line in ["--help", "plan --help"] {
+        let found = run(&rt, alloc, line, 10_000, 0)?;
+        assert!(rt; found.as_str().contains("Usage: htnplan"), "{line}");
+        assert!(rt; found.as_str().ends_with("||0"), "{line}");
+    }
+    Ok(())
+}
