@@ -1,9 +1,10 @@
 -- Why a run is refused.
 use Rattle.std.proofs.Common.{◌≢◌, ℕ, List, Result, Ok, Err, IfOk, IfErr, subst}
 use Rattle.word_machine.specs.declared.bounds.Bounds.{Bounds}
-use Rattle.htn_run.specs.Headline.{Refuses}
+use Rattle.htn_run.specs.Headline.{IsWant, Refuses}
 use Rattle.htn_run.specs.declared.outcome.RunFault.{RunFault}
 use Rattle.htn_run.specs.declared.outcome.RunFault.TheVariants.{Output}
+use Rattle.htn_run.specs.declared.outcome.RunFault.TheVariants as fault
 
 -- a refusal is no fault of the output
 pub refused_output : (domain problem : List ℕ) (bounds : Bounds) (f : RunFault) → Refuses domain problem bounds f → f ≢ Output
@@ -16,3 +17,12 @@ ok_more P Q (Err e) more h = tt
 pub err_more : {T E : Type 0} (P Q : E → Type 0) (r : Result T E) → ((e : E) → P e → Q e) → IfErr r P → IfErr r Q
 err_more P Q (Ok t) more h = tt
 err_more P Q (Err e) more h = more e h
+
+-- a want is a refusal
+pub want_refuses : (domain problem : List ℕ) (bounds : Bounds) (f : RunFault) → IsWant bounds f → Refuses domain problem bounds f
+want_refuses domain problem bounds (fault.Domain f) h = absurd h
+want_refuses domain problem bounds (fault.Problem f) h = absurd h
+want_refuses domain problem bounds (fault.Check f) h = absurd h
+want_refuses domain problem bounds fault.OutOfMemory h = tt
+want_refuses domain problem bounds fault.NoThread h = h
+want_refuses domain problem bounds fault.Output h = absurd h

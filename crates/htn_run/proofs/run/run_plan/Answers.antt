@@ -1,6 +1,6 @@
 use Rattle.std.proofs.Common.{refl}
 use Rattle.std.proofs.lemmas.Result.{err_from_is_err_and}
-use Rattle.htn_run.proofs.Refusing.{refused_output, ok_more, err_more}
+use Rattle.htn_run.proofs.Refusing.{refused_output, ok_more, err_more, want_refuses}
 use Rattle.htn_run.proofs.run.run_plan.Goals as goal
 
 pub returns-in_err-task-clause-refused :
@@ -22,3 +22,7 @@ returns-clause-answer g c =
 pub returns-clause-cut_short : goal.returns-clause-cut_short
 returns-clause-cut_short g c =
     err_more _ _ c.run_task.result (λ fault h e. let k = h e in ((c.in_ok-task.task, c.in_ok-task.ensures.task, k.0), k.1)) c.run_task.ensures.cut_short
+
+pub returns-clause-refused : goal.returns-clause-refused
+returns-clause-refused g c =
+    err_more _ _ c.run_task.result (λ fault h e. let k = h e in (want_refuses c.args.domain.now c.args.problem.now c.args.bounds fault k.0, k.1)) c.run_task.ensures.refused
