@@ -7,6 +7,5 @@ pub mod Counted
 pub mod Gathering
 pub mod Apart
 pub mod Filed
-pub mod Trip
 pub mod Ranges
 pub mod Named

@@ -4,4 +4,3 @@ pub mod Preorder
 pub mod Walk
 pub mod Items
 pub mod Gathered
-pub mod Trip

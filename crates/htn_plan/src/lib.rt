@@ -8,8 +8,6 @@ mod ids;
 mod lines;
 mod names;
 mod preorder;
-#[cfg(test)]
-mod tests;
 
 pub use file::file_of;
 pub use plan_text::{
