@@ -1,17 +1,15 @@
 -- The first type on a cycle, as a finding.
-use Rattle.std.proofs.Common.{◌≡◌, ℕ, List, ◌∷◌, ◌++◌, Option, Some, None, MatchOption, option_map, refl, sym, subst}
+use Rattle.std.proofs.Common.{ℕ, ◌∷◌, Option, Some, None, MatchOption, option_map, refl, sym, subst}
 use Rattle.hddl_tree.specs.declared.domain.DomainText.{DomainText}
 use Rattle.hddl_meaning.specs.Mentions.{IsIn}
-use Rattle.hddl_meaning.specs.Names.{type_mentions}
 use Rattle.hddl_meaning.specs.declared.fault.Source.TheVariants as source
-use Rattle.hddl_meaning.specs.declared.fault.At.{At}
 use Rattle.hddl_meaning.specs.declared.fault.CheckFault.{CheckFault}
 use Rattle.hddl_meaning.specs.declared.fault.CheckFault.TheVariants as fault
 use Rattle.hddl_meaning.proofs.Listed.{at_head, in_right}
 use Rattle.hddl_names.specs.Cycles.{HasNoCycle, IsFirstCycle}
 use Rattle.hddl_check.specs.Cycles.{IsCycleFault}
-use Rattle.hddl_check.specs.Findings.{Finds}
-use Rattle.hddl_check.proofs.Finding.{Finds-none, Finds-some}
+use Rattle.hddl_scope.specs.Findings.{Finds}
+use Rattle.hddl_scope.proofs.Finding.{Finds-none, Finds-some}
 
 abbrev pub fault_at : ℕ → CheckFault
 fault_at place = fault.TypeCycle (record { source = source.Domain; place = place })

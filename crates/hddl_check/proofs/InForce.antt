@@ -17,7 +17,7 @@ use Rattle.hddl_meaning.specs.Items.{schemas_in, tasks_in}
 use Rattle.hddl_meaning.specs.declared.fault.Source.{Source}
 use Rattle.hddl_meaning.specs.declared.fault.Source.TheVariants as source
 use Rattle.hddl_meaning.proofs.Listed.{at_head, at_tail, in_cases, in_flat_map, in_left, in_nothing, in_right}
-use Rattle.hddl_check.proofs.Finding.{flat_mapped, mapped}
+use Rattle.hddl_scope.proofs.Finding.{flat_mapped, mapped}
 
 module _ (P : Typed → Type 0) where
   -- what variables declare has a property

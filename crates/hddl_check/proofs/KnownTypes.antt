@@ -12,9 +12,9 @@ use Rattle.hddl_meaning.specs.Types.{text_or_object}
 use Rattle.hddl_meaning.specs.Items.{IsDeclaredType}
 use Rattle.hddl_meaning.proofs.Listed.{at_head, in_cases, in_flat_map, in_left, in_nothing, in_right}
 use Rattle.hddl_names.specs.Members.{AreTyped}
-use Rattle.hddl_check.specs.Known.{AllTyped, IsTyped}
-use Rattle.hddl_check.proofs.Cuts.{flat_more}
-use Rattle.hddl_check.proofs.TypeNames.{is_type_number}
+use Rattle.hddl_uses.specs.Known.{AllTyped, IsTyped}
+use Rattle.hddl_scope.proofs.Cuts.{flat_more}
+use Rattle.hddl_uses.proofs.TypeNames.{is_type_number}
 
 -- ## A type by its number
 

@@ -11,7 +11,8 @@ use Rattle.hddl_meaning.specs.Items.{most_parameters}
 use Rattle.hddl_tree.specs.declared.term.VariableGroup.{VariableGroup}
 use Rattle.hddl_meaning.specs.Uses.{Variable, Use, parameters_of, atoms_in, quantifiers_in, sides_in, subtasks_in, constraints_in, schema_of_method, schema_of_action, schema_of_states}
 use Rattle.hddl_meaning.proofs.Listed.{at_head, at_tail, in_left, in_right}
-use Rattle.hddl_check.specs.Parts.{Part, Different, Limited, Atom, Decomposed, Subtask, Side, quantifier_parts, conditions_parts, inner_parts, parameter_parts, type_parts}
+use Rattle.hddl_uses.specs.Parts.{Part, Different, Limited, Atom, Decomposed, Subtask, Side, quantifier_parts, conditions_parts, type_parts}
+use Rattle.hddl_check.specs.TextParts.{inner_parts, parameter_parts}
 
 -- the limit of parameters
 pub limit_in : (gs : List VariableGroup) → IsIn (Limited most_parameters (mentions_of (typed_variables gs))) (parameter_parts gs)

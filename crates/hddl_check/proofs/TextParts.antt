@@ -16,9 +16,10 @@ use Rattle.hddl_meaning.specs.Items.{schemas_in, networks_in, declared_objects, 
 use Rattle.hddl_meaning.specs.declared.fault.Source.{Source}
 use Rattle.hddl_meaning.specs.declared.fault.Source.TheVariants as source
 use Rattle.hddl_meaning.proofs.Listed.{at_head, at_tail, in_cases, in_nothing, in_left, in_right, in_map, in_flat_map}
-use Rattle.hddl_check.specs.Parts.{Part, type_parts, parameter_parts, quantifier_parts, inner_parts, schema_parts, network_parts, method_network_parts, method_parts, action_parts, predicate_parts, task_parts, name_parts, task_name_parts, declared_parts, body_parts, domain_parts, problem_parts}
-use Rattle.hddl_check.specs.Parts.Part.{Different, Limited, TypeName, Atom, Decomposed, Subtask, Side, Network, Types, Objects}
-use Rattle.hddl_check.proofs.Finding.{mapped, flat_mapped}
+use Rattle.hddl_uses.specs.Parts.{Part, type_parts, quantifier_parts, network_parts}
+use Rattle.hddl_check.specs.TextParts.{parameter_parts, inner_parts, schema_parts, method_network_parts, method_parts, action_parts, predicate_parts, task_parts, name_parts, task_name_parts, declared_parts, body_parts, domain_parts, problem_parts}
+use Rattle.hddl_uses.specs.Parts.Part.{Different, Limited, TypeName, Atom, Decomposed, Subtask, Side, Network, Types, Objects}
+use Rattle.hddl_scope.proofs.Finding.{mapped, flat_mapped}
 
 -- ## Lists of which each item has a property
 

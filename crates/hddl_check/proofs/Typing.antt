@@ -17,11 +17,11 @@ use Rattle.hddl_meaning.specs.declared.fault.Source.{Source}
 use Rattle.hddl_meaning.specs.declared.fault.Source.TheVariants as source
 use Rattle.hddl_meaning.specs.declared.fault.At.{At}
 use Rattle.hddl_meaning.proofs.Listed.{at_head, at_tail, distinct_push, in_cases, in_distinct, in_flat_map, in_left, in_map, in_nothing, in_right}
-use Rattle.hddl_check.specs.Known.{AreKnown, IsKnown, IsKnownClash, IsTyped}
-use Rattle.hddl_check.specs.Repeats.{IsPastAfter}
-use Rattle.hddl_check.proofs.Finding.{flat_mapped, mapped}
+use Rattle.hddl_uses.specs.Known.{AreKnown, IsKnown, IsKnownClash, IsTyped}
+use Rattle.hddl_scope.specs.Repeats.{IsPastAfter}
+use Rattle.hddl_scope.proofs.Finding.{flat_mapped, mapped}
 use Rattle.hddl_check.proofs.InForce.{AreAll, AreInForce, IsTypedSchema, in_force}
-use Rattle.hddl_check.proofs.TypeNames.{is_type_number}
+use Rattle.hddl_uses.proofs.TypeNames.{is_type_number}
 
 -- ## Lists
 

@@ -16,11 +16,12 @@ use Rattle.hddl_meaning.specs.declared.fault.At.{At}
 use Rattle.hddl_meaning.specs.declared.fault.CheckFault.{CheckFault}
 use Rattle.hddl_meaning.specs.declared.fault.CheckFault.TheVariants as fault
 use Rattle.hddl_meaning.proofs.Listed.{in_left, in_right, in_flat_map}
-use Rattle.hddl_check.specs.Known.{AreKnown}
-use Rattle.hddl_check.specs.Parts.{Part, FailsIn, PartFails, UseFails, IsWrongCount, HasClash}
+use Rattle.hddl_uses.specs.Known.{AreKnown}
+use Rattle.hddl_uses.specs.Parts.{Part, FailsIn, UseFails, IsWrongCount, HasClash}
+use Rattle.hddl_check.specs.TextParts.{PartFails}
 use Rattle.hddl_check.specs.Cycles.{IsCycleFault}
-use Rattle.hddl_check.specs.Parts.Part.{Different, Limited, TypeName, Atom, Decomposed, Subtask, Side, Network, Types, Objects}
-use Rattle.hddl_check.proofs.Finding.{flat_mapped}
+use Rattle.hddl_uses.specs.Parts.Part.{Different, Limited, TypeName, Atom, Decomposed, Subtask, Side, Network, Types, Objects}
+use Rattle.hddl_scope.proofs.Finding.{flat_mapped}
 use Rattle.hddl_check.proofs.Typing.{atom_typed, known_clash, objects_known, predicates_typed, task_typed, tasks_typed}
 use Rattle.hddl_check.proofs.TextParts.{IsPart, IsLimited, is_part, has_part}
 

@@ -6,7 +6,7 @@ use Rattle.hddl_meaning.specs.Items.{IsTypeCycle}
 use Rattle.hddl_meaning.specs.declared.fault.At.{At}
 use Rattle.hddl_meaning.specs.declared.fault.CheckFault.{CheckFault}
 use Rattle.hddl_meaning.specs.declared.fault.CheckFault.TheVariants as fault
-use Rattle.hddl_check.specs.Parts.{PartFails}
+use Rattle.hddl_check.specs.TextParts.{PartFails}
 
 abbrev pub IsCycleFault : DomainText → CheckFault → Type 0
 IsCycleFault d f = (at : At) × (f ≡ fault.TypeCycle at) × IsTypeCycle d at

@@ -1,11 +1,2 @@
-pub mod Findings
-pub mod Numbers
-pub mod Repeats
-pub mod Known
-pub mod Tables
-pub mod Declarations
-pub mod Parts
-pub mod Contexts
-pub mod Scopes
-pub mod Labels
+pub mod TextParts
 pub mod Cycles

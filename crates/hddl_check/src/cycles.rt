@@ -3,7 +3,7 @@ ghost use Rattle.std.specs.Prelude.{◌≡◌, IfOk, option_map};
 ghost use Rattle.hddl_meaning.specs.declared.fault.CheckFault.TheVariants as fault;
 ghost use Rattle.hddl_meaning.specs.declared.fault.Source.TheVariants as source;
 ghost use Rattle.hddl_check.specs.Cycles.{IsCycleFault};
-ghost use Rattle.hddl_check.specs.Findings.{Finds};
+ghost use Rattle.hddl_scope.specs.Findings.{Finds};
 
 use hddl_meaning::{At, CheckFault, Source};
 use hddl_names::TypeHierarchy;

@@ -1,19 +1,14 @@
 //! Declarations of predicates, tasks, methods and actions.
 ghost use Rattle.std.specs.Prelude.{IfOk};
 ghost use Rattle.std.specs.List.{flat_map};
-ghost use Rattle.hddl_check.specs.Contexts.{AnyFails};
-ghost use Rattle.hddl_check.specs.Findings.{Finds};
-ghost use Rattle.hddl_check.specs.Parts.{name_parts, predicate_parts, task_name_parts, task_parts};
+ghost use Rattle.hddl_uses.specs.Contexts.{AnyFails};
+ghost use Rattle.hddl_scope.specs.Findings.{Finds};
+ghost use Rattle.hddl_check.specs.TextParts.{name_parts, predicate_parts, task_name_parts, task_parts};
 
-use crate::context::Context;
-use crate::findings::first_of;
-use crate::limits::{MOST_DECLARATIONS, MOST_PARAMETERS};
-use crate::lists::{task_names, variables_in};
-use crate::mention::Mention;
-use crate::mentions::{check_different, check_limit};
-use crate::types::check_variable_types;
 use hddl_meaning::CheckFault;
+use hddl_scope::{MOST_DECLARATIONS, MOST_PARAMETERS, Mention, first_of, task_names, variables_in};
 use hddl_tree::{DomainText, PredicateText, TaskText};
+use hddl_uses::{Context, check_different, check_limit, check_variable_types};
 use std::alloc::AllocError;
 
 /// A fault of the names of declarations of one kind.

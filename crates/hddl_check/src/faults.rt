@@ -2,19 +2,18 @@
 ghost use Rattle.std.specs.Prelude.{◌≡◌, IfOk, MatchOption};
 ghost use Rattle.hddl_meaning.specs.Building.{vocabulary_of};
 ghost use Rattle.hddl_names.specs.Members.{AreMembersOf};
-ghost use Rattle.hddl_check.specs.Declarations.{AreDeclarationsOf};
-ghost use Rattle.hddl_check.specs.Findings.{Finds};
-ghost use Rattle.hddl_check.specs.Known.{AreKnown};
+ghost use Rattle.hddl_uses.specs.Declarations.{AreDeclarationsOf};
+ghost use Rattle.hddl_scope.specs.Findings.{Finds};
+ghost use Rattle.hddl_uses.specs.Known.{AreKnown};
 ghost use Rattle.hddl_check.specs.Cycles.{PairFails};
 
-use crate::context::Context;
 use crate::cycles::type_cycle;
-use crate::declared::Declarations;
-use crate::findings::first_of;
 use crate::shape::{check_domain, check_problem};
 use hddl_meaning::{CheckFault, Source};
 use hddl_names::{ObjectsByType, TypeHierarchy, Vocabulary};
+use hddl_scope::first_of;
 use hddl_tree::{DomainText, ProblemText};
+use hddl_uses::{Context, Declarations};
 use std::alloc::{AllocError, Global};
 
 /// A fault of the two texts.

@@ -4,7 +4,7 @@ ghost use Rattle.hddl_meaning.specs.Building.{vocabulary_of};
 ghost use Rattle.hddl_meaning.specs.Mentions.{typed_names};
 ghost use Rattle.hddl_meaning.specs.Names.{type_names};
 ghost use Rattle.hddl_names.specs.Members.{AreMembersOf};
-ghost use Rattle.hddl_check.specs.Known.{AllTyped, AreKnown};
+ghost use Rattle.hddl_uses.specs.Known.{AllTyped, AreKnown};
 
 use hddl_names::{ObjectsByType, TypeHierarchy, Vocabulary};
 use hddl_tree::{NameGroup, ProblemText};

@@ -4,16 +4,16 @@ ghost use Rattle.hddl_meaning.specs.Building.{IsTaskOf, vocabulary_of};
 ghost use Rattle.hddl_meaning.specs.Items.{FailsAt, IsWellTypedPair};
 ghost use Rattle.hddl_meaning.specs.declared.fault.CheckFault.TheVariants.{OutOfMemory};
 ghost use Rattle.hddl_check.specs.Cycles.{PairFails};
-ghost use Rattle.hddl_check.specs.Findings.{Finds};
-ghost use Rattle.hddl_check.specs.Known.{AreKnown};
+ghost use Rattle.hddl_scope.specs.Findings.{Finds};
+ghost use Rattle.hddl_uses.specs.Known.{AreKnown};
 
-use crate::declared::Declarations;
 use crate::faults::fault_among;
 use crate::objects::known_objects;
 use hddl_build::build;
 use hddl_meaning::CheckFault;
 use hddl_names::{ObjectsByType, TypeHierarchy, Vocabulary};
 use hddl_tree::{DomainText, ProblemText};
+use hddl_uses::Declarations;
 use htn_task::Task;
 use std::alloc::{AllocError, Global};
 

@@ -1,50 +1,32 @@
 //! What schemas declare and use: methods, actions, the initial network, and the initial atoms with the goal.
-ghost use Rattle.std.specs.Prelude.{IfOk};
+ghost use Rattle.std.specs.Prelude.{◌≡◌, IfOk};
 ghost use Rattle.std.specs.List.{flat_map};
-ghost use Rattle.hddl_meaning.specs.Items.{most_parameters};
 ghost use Rattle.hddl_meaning.specs.Mentions.{mentions_of, typed_variables};
 ghost use Rattle.hddl_meaning.specs.Uses.{schema_of_network, schema_of_states};
-ghost use Rattle.hddl_check.specs.Contexts.{AnyFails, Fails};
-ghost use Rattle.hddl_check.specs.Findings.{Finds};
-ghost use Rattle.hddl_check.specs.Parts.{Limited, action_parts, method_network_parts, method_parts, parameter_parts, schema_parts};
+ghost use Rattle.hddl_uses.specs.Contexts.{AnyFails};
+ghost use Rattle.hddl_scope.specs.Findings.{Finds};
+ghost use Rattle.hddl_check.specs.TextParts.{action_parts, method_network_parts, method_parts, parameter_parts, schema_parts};
 
-use crate::conditions::check_conditions;
-use crate::context::Context;
-use crate::findings::first_of;
-use crate::limits::MOST_PARAMETERS;
-use crate::lists::variables_in;
-use crate::mentions::{check_different, check_limit};
-use crate::networks::check_network;
-use crate::scope::parameters;
-use crate::types::check_variable_types;
-use crate::uses::{
-    check_atoms, check_constraints, check_decomposed, check_effects, check_tasks_used,
-};
 use hddl_meaning::CheckFault;
+use hddl_scope::{MOST_PARAMETERS, Mention, first_of, parameter_scope, variables_in};
 use hddl_tree::{ActionText, MethodText, ProblemText, VariableGroup};
+use hddl_uses::{
+    Context, check_atoms, check_conditions, check_constraints, check_decomposed, check_different,
+    check_effects, check_limit, check_network, check_tasks_used, check_variable_types,
+};
 use std::alloc::AllocError;
 
-/// The first parameter past the limit.
-fn check_count(
-    context: &Context<'_>,
-    groups: &[VariableGroup],
-) -> Result<Option<CheckFault>, AllocError>
-    ensures { IfOk result (Finds (Fails context.now (Limited most_parameters (mentions_of (typed_variables groups.now))))) }
-{
-    let mentions = variables_in(context.alloc, groups)?;
-    Ok(check_limit(context, MOST_PARAMETERS, &mentions))
-}
-
-/// A fault of parameters.
+/// A fault of parameters, of which these are the names.
 fn check_parameters(
     context: &Context<'_>,
     groups: &[VariableGroup],
+    mentions: &[Mention],
 ) -> Result<Option<CheckFault>, AllocError>
+    requires { mentions.now ≡ mentions_of (typed_variables groups.now) }
     ensures { IfOk result (Finds (AnyFails context.now (parameter_parts groups.now))) }
 {
-    let mentions = variables_in(context.alloc, groups)?;
-    let repeated = check_different(context, &mentions)?;
-    let limit = check_limit(context, MOST_PARAMETERS, &mentions);
+    let repeated = check_different(context, mentions)?;
+    let limit = check_limit(context, MOST_PARAMETERS, mentions);
     let types = check_variable_types(context, groups)?;
     Ok(first_of(repeated, first_of(limit, types)))
 }
@@ -57,11 +39,12 @@ fn check_method(
     ensures { IfOk result (Finds (AnyFails context.now (method_parts method.now))) }
 {
     let groups = method.parameters.as_slice();
-    let own = check_parameters(context, groups)?;
-    if check_count(context, groups)?.is_some() {
+    let mentions = variables_in(context.alloc, groups)?;
+    let own = check_parameters(context, groups, &mentions)?;
+    if check_limit(context, MOST_PARAMETERS, &mentions).is_some() {
         return Ok(own);
     }
-    let scope = parameters(context.alloc, groups)?;
+    let scope = parameter_scope(context.alloc, groups)?;
     let network = &method.network;
     let conditions = check_conditions(context, &scope, method.precondition.as_slice())?;
     let constraints = check_constraints(context, &scope, network.constraints.as_slice())?;
@@ -79,11 +62,12 @@ fn check_action(
     ensures { IfOk result (Finds (AnyFails context.now (action_parts action.now))) }
 {
     let groups = action.parameters.as_slice();
-    let own = check_parameters(context, groups)?;
-    if check_count(context, groups)?.is_some() {
+    let mentions = variables_in(context.alloc, groups)?;
+    let own = check_parameters(context, groups, &mentions)?;
+    if check_limit(context, MOST_PARAMETERS, &mentions).is_some() {
         return Ok(own);
     }
-    let scope = parameters(context.alloc, groups)?;
+    let scope = parameter_scope(context.alloc, groups)?;
     let conditions = check_conditions(context, &scope, action.precondition.as_slice())?;
     let effects = check_effects(context, &scope, action.effect.as_slice())?;
     Ok(first_of(own, first_of(conditions, effects)))
@@ -98,11 +82,12 @@ pub(crate) fn check_initial(
 {
     let groups = problem.htn.parameters.as_slice();
     let network = &problem.htn.network;
-    let own = check_parameters(context, groups)?;
-    if check_count(context, groups)?.is_some() {
+    let mentions = variables_in(context.alloc, groups)?;
+    let own = check_parameters(context, groups, &mentions)?;
+    if check_limit(context, MOST_PARAMETERS, &mentions).is_some() {
         return Ok(own);
     }
-    let scope = parameters(context.alloc, groups)?;
+    let scope = parameter_scope(context.alloc, groups)?;
     let constraints = check_constraints(context, &scope, network.constraints.as_slice())?;
     let subtasks = check_tasks_used(context, &scope, network.subtasks.as_slice())?;
     Ok(first_of(own, first_of(constraints, subtasks)))
@@ -115,7 +100,7 @@ pub(crate) fn check_states(
 ) -> Result<Option<CheckFault>, AllocError>
     ensures { IfOk result (Finds (AnyFails context.now (schema_parts (schema_of_states problem.now)))) }
 {
-    let none = check_parameters(context, &[])?;
+    let none = check_parameters(context, &[], &[])?;
     let atoms = check_atoms(context, &[], problem.init.as_slice())?;
     let goal = check_conditions(context, &[], problem.goal.as_slice())?;
     Ok(first_of(none, first_of(atoms, goal)))

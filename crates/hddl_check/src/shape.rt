@@ -1,21 +1,18 @@
 //! What a domain and a problem say, part by part.
 ghost use Rattle.std.specs.Prelude.{◌≡◌, IfOk};
 ghost use Rattle.hddl_meaning.specs.declared.fault.Source.TheVariants as source;
-ghost use Rattle.hddl_check.specs.Contexts.{AnyFails, Fails};
-ghost use Rattle.hddl_check.specs.Findings.{Finds};
-ghost use Rattle.hddl_check.specs.Parts.{Objects, Types, body_parts, declared_parts, domain_parts, problem_parts};
+ghost use Rattle.hddl_uses.specs.Contexts.{AnyFails, Fails};
+ghost use Rattle.hddl_scope.specs.Findings.{Finds};
+ghost use Rattle.hddl_uses.specs.Parts.{Objects, Types};
+ghost use Rattle.hddl_check.specs.TextParts.{body_parts, declared_parts, domain_parts, problem_parts};
 
-use crate::context::Context;
 use crate::declarations::{check_names, check_predicates, check_task_names, check_tasks};
-use crate::distinct::past_distinct;
-use crate::findings::first_of;
-use crate::lists::{method_names, names_in, predicate_names, types_in};
-use crate::networks::check_network;
 use crate::schemas::{
     check_actions, check_initial, check_method_networks, check_methods, check_states,
 };
-use crate::types::check_name_types;
 use hddl_meaning::CheckFault;
+use hddl_scope::{first_of, method_names, names_in, past_distinct, predicate_names, types_in};
+use hddl_uses::{Context, check_name_types, check_network};
 use std::alloc::AllocError;
 
 /// Too many types.

@@ -1,6 +1,6 @@
 use Rattle.std.proofs.Common.{subst, sym}
 use Rattle.hddl_check.specs.Cycles.{IsCycleFault}
-use Rattle.hddl_check.specs.Findings.{Finds}
+use Rattle.hddl_scope.specs.Findings.{Finds}
 use Rattle.hddl_check.proofs.Cyclic.{finds_cycle}
 use Rattle.hddl_check.proofs.cycles.type_cycle.Goals as goal
 

@@ -1,8 +1,8 @@
 use Rattle.std.proofs.Common.{[], ◌∷◌}
 use Rattle.hddl_meaning.specs.Items.{most_declarations}
-use Rattle.hddl_check.specs.Contexts.{Fails}
-use Rattle.hddl_check.specs.Parts.{Different, Limited}
-use Rattle.hddl_check.proofs.Finding.{Finds-cons, Finds-single}
+use Rattle.hddl_uses.specs.Contexts.{Fails}
+use Rattle.hddl_uses.specs.Parts.{Different, Limited}
+use Rattle.hddl_scope.proofs.Finding.{Finds-cons, Finds-single}
 use Rattle.hddl_check.proofs.declarations.check_names.Goals as goal
 
 pub returns : goal.returns

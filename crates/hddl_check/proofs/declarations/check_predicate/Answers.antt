@@ -2,10 +2,10 @@ use Rattle.std.proofs.Common.{◌∙◌, ap, subst, List}
 use Rattle.hddl_tree.specs.declared.term.VariableGroup.{VariableGroup}
 use Rattle.hddl_meaning.specs.Items.{most_parameters}
 use Rattle.hddl_meaning.specs.Mentions.{mentions_of, typed_variables}
-use Rattle.hddl_check.specs.Contexts.{Fails}
-use Rattle.hddl_check.specs.Findings.{Finds}
-use Rattle.hddl_check.specs.Parts.{Limited, type_parts}
-use Rattle.hddl_check.proofs.Finding.{Finds-cons, Finds-list}
+use Rattle.hddl_uses.specs.Contexts.{Fails}
+use Rattle.hddl_scope.specs.Findings.{Finds}
+use Rattle.hddl_uses.specs.Parts.{Limited, type_parts}
+use Rattle.hddl_scope.proofs.Finding.{Finds-cons, Finds-list}
 use Rattle.hddl_check.proofs.declarations.check_predicate.Goals as goal
 
 pub returns : goal.returns

@@ -1,12 +1,12 @@
-use Rattle.std.proofs.Common.{◌≡◌, ◌∙◌, [], ◌∷◌, ◌++◌, ap, subst, List, map, append-nil}
+use Rattle.std.proofs.Common.{◌∙◌, [], ◌∷◌, ◌++◌, ap, subst, List, map, append-nil}
 use Rattle.hddl_tree.specs.declared.domain.TaskText.{TaskText}
 use Rattle.hddl_tree.specs.declared.domain.ActionText.{ActionText}
 use Rattle.hddl_meaning.specs.Items.{most_declarations}
 use Rattle.hddl_meaning.specs.Mentions.{Mention, mention_of}
-use Rattle.hddl_check.specs.Contexts.{Fails}
-use Rattle.hddl_check.specs.Findings.{Finds}
-use Rattle.hddl_check.specs.Parts.{Different, Limited}
-use Rattle.hddl_check.proofs.Finding.{Finds-cons, Finds-single}
+use Rattle.hddl_uses.specs.Contexts.{Fails}
+use Rattle.hddl_scope.specs.Findings.{Finds}
+use Rattle.hddl_uses.specs.Parts.{Different, Limited}
+use Rattle.hddl_scope.proofs.Finding.{Finds-cons, Finds-single}
 use Rattle.hddl_check.proofs.declarations.check_task_names.Goals as goal
 
 pub returns : goal.returns

@@ -3,9 +3,10 @@ use Rattle.hddl_tree.specs.declared.term.VariableGroup.{VariableGroup}
 use Rattle.hddl_meaning.specs.Mentions.{typed_variables}
 use Rattle.std.proofs.lemmas.List.{take_all}
 use Rattle.std.specs.List.{flat_map}
-use Rattle.hddl_check.specs.Contexts.{Fails}
-use Rattle.hddl_check.specs.Parts.{task_parts, type_parts}
-use Rattle.hddl_check.proofs.Finding.{Finds-next, Finds-nil, Finds-list}
+use Rattle.hddl_uses.specs.Contexts.{Fails}
+use Rattle.hddl_uses.specs.Parts.{type_parts}
+use Rattle.hddl_check.specs.TextParts.{task_parts}
+use Rattle.hddl_scope.proofs.Finding.{Finds-next, Finds-nil, Finds-list}
 use Rattle.hddl_check.proofs.declarations.check_tasks.Goals as goal
 
 pub loop-task-init : goal.loop-task-init

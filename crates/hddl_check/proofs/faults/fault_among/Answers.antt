@@ -1,8 +1,8 @@
 use Rattle.std.proofs.Common.{subst}
 use Rattle.hddl_tree.specs.declared.domain.DomainText.{DomainText}
 use Rattle.hddl_check.specs.Cycles.{IsCycleFault}
-use Rattle.hddl_check.specs.Findings.{Finds}
-use Rattle.hddl_check.proofs.Finding.{Finds-either}
+use Rattle.hddl_scope.specs.Findings.{Finds}
+use Rattle.hddl_scope.proofs.Finding.{Finds-either}
 use Rattle.hddl_check.proofs.faults.fault_among.Goals as goal
 
 pub returns : goal.returns

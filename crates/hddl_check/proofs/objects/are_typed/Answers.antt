@@ -2,7 +2,7 @@ use Rattle.std.proofs.Common.{◌≡◌, subst, true, false, option_map, refl}
 use Rattle.std.proofs.lemmas.List.{take_all}
 use Rattle.hddl_meaning.specs.Mentions.{mention_of, typed_names}
 use Rattle.hddl_meaning.specs.Types.{text_or_object}
-use Rattle.hddl_check.specs.Known.{AllTyped}
+use Rattle.hddl_uses.specs.Known.{AllTyped}
 use Rattle.hddl_check.proofs.KnownTypes.{declared_type, empty_typed, group_typed, type_of_group, typed_next, undeclared_type}
 use Rattle.hddl_check.proofs.objects.are_typed.Goals.{else-not-is_empty-via-then-not-is_empty+in_ok-type_of+else-is_none, else-not-is_empty-via-else-not-is_empty}
 use Rattle.hddl_check.proofs.objects.are_typed.Goals as goal

@@ -1,7 +1,7 @@
 use Rattle.std.proofs.Common.{◌≡◌, ◌∙◌, ap, sym, subst, ◌≤◌, arith, length, true≢false}
 use Rattle.hddl_meaning.specs.Mentions.{typed_names}
 use Rattle.hddl_meaning.specs.Names.{object_names}
-use Rattle.hddl_check.specs.Known.{AllTyped}
+use Rattle.hddl_uses.specs.Known.{AllTyped}
 use Rattle.hddl_check.proofs.KnownTypes.{typed_both, typed_constants, typed_objects}
 use Rattle.hddl_check.proofs.objects.known_objects.Goals.{then-not-constants-via-then-not-constants, then-not-constants-via-else-not-constants+then-not-objects, then-not-constants-via-else-not-constants+else-not-objects+then-len-gt-MOST_OBJECTS}
 use Rattle.hddl_check.proofs.objects.known_objects.Goals as goal

@@ -3,15 +3,19 @@ use Rattle.hddl_tree.specs.declared.term.VariableGroup.{VariableGroup}
 use Rattle.hddl_tree.specs.declared.network.SubtaskText.{SubtaskText}
 use Rattle.std.specs.List.{flat_map}
 use Rattle.hddl_meaning.specs.Items.{most_parameters}
-use Rattle.hddl_meaning.specs.Mentions.{mentions_of, typed_variables}
+use Rattle.hddl_meaning.specs.Mentions.{Mention, mentions_of, typed_variables}
 use Rattle.hddl_meaning.specs.Uses.{Variable, parameters_of, sides, subtasks_in, constraints_in, schema_of_method}
 use Rattle.hddl_meaning.proofs.Listed.{in_left}
-use Rattle.hddl_check.specs.Contexts.{Fails}
-use Rattle.hddl_check.specs.Findings.{Finds}
-use Rattle.hddl_check.specs.Parts.{Part, Limited, Decomposed, Side, Subtask, conditions_parts, inner_parts, parameter_parts}
-use Rattle.hddl_check.proofs.Finding.{Finds-append, Finds-cons, Finds-enough, Finds-list, some_among}
+use Rattle.hddl_uses.specs.Contexts.{Fails}
+use Rattle.hddl_scope.specs.Findings.{Finds}
+use Rattle.hddl_uses.specs.Parts.{Part, Limited, Decomposed, Side, Subtask, conditions_parts}
+use Rattle.hddl_check.specs.TextParts.{inner_parts, parameter_parts}
+use Rattle.hddl_scope.proofs.Finding.{Finds-append, Finds-cons, Finds-enough, Finds-list, some_among}
 use Rattle.hddl_check.proofs.SchemaLists.{limit_in, method_is}
 use Rattle.hddl_check.proofs.schemas.check_method.Goals as goal
+
+pub check_parameters-requires : goal.check_parameters-requires
+check_parameters-requires c = c.deref.ensures.value ∙ c.in_ok-mentions.ensures
 
 pub returns-then-is_some : goal.returns-then-is_some
 returns-then-is_some c =
@@ -22,8 +26,8 @@ returns-then-is_some c =
     let found = Finds-list P (ap (λ (g : List VariableGroup). parameter_parts g) c.as_slice-groups.ensures) c.in_ok-own.ensures in
     let limit : Part = Limited most_parameters (mentions_of (typed_variables gs)) in
     let past =
-    subst (λ (g : List VariableGroup). Finds (P (Limited most_parameters (mentions_of (typed_variables g)))) c.in_ok-check_count.field-0) c.as_slice-groups.ensures
-    c.in_ok-check_count.ensures in
+    subst (λ (ms : List Mention). Finds (P (Limited most_parameters ms)) c.check_limit.result)
+    (c.deref-2.ensures.value ∙ c.in_ok-mentions.ensures ∙ ap (λ (g : List VariableGroup). mentions_of (typed_variables g)) c.as_slice-groups.ensures) c.check_limit.ensures in
     Finds-enough P own (own ++ inner) (λ x at. in_left x own inner at) (some_among P limit own (limit_in gs) (sym c.is_some.ensures ∙ c.if-is_some.true) past found) found
 
 pub returns : goal.returns
@@ -41,13 +45,13 @@ returns c =
     (Finds-list P (ap (λ (g : List VariableGroup). parameter_parts g) c.as_slice-groups.ensures) c.in_ok-own.ensures)
     (Finds-list P (method_is m)
     (Finds-append P conditions (constraints ++ (task ∷ subtasks))
-    (Finds-list P (λ i. conditions_parts ((c.deref.ensures.value ∙ scope) i) (c.as_slice.ensures i)) c.in_ok-conditions.ensures)
+    (Finds-list P (λ i. conditions_parts ((c.deref-3.ensures.value ∙ scope) i) (c.as_slice.ensures i)) c.in_ok-conditions.ensures)
     (Finds-append P constraints (task ∷ subtasks)
-    (Finds-list P (λ i. map Side (flat_map (sides ((c.deref-2.ensures.value ∙ scope) i)) (c.as_slice-2.ensures i))) c.in_ok-constraints.ensures)
+    (Finds-list P (λ i. map Side (flat_map (sides ((c.deref-4.ensures.value ∙ scope) i)) (c.as_slice-2.ensures i))) c.in_ok-constraints.ensures)
     (Finds-cons P task subtasks
-    (subst (λ (w : List Variable). Finds (P (Decomposed (record { variables = w; atom = m.task }))) c.in_ok-task.task) (c.deref-3.ensures.value ∙ scope) c.in_ok-task.ensures)
+    (subst (λ (w : List Variable). Finds (P (Decomposed (record { variables = w; atom = m.task }))) c.in_ok-task.task) (c.deref-5.ensures.value ∙ scope) c.in_ok-task.ensures)
     (Finds-list P
-    (λ i. map Subtask (map (λ (s : SubtaskText). record { variables = (c.deref-4.ensures.value ∙ scope) i; atom = s.task }) (c.as_slice-3.ensures i)))
+    (λ i. map Subtask (map (λ (s : SubtaskText). record { variables = (c.deref-6.ensures.value ∙ scope) i; atom = s.task }) (c.as_slice-3.ensures i)))
     c.in_ok-subtasks.ensures)
     c.first_of.ensures)
     c.first_of-used.ensures)

@@ -1,9 +1,9 @@
 use Rattle.std.proofs.Common.{ap}
 use Rattle.std.proofs.lemmas.List.{take_all}
 use Rattle.std.specs.List.{flat_map}
-use Rattle.hddl_check.specs.Contexts.{Fails}
-use Rattle.hddl_check.specs.Parts.{method_parts}
-use Rattle.hddl_check.proofs.Finding.{Finds-next, Finds-nil, Finds-list}
+use Rattle.hddl_uses.specs.Contexts.{Fails}
+use Rattle.hddl_check.specs.TextParts.{method_parts}
+use Rattle.hddl_scope.proofs.Finding.{Finds-next, Finds-nil, Finds-list}
 use Rattle.hddl_check.proofs.schemas.check_methods.Goals as goal
 
 pub loop-method-init : goal.loop-method-init

@@ -1,8 +1,8 @@
 use Rattle.std.proofs.Common.{take}
 use Rattle.std.specs.List.{flat_map}
-use Rattle.hddl_check.specs.Contexts.{AnyFails}
-use Rattle.hddl_check.specs.Findings.{Finds}
-use Rattle.hddl_check.specs.Parts.{method_parts}
+use Rattle.hddl_uses.specs.Contexts.{AnyFails}
+use Rattle.hddl_scope.specs.Findings.{Finds}
+use Rattle.hddl_check.specs.TextParts.{method_parts}
 use Rattle.hddl_check.proofs.schemas.check_methods.Given as goal
 
 abbrev pub invariant-loop-method : goal.invariant-loop-method

@@ -2,9 +2,10 @@ use Rattle.std.proofs.Common.{[], ap, List, map}
 use Rattle.hddl_tree.specs.declared.term.AtomText.{AtomText}
 use Rattle.hddl_tree.specs.declared.condition.Condition.{Condition}
 use Rattle.hddl_meaning.specs.Uses.{Use, schema_of_states}
-use Rattle.hddl_check.specs.Contexts.{Fails}
-use Rattle.hddl_check.specs.Parts.{Part, Atom, conditions_parts, inner_parts, parameter_parts}
-use Rattle.hddl_check.proofs.Finding.{Finds-append, Finds-list}
+use Rattle.hddl_uses.specs.Contexts.{Fails}
+use Rattle.hddl_uses.specs.Parts.{Part, Atom, conditions_parts}
+use Rattle.hddl_check.specs.TextParts.{inner_parts, parameter_parts}
+use Rattle.hddl_scope.proofs.Finding.{Finds-append, Finds-list}
 use Rattle.hddl_check.proofs.SchemaLists.{states_are}
 use Rattle.hddl_check.proofs.schemas.check_states.Goals as goal
 

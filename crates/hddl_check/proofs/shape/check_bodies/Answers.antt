@@ -1,8 +1,9 @@
 use Rattle.std.proofs.Common.{◌++◌, ap, List}
 use Rattle.std.specs.List.{flat_map}
-use Rattle.hddl_check.specs.Contexts.{Fails}
-use Rattle.hddl_check.specs.Parts.{Part, predicate_parts, task_parts, method_parts, method_network_parts, action_parts}
-use Rattle.hddl_check.proofs.Finding.{Finds-append, Finds-list}
+use Rattle.hddl_uses.specs.Contexts.{Fails}
+use Rattle.hddl_uses.specs.Parts.{Part}
+use Rattle.hddl_check.specs.TextParts.{predicate_parts, task_parts, method_parts, method_network_parts, action_parts}
+use Rattle.hddl_scope.proofs.Finding.{Finds-append, Finds-list}
 use Rattle.hddl_check.proofs.shape.check_bodies.Goals as goal
 
 pub returns : goal.returns

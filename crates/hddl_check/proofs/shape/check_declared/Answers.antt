@@ -3,9 +3,10 @@ use Rattle.hddl_tree.specs.declared.term.NameGroup.{NameGroup}
 use Rattle.hddl_tree.specs.declared.domain.PredicateText.{PredicateText}
 use Rattle.hddl_tree.specs.declared.domain.MethodText.{MethodText}
 use Rattle.hddl_meaning.specs.Mentions.{Mention, mention_of, typed_names}
-use Rattle.hddl_check.specs.Contexts.{Fails}
-use Rattle.hddl_check.specs.Parts.{Part, Types, Objects, type_parts, name_parts, task_name_parts}
-use Rattle.hddl_check.proofs.Finding.{Finds-cons, Finds-append, Finds-list}
+use Rattle.hddl_uses.specs.Contexts.{Fails}
+use Rattle.hddl_uses.specs.Parts.{Part, Types, Objects, type_parts}
+use Rattle.hddl_check.specs.TextParts.{name_parts, task_name_parts}
+use Rattle.hddl_scope.proofs.Finding.{Finds-cons, Finds-append, Finds-list}
 use Rattle.hddl_check.proofs.shape.check_declared.Goals as goal
 
 pub returns : goal.returns

@@ -1,7 +1,6 @@
-use Rattle.hddl_check.specs.Contexts.{Fails}
-use Rattle.hddl_check.specs.Parts as parts
-use Rattle.hddl_check.specs.Parts.{Part, Types, Objects, Faulted, type_parts, name_parts, task_name_parts, parameter_parts, quantifier_parts, predicate_parts, task_parts, method_parts, method_network_parts, action_parts, network_parts, schema_parts}
-use Rattle.hddl_check.proofs.Finding.{Finds-append}
+use Rattle.hddl_uses.specs.Contexts.{Fails}
+use Rattle.hddl_check.specs.TextParts as parts
+use Rattle.hddl_scope.proofs.Finding.{Finds-append}
 use Rattle.hddl_check.proofs.shape.check_domain.Goals as goal
 
 pub returns : goal.returns

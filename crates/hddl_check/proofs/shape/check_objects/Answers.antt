@@ -4,9 +4,9 @@ use Rattle.hddl_meaning.specs.Mentions.{Mention, mentions_of, typed_names}
 use Rattle.hddl_meaning.specs.declared.fault.Source.{Source}
 use Rattle.hddl_meaning.specs.declared.fault.CheckFault.TheVariants.{TooMany}
 use Rattle.hddl_meaning.specs.Items as items
-use Rattle.hddl_check.specs.Findings.{Finds}
-use Rattle.hddl_check.specs.Repeats.{IsPastAfter}
-use Rattle.hddl_check.proofs.Finding.{found_at, none_at}
+use Rattle.hddl_scope.specs.Findings.{Finds}
+use Rattle.hddl_scope.specs.Repeats.{IsPastAfter}
+use Rattle.hddl_scope.proofs.Finding.{found_at, none_at}
 use Rattle.hddl_check.proofs.shape.check_objects.Goals as goal
 
 pub returns-in-Some : goal.returns-in-Some

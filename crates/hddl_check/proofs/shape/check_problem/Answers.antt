@@ -2,9 +2,10 @@ use Rattle.std.proofs.Common.{◌++◌, ap, List}
 use Rattle.hddl_tree.specs.declared.term.NameGroup.{NameGroup}
 use Rattle.hddl_meaning.specs.Mentions.{typed_names}
 use Rattle.hddl_meaning.specs.Uses.{schema_of_network, schema_of_states}
-use Rattle.hddl_check.specs.Contexts.{Fails}
-use Rattle.hddl_check.specs.Parts.{Part, Objects, type_parts, network_parts, schema_parts}
-use Rattle.hddl_check.proofs.Finding.{Finds-cons, Finds-append, Finds-list}
+use Rattle.hddl_uses.specs.Contexts.{Fails}
+use Rattle.hddl_uses.specs.Parts.{Part, Objects, type_parts, network_parts}
+use Rattle.hddl_check.specs.TextParts.{schema_parts}
+use Rattle.hddl_scope.proofs.Finding.{Finds-cons, Finds-append, Finds-list}
 use Rattle.hddl_check.proofs.shape.check_problem.Goals as goal
 
 pub returns : goal.returns

@@ -1,9 +1,0 @@
-use Rattle.std.proofs.Common.{take}
-use Rattle.std.specs.List.{flat_map}
-use Rattle.hddl_check.specs.Contexts.{AnyFails}
-use Rattle.hddl_check.specs.Findings.{Finds}
-use Rattle.hddl_check.specs.Scopes.{condition_parts}
-use Rattle.hddl_check.proofs.conditions.check_conditions.Given as goal
-
-abbrev pub invariant-loop-condition : goal.invariant-loop-condition
-invariant-loop-condition l = Finds (AnyFails l.context (flat_map (condition_parts l.scope) (take l.condition-index l.conditions))) l.found

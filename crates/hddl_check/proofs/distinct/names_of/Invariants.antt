@@ -1,6 +1,0 @@
-use Rattle.std.proofs.Common.{take}
-use Rattle.hddl_check.specs.Repeats.{AreNamesOf}
-use Rattle.hddl_check.proofs.distinct.names_of.Given as goal
-
-abbrev pub invariant-loop-mention : goal.invariant-loop-mention
-invariant-loop-mention l = AreNamesOf l.known (take l.mention-index l.mentions)

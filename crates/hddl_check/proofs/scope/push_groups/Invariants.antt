@@ -1,7 +1,0 @@
-use Rattle.std.proofs.Common.{◌≡◌, ◌++◌, take}
-use Rattle.std.specs.List.{flat_map}
-use Rattle.hddl_check.specs.Scopes.{group_variables}
-use Rattle.hddl_check.proofs.scope.push_groups.Given as goal
-
-abbrev pub invariant-loop-group : goal.invariant-loop-group
-invariant-loop-group l = l.scope.items ≡ l.initial.scope.items ++ flat_map (group_variables l.is_quantified) (take l.group-index l.groups)

@@ -1,9 +1,0 @@
-use Rattle.std.proofs.Common.{◌++◌, List, map, take}
-use Rattle.hddl_meaning.specs.Items.{Signature, signature}
-use Rattle.hddl_check.specs.Tables.{IsTableOf}
-use Rattle.hddl_check.proofs.signatures.Signatures.push_tasks.Given as goal
-
-abbrev pub invariant-loop-task : goal.invariant-loop-task
-invariant-loop-task l =
-    (signatures : List Signature) → IsTableOf signatures l.initial.self
-    → IsTableOf (signatures ++ map (λ x. signature x.name x.parameters) (take l.task-index l.tasks)) l.self

@@ -1,8 +1,0 @@
-use Rattle.std.proofs.Common.{take}
-use Rattle.hddl_check.specs.Contexts.{Fails}
-use Rattle.hddl_check.specs.Findings.{AnyOf, Finds}
-use Rattle.hddl_check.specs.Parts.{Subtask}
-use Rattle.hddl_check.proofs.uses.check_tasks_used.Given as goal
-
-abbrev pub invariant-loop-subtask : goal.invariant-loop-subtask
-invariant-loop-subtask l = Finds (AnyOf (λ x. Fails l.context (Subtask (record { variables = l.scope; atom = x.task }))) (take l.subtask-index l.subtasks)) l.found

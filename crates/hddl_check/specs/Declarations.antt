@@ -1,9 +1,0 @@
--- The declarations of a domain.
-use Rattle.hddl_tree.specs.declared.domain.DomainText.{DomainText}
-use Rattle.hddl_meaning.specs.Items.{predicate_signatures, task_signatures}
-use Rattle.hddl_check.specs.Tables.{IsTableOf}
-use Rattle.hddl_check.specs.declared.declared.Declarations.{Declarations}
-
-pub record AreDeclarationsOf (d : DomainText) (all : Declarations) : Type 0 where
-  pub predicates : IsTableOf (predicate_signatures d) all.predicates
-  pub tasks : IsTableOf (task_signatures d) all.tasks

@@ -1,0 +1,80 @@
+-- What a schema, a domain and a problem say that has to fit, part by part.
+use Rattle.std.specs.Prelude.{◌⊎◌, List, [], ◌∷◌, ◌++◌, map}
+use Rattle.std.specs.List.{flat_map}
+use Rattle.hddl_tree.specs.declared.term.VariableGroup.{VariableGroup}
+use Rattle.hddl_tree.specs.declared.domain.PredicateText.{PredicateText}
+use Rattle.hddl_tree.specs.declared.domain.TaskText.{TaskText}
+use Rattle.hddl_tree.specs.declared.domain.MethodText.{MethodText}
+use Rattle.hddl_tree.specs.declared.domain.ActionText.{ActionText}
+use Rattle.hddl_tree.specs.declared.domain.DomainText.{DomainText}
+use Rattle.hddl_tree.specs.declared.problem.ProblemText.{ProblemText}
+use Rattle.hddl_meaning.specs.Mentions.{Mention, mention_of, mentions_of, typed_names, typed_variables}
+use Rattle.hddl_meaning.specs.Uses.{Schema, schema_of_method, schema_of_action, schema_of_network, schema_of_states}
+use Rattle.hddl_meaning.specs.Items as items
+use Rattle.hddl_meaning.specs.declared.fault.Source.TheVariants as source
+use Rattle.hddl_meaning.specs.declared.fault.CheckFault.{CheckFault}
+use Rattle.hddl_scope.specs.Findings.{AnyOf}
+use Rattle.hddl_uses.specs.Parts.{Part, FailsIn, Different, Limited, Atom, Decomposed, Subtask, Side, Types, Objects, type_parts, quantifier_parts, network_parts}
+
+abbrev pub parameter_parts : List VariableGroup → List Part
+parameter_parts groups =
+    let mentions = mentions_of (typed_variables groups) in
+    Different mentions ∷ Limited items.most_parameters mentions ∷ type_parts (typed_variables groups)
+
+-- what a schema uses and declares, but for its parameters
+abbrev pub inner_parts : Schema → List Part
+inner_parts s =
+    map Atom s.atoms ++ (flat_map quantifier_parts s.quantifiers ++ (map Side s.sides ++ (map Decomposed s.decomposed ++ map Subtask s.subtasks)))
+
+abbrev pub schema_parts : Schema → List Part
+schema_parts s = parameter_parts s.parameters ++ inner_parts s
+
+abbrev pub method_network_parts : MethodText → List Part
+method_network_parts m = network_parts m.place m.network
+
+abbrev pub method_parts : MethodText → List Part
+method_parts m = schema_parts (schema_of_method m)
+
+abbrev pub action_parts : ActionText → List Part
+action_parts a = schema_parts (schema_of_action a)
+
+abbrev pub predicate_parts : PredicateText → List Part
+predicate_parts x = Limited items.most_parameters (mentions_of (typed_variables x.parameters)) ∷ type_parts (typed_variables x.parameters)
+
+abbrev pub task_parts : TaskText → List Part
+task_parts x = type_parts (typed_variables x.parameters)
+
+-- declarations of one kind with different names
+abbrev pub name_parts : List Mention → List Part
+name_parts mentions = Different mentions ∷ Limited items.most_declarations mentions ∷ []
+
+-- tasks and actions are named apart
+abbrev pub task_name_parts : DomainText → List Part
+task_name_parts d =
+    let tasks = map (λ x. mention_of x.name) d.tasks in
+    let actions = map (λ x. mention_of x.name) d.actions in
+    Different (tasks ++ actions) ∷ Limited items.most_declarations tasks ∷ Limited items.most_declarations actions ∷ []
+
+-- what a domain declares by name, and then what its declarations say
+abbrev pub declared_parts : DomainText → List Part
+declared_parts d =
+    Types ∷ Objects ∷ (type_parts (typed_names d.constants)
+    ++ (name_parts (map (λ x. mention_of x.name) d.predicates) ++ (name_parts (map (λ x. mention_of x.name) d.methods) ++ task_name_parts d)))
+
+abbrev pub body_parts : DomainText → List Part
+body_parts d =
+    flat_map predicate_parts d.predicates ++ (flat_map task_parts d.tasks ++ (flat_map method_parts d.methods ++ (flat_map method_network_parts d.methods
+    ++ flat_map action_parts d.actions)))
+
+abbrev pub domain_parts : DomainText → List Part
+domain_parts d = declared_parts d ++ body_parts d
+
+-- what a problem says
+abbrev pub problem_parts : ProblemText → List Part
+problem_parts p =
+    Objects ∷ (type_parts (typed_names p.objects) ++ (schema_parts (schema_of_network p) ++ (network_parts p.htn.place p.htn.network
+    ++ schema_parts (schema_of_states p))))
+
+-- a part of one of the texts fails
+abbrev pub PartFails : DomainText → ProblemText → CheckFault → Type 0
+PartFails d p f = AnyOf (FailsIn d p source.Domain) (domain_parts d) f ⊎ AnyOf (FailsIn d p source.Problem) (problem_parts p) f

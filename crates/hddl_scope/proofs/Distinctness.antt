@@ -1,0 +1,99 @@
+-- Names that are counted once.
+use Rattle.std.proofs.Common.{◌≡◌, ◌↔◌, ℕ, ◌+◌, ◌<◌, ◌≤◌, Bool, List, [], ◌∷◌, ◌++◌, Some, None, is_some, length, ap, refl, sym, ◌∙◌, inl, inr, subst, cond, true, false, true≢false, ◌||◌, map, take, drop, get_or, append_assoc, append-nil}
+use Rattle.std.specs.List.{list_any}
+use Rattle.std.proofs.lemmas.List.{map-append, length-map, take_more, take_all}
+use Rattle.hddl_meaning.specs.Mentions.{Text, Mention, IsIn, texts}
+use Rattle.hddl_meaning.specs.Names.{is_same_text, distinct}
+use Rattle.hddl_meaning.proofs.Listed.{distinct_push, in_distinct}
+use Rattle.hddl_scope.specs.Findings.{Finds}
+use Rattle.hddl_scope.specs.Numbers.{Entries, number_at}
+use Rattle.hddl_scope.specs.Repeats.{AreNamesOf, IsPastAfter, noted}
+use Rattle.hddl_scope.proofs.Cuts.{cut_at}
+use Rattle.hddl_scope.proofs.Finding.{Finds-some, Finds-none, none_from}
+use Rattle.hddl_scope.proofs.Repeating.{snoc_cases}
+use Rattle.hddl_scope.proofs.Positions.{of_distinct}
+
+any_number : (es : Entries) (t : Text) → is_some (number_at es t) ≡ list_any (is_same_text t) (map (λ e. e.0) es)
+any_number [] t = refl
+any_number (e ∷ es) t = by (is_same_text t e.0) (any_number es t)
+  where
+    by : (b : Bool) → is_some (number_at es t) ≡ list_any (is_same_text t) (map (λ e. e.0) es)
+        → is_some (cond b (Some e.1) (number_at es t)) ≡ (b || list_any (is_same_text t) (map (λ e. e.0) es))
+    by true rest = refl
+    by false rest = rest
+
+pub names-noted : (known : Entries) (ms : List Mention) (m : Mention) → AreNamesOf known ms → AreNamesOf (noted known m) (ms ++ m ∷ [])
+names-noted known ms m are =
+    by (is_some (number_at known m.text))
+    ∙ (λ i. cond (test i) (are i) (are i ++ m.text ∷ []))
+    ∙ sym (distinct_push (texts ms) m.text) ∙ ap distinct (sym (map-append (λ m. m.text) ms (m ∷ [])))
+  where
+    test : is_some (number_at known m.text) ≡ list_any (is_same_text m.text) (distinct (texts ms))
+    test = any_number known m.text ∙ ap (list_any (is_same_text m.text)) are
+
+    by : (b : Bool) → map (λ e. e.0) (cond b known (known ++ (m.text, m.place) ∷ [])) ≡ cond b (map (λ e. e.0) known) (map (λ e. e.0) known ++ m.text ∷ [])
+    by true = refl
+    by false = map-append (λ e. e.0) known ((m.text, m.place) ∷ [])
+
+pub names-next : (known after : Entries) (first ms : List Mention) (k : ℕ) (m : Mention) → k < length ms → m ≡ get_or ms k m → after ≡ noted known m
+    → AreNamesOf known (first ++ take k ms) → AreNamesOf after (first ++ take (k + 1) ms)
+names-next known after first ms k m lt is put are =
+    ap (map (λ e. e.0)) put ∙ names-noted known (first ++ take k ms) m are
+    ∙ ap (λ l. distinct (texts l)) (append_assoc first (take k ms) (m ∷ []) ∙ ap (λ l. first ++ l) (ap (λ y. take k ms ++ y ∷ []) is ∙ sym (take_more ms k m lt)))
+
+-- a name has no number exactly where it isn't mentioned
+pub no_number : (known : Entries) (ms : List Mention) (t : Text) → AreNamesOf known ms → (number_at known t ≡ None) ↔ (IsIn t (texts ms) → ⊥)
+no_number known ms t are = (
+  λ none at. true≢false (sym (in_distinct (texts ms) t at) ∙ sym test ∙ ap is_some none),
+  λ gone. none_from (number_at known t) (test ∙ by gone (list_any (is_same_text t) (distinct (texts ms))) refl),
+)
+  where
+    test : is_some (number_at known t) ≡ list_any (is_same_text t) (distinct (texts ms))
+    test = any_number known t ∙ ap (list_any (is_same_text t)) are
+
+    by : (IsIn t (texts ms) → ⊥) → (b : Bool) → list_any (is_same_text t) (distinct (texts ms)) ≡ b → b ≡ false
+    by gone true some = absurd (gone (of_distinct (texts ms) t some))
+    by gone false none = refl
+
+count : (known : Entries) (ms : List Mention) → AreNamesOf known ms → length known ≡ length (distinct (texts ms))
+count known ms are = sym (length-map known (λ e. e.0)) ∙ ap length are
+
+-- before the loop's position no name is past the limit
+pub record Within (known : Entries) (first ms : List Mention) : Type 0 where
+  pub names : AreNamesOf known (first ++ ms)
+  pub none : (place : ℕ) → IsPastAfter first ms place → ⊥
+
+pub Within-start : (known : Entries) (first : List Mention) → AreNamesOf known first → Within known first []
+Within-start known first are = record {
+  names = are ∙ ap (λ l. distinct (texts l)) (sym (append-nil first));
+  none = nothing first;
+}
+  where
+    nothing : (first : List Mention) (place : ℕ) → IsPastAfter first [] place → ⊥
+    nothing first place ([], m, after, e, wide, new, at) = cc
+    nothing first place (b ∷ bs, m, after, e, wide, new, at) = cc
+
+pub Within-next : (known after : Entries) (first ms : List Mention) (k : ℕ) (m : Mention) → k < length ms → m ≡ get_or ms k m → after ≡ noted known m
+    → ((length known ≡ 65535) × (number_at known m.text ≡ None) → ⊥) → Within known first (take k ms) → Within after first (take (k + 1) ms)
+Within-next known after first ms k m lt is put not w = record {
+  names = names-next known after first ms k m lt is put w.names;
+  none = λ place (before, second, rest, cut, wide, new, at).
+      elim (snoc_cases (take k ms) m before second rest (ap (λ y. take k ms ++ y ∷ []) is ∙ sym (take_more ms k m lt) ∙ cut)) [
+        | inl (all, last) ↦
+            not (
+              count known (first ++ take k ms) w.names ∙ ap (λ l. length (distinct (texts (first ++ l)))) (sym all) ∙ wide,
+              (no_number known (first ++ take k ms) m.text w.names).1
+                  (λ h. new (subst (λ (l : List Mention). IsIn second.text (texts (first ++ l))) (sym all) (subst (λ (y : Mention). IsIn y.text (texts (first ++ take k ms))) (sym last) h))),
+            )
+        | inr (more, e) ↦ w.none place (before, second, more, e, wide, new, at)
+      ];
+}
+
+pub Within-past : (known : Entries) (first ms : List Mention) (k : ℕ) (m : Mention) (place : ℕ) → k < length ms → m ≡ get_or ms k m
+    → (length known ≡ 65535) × (number_at known m.text ≡ None) → place ≡ m.place → Within known first (take k ms) → Finds (IsPastAfter first ms) (Some place)
+Within-past known first ms k m place lt is past at w =
+    Finds-some place
+    (take k ms, m, drop (k + 1) ms, cut_at ms k m lt is, sym (count known (first ++ take k ms) w.names) ∙ past.0, (no_number known (first ++ take k ms) m.text w.names).0 past.1, at)
+
+pub Within-end : (known : Entries) (first ms : List Mention) (k : ℕ) → length ms ≤ k → Within known first (take k ms) → Finds (IsPastAfter first ms) None
+Within-end known first ms k le w = subst (λ l. Finds (IsPastAfter first l) None) (take_all k ms le) (Finds-none w.none)

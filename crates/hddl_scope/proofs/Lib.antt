@@ -1,0 +1,7 @@
+pub mod Finding
+pub mod Cuts
+pub mod Entries
+pub mod Positions
+pub mod Repeating
+pub mod Distinctness
+pub mod ScopeLists

@@ -1,0 +1,4 @@
+pub mod Findings
+pub mod Numbers
+pub mod Repeats
+pub mod Scopes

@@ -1,0 +1,31 @@
+-- Names of which one stands twice.
+use Rattle.std.specs.Prelude.{◌≡◌, ℕ, cond, max, List, [], ◌∷◌, ◌++◌, Option, Some, None, is_some, length, map}
+use Rattle.hddl_meaning.specs.Mentions.{Mention, IsIn, texts}
+use Rattle.hddl_meaning.specs.Names.{distinct}
+use Rattle.hddl_meaning.specs.Items.{most_declarations}
+use Rattle.hddl_scope.specs.Numbers.{Entries, number_at}
+
+-- two of one text: the place of the later one
+abbrev pub IsRepeat : List Mention → ℕ → Type 0
+IsRepeat group place =
+    (before : List Mention) × (first : Mention) × (middle : List Mention) × (second : Mention) × (after : List Mention)
+    × (group ≡ before ++ first ∷ middle ++ second ∷ after) × (first.text ≡ second.text) × (place ≡ max first.place second.place)
+
+-- the places of names after one more: the first that is given counts
+abbrev pub noted : Entries → Mention → Entries
+noted known m = cond (is_some (number_at known m.text)) known (known ++ (m.text, m.place) ∷ [])
+
+-- the later place, if there is one before
+abbrev pub repeat_of : Option ℕ → ℕ → Option ℕ
+repeat_of None place = None
+repeat_of (Some first) place = Some (max first place)
+
+-- the first mention of the first name past the limit on distinct names, of which some were mentioned before
+abbrev pub IsPastAfter : List Mention → List Mention → ℕ → Type 0
+IsPastAfter first mentions place =
+    (before : List Mention) × (m : Mention) × (after : List Mention) × (mentions ≡ before ++ m ∷ after)
+    × (length (distinct (texts (first ++ before))) ≡ most_declarations) × (IsIn m.text (texts (first ++ before)) → ⊥) × (place ≡ m.place)
+
+-- the names are those of the mentions, each once
+abbrev pub AreNamesOf : Entries → List Mention → Type 0
+AreNamesOf known mentions = map (λ e. e.0) known ≡ distinct (texts mentions)

@@ -1,0 +1,20 @@
+//! Names and variables as they are compared, those that stand twice or are too many, and the variables in force.
+#![tactic(auto)]
+
+mod distinct;
+mod findings;
+mod limits;
+mod lists;
+mod mention;
+mod numbers;
+mod repeated;
+mod scope;
+
+pub use distinct::past_distinct;
+pub use findings::first_of;
+pub use limits::{MOST_DECLARATIONS, MOST_PARAMETERS, MOST_SUBTASKS, first_past};
+pub use lists::{method_names, names_in, predicate_names, task_names, types_in, variables_in};
+pub use mention::Mention;
+pub use numbers::Numbers;
+pub use repeated::first_repeat;
+pub use scope::{Declared, inner_scope, parameter_scope, scope_mentions};

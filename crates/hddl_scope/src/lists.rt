@@ -1,0 +1,123 @@
+//! The names of typed lists and of declarations, as they are compared.
+ghost use Rattle.std.specs.Prelude.{◌≡◌, ◌++◌, map, IfOk, OnOk};
+ghost use Rattle.std.specs.List.{flat_map};
+ghost use Rattle.hddl_meaning.specs.Names.{optional_mention};
+ghost use Rattle.hddl_meaning.specs.Mentions.{mention_of, mentions_of, typed_names, typed_variables, variable_mention};
+
+use crate::mention::Mention;
+use hddl_tree::{
+    ActionText, MethodText, Name, NameGroup, PredicateText, TaskText, Variable, VariableGroup,
+};
+use std::alloc::{AllocError, Global};
+
+fn push_variables(
+    alloc: Global,
+    mentions: &mut Vec<Mention>,
+    variables: &[Variable],
+) -> Result<(), AllocError>
+    ensures { OnOk result (mentions.new.items ≡ mentions.old.items ++ map variable_mention variables.now) }
+{
+    for variable in variables {
+        mentions.push(Mention::of_variable(alloc, variable)?)?;
+    }
+    Ok(())
+}
+
+fn push_names(alloc: Global, mentions: &mut Vec<Mention>, names: &[Name]) -> Result<(), AllocError>
+    ensures { OnOk result (mentions.new.items ≡ mentions.old.items ++ map mention_of names.now) }
+{
+    for name in names {
+        mentions.push(Mention::of_name(alloc, name)?)?;
+    }
+    Ok(())
+}
+
+/// The variables of a typed list.
+pub fn variables_in(alloc: Global, groups: &[VariableGroup]) -> Result<Vec<Mention>, AllocError>
+    ensures { IfOk result (λ mentions. mentions.items ≡ mentions_of (typed_variables groups.now)) }
+{
+    let mut mentions = Vec::new(alloc);
+    for group in groups {
+        push_variables(alloc, &mut mentions, group.variables.as_slice())?;
+    }
+    Ok(mentions)
+}
+
+/// The names of a typed list.
+pub fn names_in(alloc: Global, groups: &[NameGroup]) -> Result<Vec<Mention>, AllocError>
+    ensures { IfOk result (λ mentions. mentions.items ≡ mentions_of (typed_names groups.now)) }
+{
+    let mut mentions = Vec::new(alloc);
+    for group in groups {
+        push_names(alloc, &mut mentions, group.names.as_slice())?;
+    }
+    Ok(mentions)
+}
+
+fn push_parent(
+    alloc: Global,
+    mentions: &mut Vec<Mention>,
+    parent: &Option<Name>,
+) -> Result<(), AllocError>
+    ensures { OnOk result (mentions.new.items ≡ mentions.old.items ++ optional_mention parent.now) }
+{
+    if let Some(name) = parent {
+        mentions.push(Mention::of_name(alloc, name)?)?;
+    }
+    Ok(())
+}
+
+/// The types that a typed list declares, with their parents.
+pub fn types_in(alloc: Global, groups: &[NameGroup]) -> Result<Vec<Mention>, AllocError>
+    ensures { IfOk result (λ mentions. mentions.items ≡ flat_map (λ g. map mention_of g.names ++ optional_mention g.of_type) groups.now) }
+{
+    let mut mentions = Vec::new(alloc);
+    for group in groups {
+        push_names(alloc, &mut mentions, group.names.as_slice())?;
+        push_parent(alloc, &mut mentions, &group.of_type)?;
+    }
+    Ok(mentions)
+}
+
+/// The names of predicates.
+pub fn predicate_names(
+    alloc: Global,
+    predicates: &[PredicateText],
+) -> Result<Vec<Mention>, AllocError>
+    ensures { IfOk result (λ mentions. mentions.items ≡ map (λ x. mention_of x.name) predicates.now) }
+{
+    let mut mentions = Vec::new(alloc);
+    for predicate in predicates {
+        mentions.push(Mention::of_name(alloc, &predicate.name)?)?;
+    }
+    Ok(mentions)
+}
+
+/// The names of methods.
+pub fn method_names(alloc: Global, methods: &[MethodText]) -> Result<Vec<Mention>, AllocError>
+    ensures { IfOk result (λ mentions. mentions.items ≡ map (λ x. mention_of x.name) methods.now) }
+{
+    let mut mentions = Vec::new(alloc);
+    for method in methods {
+        mentions.push(Mention::of_name(alloc, &method.name)?)?;
+    }
+    Ok(mentions)
+}
+
+/// The names of compound tasks, and then those of actions.
+pub fn task_names(
+    alloc: Global,
+    tasks: &[TaskText],
+    actions: &[ActionText],
+) -> Result<Vec<Mention>, AllocError>
+    ensures { IfOk result (λ mentions. mentions.items ≡ map (λ x. mention_of x.name) tasks.now ++ map (λ x. mention_of x.name) actions.now) }
+{
+    let mut mentions = Vec::new(alloc);
+    for task in tasks {
+        mentions.push(Mention::of_name(alloc, &task.name)?)?;
+    }
+    for action in actions {
+        mentions.push(Mention::of_name(alloc, &action.name)?)?;
+    }
+    Ok(mentions)
+}

@@ -1,0 +1,54 @@
+//! Names that must differ.
+ghost use Rattle.std.specs.Prelude.{◌≡◌, IfOk, OnOk};
+ghost use Rattle.hddl_scope.specs.Findings.{Finds, IsOneOf};
+ghost use Rattle.hddl_scope.specs.Repeats.{IsRepeat, noted, repeat_of};
+
+use crate::mention::Mention;
+use crate::numbers::Numbers;
+use std::alloc::{AllocError, Global};
+
+/// The place that comes first, if there is one.
+fn least(a: Option<usize>, b: Option<usize>) -> Option<usize>
+    ensures { IsOneOf a b result }
+{
+    match (a, b) {
+        (None, _) => b,
+        (_, None) => a,
+        (Some(first), Some(second)) => Some(first.min(second)),
+    }
+}
+
+/// Where the later of two names stands, if there are two.
+fn later(first: Option<usize>, place: usize) -> Option<usize>
+    ensures { result ≡ repeat_of first place }
+{
+    match first {
+        Some(first) => Some(first.max(place)),
+        None => None,
+    }
+}
+
+/// Keeps the place of a name that is new.
+pub(crate) fn note(alloc: Global, known: &mut Numbers, mention: &Mention) -> Result<(), AllocError>
+    ensures { OnOk result (known.new ≡ noted known.old mention.now) }
+{
+    if known.get(mention.text()).is_none() {
+        let text = Vec::from_slice(alloc, mention.text())?;
+        known.add(text, mention.place())?;
+    }
+    Ok(())
+}
+
+/// The place of a name that stood before, if there is one.
+pub fn first_repeat(alloc: Global, mentions: &[Mention]) -> Result<Option<usize>, AllocError>
+    ensures { IfOk result (Finds (IsRepeat mentions.now)) }
+{
+    let mut known = Numbers::new(alloc);
+    let mut found = None;
+    for mention in mentions {
+        let here = later(known.get(mention.text()), mention.place());
+        note(alloc, &mut known, mention)?;
+        found = least(found, here);
+    }
+    Ok(found)
+}

@@ -1,0 +1,9 @@
+pub mod TypeNames
+pub mod Folding
+pub mod Labelling
+pub mod Tabling
+pub mod Pairs
+pub mod Searching
+pub mod Placing
+pub mod Using
+pub mod Counting

@@ -1,0 +1,17 @@
+use Rattle.std.proofs.Common.{◌↔◌, ◌∙◌, [], IsTrue, ap, subst}
+use Rattle.hddl_tree.specs.declared.term.Term.TheVariants as term
+use Rattle.hddl_meaning.specs.Mentions.{Text, folded}
+use Rattle.hddl_meaning.specs.declared.fault.CheckFault.TheVariants.{TypeClash}
+use Rattle.hddl_uses.specs.Known.{IsKnownClash}
+use Rattle.hddl_scope.proofs.Finding.{Finds-none, none_at}
+use Rattle.hddl_uses.proofs.Placing.{Lacks}
+use Rattle.hddl_uses.proofs.arguments.check_object_type.Goals as goal
+
+pub returns : goal.returns
+returns c =
+    let d = c.args.context.now.domain.now in
+    let p = c.args.context.now.problem.now in
+    let told : IsTrue c.lacks_type.result ↔ Lacks d p (folded c.args.name.now.text) c.args.place.now =
+    subst (λ (t : Text). IsTrue c.lacks_type.result ↔ Lacks d p t c.args.place.now) (c.deref.ensures.value ∙ c.in_ok-text.ensures ∙ ap folded c.text.ensures.value) c.lacks_type.ensures in
+    none_at TypeClash c.args.context.now.source {P = IsKnownClash d p [] (term.Object c.args.name.now) c.args.place.now.typed}
+    (Finds-none (λ place k. let some = told.1 (k.known, k.known_place, k.clash.0, k.clash.1) in let none = c.if-lacks_type.false in cc))

@@ -1,0 +1,31 @@
+use Rattle.std.proofs.Common.{◌≡◌, ◌∙◌, ap, is_some, sym}
+use Rattle.hddl_tree.specs.declared.term.Term.TheVariants as term
+use Rattle.hddl_meaning.specs.Mentions.{folded}
+use Rattle.hddl_meaning.specs.Names.{object_names}
+use Rattle.hddl_meaning.specs.declared.fault.CheckFault.TheVariants.{UnknownName}
+use Rattle.hddl_meaning.specs.Items.{IsUnknownTerm, variable_in}
+use Rattle.hddl_scope.proofs.Finding.{Finds-none, Finds-some, found_at, none_at}
+use Rattle.hddl_uses.proofs.Searching.{in_force_from, in_force_to, some_mapped}
+use Rattle.hddl_uses.proofs.arguments.check_variable.Goals as goal
+
+pub returns-then-is_some : goal.returns-then-is_some
+returns-then-is_some c =
+    let context = c.args.context.now in
+    let scope = c.args.scope.now in
+    let t = folded c.args.variable.now.text in
+    let told : c.is_some.result ≡ is_some (variable_in scope t) =
+    c.is_some.ensures ∙ sym (some_mapped (λ v. v.now) c.in_force.result) ∙ ap is_some c.in_force.ensures
+    ∙ ap (λ x. is_some (variable_in scope x)) (c.deref.ensures.value ∙ c.in_ok-text.ensures ∙ ap folded c.text.ensures.value) in
+    none_at UnknownName context.source {P = IsUnknownTerm (object_names context.domain.now context.problem.now) (record { variables = scope; term = term.Variable c.args.variable.now })}
+    (Finds-none (λ place h. h.0 (in_force_to scope t (sym told ∙ c.if-is_some.true))))
+
+pub returns : goal.returns
+returns c =
+    let context = c.args.context.now in
+    let scope = c.args.scope.now in
+    let t = folded c.args.variable.now.text in
+    let told : c.is_some.result ≡ is_some (variable_in scope t) =
+    c.is_some.ensures ∙ sym (some_mapped (λ v. v.now) c.in_force.result) ∙ ap is_some c.in_force.ensures
+    ∙ ap (λ x. is_some (variable_in scope x)) (c.deref.ensures.value ∙ c.in_ok-text.ensures ∙ ap folded c.text.ensures.value) in
+    found_at UnknownName context.source {P = IsUnknownTerm (object_names context.domain.now context.problem.now) (record { variables = scope; term = term.Variable c.args.variable.now })}
+    c.at.result (Finds-some c.place.result (λ at. let some = in_force_from scope t at in let no = c.if-is_some.false in cc, c.place.ensures)) c.at.ensures

@@ -1,0 +1,70 @@
+use Rattle.std.proofs.Common.{◌≡◌, ◌++◌, ◌∙◌, ap, sym, subst, List, take}
+use Rattle.std.proofs.lemmas.List.{take_all}
+use Rattle.std.proofs.lemmas.Result.{IfOk-weaker}
+use Rattle.std.specs.List.{flat_map}
+use Rattle.hddl_tree.specs.declared.condition.Condition.{Forall}
+use Rattle.hddl_meaning.specs.Uses.{quantified_of}
+use Rattle.hddl_uses.specs.Contexts.{Fails, AnyFails}
+use Rattle.hddl_scope.specs.Findings.{Finds}
+use Rattle.hddl_uses.specs.Parts.{Part, Atom, quantifier_parts}
+use Rattle.hddl_uses.specs.Conditions.{condition_parts}
+use Rattle.hddl_scope.proofs.Finding.{Finds-next, Finds-append, Finds-list, Finds-nil, Finds-single, Finds-within, none_from, after_none, Finds-enough}
+use Rattle.hddl_uses.proofs.Folding.{literal_parts, equality_parts, own_parts, body_parts, own_of_forall, to_forall, from_forall}
+use Rattle.hddl_uses.proofs.conditions.+check_condition.Goals as goal
+
+pub loop-part-init : goal.loop-part-init
+loop-part-init t c = Finds-nil (Fails c.args.context.now)
+
+pub loop-part-preserved : goal.loop-part-preserved
+loop-part-preserved t c =
+    Finds-next (Fails c.args.context.now) (condition_parts c.in_ok-within-in-Forall.within.items) c.as_slice-part-items.result.now c.loop-part.part-index
+    c.part-item.result c.loop-part-test.true c.part-item.is c.loop-part.invariant
+    (subst (λ w. Finds (AnyFails c.args.context.now (condition_parts w c.part-item.result)) c.in_ok-check_condition-in-Forall.field-0)
+    c.deref-in-loop-part.ensures.value c.in_ok-check_condition-in-Forall.ensures)
+    c.first_of-found.ensures
+
+pub returns-in-Literal : goal.returns-in-Literal
+returns-in-Literal t c =
+    let P = Fails c.args.context.now in
+    let scope = c.args.scope.now in
+    let literal = c.in-Literal.literal in
+    let atom : Part = Atom (record { variables = scope; atom = literal.atom }) in
+    IfOk-weaker c.check_atom.result _ _ (λ found h. Finds-list P (sym (ap (condition_parts scope) c.in-Literal.is ∙ literal_parts scope literal)) (Finds-single P atom h))
+    c.check_atom.ensures
+
+pub returns-in-Equality : goal.returns-in-Equality
+returns-in-Equality t c =
+    let P = Fails c.args.context.now in
+    let scope = c.args.scope.now in
+    let equality = c.in-Equality.equality in
+    IfOk-weaker c.check_equality.result _ _ (λ found h. Finds-list P (sym (ap (condition_parts scope) c.in-Equality.is ∙ equality_parts scope equality)) h)
+    c.check_equality.ensures
+
+pub returns-then-is_some : goal.returns-then-is_some
+returns-then-is_some t c =
+    let P = Fails c.args.context.now in
+    let scope = c.args.scope.now in
+    let groups = c.in-Forall.groups in
+    let body = c.in-Forall.body in
+    let own : List Part = own_parts scope groups body in
+    Finds-list P (sym (ap (condition_parts scope) c.in-Forall.is))
+    (Finds-enough P own (condition_parts scope (Forall groups body)) (own_of_forall scope groups body) (sym c.is_some.ensures ∙ c.if-is_some.true)
+    (Finds-list P (ap (λ g. quantifier_parts (record { around = scope; own = g })) c.as_slice-in-Forall.ensures) c.in_ok-own-in-Forall.ensures))
+
+pub returns-after-loop-part : goal.returns-after-loop-part
+returns-after-loop-part t c =
+    let P = Fails c.args.context.now in
+    let scope = c.args.scope.now in
+    let groups = c.in-Forall.groups in
+    let body = c.in-Forall.body in
+    let own : List Part = own_parts scope groups body in
+    let rest : List Part = body_parts scope groups body in
+    let within : c.in_ok-within-in-Forall.within.items ≡ scope ++ quantified_of groups =
+    c.in_ok-within-in-Forall.ensures ∙ ap (λ g. scope ++ quantified_of g) c.as_slice.ensures in
+    let all : take c.loop-part.part-index c.as_slice-part-items.result.now ≡ body =
+    take_all c.loop-part.part-index c.as_slice-part-items.result.now c.loop-part-test.false ∙ c.as_slice-part-items.ensures in
+    Finds-list P (sym (ap (condition_parts scope) c.in-Forall.is))
+    (Finds-within P (own ++ rest) (condition_parts scope (Forall groups body)) (to_forall scope groups body) (from_forall scope groups body)
+    (Finds-append P own rest (Finds-list P (ap (λ g. quantifier_parts (record { around = scope; own = g })) c.as_slice-in-Forall.ensures) c.in_ok-own-in-Forall.ensures)
+    (Finds-list P (λ i. flat_map (condition_parts (within i)) (all i)) c.loop-part.invariant)
+    (after_none c.in_ok-own-in-Forall.own c.loop-part.found (none_from c.in_ok-own-in-Forall.own (sym c.is_some.ensures ∙ c.if-is_some.false)))))

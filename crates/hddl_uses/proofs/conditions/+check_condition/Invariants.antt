@@ -1,0 +1,12 @@
+use Rattle.std.proofs.Common.{take}
+use Rattle.std.specs.List.{flat_map}
+use Rattle.hddl_uses.specs.Contexts.{AnyFails}
+use Rattle.hddl_scope.specs.Findings.{Finds}
+use Rattle.hddl_uses.specs.Conditions.{condition_parts}
+use Rattle.hddl_uses.proofs.conditions.+check_condition.Given as goal
+
+abbrev pub decreases-check_condition : goal.decreases-check_condition
+decreases-check_condition l = goal.size-check_condition l
+
+abbrev pub invariant-loop-part : goal.invariant-loop-part
+invariant-loop-part l = Finds (AnyFails l.context (flat_map (condition_parts l.within.items) (take l.part-index l.part-items))) l.found

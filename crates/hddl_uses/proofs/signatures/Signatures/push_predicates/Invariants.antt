@@ -1,0 +1,9 @@
+use Rattle.std.proofs.Common.{◌++◌, List, map, take}
+use Rattle.hddl_meaning.specs.Items.{Signature, signature}
+use Rattle.hddl_uses.specs.Tables.{IsTableOf}
+use Rattle.hddl_uses.proofs.signatures.Signatures.push_predicates.Given as goal
+
+abbrev pub invariant-loop-predicate : goal.invariant-loop-predicate
+invariant-loop-predicate l =
+    (signatures : List Signature) → IsTableOf signatures l.initial.self
+    → IsTableOf (signatures ++ map (λ x. signature x.name x.parameters) (take l.predicate-index l.predicates)) l.self

@@ -1,0 +1,8 @@
+use Rattle.std.proofs.Common.{take}
+use Rattle.hddl_uses.specs.Contexts.{Fails}
+use Rattle.hddl_scope.specs.Findings.{AnyOf, Finds}
+use Rattle.hddl_uses.specs.Parts.{Subtask}
+use Rattle.hddl_uses.proofs.uses.check_tasks_used.Given as goal
+
+abbrev pub invariant-loop-subtask : goal.invariant-loop-subtask
+invariant-loop-subtask l = Finds (AnyOf (λ x. Fails l.context (Subtask (record { variables = l.scope; atom = x.task }))) (take l.subtask-index l.subtasks)) l.found

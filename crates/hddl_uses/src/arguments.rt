@@ -1,0 +1,198 @@
+//! Terms where they are used.
+ghost use Rattle.std.specs.Prelude.{◌≡◌, ◌↔◌, IfOk, IsTrue, length, option_map};
+ghost use Rattle.std.specs.List.{position, zip};
+ghost use Rattle.hddl_tree.specs.declared.term.Term.TheVariants as term;
+ghost use Rattle.hddl_meaning.specs.Mentions.{IsIn};
+ghost use Rattle.hddl_meaning.specs.Names.{is_same_text, object_names, type_names};
+ghost use Rattle.hddl_meaning.specs.Types.{text_or_object, HasType};
+ghost use Rattle.hddl_meaning.specs.Items.{MayStand, variable_in};
+ghost use Rattle.hddl_uses.specs.Contexts.{AnyArgumentFails, ArgumentFails, Clashes, Fails, IsUnknownObject, ObjectClashes};
+ghost use Rattle.hddl_scope.specs.Findings.{Finds};
+ghost use Rattle.hddl_uses.specs.Known.{AreKnown, IsTyped};
+ghost use Rattle.hddl_uses.specs.Parts.{Side};
+
+use crate::context::Context;
+use hddl_meaning::CheckFault;
+use hddl_names::fold;
+use hddl_scope::{Declared, first_of};
+use hddl_tree::{Name, Term, Variable};
+use std::alloc::AllocError;
+
+/// The first variable of that text in force.
+fn in_force<'a>(scope: &'a [Declared], text: &[u8]) -> Option<&'a Declared>
+    ensures { option_map (λ v. v.now) result ≡ variable_in scope.now text.now }
+{
+    for variable in scope {
+        if text == variable.text() {
+            return Some(variable);
+        }
+    }
+    None
+}
+
+/// A variable that isn't in force.
+fn check_variable(
+    context: &Context<'_>,
+    scope: &[Declared],
+    variable: &Variable,
+) -> Result<Option<CheckFault>, AllocError>
+    ensures { IfOk result (Finds (Fails context.now (Side (record { variables = scope.now; term = term.Variable variable.now })))) }
+{
+    let text = fold(context.alloc, variable.text())?;
+    if in_force(scope, &text).is_some() {
+        return Ok(None);
+    }
+    Ok(Some(CheckFault::UnknownName(context.at(variable.place()))))
+}
+
+/// A constant or object that isn't declared.
+fn check_object(context: &Context<'_>, name: &Name) -> Result<Option<CheckFault>, AllocError>
+    ensures { IfOk result (Finds (IsUnknownObject context.now name.now)) }
+{
+    let text = fold(context.alloc, name.text())?;
+    if context.vocabulary.objects().number_of(&text).is_some() {
+        return Ok(None);
+    }
+    Ok(Some(CheckFault::UnknownName(context.at(name.place()))))
+}
+
+/// A variable that isn't in force, or a constant or object that isn't declared.
+pub(crate) fn check_term(
+    context: &Context<'_>,
+    scope: &[Declared],
+    term: &Term,
+) -> Result<Option<CheckFault>, AllocError>
+    ensures { IfOk result (Finds (Fails context.now (Side (record { variables = scope.now; term = term.now })))) }
+{
+    match term {
+        Term::Variable(variable) => check_variable(context, scope, variable),
+        Term::Object(name) => check_object(context, name),
+    }
+}
+
+/// The number of the type of a variable or a place, if it is declared.
+fn type_number(context: &Context<'_>, declared: &Declared) -> Option<usize>
+    ensures { result ≡ position (is_same_text (text_or_object declared.now.typed.of_type)) (type_names context.now.domain.now) }
+{
+    let types = context.vocabulary.types();
+    match declared.of_type() {
+        Some(mention) => types.number_of(mention.text()),
+        None => types.number_of(b"object"),
+    }
+}
+
+/// Whether a variable can't stand in a place. Not, where one of the types isn't declared.
+fn is_barred(
+    context: &Context<'_>,
+    variable: &Declared,
+    place: &Declared,
+) -> Result<bool, AllocError>
+    ensures { IfOk result (λ barred. IsTrue barred ↔ (IsTyped context.now.domain.now variable.now.typed × IsTyped context.now.domain.now place.now.typed
+        × (MayStand context.now.domain.now variable.now (text_or_object place.now.typed.of_type) → ⊥))) }
+{
+    match (type_number(context, variable), type_number(context, place)) {
+        (Some(own), Some(wanted)) => {
+            let types = context.types;
+            let stands = if variable.is_quantified() {
+                types.is_below(context.alloc, own, wanted)?
+            } else {
+                types.share_subtype(context.alloc, own, wanted)?
+            };
+            Ok(!stands)
+        }
+        _ => Ok(false),
+    }
+}
+
+/// Whether a constant or object lacks the type of a place. Not, where it isn't declared, or types aren't.
+fn lacks_type(context: &Context<'_>, text: &[u8], place: &Declared) -> bool
+    ensures { IsTrue result ↔ (∥ AreKnown context.now.domain.now context.now.problem.now ∥₁ × IsTyped context.now.domain.now place.now.typed
+        × IsIn text.now (object_names context.now.domain.now context.now.problem.now)
+        × (HasType context.now.domain.now context.now.problem.now text.now (text_or_object place.now.typed.of_type) → ⊥)) }
+{
+    let number = context.vocabulary.objects().number_of(text);
+    match (context.objects, number, type_number(context, place)) {
+        (Some(objects), Some(object), Some(wanted)) => !objects.has_type(object as u16, wanted),
+        _ => false,
+    }
+}
+
+/// A variable that can't have the type of its place.
+fn check_variable_type(
+    context: &Context<'_>,
+    scope: &[Declared],
+    variable: &Variable,
+    place: &Declared,
+) -> Result<Option<CheckFault>, AllocError>
+    ensures { IfOk result (Finds (Clashes context.now scope.now (term.Variable variable.now) place.now.typed)) }
+{
+    let text = fold(context.alloc, variable.text())?;
+    if let Some(declared) = in_force(scope, &text)
+        && is_barred(context, declared, place)?
+    {
+        return Ok(Some(CheckFault::TypeClash(context.at(variable.place()))));
+    }
+    Ok(None)
+}
+
+/// A constant or object that lacks the type of its place.
+fn check_object_type(
+    context: &Context<'_>,
+    name: &Name,
+    place: &Declared,
+) -> Result<Option<CheckFault>, AllocError>
+    ensures { IfOk result (Finds (ObjectClashes context.now name.now place.now.typed)) }
+{
+    let text = fold(context.alloc, name.text())?;
+    if lacks_type(context, &text, place) {
+        return Ok(Some(CheckFault::TypeClash(context.at(name.place()))));
+    }
+    Ok(None)
+}
+
+/// An argument that can't have the type of its place.
+fn check_type(
+    context: &Context<'_>,
+    scope: &[Declared],
+    argument: &Term,
+    place: &Declared,
+) -> Result<Option<CheckFault>, AllocError>
+    ensures { IfOk result (Finds (Clashes context.now scope.now argument.now place.now.typed)) }
+{
+    match argument {
+        Term::Variable(variable) => check_variable_type(context, scope, variable, place),
+        Term::Object(name) => check_object_type(context, name, place),
+    }
+}
+
+/// An argument that isn't known, or can't have the type of its place.
+fn check_argument(
+    context: &Context<'_>,
+    scope: &[Declared],
+    argument: &Term,
+    place: &Declared,
+) -> Result<Option<CheckFault>, AllocError>
+    ensures { IfOk result (Finds (ArgumentFails context.now scope.now (argument.now, place.now))) }
+{
+    let unknown = check_term(context, scope, argument)?;
+    let clash = check_type(context, scope, argument, place)?;
+    Ok(first_of(unknown, clash))
+}
+
+/// Such an argument, where there are as many as places.
+pub(crate) fn check_arguments(
+    context: &Context<'_>,
+    scope: &[Declared],
+    arguments: &[Term],
+    places: &[Declared],
+) -> Result<Option<CheckFault>, AllocError>
+    requires { length arguments.now ≡ length places.now }
+    ensures { IfOk result (Finds (AnyArgumentFails context.now scope.now (zip arguments.now places.now))) }
+{
+    let mut found = None;
+    for (index, argument) in arguments.iter().enumerate() {
+        let here = check_argument(context, scope, argument, &places[index])?;
+        found = first_of(found, here);
+    }
+    Ok(found)
+}

@@ -1,0 +1,43 @@
+//! What a check knows of the texts.
+ghost use Rattle.std.specs.Prelude.{◌≡◌, MatchOption};
+ghost use Rattle.hddl_meaning.specs.Building.{vocabulary_of};
+ghost use Rattle.hddl_names.specs.Members.{AreMembersOf};
+ghost use Rattle.hddl_uses.specs.Known.{AreKnown};
+ghost use Rattle.hddl_uses.specs.Declarations.{AreDeclarationsOf};
+
+use crate::declared::Declarations;
+use hddl_meaning::{At, Source};
+use hddl_names::{ObjectsByType, TypeHierarchy, Vocabulary};
+use hddl_tree::{DomainText, ProblemText};
+use std::alloc::Global;
+
+/// The text that is checked, with what both texts declare.
+#[derive(Drop)]
+pub struct Context<'a> {
+    pub alloc: Global,
+    /// Which of the two texts is checked.
+    pub source: Source,
+    pub domain: &'a DomainText,
+    pub problem: &'a ProblemText,
+    pub vocabulary: &'a Vocabulary,
+    pub types: &'a TypeHierarchy<'a>,
+    /// The objects of each type, unless one has a type that isn't declared, or there are more than sixteen bits number.
+    pub objects: Option<&'a ObjectsByType>,
+    pub declared: &'a Declarations,
+    ghost known: { vocabulary.now ≡ vocabulary_of domain.now problem.now },
+    ghost known_types: { types.now ≡ domain.now },
+    ghost known_objects: { ∥ MatchOption objects (AreKnown domain.now problem.now → ⊥) (λ o. AreKnown domain.now problem.now × AreMembersOf domain.now problem.now o.now) ∥₁ },
+    ghost known_declared: { AreDeclarationsOf domain.now declared.now },
+}
+
+impl Context<'_> {
+    /// That place, a byte offset, in the text that is checked.
+    pub fn at(&self, place: usize) -> At
+        ensures { result ≡ record { source = self.now.source; place = place } }
+    {
+        At {
+            source: self.source,
+            place,
+        }
+    }
+}
