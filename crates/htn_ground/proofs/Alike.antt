@@ -1,16 +1,15 @@
 -- At a parameter where no relation starts, the objects that all relations allow have equally many completions, and the
 -- others have none.
-use Rattle.std.proofs.Common.{◌≡◌, ℕ, zero, suc, Bool, true, false, true≢false, cond, not, ◌||◌, ◌&&◌, ◌⊎◌, inl, inr, min, eqb, List, [], ◌∷◌, ◌++◌, map, length, drop, get_or, ◌+◌, ◌*◌, ◌<◌, ◌≤◌, refl, sym, ap, ◌∙◌, arith, length-append}
+use Rattle.std.proofs.Common.{◌≡◌, ℕ, zero, suc, Bool, true, false, true≢false, cond, not, ◌||◌, ◌&&◌, ◌⊎◌, inl, inr, min, eqb, List, [], ◌∷◌, ◌++◌, map, length, drop, get_or, ◌+◌, ◌*◌, ◌<◌, refl, sym, ap, ◌∙◌, arith, length-append}
 use Rattle.std.specs.Bool.{beq}
 use Rattle.std.specs.List.{filter, flat_map}
 use Rattle.std.proofs.lemmas.Bool.Decides.{nat_tests}
 use Rattle.std.proofs.lemmas.List.Elements.{filter_agree}
-use Rattle.htn_model.specs.Schema.{object, parameter}
 use Rattle.htn_model.specs.Instances.{assignments}
 use Rattle.htn_ground.specs.declared.relation.Relation.{Relation}
 use Rattle.htn_ground.specs.declared.relation.Relation.TheVariants.{Different, Same}
-use Rattle.htn_ground.specs.Search.{completions, relation_holds, relation_names, relation_single, relation_singles, relation_start, relations_hold, single_of, some_starts_at, term_after}
-use Rattle.htn_ground.proofs.Apart.{known, relation_apart, unknown}
+use Rattle.htn_ground.specs.Search.{completions, relation_holds, relation_single, relation_singles, relation_start, relations_hold, single_of, some_starts_at, term_after}
+use Rattle.htn_ground.proofs.Apart.{known, relation_apart, relation_names, unknown}
 use Rattle.htn_ground.proofs.Classified.{turned}
 use Rattle.htn_ground.proofs.Completions.{filter_none}
 
