@@ -166,6 +166,9 @@ pub(crate) fn count_completions(
             return Ok(0);
         };
         let allowed = count_allowed(relations, values.as_slice(), depth, objects);
+        if depth + 1 == domains.len() {
+            return Ok(allowed);
+        }
         values.push(object)?;
         let each = count_completions(domains, relations, values)?;
         values.pop();
