@@ -1,18 +1,17 @@
 -- At a parameter where no relation starts, the objects that all relations allow have equally many completions, and the
 -- others have none.
-use Rattle.std.proofs.Common.{◌≡◌, ℕ, zero, suc, Bool, true, false, true≢false, cond, not, ◌||◌, ◌&&◌, ◌⊎◌, inl, inr, min, eqb, List, [], ◌∷◌, ◌++◌, map, length, drop, get_or, ◌+◌, ◌*◌, ◌<◌, ◌≤◌, refl, sym, ap, ◌∙◌, arith, length-append}
+use Rattle.std.proofs.Common.{◌≡◌, ℕ, zero, suc, Bool, true, false, true≢false, cond, not, ◌||◌, ◌&&◌, ◌⊎◌, inl, inr, min, eqb, List, [], ◌∷◌, ◌++◌, map, length, drop, get_or, ◌+◌, ◌*◌, ◌<◌, ◌≤◌, refl, sym, ap, ◌∙◌, arith, append-nil, length-append, ltb}
 use Rattle.std.specs.Bool.{beq}
 use Rattle.std.specs.List.{filter, flat_map}
 use Rattle.std.proofs.lemmas.Bool.Decides.{nat_tests}
 use Rattle.std.proofs.lemmas.List.Elements.{filter_agree}
-use Rattle.htn_model.specs.Schema.{object, parameter}
 use Rattle.htn_model.specs.Instances.{assignments}
 use Rattle.htn_ground.specs.declared.relation.Relation.{Relation}
 use Rattle.htn_ground.specs.declared.relation.Relation.TheVariants.{Different, Same}
-use Rattle.htn_ground.specs.Search.{completions, relation_holds, relation_names, relation_single, relation_singles, relation_start, relations_hold, single_of, some_starts_at, term_after}
-use Rattle.htn_ground.proofs.Apart.{known, relation_apart, unknown}
+use Rattle.htn_ground.specs.Search.{AreRelationsOf, bound_relations_hold, completions, relation_depth, relation_holds, relation_single, relation_singles, relation_start, relations_hold, single_of, some_starts_at, term_after}
+use Rattle.htn_ground.proofs.Apart.{known, relation_apart, relation_names, unknown}
 use Rattle.htn_ground.proofs.Classified.{turned}
-use Rattle.htn_ground.proofs.Completions.{filter_none}
+use Rattle.htn_ground.proofs.Completions.{completions_leaf, filter_none, relation_holds-append}
 
 -- ## A choice by its parts: values, an object, the rest
 
@@ -155,6 +154,66 @@ all_fail (r ∷ relations) values rest o starts so =
     and_false true b e = e
     and_false false b e = refl
 
+-- ## One value more
+
+or_first : (a b : Bool) → a ≡ true → (a || b) ≡ true
+or_first true b e = refl
+or_first false b e = cc
+
+or_last : (a b : Bool) → b ≡ true → (a || b) ≡ true
+or_last true b e = refl
+or_last false b e = e
+
+at_most : (m n : ℕ) → ltb m n ≡ false → n ≤ m
+at_most m n e = grind (arith, nat_tests)
+
+below : (m n : ℕ) → m < n → ltb m n ≡ true
+below m n h = grind (arith, nat_tests)
+
+deeper : (m n k : ℕ) → k ≡ m + 1 → (n ≡ m + 1 → ⊥) → ltb m n ≡ true → ltb k n ≡ true
+deeper m n k is other e = below k n (past (is_below m n e))
+  where
+    is_below : (m n : ℕ) → ltb m n ≡ true → m < n
+    is_below m n e = grind (arith, nat_tests)
+
+    past : m < n → k < n
+    past h = omega (arith, is, other, h)
+
+-- a relation that does not name a parameter does not end there
+depth_other : (r : Relation) (n : ℕ) → relation_names r n ≡ false → relation_depth r ≡ n + 1 → ⊥
+depth_other (Same a b) n apart e =
+    let left : (a ≡ n → ⊥) = (neither a b n apart).0 in
+    let right : (b ≡ n → ⊥) = (neither a b n apart).1 in
+    omega (arith, e, left, right)
+depth_other (Different a b) n apart e =
+    let left : (a ≡ n → ⊥) = (neither a b n apart).0 in
+    let right : (b ≡ n → ⊥) = (neither a b n apart).1 in
+    omega (arith, e, left, right)
+
+length_longer : (values : List ℕ) (o : ℕ) → length (values ++ o ∷ []) ≡ length values + 1
+length_longer values o = omega (arith, length-append values (o ∷ []))
+
+bound_apart : (r : Relation) (values : List ℕ) (o : ℕ) (b : Bool) → relation_names r (length values) ≡ false → ltb (length values) (relation_depth r) ≡ b → (b || relation_holds r values) ≡ true
+    → (ltb (length (values ++ o ∷ [])) (relation_depth r) || relation_holds r (values ++ o ∷ [])) ≡ true
+bound_apart r values o true apart deep holds = or_first _ _ (deeper (length values) (relation_depth r) (length (values ++ o ∷ [])) (length_longer values o) (depth_other r (length values) apart) deep)
+bound_apart r values o false apart low holds = or_last _ _ (relation_holds-append r values (o ∷ []) (at_most (length values) (relation_depth r) low) ∙ holds)
+
+bound_one : (r : Relation) (values : List ℕ) (o : ℕ) → (relation_start r ≡ length values → ⊥) → (ltb (length values) (relation_depth r) || relation_holds r values) ≡ true → relation_single values r (length values) o ≡ true
+    → (ltb (length (values ++ o ∷ [])) (relation_depth r) || relation_holds r (values ++ o ∷ [])) ≡ true
+bound_one r values o other holds so =
+    elim (relation_names r (length values)) as (λ b. relation_names r (length values) ≡ b → (ltb (length (values ++ o ∷ [])) (relation_depth r) || relation_holds r (values ++ o ∷ [])) ≡ true) [
+      | true ↦ λ e. or_last _ _ (ap (relation_holds r) (sym (append-nil (values ++ o ∷ []))) ∙ holds_named r values [] o other e ∙ so)
+      | false ↦ λ e. bound_apart r values o (ltb (length values) (relation_depth r)) e refl holds
+    ] refl
+
+-- an object that all relations allow leaves those hold that have values
+bound_more : (relations : List Relation) (values : List ℕ) (o : ℕ) → some_starts_at relations (length values) ≡ false → bound_relations_hold relations values ≡ true
+    → relation_singles relations values (length values) o ≡ true → bound_relations_hold relations (values ++ o ∷ []) ≡ true
+bound_more [] values o starts holds so = refl
+bound_more (r ∷ relations) values o starts holds so =
+    let others = starts_other (relation_start r) (length values) (some_starts_at relations (length values)) starts in
+    λ i. bound_one r values o others.0 (and_first _ _ holds) (and_first _ _ so) i && bound_more relations values o others.1 (and_second _ _ holds) (and_second _ _ so) i
+
 -- ## Counting
 
 length-filter-map : (p : List ℕ → Bool) (f : List ℕ → List ℕ) (xs : List (List ℕ)) → length (filter p (map f xs)) ≡ length (filter (λ x. p (f x)) xs)
@@ -212,3 +271,16 @@ module _ (domains : List (List ℕ)) (relations : List Relation) (values : List 
       → each ≡ length (completions domains relations longer) → allowed * each ≡ length (flat_map by run)
   counted_once p allowed each run longer sp many pushed size =
       (λ i. many i * (size ∙ ap (λ (v : List ℕ). length (completions domains relations v)) pushed) i) ∙ sym (run_alike p sp run)
+
+  -- at the last parameter each object that is allowed has one completion
+  pub counted_last : (p allowed : ℕ) (run : List ℕ) → AreRelationsOf relations (length domains) → length values + 1 ≡ length domains → bound_relations_hold relations values ≡ true
+      → allows p ≡ true → allowed ≡ length (filter allows run) → allowed ≡ length (flat_map by run)
+  counted_last p allowed run of last holds sp many =
+      let one : length (by p) ≡ 1 = ap length (completions_leaf domains relations (values ++ p ∷ []) of (length_longer values p ∙ last) (bound_more relations values p starts holds sp)) in
+      many ∙ once (length (filter allows run)) (length (by p)) one ∙ sym (run_alike p sp run)
+    where
+      same : (m : ℕ) → m ≡ m * 1
+      same m = omega arith
+
+      once : (m n : ℕ) → n ≡ 1 → m ≡ m * n
+      once m n e = same m ∙ ap (λ k. m * k) (sym e)

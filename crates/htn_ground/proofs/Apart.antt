@@ -1,12 +1,11 @@
--- Relations where some parameters have values, and those that name no other parameter.
-use Rattle.std.proofs.Common.{◌≡◌, ℕ, Bool, true, false, cond, not, ◌||◌, ◌&&◌, eqb, ltb, List, [], ◌∷◌, length, get_or, ◌<◌, ◌≤◌, refl, sym, ap, ◌∙◌, arith, suc}
+-- Relations where some parameters have values, and parameters that they do not name.
+use Rattle.std.proofs.Common.{◌≡◌, ℕ, Bool, true, false, cond, not, ◌||◌, eqb, ltb, List, length, get_or, ◌<◌, ◌≤◌, refl, ap, arith}
 use Rattle.std.specs.Bool.{beq}
-use Rattle.std.specs.List.{filter}
 use Rattle.std.proofs.lemmas.Bool.Decides.{nat_tests}
 use Rattle.htn_model.specs.Schema.{Term, object, parameter}
 use Rattle.htn_ground.specs.declared.relation.Relation.{Relation}
 use Rattle.htn_ground.specs.declared.relation.Relation.TheVariants.{Different, Same}
-use Rattle.htn_ground.specs.Search.{are_apart_from, relation_names, relation_single, relation_singles, single_of, term_after}
+use Rattle.htn_ground.specs.Search.{relation_single, single_of, term_after}
 
 -- ## Values
 
@@ -22,15 +21,11 @@ unknown values p h = ap (λ b. cond b (object (get_or values p 0)) (parameter p)
     above : (m n : ℕ) → n ≤ m → ltb m n ≡ false
     above m n h = grind (arith, nat_tests)
 
-and_first : (a b : Bool) → (a && b) ≡ true → a ≡ true
-and_first true b e = refl
-and_first false b e = cc
+-- ## Parameters that a relation does not name
 
-and_second : (a b : Bool) → (a && b) ≡ true → b ≡ true
-and_second true b e = e
-and_second false b e = cc
-
--- ## Parameters that no relation names
+abbrev pub relation_names : Relation → ℕ → Bool
+relation_names (Same a b) j = eqb a j || eqb b j
+relation_names (Different a b) j = eqb a j || eqb b j
 
 not_or : (a b : Bool) → not (a || b) ≡ true → (not a ≡ true) × (not b ≡ true)
 not_or true b e = cc
@@ -59,13 +54,3 @@ single_apart positive a b values j o apart =
 pub relation_apart : (r : Relation) (values : List ℕ) (j o : ℕ) → not (relation_names r j) ≡ true → relation_single values r j o ≡ true
 relation_apart (Same a b) values j o apart = single_apart true a b values j o apart
 relation_apart (Different a b) values j o apart = single_apart false a b values j o apart
-
-relations_apart : (relations : List Relation) (values : List ℕ) (j o : ℕ) → are_apart_from j relations ≡ true → relation_singles relations values j o ≡ true
-relations_apart [] values j o apart = refl
-relations_apart (r ∷ relations) values j o apart = (λ i. relation_apart r values j o (and_first _ _ apart) i && relations_apart relations values j o (and_second _ _ apart) i)
-
-pub allowed_apart : (relations : List Relation) (values : List ℕ) (j : ℕ) → are_apart_from j relations ≡ true → (objects : List ℕ) → length objects ≡ length (filter (relation_singles relations values j) objects)
-allowed_apart relations values j apart [] = refl
-allowed_apart relations values j apart (o ∷ objects) =
-    ap (λ n. suc n) (allowed_apart relations values j apart objects)
-    ∙ sym (ap (λ b. length (cond b (o ∷ filter (relation_singles relations values j) objects) (filter (relation_singles relations values j) objects))) (relations_apart relations values j o apart))

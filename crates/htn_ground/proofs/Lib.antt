@@ -11,6 +11,7 @@ pub mod Moved
 pub mod Excluded
 pub mod Skipped
 pub mod Apart
+pub mod Allowed
 pub mod Classified
 pub mod Steps
 pub mod Pinned

@@ -1,16 +1,29 @@
 -- A run of objects that are ruled out is counted and gives nothing.
-use Rattle.std.proofs.Common.{◌≡◌, ℕ, true, List, [], ◌∷◌, ◌++◌, length, take, drop, get_or, ◌+◌, ◌-◌, ◌<◌, ◌≤◌, refl, sym, ap, ◌∙◌, arith, append-nil, length-append}
+use Rattle.std.proofs.Common.{◌≡◌, ℕ, true, List, [], ◌∷◌, ◌++◌, length, take, drop, get_or, ◌+◌, ◌-◌, ◌<◌, ◌≤◌, refl, sym, ap, ◌∙◌, arith, append-nil, length-append, length-drop}
 use Rattle.std.specs.List.{All, flat_map}
+use Rattle.std.specs.List.Sorted.{IsStrictlySortedBy}
+use Rattle.std.specs.Ordering.{nat_cmp}
 use Rattle.std.proofs.Math.Seq.{take-add}
 use Rattle.std.proofs.lemmas.List.{get_or-drop, get_or-take, length-take}
 use Rattle.std.proofs.lemmas.List.Elements.{All-tail}
 use Rattle.std.proofs.lemmas.List.Concat.{flat_map-append}
+use Rattle.std.proofs.lemmas.Map.Keys.{below_from_sorted, sorted_from_strictly_increasing}
 use Rattle.htn_model.specs.State.{State}
 use Rattle.htn_model.specs.Instances.{assignments}
 use Rattle.htn_ground.specs.declared.fixed.FixedLiteral.{FixedLiteral}
 use Rattle.htn_ground.specs.declared.relation.Relation.{Relation}
 use Rattle.htn_ground.specs.Search.{completions, is_ruled_out_so_far, live_from}
 use Rattle.htn_ground.proofs.Counting.{live_from-append, live_none}
+
+-- the numbers from a place up to another ascend, as all do
+pub ascending_run : (objects : List ℕ) (from to : ℕ) → IsStrictlySortedBy nat_cmp objects → IsStrictlySortedBy nat_cmp (take (to - from) (drop from objects))
+ascending_run objects from to sorted = sorted_from_strictly_increasing (take (to - from) (drop from objects)) (λ k inside. by k (omega (arith, inside, length-take (to - from) (drop from objects))) (omega (arith, inside, length-take (to - from) (drop from objects), length-drop from objects)))
+  where
+    at : (k : ℕ) → k < to - from → get_or (take (to - from) (drop from objects)) k 0 ≡ get_or objects (from + k) 0
+    at k long = get_or-take (to - from) (drop from objects) k 0 long ∙ get_or-drop from objects k 0
+
+    by : (k : ℕ) → k + 1 < to - from → from + (k + 1) < length objects → get_or (take (to - from) (drop from objects)) k 0 < get_or (take (to - from) (drop from objects)) (k + 1) 0
+    by k long below = omega (arith, at k (omega (arith, long)), at (k + 1) long, below_from_sorted objects (from + k) (from + (k + 1)) 0 sorted (omega arith) below)
 
 module _ (state : State) (literals : List FixedLiteral) (domains : List (List ℕ)) (relations : List Relation) (values : List ℕ) where
   abbrev pieces : ℕ → List (List ℕ)

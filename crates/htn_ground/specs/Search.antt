@@ -20,6 +20,10 @@ abbrev pub relation_holds : Relation → List ℕ → Bool
 relation_holds (Same a b) values = slice_index values a == slice_index values b
 relation_holds (Different a b) values = not (slice_index values a == slice_index values b)
 
+abbrev pub is_equality : Relation → Bool
+is_equality (Same a b) = true
+is_equality (Different a b) = false
+
 -- how many parameters the relation reaches over
 abbrev pub relation_depth : Relation → ℕ
 relation_depth (Same a b) = max a b + 1
@@ -122,14 +126,6 @@ relation_start (Different a b) = min a b
 -- whether some relation has its first parameter at this place
 abbrev pub some_starts_at : List Relation → ℕ → Bool
 some_starts_at relations place = list_any (λ r. nat_eq (relation_start r) place) relations
-
-abbrev pub relation_names : Relation → ℕ → Bool
-relation_names (Same a b) j = nat_eq a j || nat_eq b j
-relation_names (Different a b) j = nat_eq a j || nat_eq b j
-
--- whether no relation names parameter j
-abbrev pub are_apart_from : ℕ → List Relation → Bool
-are_apart_from j relations = list_all (λ r. not (relation_names r j)) relations
 
 -- a parameter: the object that it stands for, if it has a value
 abbrev pub term_after : List ℕ → ℕ → Term

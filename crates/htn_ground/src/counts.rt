@@ -1,7 +1,9 @@
 //! How many choices of objects there are of which all relations hold.
-ghost use Rattle.std.specs.Prelude.{◌≡◌, ◌≤◌, ◌<◌, ◌+◌, ◌*◌, ◌++◌, ◌∷◌, [], length, OnOk, IfNone, IfOk, IfSome, true};
-ghost use Rattle.std.specs.List.{filter, flat_map};
-ghost use Rattle.htn_ground.specs.Search.{AreRelationsOf, are_apart_from, bound_relations_hold, completions, product, relation_singles, some_starts_at};
+ghost use Rattle.std.specs.Prelude.{◌≡◌, ◌≤◌, ◌<◌, ◌+◌, ◌*◌, ◌++◌, ◌∷◌, ◌&&◌, ℕ, [], length, nat_eq, OnOk, IfNone, IfOk, IfSome, true};
+ghost use Rattle.std.specs.List.{All, filter, flat_map, list_any};
+ghost use Rattle.std.specs.List.Sorted.{IsStrictlySortedBy};
+ghost use Rattle.std.specs.Ordering.{nat_cmp};
+ghost use Rattle.htn_ground.specs.Search.{AreRelationsOf, bound_relations_hold, completions, is_equality, product, relation_single, relation_singles, some_starts_at};
 
 use crate::object_list::ObjectList;
 use crate::relation::Relation;
@@ -52,13 +54,6 @@ fn some_starts_at(relations: &[Relation], place: usize) -> bool
     relations.iter().any(|relation| relation.start() == place)
 }
 
-/// Whether no relation names a parameter.
-fn are_apart(relations: &[Relation], place: usize) -> bool
-    ensures { result ≡ are_apart_from place relations.now }
-{
-    relations.iter().all(|relation| !relation.names(place))
-}
-
 /// Whether all relations allow an object at a place, where their other parameters have values.
 fn all_allow(relations: &[Relation], values: &[u16], place: usize, object: u16) -> bool
     ensures { result ≡ relation_singles relations.now values.now place object }
@@ -71,32 +66,72 @@ fn all_allow(relations: &[Relation], values: &[u16], place: usize, object: u16) 
     true
 }
 
-/// How many objects all relations allow at a place.
+/// Whether an object stands in a list and all relations allow it at a place.
+fn is_allowed(
+    relations: &[Relation],
+    values: &[u16],
+    place: usize,
+    objects: &[u16],
+    object: u16,
+) -> bool
+    requires { IsStrictlySortedBy nat_cmp objects.now }
+    ensures { result ≡ (list_any (nat_eq object) objects.now && relation_singles relations.now values.now place object) }
+{
+    objects.binary_search(&object).is_ok() && all_allow(relations, values, place, object)
+}
+
+/// How many objects all relations allow at a place: an equality leaves one at most, and each negated
+/// one takes off one at most.
 fn count_allowed(relations: &[Relation], values: &[u16], place: usize, objects: &[u16]) -> u64
+    requires { IsStrictlySortedBy nat_cmp objects.now }
     ensures { result ≡ length (filter (relation_singles relations.now values.now place) objects.now) }
 {
-    if are_apart(relations, place) {
-        return objects.len() as u64;
-    }
-    let mut count: u64 = 0;
-    for object in objects {
-        if all_allow(relations, values, place, *object) {
-            count += 1;
+    let mut count = objects.len() as u64;
+    for (number, relation) in relations.iter().enumerate() {
+        if let Some(object) = relation.other_value(values, place) {
+            if relation.is_equality() {
+                return u64::from(is_allowed(relations, values, place, objects, object));
+            }
+            if is_allowed(&relations[..number], values, place, objects, object) {
+                count -= 1;
+            }
         }
     }
     count
 }
 
-/// The first object that all relations allow at a place.
+/// The only object that an equality allows at a place.
+fn only_allowed(relations: &[Relation], values: &[u16], place: usize) -> Option<u16>
+    ensures some { IfSome result (λ x. (o : ℕ) → relation_singles relations.now values.now place o ≡ true → o ≡ x) }
+    ensures none { IfNone result (All (λ r. is_equality r ≡ true → (o : ℕ) → relation_single values.now r place o ≡ true) relations.now) }
+{
+    for relation in relations {
+        if relation.is_equality() {
+            if let Some(object) = relation.other_value(values, place) {
+                return Some(object);
+            }
+        }
+    }
+    None
+}
+
+/// An object that all relations allow at a place.
 fn first_allowed(
     relations: &[Relation],
     values: &[u16],
     place: usize,
     objects: &[u16],
 ) -> Option<u16>
+    requires { IsStrictlySortedBy nat_cmp objects.now }
     ensures some { IfSome result (λ o. relation_singles relations.now values.now place o ≡ true) }
     ensures none { IfNone result (filter (relation_singles relations.now values.now place) objects.now ≡ []) }
 {
+    if let Some(object) = only_allowed(relations, values, place) {
+        if is_allowed(relations, values, place, objects, object) {
+            return Some(object);
+        }
+        return None;
+    }
     for object in objects {
         if all_allow(relations, values, place, *object) {
             return Some(*object);
@@ -114,6 +149,7 @@ pub(crate) fn count_completions(
 ) -> Result<u64, AllocError>
     requires small { length values.old ≤ length domains.now }
     requires relations { AreRelationsOf relations.now (length domains.now) }
+    requires ascending { All (IsStrictlySortedBy nat_cmp) domains.now }
     ensures count { IfOk result (λ n. n ≡ length (completions domains.now relations.now values.old)) }
     ensures values { OnOk result (values.new ≡ values.old) }
 {
@@ -130,6 +166,9 @@ pub(crate) fn count_completions(
             return Ok(0);
         };
         let allowed = count_allowed(relations, values.as_slice(), depth, objects);
+        if depth + 1 == domains.len() {
+            return Ok(allowed);
+        }
         values.push(object)?;
         let each = count_completions(domains, relations, values)?;
         values.pop();
@@ -155,6 +194,8 @@ pub(crate) fn count_run(
 ) -> Result<u64, AllocError>
     requires small { length values.old < length domains.now }
     requires relations { AreRelationsOf relations.now (length domains.now) }
+    requires ascending { All (IsStrictlySortedBy nat_cmp) domains.now }
+    requires run { IsStrictlySortedBy nat_cmp run.now }
     ensures count { IfOk result (λ n. n ≡ length (flat_map (λ object. completions domains.now relations.now (values.old ++ object ∷ [])) run.now)) }
     ensures values { OnOk result (values.new ≡ values.old) }
 {

@@ -1,6 +1,7 @@
 //! Equalities and negated equalities between the parameters of a schema.
-ghost use Rattle.std.specs.Prelude.{◌≡◌, ◌≤◌, length};
-ghost use Rattle.htn_ground.specs.Search.{relation_depth, relation_holds, relation_names, relation_single, relation_start, term_after};
+ghost use Rattle.std.specs.Prelude.{◌≡◌, ◌≤◌, ◌==◌, Bool, ℕ, IfNone, IfSome, length, true};
+ghost use Rattle.std.specs.Bool.{beq};
+ghost use Rattle.htn_ground.specs.Search.{is_equality, relation_depth, relation_holds, relation_single, relation_start, single_of, term_after};
 ghost use Rattle.htn_task.specs.Views.{term_of};
 
 use crate::instances::single_of;
@@ -13,6 +14,24 @@ fn term_after(values: &[u16], parameter: u16) -> Term
     match values.get(parameter as usize) {
         Some(object) => Term::Object(*object),
         None => Term::Parameter(parameter),
+    }
+}
+
+/// The object beside a parameter, where that is the only parameter of an equality.
+fn object_beside(left: Term, right: Term, place: usize) -> Option<u16>
+    ensures some { IfSome result (λ x. (positive : Bool) (o : ℕ) → single_of positive (term_of left) (term_of right) place o ≡ beq positive (o == x)) }
+    ensures none { IfNone result ((positive : Bool) (o : ℕ) → single_of positive (term_of left) (term_of right) place o ≡ true) }
+{
+    match (left, right) {
+        (Term::Object(object), Term::Parameter(parameter))
+        | (Term::Parameter(parameter), Term::Object(object)) => {
+            if parameter as usize == place {
+                Some(object)
+            } else {
+                None
+            }
+        }
+        _ => None,
     }
 }
 
@@ -42,13 +61,25 @@ impl Relation {
         }
     }
 
-    /// Whether it is one of its parameters.
-    pub(crate) fn names(&self, place: usize) -> bool
-        ensures { result ≡ relation_names self.now place }
+    /// Whether it is an equality, and no negated one.
+    pub(crate) fn is_equality(&self) -> bool
+        ensures { result ≡ is_equality self.now }
+    {
+        match self {
+            Relation::Same(_, _) => true,
+            Relation::Different(_, _) => false,
+        }
+    }
+
+    /// The object that an object at a place has to be, or not to be: the value of the other parameter,
+    /// where the relation names the place and that has one.
+    pub(crate) fn other_value(&self, values: &[u16], place: usize) -> Option<u16>
+        ensures some { IfSome result (λ x. (o : ℕ) → relation_single values.now self.now place o ≡ beq (is_equality self.now) (o == x)) }
+        ensures none { IfNone result ((o : ℕ) → relation_single values.now self.now place o ≡ true) }
     {
         match self {
             Relation::Same(a, b) | Relation::Different(a, b) => {
-                *a as usize == place || *b as usize == place
+                object_beside(term_after(values, *a), term_after(values, *b), place)
             }
         }
     }

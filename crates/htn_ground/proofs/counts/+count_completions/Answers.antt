@@ -1,8 +1,8 @@
-use Rattle.std.proofs.Common.{◌≡◌, ◌∙◌, sym, ap, true, false, List, ℕ, ◌++◌, ◌∷◌, [], ◌<◌, length, drop, get_or, arith}
+use Rattle.std.proofs.Common.{◌≡◌, ◌∙◌, sym, ap, true, false, List, ℕ, ◌++◌, ◌∷◌, [], ◌<◌, ◌+◌, length, get_or, arith}
 use Rattle.std.specs.List.{filter, flat_map}
 use Rattle.std.proofs.lemmas.List.{take_all}
 use Rattle.htn_ground.specs.Search.{bound_relations_hold, completions, relation_singles, some_starts_at}
-use Rattle.htn_ground.proofs.Alike.{counted_once, run_none}
+use Rattle.htn_ground.proofs.Alike.{counted_last, counted_once, run_none}
 use Rattle.htn_ground.proofs.Completions.{completions_none, completions_leaf, completions_step}
 use Rattle.htn_ground.proofs.counts.+count_completions.Goals as goal
 
@@ -30,6 +30,26 @@ returns-in_default-clause-count t c =
     let none : filter (relation_singles relations values (length values)) objects ≡ [] =
     (λ i. filter (relation_singles relations (sym c.as_slice-then-not-some_starts_at.ensures i) (sym c.len-depth.ensures i)) objects) ∙ c.in_default.ensures.none in
     sym (run_none domains relations values starts objects none)
+    ∙ ap (λ (l : List ℕ). length (flat_map (λ object. completions domains relations (values ++ object ∷ [])) l)) c.as_slice-objects.ensures
+    ∙ sym (ap length (completions_step domains relations values domain below here))
+
+pub returns-then-depth-domains-2-clause-count : goal.returns-then-depth-domains-2-clause-count
+returns-then-depth-domains-2-clause-count t c =
+    let domains = c.args.domains.now in
+    let relations = c.args.relations.now in
+    let values = c.args.values.now in
+    let objects = c.as_slice-objects.result.now in
+    let domain = c.index-domains-depth.result in
+    let here : domain ≡ get_or domains (length values) domain = c.index-domains-depth.is ∙ ap (λ (n : ℕ). get_or domains n domain) c.len-depth.ensures in
+    let below : length values < length domains = omega (arith, c.requires.small, c.len-depth.ensures, c.if-depth-domains.false) in
+    let starts : some_starts_at relations (length values) ≡ false = ap (some_starts_at relations) (sym c.len-depth.ensures) ∙ sym c.if-not-some_starts_at.ensures in
+    let holds : bound_relations_hold relations values ≡ true = cc (c.if-not-bound_relations_hold_of.ensures, c.as_slice.ensures) in
+    let allows : relation_singles relations values (length values) c.in-Some.object ≡ true =
+    (λ i. relation_singles relations (sym c.as_slice-then-not-some_starts_at.ensures i) (sym c.len-depth.ensures i) c.in-Some.object) ∙ c.in-Some.ensures.some in
+    let many : c.count_allowed-allowed.result ≡ length (filter (relation_singles relations values (length values)) objects) =
+    c.count_allowed-allowed.ensures ∙ (λ i. length (filter (relation_singles relations (c.as_slice-then-not-some_starts_at-2.ensures i) (c.len-depth.ensures i)) objects)) in
+    let last : length values + 1 ≡ length domains = omega (arith, c.len-depth.ensures, c.if-depth-domains-2.true) in
+    counted_last domains relations values starts c.in-Some.object c.count_allowed-allowed.result objects c.requires.relations last holds allows many
     ∙ ap (λ (l : List ℕ). length (flat_map (λ object. completions domains relations (values ++ object ∷ [])) l)) c.as_slice-objects.ensures
     ∙ sym (ap length (completions_step domains relations values domain below here))
 

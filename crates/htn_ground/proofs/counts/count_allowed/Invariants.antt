@@ -1,7 +1,8 @@
-use Rattle.std.proofs.Common.{◌≡◌, ◌≤◌, length, take}
+use Rattle.std.proofs.Common.{◌≡◌, length, take}
 use Rattle.std.specs.List.{filter}
 use Rattle.htn_ground.specs.Search.{relation_singles}
 use Rattle.htn_ground.proofs.counts.count_allowed.Given as goal
 
-abbrev pub invariant-loop-object : goal.invariant-loop-object
-invariant-loop-object l = (l.count ≡ length (filter (relation_singles l.relations l.values l.place) (take l.object-index l.objects))) × (l.count ≤ l.object-index)
+-- what the relations so far allow is counted
+abbrev pub invariant-loop-number : goal.invariant-loop-number
+invariant-loop-number l = l.count ≡ length (filter (relation_singles (take l.number l.relations) l.values l.place) l.objects)

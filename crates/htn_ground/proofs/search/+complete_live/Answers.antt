@@ -1,5 +1,7 @@
 use Rattle.std.proofs.Common.{◌≡◌, ◌∙◌, sym, ap, true, false, List, ℕ, ◌++◌, ◌∷◌, [], ◌<◌, ◌+◌, length, get_or, arith, append-nil, drop, take, subst, refl, ◌≤◌, ◌-◌}
 use Rattle.std.specs.List.{flat_map}
+use Rattle.std.specs.List.Sorted.{IsStrictlySortedBy}
+use Rattle.std.specs.Ordering.{nat_cmp}
 use Rattle.std.proofs.lemmas.List.{take_all}
 use Rattle.htn_model.specs.Instances.{assignments}
 use Rattle.htn_ground.specs.Search.{bound_relations_hold, completions}
@@ -8,8 +10,13 @@ use Rattle.htn_ground.proofs.Completions.{completions_none, completions_leaf, co
 use Rattle.htn_ground.proofs.Counting.{live_none, live_leaf, live_more, popped}
 use Rattle.htn_ground.specs.Candidates.{is_left_out}
 use Rattle.htn_ground.proofs.Excluded.{left_out}
-use Rattle.htn_ground.proofs.Skipped.{live_skip}
+use Rattle.htn_ground.proofs.Skipped.{ascending_run, live_skip}
 use Rattle.htn_ground.proofs.search.+complete_live.Goals as goal
+
+pub count_run-requires-clause-run : goal.count_run-requires-clause-run
+count_run-requires-clause-run t c =
+    ascending_run c.as_slice-objects.result.now c.loop-place.place c.in_ok-next.next
+    (subst (IsStrictlySortedBy nat_cmp) (sym (c.as_slice-objects.ensures ∙ c.index-domains-depth.is)) (c.requires.ascending c.len-depth.result c.index-domains-depth.result (omega (arith, c.requires.small, c.len-depth.ensures, c.if-depth-domains.false))))
 
 pub returns-then-not-bound_relations_hold_of-clause-found :
     goal.returns-then-not-bound_relations_hold_of-clause-found
