@@ -1,5 +1,5 @@
 -- How many nodes trees have, where one is taken out or exchanged.
-use Rattle.std.proofs.Common.{◌≡◌, ℕ, suc, ◌+◌, ◌*◌, ◌<◌, List, [], ◌∷◌, ◌++◌, length, get_or, take, drop, set, ap, ◌∙◌, arith, rules, Vec, Global}
+use Rattle.std.proofs.Common.{◌≡◌, ℕ, suc, ◌+◌, ◌*◌, ◌<◌, ◌≤◌, List, [], ◌∷◌, ◌++◌, length, get_or, take, drop, set, ap, ◌∙◌, arith, rules, mul-le-mul, Vec, Global}
 use Rattle.std.proofs.lemmas.List.{set_split}
 use Rattle.std.specs.List.{remove}
 use Rattle.htn_model.specs.Problem.{GroundTask}
@@ -42,5 +42,8 @@ sizes-set ns i d new h =
     ap sizes (set_split ns i new h) ∙ sizes-append (take i ns) (new ∷ drop (suc i) ns) in
     omega arith
 
-pub less_left : (here above : ℕ) → 0 < here → (above + 0) * (above + 0) + above < (here + above) * (here + above) + here
-less_left here above h = grind arith
+pub less_left : (here above child left : ℕ) → 0 < here → child + left ≤ above → (child + left) * (child + left) + child < (here + above) * (here + above) + here
+less_left here above child left some within =
+    let square : (child + left) * (child + left) ≤ above * above = mul-le-mul within within in
+    let larger : above * above + above < (here + above) * (here + above) + here = grind arith in
+    omega arith

@@ -1,5 +1,5 @@
 //! Decomposition trees and solutions.
-ghost use Rattle.std.specs.Prelude.{◌≡◌, ◌+◌, ◌<◌, IfErr, IfOk};
+ghost use Rattle.std.specs.Prelude.{◌≡◌, ◌+◌, ◌<◌, ◌≤◌, IfErr, IfNone, IfOk, IfSome};
 ghost use Rattle.htn_model.specs.Tree as tree;
 ghost use Rattle.htn_ground.specs.Trees.{node_of, nodes_view, size_of, size_of_any};
 
@@ -42,6 +42,45 @@ impl Node {
     }
 }
 
+impl Node {
+    /// Takes a child out: the one before the last, or the only one, and then the node is let go. It
+    /// takes no memory.
+    fn take_before_last(self) -> Option<(Node, Option<Node>)>
+        ensures within { IfSome result (λ r. size_of r.0 + size_of_any r.1 ≤ size_of self) }
+        ensures only { IfSome result (λ r. IfNone r.1 (size_of r.0 < size_of self)) }
+    {
+        match self {
+            Node::Leaf(_) | Node::Step(_) => None,
+            Node::Compound(task, number, mut children) => {
+                if let Some(before) = children.len().checked_sub(2) {
+                    let child = children.remove(before);
+                    return Some((child, Some(Node::Compound(task, number, children))));
+                }
+                let only = children.pop();
+                children.destroy_empty();
+                let only = only?;
+                Some((only, None))
+            }
+        }
+    }
+
+    /// Takes a child out of the first node that has two, down by only children, which are let go.
+    fn take_next(self) -> Option<(Node, Node)>
+        ensures { IfSome result (λ r. size_of r.0 + size_of r.1 ≤ size_of self) }
+    {
+        let mut here = self;
+        loop {
+            match here.take_before_last()? {
+                (child, Some(rest)) => return Some((child, rest)),
+                (only, None) => here = only,
+            }
+        }
+    }
+}
+
+/// On the way down each node's last child is taken out, and the node above it is put in that place:
+/// so the nodes above are a stack, linked by their last children. Where the way ends, the next child
+/// is taken from the top of the stack, before its link.
 impl Drop for Node {
     fn drop(self) {
         let mut here = self;
@@ -54,8 +93,11 @@ impl Drop for Node {
                 }
                 Err(None) => return,
                 Err(Some(rest)) => {
-                    here = rest;
-                    above = None;
+                    let Some((child, left)) = rest.take_next() else {
+                        return;
+                    };
+                    here = child;
+                    above = Some(left);
                 }
             }
         }
