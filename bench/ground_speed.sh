@@ -11,7 +11,7 @@ trap 'rm -rf "$work"' EXIT
 mkdir -p "$work/crates/ground_speed/src"
 command=run
 objects=2000
-for name in htn_model htn_order htn_state htn_task htn_ground hddl_words hddl_tree hddl_text hddl_meaning hddl_names hddl_build hddl_check; do
+for name in htn_model htn_order htn_state htn_task htn_ground hddl_words hddl_tree hddl_text hddl_meaning hddl_names hddl_build hddl_scope hddl_uses hddl_check; do
     cp -a "$root/crates/$name" "$work/crates/$name"
     grep "^$name:" "$root/crates.txt" >> "$work/crates.txt"
     if [ ! -d "$root/crates/$name/out" ]; then
