@@ -1,0 +1,15 @@
+//! Tests of names, instances, steps, searches and plans over tasks that are read from texts.
+#![tactic(auto)]
+
+#[cfg(test)]
+mod instances;
+#[cfg(test)]
+mod names;
+#[cfg(test)]
+mod pairs;
+#[cfg(test)]
+mod plans;
+#[cfg(test)]
+mod searches;
+#[cfg(test)]
+mod steps;

@@ -1,0 +1,249 @@
+//! Searches: the words that finish, the least of them, and the solutions of words.
+
+use crate::pairs::{
+    AGAINST, DEAD, DOUBLING, ENDING, ENDLESS, LATE, NEED, NOTHING, Pair, ROAD, SET_AND_CLEAR,
+    THROUGH, TOUCH, TOUCH_NONE, TWO_ACTIONS, TWO_METHODS, task_of,
+};
+use htn_ground::{Node, Solution};
+use htn_search::{Answer, Bounds, Found, NoGate, find_word, finishes, rebuild, search};
+use htn_task::Task;
+use std::alloc::{AllocError, Global};
+use std::sync::Wait;
+use std::test::Fail;
+use std::thread::Threads;
+
+// Whether a word of the pair finishes.
+fn is_finishing(alloc: Global, pair: Pair, word: &[u64]) -> Result<bool, Fail> {
+    let task = task_of(alloc, pair)?;
+    Ok(finishes(alloc, &task, word)?)
+}
+
+#[test]
+fn words_finish(rt: HostRuntime) -> Result<(), Fail> {
+    let rows: [(Pair, &[u64]); 9] = [
+        (ROAD, &[0, 2, 0, 0, 6, 0, 0, 0, 0]),
+        (NOTHING, &[0]),
+        (LATE, &[0, 0, 1, 0]),
+        (TWO_METHODS, &[0, 0]),
+        (TWO_ACTIONS, &[0, 0, 0]),
+        (THROUGH, &[0, 0, 0, 0]),
+        (TOUCH, &[0, 0]),
+        (NEED, &[0, 1, 0]),
+        (SET_AND_CLEAR, &[0, 0, 1, 0, 0, 1, 0]),
+    ];
+    for (pair, word) in rows {
+        assert!(rt; is_finishing(rt.alloc(), pair, word)?, "{word:?}");
+    }
+    Ok(())
+}
+
+#[test]
+fn other_words_do_not_finish(rt: HostRuntime) -> Result<(), Fail> {
+    let rows: [(Pair, &[u64]); 9] = [
+        (ROAD, &[0, 2, 0, 0, 6, 0, 0, 0]),
+        (ROAD, &[0, 2, 0, 0, 6, 0, 0, 0, 0, 0]),
+        (ROAD, &[0, 2, 0, 0, 6, 0, 0, 10, 0]),
+        (ROAD, &[1, 2, 0, 0, 6, 0, 0, 0, 0]),
+        (NOTHING, &[]),
+        (LATE, &[0, 0, 0, 0]),
+        (NEED, &[0, 0, 0]),
+        (TOUCH, &[2, 0]),
+        (SET_AND_CLEAR, &[0, 0, 1, 0, 0, 0, 0]),
+    ];
+    for (pair, word) in rows {
+        assert!(rt; !is_finishing(rt.alloc(), pair, word)?, "{word:?}");
+    }
+    Ok(())
+}
+
+// The least finishing word within so many nodes, or why there is none, in text.
+fn word_text<R: Threads + Wait + Sync>(
+    rt: &R,
+    alloc: Global,
+    task: &Task,
+    bounds: Bounds,
+) -> Result<String, Fail> {
+    match find_word(rt, alloc, task, bounds, &NoGate)? {
+        Found::Word(word) => Ok(format!(in alloc; "{word:?}")?),
+        Found::None => Ok(String::from_str(alloc, "none")?),
+        Found::Unsolvable => Ok(String::from_str(alloc, "unsolvable")?),
+    }
+}
+
+// The same for a pair.
+fn word_of<R: Threads + Wait + Sync>(
+    rt: &R,
+    alloc: Global,
+    pair: Pair,
+    bounds: Bounds,
+) -> Result<String, Fail> {
+    let task = task_of(alloc, pair)?;
+    word_text(rt, alloc, &task, bounds)
+}
+
+#[test]
+fn least_words_are_found(rt: HostRuntime) -> Result<(), Fail> {
+    let rows = [
+        (ROAD, 8, "[0, 2, 0, 0, 6, 0, 0, 0, 0]"),
+        (ROAD, 7, "none"),
+        (NOTHING, 0, "[0]"),
+        (LATE, 3, "[0, 0, 1, 0]"),
+        (LATE, 2, "none"),
+        (TWO_METHODS, 1, "[0, 0]"),
+        (TWO_ACTIONS, 2, "[0, 0, 0]"),
+        (THROUGH, 4, "[0, 0, 0, 0]"),
+        (AGAINST, 2, "none"),
+        (AGAINST, 4, "unsolvable"),
+        (ENDLESS, 50, "unsolvable"),
+        (DOUBLING, 50, "none"),
+        (TOUCH, 1, "[0, 0]"),
+        (TOUCH_NONE, 0, "unsolvable"),
+        (NEED, 2, "[0, 1, 0]"),
+        (DEAD, 0, "none"),
+        (DEAD, 1, "unsolvable"),
+        (SET_AND_CLEAR, 6, "[0, 0, 1, 0, 0, 1, 0]"),
+        (SET_AND_CLEAR, 5, "none"),
+    ];
+    for (pair, nodes, text) in rows {
+        let bounds = Bounds::new(nodes, 1, 64).ok_or("in range")?;
+        let found = word_of(&rt, rt.alloc(), pair, bounds)?;
+        assert_eq!(rt; found.as_str(), text);
+    }
+    Ok(())
+}
+
+// The plan that is found, by the order of its actions and steps, in text.
+fn plan_text<R: Threads + Wait + Sync>(
+    rt: &R,
+    alloc: Global,
+    task: &Task,
+    bounds: Bounds,
+) -> Result<String, Fail> {
+    match search(rt, alloc, task, bounds, &NoGate)? {
+        Answer::Plan(solution) => solution_text(alloc, &solution),
+        Answer::None => Ok(String::from_str(alloc, "none")?),
+        Answer::Unsolvable => Ok(String::from_str(alloc, "unsolvable")?),
+    }
+}
+
+// The number of the initial network, that of its trees, and the places of the actions and steps in their order.
+fn solution_text(alloc: Global, solution: &Solution) -> Result<String, Fail> {
+    let number = solution.number;
+    let trees = solution.trees.len();
+    Ok(format!(in alloc; "{number} {trees} {:?}", solution.linearisation)?)
+}
+
+// The same for a pair.
+fn plan_of<R: Threads + Wait + Sync>(
+    rt: &R,
+    alloc: Global,
+    pair: Pair,
+    bounds: Bounds,
+) -> Result<String, Fail> {
+    let task = task_of(alloc, pair)?;
+    plan_text(rt, alloc, &task, bounds)
+}
+
+// The set action, the step of the first task, the clearing action, and the step of the first task's subtask.
+#[test]
+fn workers_and_pieces_change_nothing(rt: HostRuntime) -> Result<(), Fail> {
+    let plan = "0 3 [[1], [0, 0], [2], [0, 1, 0]]";
+    for workers in [1, 2, 4, 64] {
+        for piece in [1, 1_000_000] {
+            let bounds = Bounds::new(6, workers, piece).ok_or("in range")?;
+            let word = word_of(&rt, rt.alloc(), SET_AND_CLEAR, bounds)?;
+            assert_eq!(rt; word.as_str(), "[0, 0, 1, 0, 0, 1, 0]");
+            let found = plan_of(&rt, rt.alloc(), SET_AND_CLEAR, bounds)?;
+            assert_eq!(rt; found.as_str(), plan);
+        }
+    }
+    Ok(())
+}
+
+/// The solution of a word, if it finishes.
+pub fn solution_of(
+    alloc: Global,
+    task: &Task,
+    word: &[u64],
+) -> Result<Option<Solution>, AllocError> {
+    let finished = finishes(alloc, task, word)?;
+    if finished {
+        return Ok(Some(rebuild(alloc, task, word)?));
+    }
+    Ok(None)
+}
+
+// The solution of a word in text.
+fn rebuilt_text(alloc: Global, task: &Task, word: &[u64]) -> Result<String, Fail> {
+    let solution = solution_of(alloc, task, word)?.ok_or("finishes")?;
+    solution_text(alloc, &solution)
+}
+
+// The same for a pair.
+fn rebuilt_text_of(alloc: Global, pair: Pair, word: &[u64]) -> Result<String, Fail> {
+    let task = task_of(alloc, pair)?;
+    rebuilt_text(alloc, &task, word)
+}
+
+#[test]
+fn words_have_solutions(rt: HostRuntime) -> Result<(), Fail> {
+    let rows: [(Pair, &[u64], &str); 4] = [
+        (
+            ROAD,
+            &[0, 2, 0, 0, 6, 0, 0, 0, 0],
+            "0 1 [[0, 0], [0, 1], [0, 2, 0], [0, 2, 1], [0, 2, 2, 0]]",
+        ),
+        (NOTHING, &[0], "0 0 []"),
+        (LATE, &[0, 0, 1, 0], "0 2 [[1], [0, 0]]"),
+        (TOUCH, &[1, 0], "1 1 [[0]]"),
+    ];
+    for (pair, word, text) in rows {
+        let solution = rebuilt_text_of(rt.alloc(), pair, word)?;
+        assert_eq!(rt; solution.as_str(), text);
+    }
+    Ok(())
+}
+
+// Decomposes the task into itself so many times, and at last into nothing.
+fn ending_word(alloc: Global, levels: usize) -> Result<Vec<u64>, AllocError> {
+    let mut word = Vec::new(alloc);
+    for _ in 0..levels {
+        word.push(0)?;
+    }
+    word.push(1)?;
+    Ok(word)
+}
+
+// How many nodes there are from the first tree down by first children.
+fn depth(trees: &[Node]) -> u64 {
+    let mut nodes = trees;
+    for depth in 0..20_000 {
+        match nodes.first() {
+            Some(Node::Compound(_, _, children)) => nodes = children,
+            Some(_) => return depth + 1,
+            None => return depth,
+        }
+    }
+    0
+}
+
+// The depth of the solution of a word.
+fn rebuilt_depth(alloc: Global, task: &Task, word: &[u64]) -> Result<u64, Fail> {
+    let solution = solution_of(alloc, task, word)?.ok_or("finishes")?;
+    Ok(depth(&solution.trees))
+}
+
+// The same for a pair.
+fn rebuilt_depth_of(alloc: Global, pair: Pair, word: &[u64]) -> Result<u64, Fail> {
+    let task = task_of(alloc, pair)?;
+    rebuilt_depth(alloc, &task, word)
+}
+
+// The tree is let go, too.
+#[test]
+fn a_deep_tree_is_rebuilt(rt: HostRuntime) -> Result<(), Fail> {
+    let word = ending_word(rt.alloc(), 10_000)?;
+    let depth = rebuilt_depth_of(rt.alloc(), ENDING, &word)?;
+    assert_eq!(rt; depth, 10_000);
+    Ok(())
+}

@@ -1,0 +1,165 @@
+//! Configurations and their steps, one number of a word after the other.
+
+use crate::pairs::{ENDLESS, LATE, Pair, ROAD, SET_AND_CLEAR, task_of};
+use htn_ground::{goal_literals, initials};
+use htn_net::{Choice, Config};
+use htn_task::Task;
+use indexmap::IndexSet;
+use std::alloc::{AllocError, Global};
+use std::process::Abort;
+use std::test::Fail;
+
+// The configuration at the start with the initial network of a number.
+fn started(alloc: Global, task: &Task, number: usize) -> Result<Option<Config>, AllocError> {
+    let instances = initials(alloc, task)?;
+    match instances.get(number) {
+        Some(instance) => Ok(Some(Config::start(alloc, task, instance)?)),
+        None => Ok(None),
+    }
+}
+
+// The configuration that a number leads to, if it is one of the choices.
+fn stepped(
+    alloc: Global,
+    task: &Task,
+    config: &Config,
+    number: u64,
+) -> Result<Option<Config>, AllocError> {
+    for choice in &config.choices(alloc, task)? {
+        if choice.number == number {
+            return Ok(Some(config.step(alloc, task, choice)?));
+        }
+    }
+    Ok(None)
+}
+
+fn numbers(alloc: Global, choices: &[Choice]) -> Result<Vec<u64>, AllocError> {
+    choices.iter().map(|choice| choice.number).collect(alloc)
+}
+
+// How many nodes are open, the numbers of all choices, those of the live ones, and whether it is done.
+fn line(alloc: Global, task: &Task, config: &Config) -> Result<String, Fail> {
+    let all = numbers(alloc, &config.choices(alloc, task)?)?;
+    let live = numbers(alloc, &config.live_choices(alloc, task)?)?;
+    let goal = goal_literals(alloc, task)?;
+    let done = if config.is_done(&goal) { " done" } else { "" };
+    Ok(format!(in alloc; "{} {all:?} {live:?}{done}\n", config.open_len())?)
+}
+
+// A line for each configuration from the first initial network on, up to a number that is none of the choices.
+fn walk(alloc: Global, task: &Task, word: &[u64]) -> Result<String, Fail> {
+    let mut text = String::new(alloc);
+    let mut here = started(alloc, task, 0)?;
+    for number in word {
+        let Some(config) = here else {
+            return Ok(text);
+        };
+        text.push_str(&line(alloc, task, &config)?)?;
+        here = stepped(alloc, task, &config, *number)?;
+    }
+    match here {
+        Some(config) => text.push_str(&line(alloc, task, &config)?)?,
+        None => text.push_str("refused\n")?,
+    }
+    Ok(text)
+}
+
+fn walk_of(alloc: Global, pair: Pair, word: &[u64]) -> Result<String, Fail> {
+    let task = task_of(alloc, pair)?;
+    walk(alloc, &task, word)
+}
+
+const ROAD_LINES: &str = "1 [0, 1, 2, 3, 4, 5, 6, 7, 8, 9] [0, 2, 6]
+3 [0] [0]
+2 [0] [0]
+1 [0, 1, 2, 3, 4, 5, 6, 7, 8, 9] [0, 2, 6]
+3 [0] [0]
+2 [0] [0]
+1 [0, 1, 2, 3, 4, 5, 6, 7, 8, 9] [0, 2, 6]
+1 [0] [0]
+0 [] [] done
+";
+
+// A truck that is at a can't go from b to c at once: the step of that instance doesn't hold.
+const ROAD_REFUSED: &str = "1 [0, 1, 2, 3, 4, 5, 6, 7, 8, 9] [0, 2, 6]
+3 [] []
+refused
+";
+
+const SET_AND_CLEAR_LINES: &str = "3 [0] [0]
+4 [1, 2] [1, 2]
+3 [0, 1] [0, 1]
+2 [0] [0]
+2 [1] [1]
+1 [0] [0]
+0 [] [] done
+";
+
+// The second step comes too early: what it needs cleared is still set.
+const SET_AND_CLEAR_REFUSED: &str = "3 [0] [0]
+4 [1, 2] [1, 2]
+3 [0, 1] [0, 1]
+2 [0] [0]
+2 [1] [1]
+refused
+";
+
+const LATE_LINES: &str = "2 [0] [0]
+2 [1] [1]
+1 [0] [0]
+0 [] [] done
+";
+
+const LATE_REFUSED: &str = "2 [0] [0]
+2 [1] [1]
+refused
+";
+
+// The numbers after the first, which is that of the only initial network.
+#[test]
+fn words_go_step_by_step(rt: HostRuntime) -> Result<(), Fail> {
+    let rows: [(Pair, &[u64], &str); 6] = [
+        (ROAD, &[2, 0, 0, 6, 0, 0, 0, 0], ROAD_LINES),
+        (ROAD, &[6, 0], ROAD_REFUSED),
+        (SET_AND_CLEAR, &[0, 1, 0, 0, 1, 0], SET_AND_CLEAR_LINES),
+        (SET_AND_CLEAR, &[0, 1, 0, 0, 0], SET_AND_CLEAR_REFUSED),
+        (LATE, &[0, 1, 0], LATE_LINES),
+        (LATE, &[0, 0], LATE_REFUSED),
+    ];
+    for (pair, word, text) in rows {
+        let lines = walk_of(rt.alloc(), pair, word)?;
+        assert_eq!(rt; lines.as_str(), text);
+    }
+    Ok(())
+}
+
+// How many configurations along a word differ.
+fn count_different(alloc: Global, task: &Task, word: &[u64]) -> Result<usize, AllocError> {
+    let mut seen = IndexSet::new(alloc);
+    let mut here = started(alloc, task, 0)?;
+    for number in word {
+        let Some(config) = here else {
+            return Ok(0);
+        };
+        here = stepped(alloc, task, &config, *number)?;
+        seen.insert(config)?;
+    }
+    if let Some(config) = here {
+        seen.insert(config)?;
+    }
+    Ok(seen.len())
+}
+
+fn different_of(alloc: Global, pair: Pair, word: &[u64]) -> Result<usize, Fail> {
+    let task = task_of(alloc, pair)?;
+    Ok(count_different(alloc, &task, word)?)
+}
+
+// The endless task leads to itself. The truck ends elsewhere than where it was, so all its configurations differ.
+#[test]
+fn equal_configurations_stand_once_in_a_set(rt: HostRuntime) -> Result<(), Fail> {
+    let alloc = rt.alloc();
+    assert_eq!(rt; different_of(alloc, ENDLESS, &[0, 0, 0])?, 1);
+    assert_eq!(rt; different_of(alloc, ROAD, &[2, 0, 0, 6, 0, 0, 0, 0])?, 9);
+    Ok(())
+}
