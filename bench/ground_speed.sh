@@ -64,11 +64,16 @@ fn main(rt: HostRuntime) -> io::Result<()> {
         return Ok(());
     }
     let problem = fs::read_to_string(&rt, words[1].as_str())?;
-    let mut place = 2;
-    while place + 1 < words.len() {
-        let domain = fs::read_to_string(&rt, words[place + 1].as_str())?;
-        measure_texts(&rt, words[place].as_str(), domain.as_str(), problem.as_str())?;
-        place += 2;
+    let mut last_name = None;
+    for word in words.iter().skip(2) {
+        match last_name {
+            None => last_name = Some(word),
+            Some(name) => {
+                let domain = fs::read_to_string(&rt, word.as_str())?;
+                measure_texts(&rt, name.as_str(), domain.as_str(), problem.as_str())?;
+                last_name = None;
+            }
+        }
     }
     Ok(())
 }
