@@ -12,11 +12,8 @@ use Rattle.std.proofs.lemmas.List.Folds.{list_any-append}
 use Rattle.std.proofs.lemmas.List.Elements.{Contains-append_left, Contains-append_right, Contains-append_cases}
 use Rattle.std.proofs.lemmas.Map.Made.{AllPairs-from_IsDistinct}
 use Rattle.std.proofs.lemmas.Map.Views.{list_any-from_Contains, Contains-from_any}
-use Rattle.hddl_names.specs.Reach.{Reaches, IsAboveSome, IsReached}
-use Rattle.hddl_names.specs.Rows.{AreRows}
+use Rattle.hddl_names.specs.Reach.{Reaches, IsAboveSome}
 use Rattle.hddl_names.specs.Members.{AreFilled}
-use Rattle.indexmap.specs.IndexSet.{insert_all}
-use Rattle.hddl_names.proofs.Distinct.{insert_all-old, insert_all-new, insert_all-cases}
 use Rattle.hddl_names.proofs.Within.{first, cons_cases, nothing}
 
 -- ## An object more for some types

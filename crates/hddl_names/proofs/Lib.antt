@@ -8,10 +8,12 @@ pub mod FromPairs
 pub mod Fronts
 pub mod GroupPairs
 pub mod Levels
+pub mod Nested
 pub mod Parents
 pub mod RowLists
 pub mod Searched
 pub mod Texts
+pub mod Told
 pub mod Typed
 pub mod Vectors
 pub mod PlanNames

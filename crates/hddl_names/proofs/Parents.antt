@@ -182,10 +182,10 @@ reaches-below d a b (inr r) = inr (to-leads d a b r)
 
 -- ## The other way round
 
-turned-pair : (ps : List (ℕ × ℕ)) (a b : ℕ) → Contains {X = ℕ × ℕ} ps (a, b) → Contains {X = ℕ × ℕ} (turned ps) (b, a)
+pub turned-pair : (ps : List (ℕ × ℕ)) (a b : ℕ) → Contains {X = ℕ × ℕ} ps (a, b) → Contains {X = ℕ × ℕ} (turned ps) (b, a)
 turned-pair ps a b h = mapped (λ (p : ℕ × ℕ). (p.1, p.0)) ps (a, b) h
 
-unturned-pair : (ps : List (ℕ × ℕ)) (a b : ℕ) → Contains {X = ℕ × ℕ} (turned ps) (b, a) → Contains {X = ℕ × ℕ} ps (a, b)
+pub unturned-pair : (ps : List (ℕ × ℕ)) (a b : ℕ) → Contains {X = ℕ × ℕ} (turned ps) (b, a) → Contains {X = ℕ × ℕ} ps (a, b)
 unturned-pair ps a b h =
     let p = unmapped (λ (p : ℕ × ℕ). (p.1, p.0)) ps (b, a) h in
     subst (Contains {X = ℕ × ℕ} ps) (ap₂ (λ x y. (x, y)) (ap (λ (q : ℕ × ℕ). q.1) p.2) (ap (λ (q : ℕ × ℕ). q.0) p.2)) p.1

@@ -1,4 +1,5 @@
 pub mod Cycles
+pub mod Intervals
 pub mod Members
 pub mod Ranks
 pub mod Reach

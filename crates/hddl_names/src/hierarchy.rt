@@ -12,6 +12,7 @@ ghost use Rattle.hddl_names.specs.TypeNumbers.{type_at, numbered_pairs};
 
 use crate::cycles::{leads_to, type_places};
 use crate::edges::{rows_of, turned};
+use crate::intervals::{Interval, intervals_of, is_inside};
 use crate::names::Names;
 use crate::pairs::parent_pairs;
 use crate::ranks::may_return;
@@ -32,13 +33,15 @@ pub struct TypeHierarchy<'a> {
     parents: Rows,
     /// What each type is a parent of.
     children: Rows,
+    /// Those that tell which type is below which, where each has one parent at most, `object` aside.
+    intervals: Option<Vec<Interval>>,
 }
 
 impl<'a> Model for TypeHierarchy<'a> {
     ghost use Rattle.hddl_tree.specs.declared.domain.DomainText.{DomainText as Domain};
     ghost use Rattle.hddl_tree.specs.contracts.condition.Condition as condition;
     ghost use Rattle.std.specs.Coded.{codes};
-    ghost use Rattle.hddl_names.specs.TypeNumbers.{AreTypesOf};
+    ghost use Rattle.hddl_names.specs.Intervals.{AreHierarchyOf};
 
     ghost Value = { Domain };
 
@@ -46,7 +49,7 @@ impl<'a> Model for TypeHierarchy<'a> {
 
     ghost view = { λ types. types.domain.now };
 
-    ghost invariant = { λ types. AreTypesOf types.domain.now types.names.now types.parents types.children };
+    ghost invariant = { λ types. AreHierarchyOf types.domain.now types.names.now types.parents types.children types.intervals };
 }
 
 /// The number of `object`, the first of the types.
@@ -79,11 +82,13 @@ impl<'a> TypeHierarchy<'a> {
         let back = turned(alloc, &pairs)?;
         let parents = rows_of(alloc, names.len(), &pairs)?;
         let children = rows_of(alloc, names.len(), &back)?;
+        let intervals = intervals_of(alloc, &parents, &children)?;
         Ok(TypeHierarchy {
             domain,
             names,
             parents,
             children,
+            intervals,
         })
     }
 
@@ -114,6 +119,9 @@ impl<'a> TypeHierarchy<'a> {
         if t == u || u == OBJECT {
             return Ok(true);
         }
+        if let Some(intervals) = &self.intervals {
+            return Ok(is_inside(intervals, t, u));
+        }
         let above = reached(alloc, &self.parents, t)?;
         Ok(above.contains(&u))
     }
@@ -129,6 +137,9 @@ impl<'a> TypeHierarchy<'a> {
         }
         if self.is_below(alloc, u, t)? {
             return Ok(true);
+        }
+        if self.intervals.is_some() {
+            return Ok(false);
         }
         let below_t = reached(alloc, &self.children, t)?;
         let below_u = reached(alloc, &self.children, u)?;

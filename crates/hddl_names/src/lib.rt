@@ -4,6 +4,7 @@
 mod cycles;
 mod edges;
 mod hierarchy;
+mod intervals;
 mod members;
 mod names;
 mod pairs;

@@ -1,5 +1,6 @@
 use super::*;
 use crate::edges::turned;
+use crate::intervals::{Interval, intervals_of, is_inside};
 use crate::ranks::may_return;
 use crate::rows::Rows;
 use std::alloc::{AllocError, Global};
@@ -78,5 +79,72 @@ fn a_long_chain_takes_no_time(rt: HostRuntime) -> Result<(), Fail> {
     assert!(rt; rising.iter().all(|mark| !*mark));
     assert!(rt; falling.iter().all(|mark| !*mark));
     assert_eq!(rt; rising.len(), falling.len());
+    Ok(())
+}
+
+fn intervals_with(
+    alloc: Global,
+    size: usize,
+    pairs: &[(usize, usize)],
+) -> Result<Option<Vec<Interval>>, AllocError> {
+    let back = turned(alloc, pairs)?;
+    let parents = rows_with(alloc, size, pairs)?;
+    let children = rows_with(alloc, size, back.as_slice())?;
+    intervals_of(alloc, &parents, &children)
+}
+
+#[test]
+fn intervals_tell_what_is_below(rt: HostRuntime) -> Result<(), Fail> {
+    let pairs = [
+        (4, 3),
+        (1, 0),
+        (2, 0),
+        (2, 1),
+        (3, 0),
+        (3, 1),
+        (4, 0),
+        (5, 0),
+    ];
+    let Some(intervals) = intervals_with(rt.alloc(), 6, &pairs)? else {
+        return Err(Fail::new("no intervals"));
+    };
+    let below: [(usize, usize); 5] = [(2, 1), (3, 1), (4, 1), (4, 3), (5, 5)];
+    let apart: [(usize, usize); 6] = [(1, 2), (1, 4), (2, 3), (3, 2), (5, 1), (0, 1)];
+    assert!(rt;
+        below
+            .iter()
+            .all(|pair| is_inside(&intervals, pair.0, pair.1))
+    );
+    assert!(rt;
+        !apart
+            .iter()
+            .any(|pair| is_inside(&intervals, pair.0, pair.1))
+    );
+    Ok(())
+}
+
+#[test]
+fn other_hierarchies_have_no_intervals(rt: HostRuntime) -> Result<(), Fail> {
+    let alloc = rt.alloc();
+    let two_parents = [(1, 0), (2, 0), (3, 0), (3, 1), (3, 2)];
+    let cycle = [(1, 0), (2, 0), (1, 2), (2, 1)];
+    let above_all = [(0, 1), (1, 0)];
+    assert!(rt; intervals_with(alloc, 4, &two_parents)?.is_none());
+    assert!(rt; intervals_with(alloc, 3, &cycle)?.is_none());
+    assert!(rt; intervals_with(alloc, 2, &above_all)?.is_none());
+    Ok(())
+}
+
+#[test]
+fn a_long_chain_has_intervals(rt: HostRuntime) -> Result<(), Fail> {
+    let alloc = rt.alloc();
+    let chain: Vec<(usize, usize)> = (1..65_535usize)
+        .map(|k| (k, k.saturating_sub(1)))
+        .collect(alloc)?;
+    let Some(intervals) = intervals_with(alloc, 65_535, chain.as_slice())? else {
+        return Err(Fail::new("no intervals"));
+    };
+    assert!(rt; (1..65_535usize).all(|k| is_inside(&intervals, 65_534, k)));
+    assert!(rt; !is_inside(&intervals, 1, 2));
     Ok(())
 }

@@ -15,7 +15,7 @@ use Rattle.hddl_meaning.specs.Names.{type_mentions, object_names, predicate_name
 use Rattle.hddl_meaning.specs.Networks.{order_pairs}
 use Rattle.hddl_meaning.specs.Uses.{Variable, Use, TermUse, Quantifier, atoms_in, quantifiers_in, sides_in}
 use Rattle.hddl_meaning.specs.Items as items
-use Rattle.hddl_meaning.specs.Items.{Signature, type_of, variable_mentions, label_mentions, subtask_mentions, ordering_names, declared_objects}
+use Rattle.hddl_meaning.specs.Items.{Signature, type_of, variable_mentions, label_mentions, subtask_mentions, ordering_names}
 use Rattle.hddl_meaning.specs.declared.fault.Source.{Source}
 use Rattle.hddl_meaning.specs.declared.fault.CheckFault.{CheckFault}
 use Rattle.hddl_meaning.specs.declared.fault.CheckFault.TheVariants as fault

@@ -1,4 +1,4 @@
-use Rattle.std.proofs.Common.{[], ◌∷◌, subst}
+use Rattle.std.proofs.Common.{subst}
 use Rattle.hddl_names.specs.Reach.{AreReached}
 use Rattle.hddl_names.proofs.Fronts.{one_start}
 use Rattle.hddl_names.proofs.reach.reached.Goals as goal

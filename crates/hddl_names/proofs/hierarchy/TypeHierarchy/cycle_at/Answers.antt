@@ -12,10 +12,10 @@ pub index-requires : goal.index-requires
 index-requires c =
     let small = place-small c.args.self.now c.as_slice-place-items.result.now c.loop-place.place-index
     (places-are c.args.self.now c.self.inside.domain.now c.self.inside.names.now c.as_slice.result.now c.in_ok-places.places.items c.as_slice-place-items.result.now c.self.view_is
-    c.self.invariant.all c.as_slice.ensures c.in_ok-places.ensures c.as_slice-place-items.ensures.value) c.loop-place-test.true in
+    c.self.invariant.types.all c.as_slice.ensures c.in_ok-places.ensures c.as_slice-place-items.ensures.value) c.loop-place-test.true in
     let marks = c.in_ok-may.ensures.len in
-    let rows = c.self.invariant.up_count in
-    let names = ap length c.self.invariant.all in
+    let rows = c.self.invariant.types.up_count in
+    let names = ap length c.self.invariant.types.all in
     let domain = ap (λ (d : DomainText). length (type_names d)) c.self.view_is in
     omega (arith, small, marks, rows, names, domain)
 
@@ -23,7 +23,7 @@ pub is_on_cycle-requires : goal.is_on_cycle-requires
 is_on_cycle-requires c =
     place-small c.args.self.now c.as_slice-place-items.result.now c.loop-place.place-index
     (places-are c.args.self.now c.self.inside.domain.now c.self.inside.names.now c.as_slice.result.now c.in_ok-places.places.items c.as_slice-place-items.result.now c.self.view_is
-    c.self.invariant.all c.as_slice.ensures c.in_ok-places.ensures c.as_slice-place-items.ensures.value) c.loop-place-test.true
+    c.self.invariant.types.all c.as_slice.ensures c.in_ok-places.ensures c.as_slice-place-items.ensures.value) c.loop-place-test.true
 
 pub loop-place-preserved : goal.loop-place-preserved
 loop-place-preserved c =
@@ -31,14 +31,14 @@ loop-place-preserved c =
       | else-index-via-then-index+in_ok-is_on_cycle+else-branch w ↦
           circle-more c.args.self.now c.as_slice-place-items.result.now c.loop-place.place-index
           (places-are c.args.self.now c.self.inside.domain.now c.self.inside.names.now c.as_slice.result.now c.in_ok-places.places.items c.as_slice-place-items.result.now c.self.view_is
-          c.self.invariant.all c.as_slice.ensures c.in_ok-places.ensures c.as_slice-place-items.ensures.value) c.loop-place-test.true
+          c.self.invariant.types.all c.as_slice.ensures c.in_ok-places.ensures c.as_slice-place-items.ensures.value) c.loop-place-test.true
           (λ h. true≢false (sym (w.in_ok-is_on_cycle.ensures.1 h) ∙ w.if-branch.false)) c.loop-place.invariant
       | else-index-via-else-index w ↦
           let t = (get_or c.as_slice-place-items.result.now c.loop-place.place-index (0, 0)).0 in
           let listed = places-are c.args.self.now c.self.inside.domain.now c.self.inside.names.now c.as_slice.result.now c.in_ok-places.places.items c.as_slice-place-items.result.now c.self.view_is
-          c.self.invariant.all c.as_slice.ensures c.in_ok-places.ensures c.as_slice-place-items.ensures.value in
+          c.self.invariant.types.all c.as_slice.ensures c.in_ok-places.ensures c.as_slice-place-items.ensures.value in
           let small = place-small c.args.self.now c.as_slice-place-items.result.now c.loop-place.place-index listed c.loop-place-test.true in
-          let off = unmarked c.self.inside.domain.now c.self.inside.names.now c.self.inside.parents c.self.inside.children t c.in_ok-may.may.items c.self.invariant
+          let off = unmarked c.self.inside.domain.now c.self.inside.names.now c.self.inside.parents c.self.inside.children t c.in_ok-may.may.items c.self.invariant.types
           (subst (λ (d : DomainText). t < length (type_names d)) (sym c.self.view_is) small) c.in_ok-may.ensures.on
           (subst (λ mark. get_or c.in_ok-may.may.items t mark ≡ mark) w.if-index.false (sym c.index.ensures)) in
           circle-more c.args.self.now c.as_slice-place-items.result.now c.loop-place.place-index listed c.loop-place-test.true
@@ -49,11 +49,11 @@ pub returns-then-branch : goal.returns-then-branch
 returns-then-branch c =
     circle-first c.args.self.now c.as_slice-place-items.result.now c.loop-place.place-index
     (places-are c.args.self.now c.self.inside.domain.now c.self.inside.names.now c.as_slice.result.now c.in_ok-places.places.items c.as_slice-place-items.result.now c.self.view_is
-    c.self.invariant.all c.as_slice.ensures c.in_ok-places.ensures c.as_slice-place-items.ensures.value) c.loop-place-test.true
+    c.self.invariant.types.all c.as_slice.ensures c.in_ok-places.ensures c.as_slice-place-items.ensures.value) c.loop-place-test.true
     (c.in_ok-is_on_cycle.ensures.0 c.if-branch.true) c.loop-place.invariant
 
 pub returns : goal.returns
 returns c =
     circle-none c.args.self.now c.as_slice-place-items.result.now c.loop-place.place-index
     (places-are c.args.self.now c.self.inside.domain.now c.self.inside.names.now c.as_slice.result.now c.in_ok-places.places.items c.as_slice-place-items.result.now c.self.view_is
-    c.self.invariant.all c.as_slice.ensures c.in_ok-places.ensures c.as_slice-place-items.ensures.value) c.loop-place-test.false c.loop-place.invariant
+    c.self.invariant.types.all c.as_slice.ensures c.in_ok-places.ensures c.as_slice-place-items.ensures.value) c.loop-place-test.false c.loop-place.invariant

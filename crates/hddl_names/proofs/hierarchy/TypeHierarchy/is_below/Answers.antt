@@ -1,10 +1,13 @@
-use Rattle.std.proofs.Common.{◌≡◌, ◌↔◌, ◌<◌, true, refl, sym, ap, inl, subst, length}
+use Rattle.std.proofs.Common.{◌≡◌, ◌↔◌, ◌<◌, arith, List, true, refl, sym, ap, inl, subst, length}
 use Rattle.hddl_tree.specs.declared.domain.DomainText.{DomainText}
 use Rattle.hddl_meaning.specs.Names.{type_names}
 use Rattle.hddl_meaning.specs.Types.{IsBelow}
 use Rattle.hddl_names.specs.TypeNumbers.{type_at}
 use Rattle.hddl_names.proofs.Found.{found-below}
 use Rattle.hddl_names.proofs.Parents.{below-object}
+use Rattle.hddl_names.specs.Intervals.{IsInside}
+use Rattle.hddl_names.specs.declared.intervals.Interval.{Interval}
+use Rattle.hddl_names.proofs.Told.{inside-below, some-told}
 use Rattle.hddl_names.proofs.hierarchy.TypeHierarchy.is_below.Goals as goal
 use Rattle.hddl_names.proofs.hierarchy.TypeHierarchy.is_below.Goals.{then-t-u-via-then-t-u, then-t-u-via-else-t-u+then-u-eq-OBJECT}
 
@@ -17,10 +20,22 @@ returns-then-t-u c =
     ] in
     (λ _. below, λ _. refl)
 
+pub returns-in-Some : goal.returns-in-Some
+returns-in-Some c =
+    let d = c.self.inside.domain.now in
+    let told = some-told d c.self.inside.names.now c.self.inside.parents c.self.inside.children c.self.inside.intervals c.in-Some.intervals c.in-Some.is c.self.invariant in
+    let both = inside-below d c.in-Some.intervals.items c.args.t c.args.u told.1 told.0
+    (subst (λ (d : DomainText). c.args.t < length (type_names d)) (sym c.self.view_is) c.requires.t)
+    (subst (λ (d : DomainText). c.args.u < length (type_names d)) (sym c.self.view_is) c.requires.u) (let other = c.if-u-eq-OBJECT.false in omega (arith, other)) in
+    subst (λ (d : DomainText). (c.is_inside.result ≡ true) ↔ IsBelow d (type_at d c.args.t) (type_at d c.args.u)) c.self.view_is (
+      λ h. both.0 (subst (λ (xs : List Interval). IsInside xs c.args.t c.args.u) c.deref.ensures.value (c.is_inside.ensures.0 h)),
+      λ h. c.is_inside.ensures.1 (subst (λ (xs : List Interval). IsInside xs c.args.t c.args.u) (sym c.deref.ensures.value) (both.1 h)),
+    )
+
 pub returns : goal.returns
 returns c =
     subst (λ (d : DomainText). (c.contains.result ≡ true) ↔ IsBelow d (type_at d c.args.t) (type_at d c.args.u)) c.self.view_is
     (subst (λ b. (b ≡ true) ↔ IsBelow c.self.inside.domain.now (type_at c.self.inside.domain.now c.args.t) (type_at c.self.inside.domain.now c.args.u)) (sym c.contains.ensures)
-    (found-below c.self.inside.domain.now c.self.inside.names.now c.self.inside.parents c.self.inside.children c.args.t c.args.u c.in_ok-above.above.keys c.self.invariant
+    (found-below c.self.inside.domain.now c.self.inside.names.now c.self.inside.parents c.self.inside.children c.args.t c.args.u c.in_ok-above.above.keys c.self.invariant.types
     (subst (λ (d : DomainText). c.args.t < length (type_names d)) (sym c.self.view_is) c.requires.t)
     (subst (λ (d : DomainText). c.args.u < length (type_names d)) (sym c.self.view_is) c.requires.u) c.in_ok-above.ensures))
