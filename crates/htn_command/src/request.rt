@@ -1,7 +1,9 @@
 //! The words of the command line, read with `clap`.
-ghost use Rattle.std.specs.Prelude.{IfOk};
+ghost use Rattle.std.specs.Prelude.{◌≡◌, true, IfOk, IfErr};
+ghost use Rattle.htn_command.specs.Help.{asks_for_help, ShowsHelp};
 ghost use Rattle.htn_command.specs.Request.{IsInRange};
 
+use crate::refusal::Refusal;
 use clap::error::ErrorKind;
 use clap::{Arg, ArgMatches, Command, Error, value_parser};
 use std::alloc::{AllocError, Global};
@@ -18,11 +20,19 @@ pub enum Request<'a> {
     },
 }
 
-/// Reads the words, of which the first is the program's name.
-///
-/// The error is `clap`'s: its kind is `OutOfMemory` where memory was refused, its text belongs to the standard output
-/// where help was asked for, and else to the standard error.
-pub fn parse<'a>(alloc: Global, words: &'a [String]) -> Result<Request<'a>, Error>
+/// Reads the words, of which the first is the program's name. A refusal is one for help only where a word asks for it.
+pub fn parse<'a>(alloc: Global, words: &'a [String]) -> Result<Request<'a>, Refusal>
+    ensures bounds { IfOk result IsInRange }
+    ensures help { IfErr result (λ refusal. ShowsHelp refusal → asks_for_help words.now ≡ true) }
+{
+    match read(alloc, words) {
+        Ok(request) => Ok(request),
+        Err(error) => Err(Refusal::of(error, words)),
+    }
+}
+
+// The request of the words, or `clap`'s error.
+fn read<'a>(alloc: Global, words: &'a [String]) -> Result<Request<'a>, Error>
     ensures { IfOk result IsInRange }
 {
     let command = command(alloc)?;

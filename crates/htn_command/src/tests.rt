@@ -1,4 +1,4 @@
-use crate::{Request, parse};
+use crate::{Refusal, Request, parse};
 use std::alloc::{AllocError, Global};
 use std::test::Fail;
 
@@ -13,11 +13,16 @@ fn words_of(alloc: Global, line: &str) -> Result<Vec<String>, AllocError> {
 #[test]
 fn reads_the_defaults(rt: HostRuntime) -> Result<(), Fail> {
     let words = words_of(rt.alloc(), "htnplan plan d.hddl p.hddl")?;
-    let Request::Plan {
-        domain,
-        problem,
-        bounds,
-    } = parse(rt.alloc(), words.as_slice())?;
+    let Ok(
+        Request::Plan {
+            domain,
+            problem,
+            bounds,
+        },
+    ) = parse(rt.alloc(), words.as_slice())
+    else {
+        return Err(Fail::new("no request"));
+    };
     assert!(rt; domain == "d.hddl" && problem == "p.hddl");
     assert!(rt; bounds.nodes == 100 && bounds.workers == 1 && bounds.piece == 64);
     Ok(())
@@ -27,7 +32,9 @@ fn status_of(alloc: Global, line: &str) -> Result<i32, AllocError> {
     let words = words_of(alloc, line)?;
     Ok(match parse(alloc, words.as_slice()) {
         Ok(_) => -1,
-        Err(error) => error.exit_code(),
+        Err(Refusal::Help(_)) => 0,
+        Err(Refusal::Words(_)) => 2,
+        Err(Refusal::OutOfMemory) => 4,
     })
 }
 
@@ -49,5 +56,7 @@ fn refuses_numbers_out_of_range(rt: HostRuntime) -> Result<(), Fail> {
     assert!(rt; status_of(alloc, "htnplan")? == 2);
     assert!(rt; status_of(alloc, "htnplan --help")? == 0);
     assert!(rt; status_of(alloc, "htnplan plan --help")? == 0);
+    assert!(rt; status_of(alloc, "htnplan plan -h")? == 0);
+    assert!(rt; status_of(alloc, "htnplan help plan")? == 0);
     Ok(())
 }

@@ -1,5 +1,6 @@
 //! The run of a command line.
 ghost use Rattle.std.specs.Prelude.{◌≡◌, ◌≢◌, ◌≤◌, ◌⊎◌, true, IfOk, IfErr, OnOk};
+ghost use Rattle.htn_command.specs.Help.{asks_for_help};
 ghost use Rattle.htn_run.specs.Stops.{AddsAnswer, AddsNoPlan, FaultLeaves, Leaves};
 
 use crate::line::Line;
@@ -8,8 +9,7 @@ use crate::run::run_plan;
 use crate::source::{ReadFault, Source};
 use crate::stop::Stop;
 use clap::Error;
-use clap::error::ErrorKind;
-use htn_command::{Request, parse};
+use htn_command::{Refusal, Request, parse};
 use htn_plan::{Out, put_all};
 use htn_search::NoGate;
 use std::alloc::Global;
@@ -40,6 +40,7 @@ pub fn run_words<S: Source, O: Out, E: Out, R: Threads + Wait + Sync>(
 ) -> u8
     ensures status { result ≤ 5 }
     ensures works { result ≤ 1 → O.has_failed out.new ≡ O.has_failed out.old }
+    ensures found { result ≡ 0 → AddsAnswer Outcome.Found (O.contents out.old) (O.contents out.new) ⊎ (asks_for_help words.now ≡ true) }
     ensures none { result ≡ 1 → AddsNoPlan (O.contents out.old) (O.contents out.new) }
     ensures kept { 2 ≤ result → result ≤ 4 → out.new ≡ out.old }
     ensures failed { result ≡ 5 → (out.new ≡ out.old) ⊎ (O.has_failed out.new ≡ true) }
@@ -50,36 +51,23 @@ pub fn run_words<S: Source, O: Out, E: Out, R: Threads + Wait + Sync>(
             Ok(Outcome::NoPlan | Outcome::Unsolvable) => 1,
             Err(stop) => stop.tell(err),
         },
-        Err(error) => refuse_words(alloc, &error, out, err),
+        Err(Refusal::Help(help)) => match write_help(alloc, &help, out) {
+            Ok(()) => 0,
+            Err(fault) => Stop::Run(fault).tell(err),
+        },
+        Err(Refusal::Words(error)) => {
+            let _refused = write!(Line::new(err), "{error}");
+            2
+        }
+        Err(Refusal::OutOfMemory) => Stop::Run(RunFault::OutOfMemory).tell(err),
     }
 }
 
-// Help goes to the standard output, and what `clap` refuses to the standard error.
-fn refuse_words<O: Out, E: Out>(alloc: Global, error: &Error, out: &mut O, err: &mut E) -> u8
-    ensures status { result ≤ 5 }
-    ensures other { result ≢ 1 }
-    ensures works { result ≡ 0 → O.has_failed out.new ≡ O.has_failed out.old }
-    ensures kept { 2 ≤ result → result ≤ 4 → out.new ≡ out.old }
-    ensures failed { result ≡ 5 → (out.new ≡ out.old) ⊎ (O.has_failed out.new ≡ true) }
-{
-    if error.kind() == ErrorKind::OutOfMemory {
-        return Stop::Run(RunFault::OutOfMemory).tell(err);
-    }
-    if error.use_stderr() {
-        let _refused = write!(Line::new(err), "{error}");
-        return 2;
-    }
-    match write_help(alloc, error, out) {
-        Ok(()) => 0,
-        Err(fault) => Stop::Run(fault).tell(err),
-    }
-}
-
-fn write_help<O: Out>(alloc: Global, error: &Error, out: &mut O) -> Result<(), RunFault>
+fn write_help<O: Out>(alloc: Global, help: &Error, out: &mut O) -> Result<(), RunFault>
     ensures works { OnOk result (O.has_failed out.new ≡ O.has_failed out.old) }
     ensures stopped { IfErr result (FaultLeaves O.has_failed out.old out.new) }
 {
-    let text = error.to_string(alloc)?;
+    let text = help.to_string(alloc)?;
     put_all(out, text.as_bytes())?;
     Ok(())
 }

@@ -1,0 +1,49 @@
+//! Command lines that ask for no run.
+ghost use Rattle.std.specs.Prelude.{◌≡◌, true};
+ghost use Rattle.htn_command.specs.Help as spec;
+
+use clap::Error;
+use clap::error::ErrorKind;
+
+/// Why nothing is run. The texts are `clap`'s.
+#[derive(Debug, Drop)]
+pub enum Refusal {
+    /// Help was asked for, and this is its text.
+    Help(Error),
+    /// The words are refused, and this text says why.
+    Words(Error),
+    /// Memory was refused.
+    OutOfMemory,
+}
+
+/// Whether a word asks for help.
+fn is_help_word(word: &[u8]) -> bool
+    ensures { result ≡ spec.is_help_word word.now }
+{
+    if word == b"help".as_slice() {
+        return true;
+    }
+    word.starts_with(b"--help") || word.starts_with(b"-h")
+}
+
+/// Whether one of the words asks for help.
+fn ask_for_help(words: &[String]) -> bool
+    ensures { result ≡ spec.asks_for_help words.now }
+{
+    words.iter().any(|word| is_help_word(word.as_bytes()))
+}
+
+impl Refusal {
+    /// What an error of `clap` over these words is.
+    pub(crate) fn of(error: Error, words: &[String]) -> Refusal
+        ensures { spec.ShowsHelp result → spec.asks_for_help words.now ≡ true }
+    {
+        if error.kind() == ErrorKind::OutOfMemory {
+            return Refusal::OutOfMemory;
+        }
+        if !error.use_stderr() && ask_for_help(words) {
+            return Refusal::Help(error);
+        }
+        Refusal::Words(error)
+    }
+}
