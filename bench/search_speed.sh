@@ -4,7 +4,8 @@
 #
 # The search: so many unordered actions, each of which makes a fact, and a goal that none makes. Each set of actions that
 # have been carried out is a configuration, so there are 2 to the number of actions of them, and all are searched. The texts:
-# a domain of many methods and a problem of many initial atoms, and a plan without a node.
+# a domain of many methods and a problem of many initial atoms, and a plan without a node. The types: a domain of a long
+# chain of types, and as many atoms whose argument is of the last type and whose place is of the first.
 set -eu
 root=$(cd "$(dirname "$0")/.." && pwd)
 work=$(mktemp -d)
@@ -62,3 +63,15 @@ awk 'BEGIN {
 bytes=$(cat "$work/long_domain.hddl" "$work/long_problem.hddl" | wc -c)
 taken=$(timed "$work/long_domain.hddl" "$work/long_problem.hddl" --nodes 0)
 echo "texts: $bytes bytes, $taken ms, $((bytes / 1000 / taken)) MB/s"
+
+awk 'BEGIN {
+    print "(define (domain chain) (:types"
+    for (i = 1; i < 60000; i++) print "  type-" i " - type-" (i - 1)
+    print ") (:predicates (known ?x - type-0)) (:action look :parameters (?x - type-59999) :precondition (and"
+    for (i = 0; i < 60000; i++) print "  (known ?x)"
+    print ")))"
+}' > "$work/chain_domain.hddl"
+echo "(define (problem p) (:domain chain) (:htn :subtasks ()))" > "$work/chain_problem.hddl"
+bytes=$(cat "$work/chain_domain.hddl" "$work/chain_problem.hddl" | wc -c)
+taken=$(timed "$work/chain_domain.hddl" "$work/chain_problem.hddl" --nodes 0)
+echo "types: $bytes bytes, $taken ms, $((bytes / 1000 / taken)) MB/s"
