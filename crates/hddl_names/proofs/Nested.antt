@@ -1,51 +1,48 @@
--- What filled intervals tell.
-use Rattle.std.proofs.Common.{◌≡◌, ℕ, true, zero, suc, nat_eq, ◌<◌, ◌≤◌, ◌+◌, Some, List, [], ◌∷◌, ◌++◌, take, refl, sym, ap, subst, ◌∙◌, arith, inl, inr, ⊎_elim, length, get_or, slice_get}
+-- What intervals that tile one another tell.
+use Rattle.std.proofs.Common.{◌≡◌, ℕ, true, zero, suc, nat_eq, ◌<◌, ◌≤◌, ◌+◌, ◌↔◌, List, [], ◌∷◌, refl, sym, ap, subst, ◌∙◌, arith, inl, inr, ⊎_elim, length, get_or}
 use Rattle.std.specs.List.{Contains}
 use Rattle.std.proofs.lemmas.Bool.{cases_lt, eqb-true}
-use Rattle.std.proofs.lemmas.List.{get_or_past, take_more}
+use Rattle.std.proofs.lemmas.List.{get_or_past}
 use Rattle.std.proofs.lemmas.Option.{get_or_from_slice_get}
-use Rattle.std.proofs.lemmas.List.Elements.{Contains-append_left, Contains-append_right, Contains-append_cases}
 use Rattle.htn_order.specs.Closure.{Precedes, Direct, Through}
 use Rattle.htn_order.proofs.Joining.{follow}
 use Rattle.hddl_names.specs.Rows.{AreRows, turned}
 use Rattle.hddl_names.specs.Reach.{Reaches}
-use Rattle.hddl_names.specs.Intervals.{interval_at, start_of, end_of, IsInside, Fill, AreFilled, AreApart, Tell, TellOfRows}
+use Rattle.hddl_names.specs.Intervals.{interval_at, start_of, end_of, Holds, IsInside, Tile, AreTiled, StandAtPlaces, Tell, TellOfRows}
 use Rattle.hddl_names.specs.declared.intervals.Interval.{Interval}
 use Rattle.hddl_names.proofs.Levels.{has_row}
 use Rattle.hddl_names.proofs.Parents.{turned-pair, unturned-pair}
-use Rattle.hddl_names.proofs.Within.{cons_cases, first, nothing}
+use Rattle.hddl_names.proofs.Within.{cons_cases, first, later, nothing}
 
 -- ## One interval after another
 
-pub fill_start : (intervals : List Interval) (from : ℕ) → Fill intervals [] from from
-fill_start intervals from = record { rises = omega arith; within = λ c h. absurd (nothing c h); covered = λ place low high. absurd (omega (arith, low, high)) }
+-- the intervals of the numbers have all places from one to another, and none has no places
+pub record Fill (intervals : List Interval) (numbers : List ℕ) (from to : ℕ) : Type 0 where
+  pub rises : from ≤ to
+  pub within : (c : ℕ) → Contains numbers c → (from ≤ start_of intervals c) × (start_of intervals c < end_of intervals c) × (end_of intervals c ≤ to)
+  pub covered : (place : ℕ) → from ≤ place → place < to → (c : ℕ) × Contains numbers c × Holds intervals c place
 
-pub fill_more : (intervals : List Interval) (numbers : List ℕ) (c from to : ℕ) → start_of intervals c ≡ to → to < end_of intervals c
-    → Fill intervals numbers from to → Fill intervals (numbers ++ c ∷ []) from (end_of intervals c)
-fill_more intervals numbers c from to is ends old =
-    let rises = old.rises in
+pub filled : (intervals : List Interval) (numbers : List ℕ) (from to : ℕ) → Tile intervals numbers from to → Fill intervals numbers from to
+filled intervals [] from to is =
+    record { rises = omega (arith, is); within = λ c h. absurd (nothing c h); covered = λ place low high. absurd (omega (arith, low, high, is)) }
+filled intervals (c ∷ rest) from to (starts, ends, tiles) =
+    let more = filled intervals rest (end_of intervals c) to tiles in
+    let rises = more.rises in
     record {
-      rises = omega (arith, rises, ends);
+      rises = omega (arith, ends, rises);
       within = λ x h. ⊎_elim
-          (λ before. let w = old.within x before in let last = w.2 in (w.0, w.1, omega (arith, last, ends)))
-          (λ here. ⊎_elim
-          (λ same. subst (λ x. (from ≤ start_of intervals x) × (start_of intervals x < end_of intervals x) × (end_of intervals x ≤ end_of intervals c)) same
-          (omega (arith, rises, is), omega (arith, is, ends), omega arith))
-          (λ none. absurd (nothing x none)) (cons_cases c x [] here))
-          (Contains-append_cases numbers (c ∷ []) x h);
+          (λ is. subst (λ x. (from ≤ start_of intervals x) × (start_of intervals x < end_of intervals x) × (end_of intervals x ≤ to)) is
+          (omega (arith, starts), omega (arith, starts, ends), rises))
+          (λ later. let w = more.within x later in let low = w.0 in (omega (arith, low, ends), w.1, w.2))
+          (cons_cases c x rest h);
       covered = λ place low high. ⊎_elim
-          (λ before. let found = old.covered place low before in (found.0, Contains-append_left numbers (c ∷ []) found.0 found.1, found.2))
-          (λ past. (c, Contains-append_right numbers (c ∷ []) c (first c []), (omega (arith, is, past), high)))
-          (cases_lt place to);
+          (λ here. (c, first c rest, (omega (arith, starts, low), here)))
+          (λ past. let found = more.covered place past high in (found.0, later c found.0 rest found.1, found.2))
+          (cases_lt place (end_of intervals c));
     }
 
--- one more number of a list
-pub fill_next : (intervals : List Interval) (numbers : List ℕ) (i from to : ℕ) → i < length numbers
-    → start_of intervals (get_or numbers i 0) ≡ to → to < end_of intervals (get_or numbers i 0)
-    → Fill intervals (take i numbers) from to → Fill intervals (take (i + 1) numbers) from (end_of intervals (get_or numbers i 0))
-fill_next intervals numbers i from to small is ends old =
-    subst (λ (ns : List ℕ). Fill intervals ns from (end_of intervals (get_or numbers i 0))) (sym (take_more numbers i 0 small))
-    (fill_more intervals (take i numbers) (get_or numbers i 0) from to is ends old)
+pub tile_rises : (intervals : List Interval) (numbers : List ℕ) (from to : ℕ) → Tile intervals numbers from to → from ≤ to
+tile_rises intervals numbers from to tiles = (filled intervals numbers from to tiles).rises
 
 -- ## Places
 
@@ -53,7 +50,9 @@ pub none : (xs : List ℕ) → nat_eq (length xs) 0 ≡ true → xs ≡ []
 none [] is = refl
 none (x ∷ xs) is = absurd (let empty = eqb-true (suc (length xs)) 0 is in omega (arith, empty))
 
-pub apart : (intervals : List Interval) (order : List ℕ) → ((a : ℕ) → a < length intervals → slice_get order (start_of intervals a) ≡ Some a) → AreApart intervals
+-- so no two numbers have one place
+pub apart : (intervals : List Interval) (order : List ℕ) → StandAtPlaces intervals order
+    → (a b : ℕ) → a < length intervals → b < length intervals → start_of intervals a ≡ start_of intervals b → a ≡ b
 apart intervals order at a b small_a small_b same =
     sym (get_or_from_slice_get order (start_of intervals a) a 0 (at a small_a)) ∙ ap (λ k. get_or order k 0) same ∙ get_or_from_slice_get order (start_of intervals b) b 0 (at b small_b)
 
@@ -61,7 +60,7 @@ apart intervals order at a b small_a small_b same =
 
 module _ (up down : List (List ℕ)) (intervals : List Interval) (pairs : List (ℕ × ℕ))
     (no_parent : get_or up 0 [] ≡ []) (count : length intervals ≡ length down)
-    (filled : AreFilled intervals down) (are_apart : AreApart intervals)
+    (tiled : AreTiled intervals down) (order : List ℕ) (stand : StandAtPlaces intervals order)
     (ups : AreRows pairs up) (downs : AreRows (turned pairs) down) where
   ends_at_zero : (a b : ℕ) → a ≡ 0 → Precedes pairs a b → ⊥
   ends_at_zero _ _ is (Direct a b pair) = nothing b (subst (λ row. Contains row b) no_parent (subst (λ a. Contains (get_or up a []) b) is ((ups a b).1 pair)))
@@ -77,7 +76,7 @@ module _ (up down : List (List ℕ)) (intervals : List Interval) (pairs : List (
       → (start_of intervals p < start_of intervals a) × (start_of intervals a < end_of intervals a) × (end_of intervals a ≤ end_of intervals p)
   step a p positive pair =
       let there = child a p pair in
-      (filled p positive (has_row down p a there)).within a there
+      (filled intervals (get_or down p []) (suc (start_of intervals p)) (end_of intervals p) (tiled p positive (has_row down p a there))).within a there
 
   nested : (a b : ℕ) → Precedes pairs a b → 0 < b
       → (start_of intervals b < start_of intervals a) × (start_of intervals a < end_of intervals a) × (end_of intervals a ≤ end_of intervals b)
@@ -97,7 +96,7 @@ module _ (up down : List (List ℕ)) (intervals : List Interval) (pairs : List (
   inside : (a b : ℕ) → 0 < b → b < length intervals → Reaches pairs a b → IsInside intervals a b
   inside a b positive small (inl is) =
       subst (λ a. IsInside intervals a b) (sym is)
-      (let own = (filled b positive (omega (arith, small, count))).rises in (omega arith, omega (arith, own)))
+      (let own = tile_rises intervals (get_or down b []) (suc (start_of intervals b)) (end_of intervals b) (tiled b positive (omega (arith, small, count))) in (omega arith, omega (arith, own)))
   inside a b positive small (inr r) =
       let n = nested a b r positive in
       let low = n.0 in
@@ -116,7 +115,7 @@ module _ (up down : List (List ℕ)) (intervals : List Interval) (pairs : List (
   below : (a b : ℕ) → 0 < b → b < length intervals → start_of intervals b < start_of intervals a → start_of intervals a < end_of intervals b
       → (c : ℕ) × Contains {X = ℕ × ℕ} pairs (c, b) × (0 < c) × (c < length intervals) × (start_of intervals b < start_of intervals c) × (end_of intervals c ≤ end_of intervals b) × IsInside intervals a c
   below a b positive small low high =
-      let fill = filled b positive (omega (arith, small, count)) in
+      let fill = filled intervals (get_or down b []) (suc (start_of intervals b)) (end_of intervals b) (tiled b positive (omega (arith, small, count))) in
       let found = fill.covered (start_of intervals a) (omega (arith, low)) high in
       let within = fill.within found.0 found.1 in
       let low_c = within.0 in
@@ -133,28 +132,24 @@ module _ (up down : List (List ℕ)) (intervals : List Interval) (pairs : List (
       (λ is. inr (subst (λ a. Precedes pairs a b) (sym is) (Direct c b pair)))
       (λ r. inr (follow pairs a c b r (Direct c b pair)))
       (reaches k a c small_a positive_c small_c (omega (arith, most, low_c, high_c)) in_c))
-      (λ le. inl (are_apart a b small_a small_b (omega (arith, le, low))))
+      (λ le. inl (apart intervals order stand a b small_a small_b (omega (arith, le, low))))
       (cases_lt (start_of intervals b) (start_of intervals a))
 
   tell : Tell pairs intervals
   tell a b small_a positive small_b =
       (λ h. reaches (end_of intervals b) a b small_a positive small_b (omega arith) h, λ r. inside a b positive small_b r)
 
-pub told : (up down : List (List ℕ)) (intervals : List Interval) → get_or up 0 [] ≡ [] → length intervals ≡ length down
-    → AreFilled intervals down → AreApart intervals → TellOfRows up down intervals
-told up down intervals no_parent count filled are_apart pairs ups downs =
-    (count, tell up down intervals pairs no_parent count filled are_apart ups downs)
+pub told : (up down : List (List ℕ)) (intervals : List Interval) (order : List ℕ) → get_or up 0 [] ≡ [] → length intervals ≡ length down
+    → AreTiled intervals down → StandAtPlaces intervals order → TellOfRows up down intervals
+told up down intervals order no_parent count tiled stand pairs ups downs =
+    (count, tell up down intervals pairs no_parent count tiled order stand ups downs)
 
--- one more number
-pub filled_more : (intervals : List Interval) (rows : List (List ℕ)) (i : ℕ) (row : List ℕ) (own : Interval) → own ≡ interval_at intervals i → row ≡ get_or rows i []
-    → Fill intervals row (own.start + 1) own.end
-    → ((number : ℕ) → 0 < number → number < i → Fill intervals (get_or rows number []) (suc (start_of intervals number)) (end_of intervals number))
-    → (number : ℕ) → 0 < number → number < i + 1 → Fill intervals (get_or rows number []) (suc (start_of intervals number)) (end_of intervals number)
-filled_more intervals rows i row own is row_is here before number positive small =
-    ⊎_elim (λ lt. before number positive lt)
-    (λ past. let same : i ≡ number = omega (arith, past, small) in
-    subst (λ number. Fill intervals (get_or rows number []) (suc (start_of intervals number)) (end_of intervals number)) same
-    (subst (λ from. Fill intervals (get_or rows i []) from (end_of intervals i)) (omega arith)
-    (subst (λ (own : Interval). Fill intervals (get_or rows i []) (own.start + 1) own.end) is
-    (subst (λ row. Fill intervals row (own.start + 1) own.end) row_is here))))
-    (cases_lt number i)
+-- ## All numbers
+
+-- how a number's own interval is read
+pub tile_own : (intervals : List Interval) (rows : List (List ℕ)) (i : ℕ) (row : List ℕ) (own : Interval) → own ≡ interval_at intervals i → row ≡ get_or rows i []
+    → Tile intervals row (own.start + 1) own.end ↔ Tile intervals (get_or rows i []) (suc (start_of intervals i)) (end_of intervals i)
+tile_own intervals rows i row own is row_is =
+    subst (λ (other : Interval). Tile intervals row (own.start + 1) own.end ↔ Tile intervals (get_or rows i []) (suc other.start) other.end) is
+    (subst (λ (other : List ℕ). Tile intervals row (own.start + 1) own.end ↔ Tile intervals other (suc own.start) own.end) row_is
+    (subst (λ from. Tile intervals row (own.start + 1) own.end ↔ Tile intervals row from own.end) (omega arith) (λ h. h, λ h. h)))

@@ -1,5 +1,5 @@
 -- Intervals of places in a walk of numbers.
-use Rattle.std.specs.Prelude.{◌≡◌, ◌<◌, ◌≤◌, ◌↔◌, ℕ, suc, Option, IfSome, Vec, List, [], length, get_or, Contains}
+use Rattle.std.specs.Prelude.{◌≡◌, ◌<◌, ◌≤◌, ◌↔◌, ℕ, suc, Option, Some, IfSome, Vec, List, [], ◌∷◌, length, get_or, slice_get}
 use Rattle.hddl_tree.specs.declared.domain.DomainText.{DomainText}
 use Rattle.hddl_meaning.specs.Mentions.{Text}
 use Rattle.hddl_names.specs.Rows.{AreRows, turned}
@@ -24,20 +24,19 @@ Holds intervals number place = (start_of intervals number ≤ place) × (place <
 abbrev pub IsInside : List Interval → ℕ → ℕ → Type 0
 IsInside intervals a b = Holds intervals b (start_of intervals a)
 
--- the intervals of the numbers have all places from one to another, and none has no places
-pub record Fill (intervals : List Interval) (numbers : List ℕ) (from to : ℕ) : Type 0 where
-  pub rises : from ≤ to
-  pub within : (c : ℕ) → Contains numbers c → (from ≤ start_of intervals c) × (start_of intervals c < end_of intervals c) × (end_of intervals c ≤ to)
-  pub covered : (place : ℕ) → from ≤ place → place < to → (c : ℕ) × Contains numbers c × Holds intervals c place
+-- the intervals of the numbers go from a place to another, one after the other, and none has no places
+abbrev pub Tile : List Interval → List ℕ → ℕ → ℕ → Type 0
+Tile intervals [] from to = from ≡ to
+Tile intervals (c ∷ rest) from to = (start_of intervals c ≡ from) × (from < end_of intervals c) × Tile intervals rest (end_of intervals c) to
 
--- the interval of each number but 0 has its own place and then the intervals of its row
-abbrev pub AreFilled : List Interval → List (List ℕ) → Type 0
-AreFilled intervals rows =
-    (number : ℕ) → 0 < number → number < length rows → Fill intervals (get_or rows number []) (suc (start_of intervals number)) (end_of intervals number)
+-- the interval of each number but 0 is its own place and then the intervals of its row
+abbrev pub AreTiled : List Interval → List (List ℕ) → Type 0
+AreTiled intervals rows =
+    (number : ℕ) → 0 < number → number < length rows → Tile intervals (get_or rows number []) (suc (start_of intervals number)) (end_of intervals number)
 
--- no two numbers have the same place
-abbrev pub AreApart : List Interval → Type 0
-AreApart intervals = (a b : ℕ) → a < length intervals → b < length intervals → start_of intervals a ≡ start_of intervals b → a ≡ b
+-- each number stands in the order at its place
+abbrev pub StandAtPlaces : List Interval → List ℕ → Type 0
+StandAtPlaces intervals order = (number : ℕ) → number < length intervals → slice_get order (start_of intervals number) ≡ Some number
 
 -- a number is inside another that isn't 0 exactly where it leads to it, or is it
 abbrev pub Tell : List (ℕ × ℕ) → List Interval → Type 0

@@ -3,9 +3,9 @@
 //! A hierarchy in which each number has one parent at most, `0` aside, is walked from the parents to the children. Each
 //! number has a place in the walk, and its interval goes from there to the end of all that lead to it. So a number leads
 //! to another exactly where its place is in the other's interval. No promise rests on the walk: whether the intervals of
-//! the children fill that of their parent is looked at once, after it. In another hierarchy they don't, and there are none.
+//! the children tile that of their parent is looked at once, after it. In another hierarchy they don't, and there are none.
 ghost use Rattle.std.specs.Prelude.{◌≡◌, ◌<◌, ◌↔◌, ℕ, IsTrue, IfOk, IfSome, [], length, get_or};
-ghost use Rattle.hddl_names.specs.Intervals.{Fill, AreFilled, AreApart, IsInside, TellOfRows, interval_at};
+ghost use Rattle.hddl_names.specs.Intervals.{Tile, AreTiled, StandAtPlaces, IsInside, TellOfRows, interval_at};
 
 use crate::rows::Rows;
 use std::alloc::{AllocError, Global};
@@ -104,8 +104,8 @@ fn interval_of(intervals: &[Interval], number: usize) -> Interval
 }
 
 /// Whether the intervals of these numbers, one after another, go from a place to another, and none has no places.
-fn fill(intervals: &[Interval], numbers: &[usize], from: usize, to: usize) -> bool
-    ensures { IsTrue result → Fill intervals.now numbers.now from to }
+fn tile(intervals: &[Interval], numbers: &[usize], from: usize, to: usize) -> bool
+    ensures { IsTrue result ↔ Tile intervals.now numbers.now from to }
 {
     let mut end = from;
     for number in numbers {
@@ -119,21 +119,21 @@ fn fill(intervals: &[Interval], numbers: &[usize], from: usize, to: usize) -> bo
 }
 
 /// Whether the interval of each number but `0` is its place and then the intervals of its children.
-fn are_filled(intervals: &[Interval], children: &Rows) -> bool
-    ensures { IsTrue result → AreFilled intervals.now children.now }
+fn are_tiled(intervals: &[Interval], children: &Rows) -> bool
+    ensures { IsTrue result ↔ AreTiled intervals.now children.now }
 {
     for number in 1..children.len() {
         let own = interval_of(intervals, number);
-        if own.start >= own.end || !fill(intervals, children.row(number), own.start + 1, own.end) {
+        if own.start >= own.end || !tile(intervals, children.row(number), own.start + 1, own.end) {
             return false;
         }
     }
     true
 }
 
-/// Whether each number stands in the order at its place. So no two have the same.
-fn are_apart(intervals: &[Interval], order: &[usize]) -> bool
-    ensures { IsTrue result → AreApart intervals.now }
+/// Whether each number stands in the order at its place. Then no two have the same.
+fn stand_at_places(intervals: &[Interval], order: &[usize]) -> bool
+    ensures { IsTrue result ↔ StandAtPlaces intervals.now order.now }
 {
     for number in 0..intervals.len() {
         let own = interval_of(intervals, number);
@@ -158,8 +158,8 @@ pub(crate) fn intervals_of(
     }
     let walk = walked(alloc, parents, children)?;
     if walk.intervals.len() != children.len()
-        || !are_filled(walk.intervals.as_slice(), children)
-        || !are_apart(walk.intervals.as_slice(), walk.order.as_slice())
+        || !are_tiled(walk.intervals.as_slice(), children)
+        || !stand_at_places(walk.intervals.as_slice(), walk.order.as_slice())
     {
         return Ok(None);
     }

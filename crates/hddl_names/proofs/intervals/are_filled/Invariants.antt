@@ -1,7 +1,0 @@
-use Rattle.std.proofs.Common.{ℕ, ◌<◌, suc, [], get_or}
-use Rattle.hddl_names.specs.Intervals.{Fill, start_of, end_of}
-use Rattle.hddl_names.proofs.intervals.are_filled.Given as goal
-
-abbrev pub invariant-loop-number : goal.invariant-loop-number
-invariant-loop-number l =
-    (number : ℕ) → 0 < number → number < l.number → Fill l.intervals (get_or l.children number []) (suc (start_of l.intervals number)) (end_of l.intervals number)
