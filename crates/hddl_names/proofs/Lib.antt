@@ -9,6 +9,7 @@ pub mod Fronts
 pub mod GroupPairs
 pub mod Levels
 pub mod Nested
+pub mod NumberBits
 pub mod Parents
 pub mod RowLists
 pub mod Searched

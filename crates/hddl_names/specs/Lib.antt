@@ -1,6 +1,7 @@
 pub mod Cycles
 pub mod Intervals
 pub mod Members
+pub mod NumberSets
 pub mod Ranks
 pub mod Reach
 pub mod Rows

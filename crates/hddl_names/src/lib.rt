@@ -7,6 +7,7 @@ mod hierarchy;
 mod intervals;
 mod members;
 mod names;
+mod number_set;
 mod pairs;
 mod ranks;
 mod reach;
