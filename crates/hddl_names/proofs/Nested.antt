@@ -3,12 +3,13 @@ use Rattle.std.proofs.Common.{◌≡◌, ℕ, true, zero, suc, nat_eq, ◌<◌, 
 use Rattle.std.specs.List.{Contains}
 use Rattle.std.proofs.lemmas.Bool.{cases_lt, eqb-true}
 use Rattle.std.proofs.lemmas.List.{get_or_past}
+use Rattle.std.proofs.lemmas.List.Elements.{All-contains}
 use Rattle.std.proofs.lemmas.Option.{get_or_from_slice_get}
 use Rattle.htn_order.specs.Closure.{Precedes, Direct, Through}
 use Rattle.htn_order.proofs.Joining.{follow}
 use Rattle.hddl_names.specs.Rows.{AreRows, turned}
 use Rattle.hddl_names.specs.Reach.{Reaches}
-use Rattle.hddl_names.specs.Intervals.{interval_at, start_of, end_of, Holds, IsInside, Tile, AreTiled, StandAtPlaces, Tell, TellOfRows}
+use Rattle.hddl_names.specs.Intervals.{interval_at, start_of, end_of, Holds, IsInside, Tile, AreTiled, StandAtPlaces, Tell, HaveTops, AreTops, TellOfRows, top_at}
 use Rattle.hddl_names.specs.declared.intervals.Interval.{Interval}
 use Rattle.hddl_names.proofs.Levels.{has_row}
 use Rattle.hddl_names.proofs.Parents.{turned-pair, unturned-pair}
@@ -55,6 +56,14 @@ pub apart : (intervals : List Interval) (order : List ℕ) → StandAtPlaces int
     → (a b : ℕ) → a < length intervals → b < length intervals → start_of intervals a ≡ start_of intervals b → a ≡ b
 apart intervals order at a b small_a small_b same =
     sym (get_or_from_slice_get order (start_of intervals a) a 0 (at a small_a)) ∙ ap (λ k. get_or order k 0) same ∙ get_or_from_slice_get order (start_of intervals b) b 0 (at b small_b)
+
+-- a number whose interval has places is one of those that intervals are kept of
+pub has_places : (intervals : List Interval) (c : ℕ) → start_of intervals c < end_of intervals c → c < length intervals
+has_places intervals c some =
+    ⊎_elim (λ lt. lt)
+    (λ past. absurd (let none = get_or_past intervals c (record { start = 0; end = 0 }) past in
+    let ends : end_of intervals c ≡ 0 = ap (λ (i : Interval). i.end) none in omega (arith, some, ends)))
+    (cases_lt c (length intervals))
 
 -- ## The intervals of a hierarchy
 
@@ -104,13 +113,6 @@ module _ (up down : List (List ℕ)) (intervals : List Interval) (pairs : List (
       let high = n.2 in
       (omega (arith, low), omega (arith, own, high))
 
-  has_places : (c : ℕ) → start_of intervals c < end_of intervals c → c < length intervals
-  has_places c some =
-      ⊎_elim (λ lt. lt)
-      (λ past. absurd (let none = get_or_past intervals c (record { start = 0; end = 0 }) past in
-      let ends : end_of intervals c ≡ 0 = ap (λ (i : Interval). i.end) none in omega (arith, some, ends)))
-      (cases_lt c (length intervals))
-
   -- what is inside a number and isn't it is inside one of its row
   below : (a b : ℕ) → 0 < b → b < length intervals → start_of intervals b < start_of intervals a → start_of intervals a < end_of intervals b
       → (c : ℕ) × Contains {X = ℕ × ℕ} pairs (c, b) × (0 < c) × (c < length intervals) × (start_of intervals b < start_of intervals c) × (end_of intervals c ≤ end_of intervals b) × IsInside intervals a c
@@ -121,7 +123,7 @@ module _ (up down : List (List ℕ)) (intervals : List Interval) (pairs : List (
       let low_c = within.0 in
       let pair = parent found.0 b found.1 in
       let positive_c = ⊎_elim {A = 0 < found.0} {B = found.0 ≤ 0} {C = 0 < found.0} (λ lt. lt) (λ root. absurd (ends_at_zero found.0 b (omega (arith, root)) (Direct found.0 b pair))) (cases_lt 0 found.0) in
-      (found.0, pair, positive_c, has_places found.0 within.1, omega (arith, low_c), within.2, found.2)
+      (found.0, pair, positive_c, has_places intervals found.0 within.1, omega (arith, low_c), within.2, found.2)
 
   reaches : (k a b : ℕ) → a < length intervals → 0 < b → b < length intervals → end_of intervals b ≤ start_of intervals b + k → IsInside intervals a b → Reaches pairs a b
   reaches zero a b small_a positive small_b most (low, high) = absurd (omega (arith, most, low, high))
@@ -139,10 +141,35 @@ module _ (up down : List (List ℕ)) (intervals : List Interval) (pairs : List (
   tell a b small_a positive small_b =
       (λ h. reaches (end_of intervals b) a b small_a positive small_b (omega arith) h, λ r. inside a b positive small_b r)
 
-pub told : (up down : List (List ℕ)) (intervals : List Interval) (order : List ℕ) → get_or up 0 [] ≡ [] → length intervals ≡ length down
-    → AreTiled intervals down → StandAtPlaces intervals order → TellOfRows up down intervals
-told up down intervals order no_parent count tiled stand pairs ups downs =
-    (count, tell up down intervals pairs no_parent count tiled order stand ups downs)
+-- ## The tops of lines
+
+empty : (row : List ℕ) → ((b : ℕ) → Contains row b → ⊥) → row ≡ []
+empty [] none = refl
+empty (x ∷ xs) none = absurd (none x (first x xs))
+
+tops_end : (up : List (List ℕ)) (pairs : List (ℕ × ℕ)) (intervals : List Interval) (tops : List ℕ) → length intervals ≡ length up → AreRows pairs up → Tell pairs intervals
+    → HaveTops intervals tops up → AreTops pairs (length up) tops
+tops_end up pairs intervals tops count ups tells ends = record {
+  reached = λ a small.
+      ⊎_elim
+      (λ own. inl (sym own))
+      (λ above. let inside = above.2 in
+      let low = inside.0 in
+      let high = inside.1 in
+      (tells a (top_at tops a) (omega (arith, small, count)) above.1 (has_places intervals (top_at tops a) (omega (arith, low, high)))).0 inside)
+      (ends a small).0;
+  alike = λ a b pair.
+      let there = (ups a b).1 pair in
+      sym (All-contains (λ parent. top_at tops parent ≡ top_at tops a) (get_or up a []) b (ends a (has_row up a b there)).1 there);
+  last = λ a small none.
+      ⊎_elim (λ own. own) (λ above. absurd (above.0 (empty (get_or up a []) (λ b there. none b ((ups a b).0 there))))) (ends a small).0;
+}
+
+pub told : (up down : List (List ℕ)) (intervals : List Interval) (tops order : List ℕ) → length up ≡ length down → get_or up 0 [] ≡ [] → length intervals ≡ length down
+    → AreTiled intervals down → StandAtPlaces intervals order → HaveTops intervals tops up → TellOfRows up down intervals tops
+told up down intervals tops order same no_parent count tiled stand ends pairs ups downs =
+    let tells = tell up down intervals pairs no_parent count tiled order stand ups downs in
+    (count, tells, tops_end up pairs intervals tops (count ∙ sym same) ups tells ends)
 
 -- ## All numbers
 

@@ -32,7 +32,7 @@ pub distinct-different : (xs : List Text) → IsDistinct is_same_text (distinct 
 unfolding IsDistinct
 distinct-different xs = insert_all-different nat_list_eq_equiv [] xs tt
 
-early : (p : Text → Bool) (xs : List Text) (x : Text) → p x ≡ true → Contains xs x → position_or_len p xs < length xs
+pub early : {X : Type 0} (p : X → Bool) (xs : List X) (x : X) → p x ≡ true → Contains xs x → position_or_len p xs < length xs
 early p [] x passes (k, lt, is) = absurd (omega (arith, lt))
 early p (y ∷ ys) x passes h = ⊎_elim first (λ e. later e (early p ys x passes (rest e h))) (cases_Bool (p y))
   where

@@ -1,10 +1,7 @@
 -- Intervals of places in a walk of numbers.
-use Rattle.std.specs.Prelude.{◌≡◌, ◌<◌, ◌≤◌, ◌↔◌, ℕ, suc, Option, Some, IfSome, Vec, List, [], ◌∷◌, length, get_or, slice_get}
-use Rattle.hddl_tree.specs.declared.domain.DomainText.{DomainText}
-use Rattle.hddl_meaning.specs.Mentions.{Text}
+use Rattle.std.specs.Prelude.{◌≡◌, ◌<◌, ◌≤◌, ◌↔◌, ◌⊎◌, ℕ, suc, Some, List, [], ◌∷◌, length, get_or, slice_get, All, Contains}
 use Rattle.hddl_names.specs.Rows.{AreRows, turned}
 use Rattle.hddl_names.specs.Reach.{Reaches}
-use Rattle.hddl_names.specs.TypeNumbers.{AreTypesOf, numbered_pairs}
 use Rattle.hddl_names.specs.declared.intervals.Interval.{Interval}
 
 -- the interval of a number, that of no places where none is kept
@@ -42,11 +39,26 @@ StandAtPlaces intervals order = (number : ℕ) → number < length intervals →
 abbrev pub Tell : List (ℕ × ℕ) → List Interval → Type 0
 Tell pairs intervals = (a b : ℕ) → a < length intervals → 0 < b → b < length intervals → IsInside intervals a b ↔ Reaches pairs a b
 
--- the same along the pairs of the rows
-abbrev pub TellOfRows : List (List ℕ) → List (List ℕ) → List Interval → Type 0
-TellOfRows up down intervals = (pairs : List (ℕ × ℕ)) → AreRows pairs up → AreRows (turned pairs) down → (length intervals ≡ length down) × Tell pairs intervals
+-- the top of a number's line, the number itself where none is kept
+abbrev pub top_at : List ℕ → ℕ → ℕ
+top_at tops number = get_or tops number number
 
--- the names of a domain's types with their parents and children, and the intervals, where there are any, that tell the same
-pub record AreHierarchyOf {A : Type 0} (d : DomainText) (names : List Text) (up down : List (List ℕ)) (intervals : Option (Vec Interval A)) : Type 0 where
-  pub types : AreTypesOf d names up down
-  pub told : IfSome intervals (λ v. (length v.items ≡ length names) × Tell (numbered_pairs d) v.items)
+-- a number is its own top, or has a row and is inside its top; and all of its row have the same top
+abbrev pub HasTop : List Interval → List ℕ → List ℕ → ℕ → Type 0
+HasTop intervals tops row number =
+    ((top_at tops number ≡ number) ⊎ ((row ≡ [] → ⊥) × (0 < top_at tops number) × IsInside intervals number (top_at tops number)))
+    × All (λ parent. top_at tops parent ≡ top_at tops number) row
+
+abbrev pub HaveTops : List Interval → List ℕ → List (List ℕ) → Type 0
+HaveTops intervals tops rows = (number : ℕ) → number < length rows → HasTop intervals tops (get_or rows number []) number
+
+-- each line ends at its top
+pub record AreTops (pairs : List (ℕ × ℕ)) (count : ℕ) (tops : List ℕ) : Type 0 where
+  pub reached : (a : ℕ) → a < count → Reaches pairs a (top_at tops a)
+  pub alike : (a b : ℕ) → Contains {X = ℕ × ℕ} pairs (a, b) → top_at tops a ≡ top_at tops b
+  pub last : (a : ℕ) → a < count → ((b : ℕ) → Contains {X = ℕ × ℕ} pairs (a, b) → ⊥) → top_at tops a ≡ a
+
+-- the same along the pairs of the rows
+abbrev pub TellOfRows : List (List ℕ) → List (List ℕ) → List Interval → List ℕ → Type 0
+TellOfRows up down intervals tops =
+    (pairs : List (ℕ × ℕ)) → AreRows pairs up → AreRows (turned pairs) down → (length intervals ≡ length down) × Tell pairs intervals × AreTops pairs (length up) tops

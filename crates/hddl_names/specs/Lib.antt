@@ -1,3 +1,4 @@
+pub mod Closures
 pub mod Cycles
 pub mod Intervals
 pub mod Members

@@ -10,9 +10,9 @@ ghost use Rattle.hddl_names.specs.Cycles.{HasNoCycle, IsFirstCycle};
 ghost use Rattle.hddl_names.specs.Reach.{IsAboveSome};
 ghost use Rattle.hddl_names.specs.TypeNumbers.{type_at, numbered_pairs};
 
+use crate::closure::Closure;
 use crate::cycles::{leads_to, type_places};
 use crate::edges::{rows_of, turned};
-use crate::intervals::{Interval, intervals_of, is_inside};
 use crate::names::Names;
 use crate::pairs::parent_pairs;
 use crate::ranks::may_return;
@@ -33,15 +33,15 @@ pub struct TypeHierarchy<'a> {
     parents: Rows,
     /// What each type is a parent of.
     children: Rows,
-    /// Those that tell which type is below which, where each has one parent at most, `object` aside.
-    intervals: Option<Vec<Interval>>,
+    /// What tells which type is below which, where there is no cycle.
+    closure: Option<Closure>,
 }
 
 impl<'a> Model for TypeHierarchy<'a> {
     ghost use Rattle.hddl_tree.specs.declared.domain.DomainText.{DomainText as Domain};
     ghost use Rattle.hddl_tree.specs.contracts.condition.Condition as condition;
     ghost use Rattle.std.specs.Coded.{codes};
-    ghost use Rattle.hddl_names.specs.Intervals.{AreHierarchyOf};
+    ghost use Rattle.hddl_names.specs.Closures.{AreHierarchyOf};
 
     ghost Value = { Domain };
 
@@ -49,7 +49,7 @@ impl<'a> Model for TypeHierarchy<'a> {
 
     ghost view = { λ types. types.domain.now };
 
-    ghost invariant = { λ types. AreHierarchyOf types.domain.now types.names.now types.parents types.children types.intervals };
+    ghost invariant = { λ types. AreHierarchyOf types.domain.now types.names.now types.parents types.children types.closure };
 }
 
 /// The number of `object`, the first of the types.
@@ -82,13 +82,13 @@ impl<'a> TypeHierarchy<'a> {
         let back = turned(alloc, &pairs)?;
         let parents = rows_of(alloc, names.len(), &pairs)?;
         let children = rows_of(alloc, names.len(), &back)?;
-        let intervals = intervals_of(alloc, &parents, &children)?;
+        let closure = Closure::of(alloc, &pairs, &parents, &children)?;
         Ok(TypeHierarchy {
             domain,
             names,
             parents,
             children,
-            intervals,
+            closure,
         })
     }
 
@@ -119,8 +119,8 @@ impl<'a> TypeHierarchy<'a> {
         if t == u || u == OBJECT {
             return Ok(true);
         }
-        if let Some(intervals) = &self.intervals {
-            return Ok(is_inside(intervals, t, u));
+        if let Some(closure) = &self.closure {
+            return Ok(closure.leads_to(t, u));
         }
         let above = reached(alloc, &self.parents, t)?;
         Ok(above.contains(&u))
@@ -132,14 +132,11 @@ impl<'a> TypeHierarchy<'a> {
         requires u { u < length (type_names self.now) }
         ensures { IfOk result (λ some. IsTrue some ↔ ShareSubtype self.now (type_at self.now t) (type_at self.now u)) }
     {
-        if self.is_below(alloc, t, u)? {
+        if t == OBJECT || u == OBJECT {
             return Ok(true);
         }
-        if self.is_below(alloc, u, t)? {
-            return Ok(true);
-        }
-        if self.intervals.is_some() {
-            return Ok(false);
+        if let Some(closure) = &self.closure {
+            return Ok(closure.meet(t, u));
         }
         let below_t = reached(alloc, &self.children, t)?;
         let below_u = reached(alloc, &self.children, u)?;

@@ -1,11 +1,12 @@
 //! Intervals of a walk, which tell in one look whether one number leads to another.
 //!
-//! A hierarchy in which each number has one parent at most, `0` aside, is walked from the parents to the children. Each
-//! number has a place in the walk, and its interval goes from there to the end of all that lead to it. So a number leads
-//! to another exactly where its place is in the other's interval. No promise rests on the walk: whether the intervals of
-//! the children tile that of their parent is looked at once, after it. In another hierarchy they don't, and there are none.
+//! Where each number has one parent at most, a line goes from it up to the last of its ancestors, its top. The numbers are
+//! walked from the tops down. Each has a place in the walk, and its interval goes from there to the end of all that lead
+//! to it. So a number leads to another exactly where its place is in the other's interval. No promise rests on the walk:
+//! whether the intervals of the children tile that of their parent is looked at once, after it. Where a number has several
+//! parents, or leads to itself, they don't, and there are none.
 ghost use Rattle.std.specs.Prelude.{◌≡◌, ◌<◌, ◌↔◌, ℕ, IsTrue, IfOk, IfSome, [], length, get_or};
-ghost use Rattle.hddl_names.specs.Intervals.{Tile, AreTiled, StandAtPlaces, IsInside, TellOfRows, interval_at};
+ghost use Rattle.hddl_names.specs.Intervals.{Tile, AreTiled, StandAtPlaces, IsInside, HasTop, HaveTops, TellOfRows, interval_at, top_at};
 
 use crate::rows::Rows;
 use std::alloc::{AllocError, Global};
@@ -27,6 +28,8 @@ struct Walk {
     order: Vec<usize>,
     /// Of each number. One that has no place yet has no places.
     intervals: Vec<Interval>,
+    /// Of each number that has a place.
+    tops: Vec<usize>,
     /// The numbers whose intervals have no end yet, each with how many of its children were walked.
     open: Vec<(usize, usize)>,
 }
@@ -37,19 +40,22 @@ impl Walk {
         Ok(Walk {
             order: vec![in alloc; 0]?,
             intervals: vec![in alloc; NOWHERE; size]?,
+            tops: vec![in alloc; 0; size]?,
             open: Vec::new(alloc),
         })
     }
 
-    /// Gives a number the next place, if it has none.
-    fn enter(&mut self, number: usize) -> Result<(), AllocError> {
+    /// Gives a number the next place and its top, if it has none.
+    fn enter(&mut self, number: usize, number_top: usize) -> Result<(), AllocError> {
         let start = self.order.len();
         if let Some(interval) = self.intervals.get_mut(number)
             && interval.end == 0
+            && let Some(top) = self.tops.get_mut(number)
         {
             self.order.push(number)?;
             let end = self.order.len();
             *interval = Interval { start, end };
+            *top = number_top;
             self.open.push((number, 0))?;
         }
         Ok(())
@@ -62,9 +68,9 @@ impl Walk {
         }
     }
 
-    /// Walks a number and all that lead to it.
-    fn descend(&mut self, children: &Rows, root: usize) -> Result<(), AllocError> {
-        self.enter(root)?;
+    /// Walks a top and all that lead to it.
+    fn descend(&mut self, children: &Rows, top: usize) -> Result<(), AllocError> {
+        self.enter(top, top)?;
         for _ in 0..u64::MAX {
             let Some((number, walked)) = self.open.pop() else {
                 break;
@@ -72,7 +78,7 @@ impl Walk {
             match children.row_or_empty(number).get(walked) {
                 Some(child) => {
                     self.open.push((number, walked + 1))?;
-                    self.enter(*child)?;
+                    self.enter(*child, top)?;
                 }
                 None => self.leave(number),
             }
@@ -85,11 +91,7 @@ impl Walk {
 fn walked(alloc: Global, parents: &Rows, children: &Rows) -> Result<Walk, AllocError> {
     let mut walk = Walk::new(alloc, children.len())?;
     for number in 1..children.len() {
-        if parents
-            .row_or_empty(number)
-            .iter()
-            .all(|parent| *parent == 0)
-        {
+        if parents.row_or_empty(number).is_empty() {
             walk.descend(children, number)?;
         }
     }
@@ -144,26 +146,71 @@ fn stand_at_places(intervals: &[Interval], order: &[usize]) -> bool
     true
 }
 
-/// Intervals that tell which number leads to which along the parents, `0` aside, None where a number has several parents
-/// or there is a cycle, or an error where memory was refused. The work is that of going over all rows.
-pub(crate) fn intervals_of(
+/// The top of a number's line, the number itself where none is kept.
+pub(crate) fn top_of(tops: &[usize], number: usize) -> usize
+    ensures { result ≡ top_at tops.now number }
+{
+    tops.get(number).copied().unwrap_or(number)
+}
+
+/// Whether a number with this row is its own top, or has a row and is inside its top, and all of the row have the same top.
+fn has_top(intervals: &[Interval], tops: &[usize], row: &[usize], number: usize) -> bool
+    ensures { IsTrue result ↔ HasTop intervals.now tops.now row.now number }
+{
+    let top = top_of(tops, number);
+    if top != number && (row.is_empty() || top == 0 || !is_inside(intervals, number, top)) {
+        return false;
+    }
+    row.iter().all(|parent| top_of(tops, *parent) == top)
+}
+
+/// Whether the line of each number ends at its top.
+fn have_tops(intervals: &[Interval], tops: &[usize], parents: &Rows) -> bool
+    ensures { IsTrue result ↔ HaveTops intervals.now tops.now parents.now }
+{
+    for number in 0..parents.len() {
+        if !has_top(intervals, tops, parents.row(number), number) {
+            return false;
+        }
+    }
+    true
+}
+
+/// What tells along lines which number leads to which.
+#[derive(Drop)]
+pub(crate) struct Lines {
+    /// Of each number.
+    pub(crate) intervals: Vec<Interval>,
+    /// Of each number the last one of its line.
+    pub(crate) tops: Vec<usize>,
+}
+
+/// What tells which number leads to which along the parents, None where a number has several or leads to itself, or an
+/// error where memory was refused. The work is that of going over all rows.
+pub(crate) fn lines_of(
     alloc: Global,
     parents: &Rows,
     children: &Rows,
-) -> Result<Option<Vec<Interval>>, AllocError>
-    ensures { IfOk result (λ found. IfSome found (λ intervals. TellOfRows parents.now children.now intervals.items)) }
+) -> Result<Option<Lines>, AllocError>
+    requires { length parents.now ≡ length children.now }
+    ensures { IfOk result (λ found. IfSome found (λ lines. TellOfRows parents.now children.now lines.intervals.items lines.tops.items)) }
 {
     if !parents.row_or_empty(0).is_empty() {
         return Ok(None);
     }
     let walk = walked(alloc, parents, children)?;
-    if walk.intervals.len() != children.len()
-        || !are_tiled(walk.intervals.as_slice(), children)
-        || !stand_at_places(walk.intervals.as_slice(), walk.order.as_slice())
+    let intervals = walk.intervals.as_slice();
+    if intervals.len() != children.len()
+        || !are_tiled(intervals, children)
+        || !stand_at_places(intervals, walk.order.as_slice())
+        || !have_tops(intervals, walk.tops.as_slice(), parents)
     {
         return Ok(None);
     }
-    Ok(Some(walk.intervals))
+    Ok(Some(Lines {
+        intervals: walk.intervals,
+        tops: walk.tops,
+    }))
 }
 
 /// Whether a number's place is in the interval of another.

@@ -1,6 +1,7 @@
 //! The names of a domain and a problem with their numbers, and the types that the names have.
 #![tactic(auto)]
 
+mod closure;
 mod cycles;
 mod edges;
 mod hierarchy;

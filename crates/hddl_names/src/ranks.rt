@@ -27,7 +27,7 @@ fn enter(
 }
 
 /// The numbers, each once. Of two of which one leads to the other, and not back, the other is first.
-fn in_order(alloc: Global, rows: &Rows) -> Result<Vec<usize>, AllocError> {
+pub(crate) fn in_order(alloc: Global, rows: &Rows) -> Result<Vec<usize>, AllocError> {
     let mut order = Vec::with_capacity(alloc, rows.len())?;
     let mut entered = vec![in alloc; false; rows.len()]?;
     let mut open = Vec::new(alloc);

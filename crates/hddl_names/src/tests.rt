@@ -1,6 +1,8 @@
+ghost use Rattle.htn_order.specs.Closure.{AreBelow};
+
 use super::*;
-use crate::edges::turned;
-use crate::intervals::{Interval, intervals_of, is_inside};
+use crate::closure::Closure;
+use crate::edges::{rows_of, turned};
 use crate::ranks::may_return;
 use crate::rows::Rows;
 use std::alloc::{AllocError, Global};
@@ -82,19 +84,21 @@ fn a_long_chain_takes_no_time(rt: HostRuntime) -> Result<(), Fail> {
     Ok(())
 }
 
-fn intervals_with(
+fn closure_with(
     alloc: Global,
     size: usize,
     pairs: &[(usize, usize)],
-) -> Result<Option<Vec<Interval>>, AllocError> {
+) -> Result<Option<Closure>, AllocError>
+    requires { AreBelow size pairs.now }
+{
     let back = turned(alloc, pairs)?;
-    let parents = rows_with(alloc, size, pairs)?;
-    let children = rows_with(alloc, size, back.as_slice())?;
-    intervals_of(alloc, &parents, &children)
+    let parents = rows_of(alloc, size, pairs)?;
+    let children = rows_of(alloc, size, &back)?;
+    Closure::of(alloc, pairs, &parents, &children)
 }
 
 #[test]
-fn intervals_tell_what_is_below(rt: HostRuntime) -> Result<(), Fail> {
+fn lines_tell_what_is_below(rt: HostRuntime) -> Result<(), Fail> {
     let pairs = [
         (4, 3),
         (1, 0),
@@ -105,46 +109,47 @@ fn intervals_tell_what_is_below(rt: HostRuntime) -> Result<(), Fail> {
         (4, 0),
         (5, 0),
     ];
-    let Some(intervals) = intervals_with(rt.alloc(), 6, &pairs)? else {
-        return Err(Fail::new("no intervals"));
+    let Some(closure) = closure_with(rt.alloc(), 6, &pairs)? else {
+        return Err(Fail::new("no closure"));
     };
     let below: [(usize, usize); 5] = [(2, 1), (3, 1), (4, 1), (4, 3), (5, 5)];
     let apart: [(usize, usize); 6] = [(1, 2), (1, 4), (2, 3), (3, 2), (5, 1), (0, 1)];
-    assert!(rt;
-        below
-            .iter()
-            .all(|pair| is_inside(&intervals, pair.0, pair.1))
-    );
-    assert!(rt;
-        !apart
-            .iter()
-            .any(|pair| is_inside(&intervals, pair.0, pair.1))
-    );
+    assert!(rt; below.iter().all(|pair| closure.leads_to(pair.0, pair.1)));
+    assert!(rt; !apart.iter().any(|pair| closure.leads_to(pair.0, pair.1)));
+    assert!(rt; closure.meet(4, 1) && closure.meet(3, 4) && !closure.meet(2, 4));
     Ok(())
 }
 
 #[test]
-fn other_hierarchies_have_no_intervals(rt: HostRuntime) -> Result<(), Fail> {
+fn junctions_lead_past_the_tops_of_lines(rt: HostRuntime) -> Result<(), Fail> {
+    let pairs = [
+        (3, 1),
+        (3, 2),
+        (4, 3),
+        (5, 4),
+        (6, 2),
+        (7, 5),
+        (7, 6),
+        (8, 7),
+        (2, 9),
+    ];
+    let Some(closure) = closure_with(rt.alloc(), 10, &pairs)? else {
+        return Err(Fail::new("no closure"));
+    };
+    assert!(rt; (1..10usize).all(|k| closure.leads_to(8, k)));
+    assert!(rt; closure.leads_to(5, 1) && closure.leads_to(5, 9) && closure.leads_to(6, 9));
+    assert!(rt; !closure.leads_to(6, 1) && !closure.leads_to(1, 3) && !closure.leads_to(5, 6));
+    assert!(rt; closure.meet(5, 6) && closure.meet(1, 6) && closure.meet(1, 9));
+    assert!(rt; closure.meet(3, 2) && !closure.leads_to(2, 3));
+    Ok(())
+}
+
+#[test]
+fn cycles_have_no_closure(rt: HostRuntime) -> Result<(), Fail> {
     let alloc = rt.alloc();
-    let two_parents = [(1, 0), (2, 0), (3, 0), (3, 1), (3, 2)];
     let cycle = [(1, 0), (2, 0), (1, 2), (2, 1)];
     let above_all = [(0, 1), (1, 0)];
-    assert!(rt; intervals_with(alloc, 4, &two_parents)?.is_none());
-    assert!(rt; intervals_with(alloc, 3, &cycle)?.is_none());
-    assert!(rt; intervals_with(alloc, 2, &above_all)?.is_none());
-    Ok(())
-}
-
-#[test]
-fn a_long_chain_has_intervals(rt: HostRuntime) -> Result<(), Fail> {
-    let alloc = rt.alloc();
-    let chain: Vec<(usize, usize)> = (1..65_535usize)
-        .map(|k| (k, k.saturating_sub(1)))
-        .collect(alloc)?;
-    let Some(intervals) = intervals_with(alloc, 65_535, chain.as_slice())? else {
-        return Err(Fail::new("no intervals"));
-    };
-    assert!(rt; (1..65_535usize).all(|k| is_inside(&intervals, 65_534, k)));
-    assert!(rt; !is_inside(&intervals, 1, 2));
+    assert!(rt; closure_with(alloc, 3, &cycle)?.is_none());
+    assert!(rt; closure_with(alloc, 2, &above_all)?.is_none());
     Ok(())
 }

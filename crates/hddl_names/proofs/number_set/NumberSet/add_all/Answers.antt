@@ -15,9 +15,9 @@ loop-k-preserved c =
     let within : c.loop-k.k < length c.other.inside.words.items = omega (arith, test, count) in (
       omega (arith, long, same),
       added_step c.self.inside.words.items c.args.other.now words c.loop-k.k c.index_mut.result.now c.index-more.result.now fits
-      (get_or_read words c.loop-k.k c.index_mut.result.now fits c.index_mut.ensures.value 0)
-      (get_or_read c.other.inside.words.items c.loop-k.k c.index-more.result.now within c.index-more.ensures 0 ∙ ap (λ (xs : List ℕ). get_or xs c.loop-k.k 0) c.other.view_is)
-      c.loop-k.invariant.1,
+          (get_or_read words c.loop-k.k c.index_mut.result.now fits c.index_mut.ensures.value 0)
+          (get_or_read c.other.inside.words.items c.loop-k.k c.index-more.result.now within c.index-more.ensures 0 ∙ ap (λ (xs : List ℕ). get_or xs c.loop-k.k 0) c.other.view_is)
+          c.loop-k.invariant.1,
     )
 
 pub returns-clause-ok : goal.returns-clause-ok

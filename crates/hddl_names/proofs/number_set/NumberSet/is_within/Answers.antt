@@ -7,9 +7,9 @@ pub returns-then-word : goal.returns-then-word
 returns-then-word c = (
   λ e. absurd (true≢false (sym e)),
   λ within. absurd (c.if-word.true
-  (ap₂ bit_or c.word.ensures c.word-in-loop-k.ensures
-  ∙ within_words c.args.self.now c.args.other.now c.loop-k.k (subst (λ w. w < 2 ^ 64) c.word.ensures c.word.type_inv) (subst (λ w. w < 2 ^ 64) c.word-in-loop-k.ensures c.word-in-loop-k.type_inv) within
-  ∙ sym c.word-in-loop-k-2.ensures)),
+      (ap₂ bit_or c.word.ensures c.word-in-loop-k.ensures
+      ∙ within_words c.args.self.now c.args.other.now c.loop-k.k (subst (λ w. w < 2 ^ 64) c.word.ensures c.word.type_inv) (subst (λ w. w < 2 ^ 64) c.word-in-loop-k.ensures c.word-in-loop-k.type_inv) within
+      ∙ sym c.word-in-loop-k-2.ensures)),
 )
 
 pub returns : goal.returns

@@ -6,7 +6,7 @@ use Rattle.hddl_names.proofs.number_set.NumberSet.meets.Goals as goal
 pub returns-then-word-ne0 : goal.returns-then-word-ne0
 returns-then-word-ne0 c = (
   λ _. words_meet c.args.self.now c.args.other.now c.loop-k.k (subst (λ w. w < 2 ^ 64) c.word.ensures c.word.type_inv) (subst (λ w. w < 2 ^ 64) c.word-in-loop-k.ensures c.word-in-loop-k.type_inv)
-  (λ none. c.if-word-ne0.true (ap₂ bit_and c.word.ensures c.word-in-loop-k.ensures ∙ none)),
+      (λ none. c.if-word-ne0.true (ap₂ bit_and c.word.ensures c.word-in-loop-k.ensures ∙ none)),
   λ _. refl,
 )
 
