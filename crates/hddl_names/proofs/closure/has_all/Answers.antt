@@ -15,8 +15,8 @@ returns-then-not-is_within c =
     let two : c.index-sets-number.result ≡ set_of c.args.sets.now c.args.number = get_or_read c.args.sets.now c.args.number c.index-sets-number.result c.requires.number c.index-sets-number.is [] in (
       λ e. absurd (true≢false (sym e)),
       λ all. absurd (true≢false (sym (c.is_within.ensures.1
-      (λ x h. ap (λ (xs : List ℕ). has xs x) two ∙ all child (Contains-get_or c.args.row.now c.loop-child.child-index 0 c.loop-child-test.true) x (ap (λ (xs : List ℕ). has xs x) (sym one) ∙ h)))
-      ∙ c.if-not-is_within.true)),
+          (λ x h. ap (λ (xs : List ℕ). has xs x) two ∙ all child (Contains-get_or c.args.row.now c.loop-child.child-index 0 c.loop-child-test.true) x (ap (λ (xs : List ℕ). has xs x) (sym one) ∙ h)))
+          ∙ c.if-not-is_within.true)),
     )
 
 pub returns : goal.returns

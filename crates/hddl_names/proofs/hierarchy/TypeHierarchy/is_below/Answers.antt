@@ -1,13 +1,11 @@
-use Rattle.std.proofs.Common.{◌≡◌, ◌↔◌, ◌<◌, arith, List, true, refl, sym, ap, inl, subst, length}
+use Rattle.std.proofs.Common.{◌≡◌, ◌↔◌, ◌<◌, arith, true, refl, sym, ap, inl, subst, length}
 use Rattle.hddl_tree.specs.declared.domain.DomainText.{DomainText}
 use Rattle.hddl_meaning.specs.Names.{type_names}
 use Rattle.hddl_meaning.specs.Types.{IsBelow}
 use Rattle.hddl_names.specs.TypeNumbers.{type_at}
 use Rattle.hddl_names.proofs.Found.{found-below}
 use Rattle.hddl_names.proofs.Parents.{below-object}
-use Rattle.hddl_names.specs.Intervals.{IsInside}
-use Rattle.hddl_names.specs.declared.intervals.Interval.{Interval}
-use Rattle.hddl_names.proofs.Told.{inside-below, some-told}
+use Rattle.hddl_names.proofs.Told.{leads-below, some-told}
 use Rattle.hddl_names.proofs.hierarchy.TypeHierarchy.is_below.Goals as goal
 use Rattle.hddl_names.proofs.hierarchy.TypeHierarchy.is_below.Goals.{then-t-u-via-then-t-u, then-t-u-via-else-t-u+then-u-eq-OBJECT}
 
@@ -23,14 +21,12 @@ returns-then-t-u c =
 pub returns-in-Some : goal.returns-in-Some
 returns-in-Some c =
     let d = c.self.inside.domain.now in
-    let told = some-told d c.self.inside.names.now c.self.inside.parents c.self.inside.children c.self.inside.intervals c.in-Some.intervals c.in-Some.is c.self.invariant in
-    let both = inside-below d c.in-Some.intervals.items c.args.t c.args.u told.1 told.0
+    let told = some-told d c.self.inside.names.now c.self.inside.parents c.self.inside.children c.self.inside.closure c.in-Some.closure c.in-Some.is c.self.invariant in
+    let both = leads-below d c.in-Some.closure c.args.t c.args.u told
     (subst (λ (d : DomainText). c.args.t < length (type_names d)) (sym c.self.view_is) c.requires.t)
     (subst (λ (d : DomainText). c.args.u < length (type_names d)) (sym c.self.view_is) c.requires.u) (let other = c.if-u-eq-OBJECT.false in omega (arith, other)) in
-    subst (λ (d : DomainText). (c.is_inside.result ≡ true) ↔ IsBelow d (type_at d c.args.t) (type_at d c.args.u)) c.self.view_is (
-      λ h. both.0 (subst (λ (xs : List Interval). IsInside xs c.args.t c.args.u) c.deref.ensures.value (c.is_inside.ensures.0 h)),
-      λ h. c.is_inside.ensures.1 (subst (λ (xs : List Interval). IsInside xs c.args.t c.args.u) (sym c.deref.ensures.value) (both.1 h)),
-    )
+    subst (λ (d : DomainText). (c.leads_to.result ≡ true) ↔ IsBelow d (type_at d c.args.t) (type_at d c.args.u)) c.self.view_is
+    (λ h. both.0 (c.leads_to.ensures.0 h), λ h. c.leads_to.ensures.1 (both.1 h))
 
 pub returns : goal.returns
 returns c =

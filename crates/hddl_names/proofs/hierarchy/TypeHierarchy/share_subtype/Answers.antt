@@ -1,31 +1,35 @@
-use Rattle.std.proofs.Common.{◌≡◌, ◌↔◌, ◌<◌, ◌∙◌, ⊎_elim, true, refl, sym, subst, length}
+use Rattle.std.proofs.Common.{◌≡◌, ◌↔◌, ◌<◌, true, refl, sym, subst, arith, length}
 use Rattle.hddl_tree.specs.declared.domain.DomainText.{DomainText}
 use Rattle.hddl_meaning.specs.Names.{type_names}
 use Rattle.hddl_meaning.specs.Items.{ShareSubtype}
 use Rattle.hddl_names.specs.TypeNumbers.{type_at}
 use Rattle.hddl_names.proofs.Found.{found-share, below-share, above-share}
-use Rattle.std.proofs.lemmas.Bool.{true≢false}
-use Rattle.hddl_meaning.specs.Types.{IsBelow}
-use Rattle.hddl_names.proofs.Told.{some-share}
+use Rattle.hddl_names.proofs.Parents.{below-object}
+use Rattle.hddl_names.proofs.Told.{meet-share, some-told}
 use Rattle.hddl_names.proofs.hierarchy.TypeHierarchy.share_subtype.Goals as goal
+use Rattle.hddl_names.proofs.hierarchy.TypeHierarchy.share_subtype.Goals.{then-t-eq-OBJECT-via-then-t-eq-OBJECT, then-t-eq-OBJECT-via-else-t-eq-OBJECT+then-u-eq-OBJECT}
 
-pub returns-then-branch : goal.returns-then-branch
-returns-then-branch c = (λ _. below-share c.args.self.now c.args.t c.args.u c.requires.t (c.in_ok-is_below.ensures.0 c.if-branch.true), λ _. refl)
+pub returns-then-t-eq-OBJECT : goal.returns-then-t-eq-OBJECT
+returns-then-t-eq-OBJECT c =
+    let d = c.args.self.now in
+    let shared : ShareSubtype d (type_at d c.args.t) (type_at d c.args.u) = elim c.then-t-eq-OBJECT.branch [
+      | then-t-eq-OBJECT-via-then-t-eq-OBJECT w ↦
+          subst (λ t. ShareSubtype d (type_at d t) (type_at d c.args.u)) (sym w.if-t-eq-OBJECT.true) (above-share d 0 c.args.u c.requires.u (below-object d c.args.u c.requires.u))
+      | then-t-eq-OBJECT-via-else-t-eq-OBJECT+then-u-eq-OBJECT w ↦
+          subst (λ u. ShareSubtype d (type_at d c.args.t) (type_at d u)) (sym w.if-u-eq-OBJECT.true) (below-share d c.args.t 0 c.requires.t (below-object d c.args.t c.requires.t))
+    ] in
+    (λ _. shared, λ _. refl)
 
-pub returns-then-branch-2 : goal.returns-then-branch-2
-returns-then-branch-2 c = (λ _. above-share c.args.self.now c.args.t c.args.u c.requires.u (c.in_ok-is_below-2.ensures.0 c.if-branch-2.true), λ _. refl)
-
-pub returns-then-is_some : goal.returns-then-is_some
-returns-then-is_some c =
+pub returns-in-Some : goal.returns-in-Some
+returns-in-Some c =
     let d = c.self.inside.domain.now in
-    let apart : ShareSubtype d (type_at d c.args.t) (type_at d c.args.u) → ⊥ = λ shared.
-    ⊎_elim
-    (λ below. true≢false (sym (c.in_ok-is_below.ensures.1 (subst (λ (d : DomainText). IsBelow d (type_at d c.args.t) (type_at d c.args.u)) c.self.view_is below)) ∙ c.if-branch.false))
-    (λ above. true≢false (sym (c.in_ok-is_below-2.ensures.1 (subst (λ (d : DomainText). IsBelow d (type_at d c.args.u) (type_at d c.args.t)) c.self.view_is above)) ∙ c.if-branch-2.false))
-    (some-share d c.self.inside.names.now c.self.inside.parents c.self.inside.children c.self.inside.intervals c.args.t c.args.u c.self.invariant (sym c.is_some.ensures ∙ c.if-is_some.true)
+    let told = some-told d c.self.inside.names.now c.self.inside.parents c.self.inside.children c.self.inside.closure c.in-Some.closure c.in-Some.is c.self.invariant in
+    let both = meet-share d c.in-Some.closure c.args.t c.args.u told
     (subst (λ (d : DomainText). c.args.t < length (type_names d)) (sym c.self.view_is) c.requires.t)
-    (subst (λ (d : DomainText). c.args.u < length (type_names d)) (sym c.self.view_is) c.requires.u) shared) in
-    (λ e. absurd (true≢false (sym e)), λ shared. absurd (apart (subst (λ (d : DomainText). ShareSubtype d (type_at d c.args.t) (type_at d c.args.u)) (sym c.self.view_is) shared)))
+    (subst (λ (d : DomainText). c.args.u < length (type_names d)) (sym c.self.view_is) c.requires.u)
+    (let other = c.if-t-eq-OBJECT.false in omega (arith, other)) (let other = c.if-u-eq-OBJECT.false in omega (arith, other)) in
+    subst (λ (d : DomainText). (c.meet.result ≡ true) ↔ ShareSubtype d (type_at d c.args.t) (type_at d c.args.u)) c.self.view_is
+    (λ h. both.0 (c.meet.ensures.0 h), λ h. c.meet.ensures.1 (both.1 h))
 
 pub returns : goal.returns
 returns c =
