@@ -1,12 +1,14 @@
 //! Cycles of types.
-ghost use Rattle.std.specs.Prelude.{◌≡◌, IfOk, option_map};
+ghost use Rattle.std.specs.Prelude.{◌≡◌, IfOk, IsTrue, IsSome, option_map};
 ghost use Rattle.hddl_meaning.specs.declared.fault.CheckFault.TheVariants as fault;
 ghost use Rattle.hddl_meaning.specs.declared.fault.Source.TheVariants as source;
 ghost use Rattle.hddl_check.specs.Cycles.{IsCycleFault};
 ghost use Rattle.hddl_scope.specs.Findings.{Finds};
 
 use hddl_meaning::{At, CheckFault, Source};
-use hddl_names::TypeHierarchy;
+use hddl_names::{TypeHierarchy, Vocabulary};
+use hddl_scope::MOST_DECLARATIONS;
+use hddl_tree::{DomainText, Name, NameGroup};
 use std::alloc::{AllocError, Global};
 
 fn cycle_fault(place: Option<usize>) -> Option<CheckFault>
@@ -30,4 +32,51 @@ pub(crate) fn type_cycle(
 {
     let place = types.cycle_at(alloc)?;
     Ok(cycle_fault(place))
+}
+
+/// Whether all these names come after a place.
+fn are_after(names: &[Name], place: usize) -> bool {
+    names.iter().all(|name| place < name.place())
+}
+
+/// Whether all names of these groups come after a place.
+fn groups_are_after(groups: &[NameGroup], place: usize) -> bool {
+    groups
+        .iter()
+        .all(|group| are_after(group.names.as_slice(), place))
+}
+
+/// Whether all that a domain declares beside its types comes after a place.
+fn all_is_after(domain: &DomainText, place: usize) -> bool {
+    groups_are_after(domain.constants.as_slice(), place)
+        && domain
+            .predicates
+            .iter()
+            .all(|predicate| place < predicate.name.place())
+        && domain.tasks.iter().all(|task| place < task.name.place())
+        && domain
+            .methods
+            .iter()
+            .all(|method| place < method.name.place())
+        && domain
+            .actions
+            .iter()
+            .all(|action| place < action.name.place())
+}
+
+/// Whether a cycle of types was found and no other fault comes before it, as where the types stand before all else and
+/// aren't too many. Then nothing else has to be looked at.
+pub(crate) fn is_first(
+    cycle: Option<CheckFault>,
+    domain: &DomainText,
+    vocabulary: &Vocabulary,
+) -> bool
+    ensures { IsTrue result → IsSome cycle }
+{
+    match cycle {
+        Some(CheckFault::TypeCycle(at)) => {
+            vocabulary.types().len() <= MOST_DECLARATIONS && all_is_after(domain, at.place)
+        }
+        _ => false,
+    }
 }

@@ -5,9 +5,8 @@ ghost use Rattle.hddl_names.specs.Members.{AreMembersOf};
 ghost use Rattle.hddl_uses.specs.Declarations.{AreDeclarationsOf};
 ghost use Rattle.hddl_scope.specs.Findings.{Finds};
 ghost use Rattle.hddl_uses.specs.Known.{AreKnown};
-ghost use Rattle.hddl_check.specs.Cycles.{PairFails};
+ghost use Rattle.hddl_check.specs.TextParts.{PartFails};
 
-use crate::cycles::type_cycle;
 use crate::shape::{check_domain, check_problem};
 use hddl_meaning::{CheckFault, Source};
 use hddl_names::{ObjectsByType, TypeHierarchy, Vocabulary};
@@ -16,7 +15,7 @@ use hddl_tree::{DomainText, ProblemText};
 use hddl_uses::{Context, Declarations};
 use std::alloc::{AllocError, Global};
 
-/// A fault of the two texts.
+/// A fault of the two texts, other than a cycle of types.
 pub(crate) fn fault_among<'a>(
     alloc: Global,
     domain: &'a DomainText,
@@ -30,7 +29,7 @@ pub(crate) fn fault_among<'a>(
     requires types { types.now ≡ domain.now }
     requires objects { MatchOption objects (AreKnown domain.now problem.now → ⊥) (λ o. AreKnown domain.now problem.now × AreMembersOf domain.now problem.now o.now) }
     requires declared { AreDeclarationsOf domain.now declared.now }
-    ensures { IfOk result (Finds (PairFails domain.now problem.now)) }
+    ensures { IfOk result (Finds (PartFails domain.now problem.now)) }
 {
     let in_domain = Context {
         alloc,
@@ -54,6 +53,5 @@ pub(crate) fn fault_among<'a>(
         declared,
     };
     let of_problem = check_problem(&in_problem)?;
-    let cycle = type_cycle(alloc, types)?;
-    Ok(first_of(cycle, first_of(of_domain, of_problem)))
+    Ok(first_of(of_domain, of_problem))
 }

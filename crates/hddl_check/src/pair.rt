@@ -7,11 +7,13 @@ ghost use Rattle.hddl_check.specs.Cycles.{PairFails};
 ghost use Rattle.hddl_scope.specs.Findings.{Finds};
 ghost use Rattle.hddl_uses.specs.Known.{AreKnown};
 
+use crate::cycles::{is_first, type_cycle};
 use crate::faults::fault_among;
 use crate::objects::known_objects;
 use hddl_build::build;
 use hddl_meaning::CheckFault;
 use hddl_names::{ObjectsByType, TypeHierarchy, Vocabulary};
+use hddl_scope::first_of;
 use hddl_tree::{DomainText, ProblemText};
 use hddl_uses::Declarations;
 use htn_task::Task;
@@ -28,6 +30,10 @@ fn fault_of(
     ensures { IfOk result (Finds (PairFails domain.now problem.now)) }
 {
     let types = TypeHierarchy::of(alloc, domain, vocabulary)?;
+    let cycle = type_cycle(alloc, &types)?;
+    if is_first(cycle, domain, vocabulary) {
+        return Ok(cycle);
+    }
     let objects = known_objects(alloc, problem, vocabulary, &types)?;
     let declared = Declarations::of(alloc, domain)?;
     let fault = fault_among(
@@ -39,7 +45,7 @@ fn fault_of(
         objects.as_ref(),
         &declared,
     )?;
-    Ok(fault)
+    Ok(first_of(cycle, fault))
 }
 
 /// The task of a pair that fits together.
