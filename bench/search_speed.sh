@@ -5,7 +5,8 @@
 # The search: so many unordered actions, each of which makes a fact, and a goal that none makes. Each set of actions that
 # have been carried out is a configuration, so there are 2 to the number of actions of them, and all are searched. The texts:
 # a domain of many methods and a problem of many initial atoms, and a plan without a node. The types: a domain of a long
-# chain of types, and as many atoms whose argument is of the last type and whose place is of the first.
+# chain of types, and as many atoms whose argument is of the last type and whose place is of the first; the same where each
+# type has the two before it as parents, and each atom has a place of another type.
 set -eu
 root=$(cd "$(dirname "$0")/.." && pwd)
 work=$(mktemp -d)
@@ -75,3 +76,17 @@ echo "(define (problem p) (:domain chain) (:htn :subtasks ()))" > "$work/chain_p
 bytes=$(cat "$work/chain_domain.hddl" "$work/chain_problem.hddl" | wc -c)
 taken=$(timed "$work/chain_domain.hddl" "$work/chain_problem.hddl" --nodes 0)
 echo "types: $bytes bytes, $taken ms, $((bytes / 1000 / taken)) MB/s"
+
+awk 'BEGIN {
+    print "(define (domain ladder) (:types type-1 - type-0"
+    for (i = 2; i < 60000; i++) print "  type-" i " - type-" (i - 1) " type-" i " - type-" (i - 2)
+    print ") (:predicates"
+    for (i = 0; i < 60000; i++) print "  (known-" i " ?x - type-" i ")"
+    print ") (:action look :parameters (?x - type-59999) :precondition (and"
+    for (i = 0; i < 60000; i++) print "  (known-" i " ?x)"
+    print ")))"
+}' > "$work/ladder_domain.hddl"
+echo "(define (problem p) (:domain ladder) (:htn :subtasks ()))" > "$work/ladder_problem.hddl"
+bytes=$(cat "$work/ladder_domain.hddl" "$work/ladder_problem.hddl" | wc -c)
+taken=$(timed "$work/ladder_domain.hddl" "$work/ladder_problem.hddl" --nodes 0)
+echo "types with two parents: $bytes bytes, $taken ms"

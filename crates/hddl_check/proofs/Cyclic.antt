@@ -1,13 +1,15 @@
 -- The first type on a cycle, as a finding.
-use Rattle.std.proofs.Common.{ℕ, ◌∷◌, Option, Some, None, MatchOption, option_map, refl, sym, subst}
+use Rattle.std.proofs.Common.{ℕ, ◌∷◌, Option, Some, None, MatchOption, IsSome, option_map, inl, refl, sym, subst}
+use Rattle.std.proofs.lemmas.Bool.{true≢false}
 use Rattle.hddl_tree.specs.declared.domain.DomainText.{DomainText}
+use Rattle.hddl_tree.specs.declared.problem.ProblemText.{ProblemText}
 use Rattle.hddl_meaning.specs.Mentions.{IsIn}
 use Rattle.hddl_meaning.specs.declared.fault.Source.TheVariants as source
 use Rattle.hddl_meaning.specs.declared.fault.CheckFault.{CheckFault}
 use Rattle.hddl_meaning.specs.declared.fault.CheckFault.TheVariants as fault
 use Rattle.hddl_meaning.proofs.Listed.{at_head, in_right}
 use Rattle.hddl_names.specs.Cycles.{HasNoCycle, IsFirstCycle}
-use Rattle.hddl_check.specs.Cycles.{IsCycleFault}
+use Rattle.hddl_check.specs.Cycles.{IsCycleFault, PairFails}
 use Rattle.hddl_scope.specs.Findings.{Finds}
 use Rattle.hddl_scope.proofs.Finding.{Finds-none, Finds-some}
 
@@ -28,3 +30,8 @@ finds_cycle d (Some place) first =
         first.at,
       ),
     )
+
+-- a cycle that was found is a fault of the pair
+pub finds_first : (d : DomainText) (p : ProblemText) (found : Option CheckFault) → IsSome found → Finds (IsCycleFault d) found → Finds (PairFails d p) found
+finds_first d p None some h = absurd (true≢false (sym some))
+finds_first d p (Some f) some h = Finds-some f (inl h.sound)

@@ -1,10 +1,12 @@
 -- Lists of objects that grow by one object after another.
-use Rattle.std.proofs.Common.{◌≡◌, ◌≢◌, ℕ, ◌<◌, ◌+◌, ◌||◌, Bool, true, false, cond, List, [], ◌∷◌, ◌++◌, refl, sym, ap, subst, ◌∙◌, arith, ⊎_elim, nat_eq, length, get_or, set, take, replicate, get_or-set_same, get_or-set_other}
+use Rattle.std.proofs.Common.{◌≡◌, ◌≢◌, ℕ, ◌<◌, ◌+◌, ◌||◌, Bool, true, false, not, cond, List, [], ◌∷◌, ◌++◌, refl, sym, ap, subst, ◌∙◌, arith, ⊎_elim, nat_eq, length, get_or, set, take, replicate, get_or-set_same, get_or-set_other}
 use Rattle.std.specs.List.{Contains, AllByRecursion, IsDistinct, list_any}
 use Rattle.std.specs.List.Sorted.{IsStrictlySortedBy}
 use Rattle.std.specs.Ordering.{nat_cmp}
 use Rattle.std.specs.declared.cmp.Ordering.TheVariants.{Less, Equal, Greater}
 use Rattle.std.specs.Cmp.{unsigned_Decides}
+use Rattle.std.specs.Cmp.Lexicographic.{pointwise, pointwise_decides}
+use Rattle.std.proofs.lemmas.Bool.{true≢false}
 use Rattle.std.proofs.lemmas.Cmp.{nat_eq_equiv}
 use Rattle.std.proofs.lemmas.Bool.{cases_Bool, cases_eq, cases_lt, eqb-true, eq-eqb, lt-ltb, or_left, or_right}
 use Rattle.std.proofs.lemmas.List.{take_more, get_or-take, length-take, append-nil, get_or-replicate, get_or_past, length-replicate, get_or_default}
@@ -137,3 +139,15 @@ filled-more pairs declared n i lists new above some same grown filled =
         Contains-append_right (get_or lists k []) (cond (list_any (nat_eq k) above) (i ∷ []) []) o
         (subst (λ b. Contains (cond b (i ∷ []) []) o) (sym there) (subst (Contains (i ∷ [])) is (first i []))))
         (cases_lt o i)
+
+-- ## Rows of types that objects share
+
+pub above-none : (pairs : List (ℕ × ℕ)) (found : List ℕ) → length found ≡ 0 → IsAboveSome pairs [] found
+above-none pairs found empty x = (λ (k, lt, is). absurd (omega (arith, lt, empty)), λ (t, none, r). absurd (nothing t none))
+
+pub same_row : (xs ys : List ℕ) → false ≡ not (pointwise nat_eq xs ys) → xs ≡ ys
+same_row xs ys e = (pointwise_decides unsigned_Decides xs ys).0 (by (pointwise nat_eq xs ys) e)
+  where
+    by : (b : Bool) → false ≡ not b → b ≡ true
+    by true e = refl
+    by false e = absurd (true≢false (sym e))

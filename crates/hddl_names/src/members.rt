@@ -16,6 +16,7 @@ use crate::pairs::{parent_number, push_pairs};
 use crate::rows::Rows;
 use crate::vocabulary::Vocabulary;
 use hddl_tree::{DomainText, NameGroup, ProblemText};
+use indexmap::IndexSet;
 use std::alloc::{AllocError, Global};
 use std::marker::Model;
 
@@ -132,8 +133,14 @@ impl ObjectsByType {
         ensures { IfOk result (λ all. AreFilled (numbered_pairs types.now) declared.now count objects all) }
     {
         let mut all = ObjectsByType::new(alloc, count)?;
+        let mut row: &[usize] = &[];
+        let mut above = IndexSet::new(alloc);
         for object in 0..objects {
-            let above = types.all_above(alloc, declared.row(object))?;
+            // Most objects are declared beside others of the same type.
+            if declared.row(object) != row {
+                row = declared.row(object);
+                above = types.all_above(alloc, row)?;
+            }
             all.push_all(above.as_slice(), object as u16)?;
         }
         Ok(all)
