@@ -48,20 +48,15 @@ fn groups_are_after(groups: &[NameGroup], place: usize) -> bool {
 
 /// Whether all that a domain declares beside its types comes after a place.
 fn all_is_after(domain: &DomainText, place: usize) -> bool {
+    let predicates = domain.predicates.as_slice();
+    let tasks = domain.tasks.as_slice();
+    let methods = domain.methods.as_slice();
+    let actions = domain.actions.as_slice();
     groups_are_after(domain.constants.as_slice(), place)
-        && domain
-            .predicates
-            .iter()
-            .all(|predicate| place < predicate.name.place())
-        && domain.tasks.iter().all(|task| place < task.name.place())
-        && domain
-            .methods
-            .iter()
-            .all(|method| place < method.name.place())
-        && domain
-            .actions
-            .iter()
-            .all(|action| place < action.name.place())
+        && predicates.iter().all(|x| place < x.name.place())
+        && tasks.iter().all(|x| place < x.name.place())
+        && methods.iter().all(|x| place < x.name.place())
+        && actions.iter().all(|x| place < x.name.place())
 }
 
 /// Whether a cycle of types was found and no other fault comes before it, as where the types stand before all else and

@@ -253,3 +253,39 @@ fn more_uses(rt: HostRuntime) -> Result<(), Fail> {
     }
     Ok(())
 }
+
+/// Types with several parents, and cycles beside other faults.
+#[test]
+fn hierarchies(rt: HostRuntime) -> Result<(), Fail> {
+    let rows: [(&str, Option<CheckFault>); 6] = [
+        (
+            "(define (domain d) (:action a :precondition (p)) (:types t - t))",
+            Some(CheckFault::UnknownName(in_domain(45))),
+        ),
+        (
+            "(define (domain d) (:predicates (p ?x - u)) (:action a :parameters (?y - t) :precondition (p ?y)) (:types t u s - s))",
+            Some(CheckFault::TypeClash(in_domain(93))),
+        ),
+        (
+            "(define (domain d) (:types s - s t u) (:predicates (p ?x - u)) (:action a :parameters (?y - t) :precondition (p ?y)))",
+            Some(CheckFault::TypeCycle(in_domain(27))),
+        ),
+        (
+            "(define (domain d) (:types c - a c - b) (:predicates (p ?x - a)) (:action m :parameters (?y - b) :precondition (p ?y)))",
+            None,
+        ),
+        (
+            "(define (domain d) (:types c - a c - b) (:predicates (p ?x - a)) (:action m :precondition (forall (?y - b) (p ?y))))",
+            Some(CheckFault::TypeClash(in_domain(110))),
+        ),
+        (
+            "(define (domain d) (:types c - a c - b e - c) (:predicates (p ?x - a)) (:action m :precondition (forall (?y - e) (p ?y))))",
+            None,
+        ),
+    ];
+    for (domain, expected) in rows {
+        let problem = "(define (problem x) (:domain d) (:htn :subtasks ()))";
+        assert_eq!(rt; fault(rt.alloc(), domain, problem), expected);
+    }
+    Ok(())
+}
