@@ -37,7 +37,7 @@ impl Model for Closure {
     ghost view = { λ c. record { junctions = c.junctions.keys; intervals = c.lines.intervals.items; tops = c.lines.tops.items; sets = c.sets.items } };
 }
 
-/// The numbers with several parents, `0` aside, in an order.
+/// The numbers with several parents, `0` aside, in this order.
 fn junctions_of(
     alloc: Global,
     parents: &Rows,
