@@ -41,6 +41,8 @@ impl NumberSet {
         ensures len { OnOk result (count ≤ length self.new) }
         ensures same { (k : ℕ) → get_or self.new k 0 ≡ get_or self.old k 0 }
     {
+        let more = count.saturating_sub(self.words.len());
+        self.words.reserve_exact(more)?;
         for k in self.words.len()..count {
             let _k = k;
             self.words.push(0)?;
