@@ -28,6 +28,14 @@ timed() {
     echo $(((end - start) / 1000000 + 1))
 }
 
+# Times the check of a domain of types, and prints it under a name.
+timed_types() {
+    echo "(define (problem p) (:domain types) (:htn :subtasks ()))" > "$work/types_problem.hddl"
+    bytes=$(cat "$2" "$work/types_problem.hddl" | wc -c)
+    taken=$(timed "$2" "$work/types_problem.hddl" --nodes 0)
+    echo "$1: $bytes bytes, $taken ms"
+}
+
 actions=${1:-16}
 awk -v n="$actions" 'BEGIN {
     print "(define (domain sets) (:predicates (never)"
@@ -66,19 +74,16 @@ taken=$(timed "$work/long_domain.hddl" "$work/long_problem.hddl" --nodes 0)
 echo "texts: $bytes bytes, $taken ms, $((bytes / 1000 / taken)) MB/s"
 
 awk 'BEGIN {
-    print "(define (domain chain) (:types"
+    print "(define (domain types) (:types"
     for (i = 1; i < 60000; i++) print "  type-" i " - type-" (i - 1)
     print ") (:predicates (known ?x - type-0)) (:action look :parameters (?x - type-59999) :precondition (and"
     for (i = 0; i < 60000; i++) print "  (known ?x)"
     print ")))"
 }' > "$work/chain_domain.hddl"
-echo "(define (problem p) (:domain chain) (:htn :subtasks ()))" > "$work/chain_problem.hddl"
-bytes=$(cat "$work/chain_domain.hddl" "$work/chain_problem.hddl" | wc -c)
-taken=$(timed "$work/chain_domain.hddl" "$work/chain_problem.hddl" --nodes 0)
-echo "types: $bytes bytes, $taken ms, $((bytes / 1000 / taken)) MB/s"
+timed_types types "$work/chain_domain.hddl"
 
 awk 'BEGIN {
-    print "(define (domain ladder) (:types type-1 - type-0"
+    print "(define (domain types) (:types type-1 - type-0"
     for (i = 2; i < 60000; i++) print "  type-" i " - type-" (i - 1) " type-" i " - type-" (i - 2)
     print ") (:predicates"
     for (i = 0; i < 60000; i++) print "  (known-" i " ?x - type-" i ")"
@@ -86,7 +91,4 @@ awk 'BEGIN {
     for (i = 0; i < 60000; i++) print "  (known-" i " ?x)"
     print ")))"
 }' > "$work/ladder_domain.hddl"
-echo "(define (problem p) (:domain ladder) (:htn :subtasks ()))" > "$work/ladder_problem.hddl"
-bytes=$(cat "$work/ladder_domain.hddl" "$work/ladder_problem.hddl" | wc -c)
-taken=$(timed "$work/ladder_domain.hddl" "$work/ladder_problem.hddl" --nodes 0)
-echo "types with two parents: $bytes bytes, $taken ms"
+timed_types "types with two parents" "$work/ladder_domain.hddl"

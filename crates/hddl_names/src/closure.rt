@@ -68,7 +68,7 @@ fn line_pairs(
         .collect(alloc)
 }
 
-/// What tells which number leads to which along the lines between junctions, None where there is a cycle.
+/// What tells which number leads to which along the lines between junctions. It may be None where there is a cycle.
 fn lines_between(
     alloc: Global,
     size: usize,
@@ -200,8 +200,8 @@ fn are_carried(sets: &[NumberSet], children: &Rows) -> bool
 }
 
 impl Closure {
-    /// The closure of pairs, which are also given by rows in both directions, None where there is a cycle, or an error
-    /// where memory was refused.
+    /// The closure of pairs, which are also given by rows in both directions, or an error where memory was refused. It may
+    /// be None where there is a cycle.
     pub(crate) fn of(
         alloc: Global,
         pairs: &[(usize, usize)],

@@ -33,7 +33,7 @@ pub struct TypeHierarchy<'a> {
     parents: Rows,
     /// What each type is a parent of.
     children: Rows,
-    /// What tells which type is below which, where there is no cycle.
+    /// What tells which type is below which. It may be missing where there is a cycle.
     closure: Option<Closure>,
 }
 
