@@ -24,6 +24,8 @@ pub mod Fits
 pub mod Placement
 pub mod Decoupling
 pub mod Shades
+pub mod Shown
+pub mod Greedy
 pub mod Numbered
 pub mod Sketch
 pub mod Examples
