@@ -17,9 +17,9 @@ use Rattle.htn_model.proofs.Numbered.{IsCompound, primitives_from_stand, compoun
 use Rattle.htn_model.proofs.Rearranged.{in_wider, in_narrower, split_in, distinct_without, distinct_arranged, distinct_right}
 use Rattle.htn_model.proofs.Apart.{all_primitives_distinct, all_compounds_distinct}
 use Rattle.htn_model.proofs.Sorted.{sorted, sorted_rearranged, sorted_all, sorted_respects}
-use Rattle.htn_model.proofs.Grown.{id_below, Forest, forest_grown, grow_all}
+use Rattle.htn_model.proofs.Laid.{id_below, Forest, forest_laid, lay_all}
 use Rattle.htn_model.proofs.Marked.{compound_line, id_listed, one_to_one, leaf_of, one_leaf, compound_of}
-use Rattle.htn_model.proofs.Played.{precedes, precedes_irreflexive, precedes_transitive, respects_order, Waits, Plays, plays}
+use Rattle.htn_model.proofs.Executed.{precedes, precedes_irreflexive, precedes_transitive, respects_order, Waits, Executes, executes}
 
 pub shown_ids : (id_at : Place → ℕ) (place : Place) (i : ℕ) (ns : Nodes)
     → ids_of id_at (shown_from place i ns) ≡ map (λ a. id_at (place ++ a ∷ [])) (subtask_positions i (roots ns))
@@ -75,13 +75,13 @@ module _ (naming : Naming) (trees : Nodes) (id_at : Place → ℕ) where
 
 module _ (naming : Naming) (problem : Problem) (grounded : IsGrounded problem) (file : PlanFile) (is_forest : IsForest file) (states : ℕ → State)
     (runs : LinesRun naming problem file states) (number : ℕ) (network : Network) (is_initial : slice_get problem.initials number ≡ Some network)
-    (start finish : ℕ → ℕ) (grown : Forest naming problem file states network.children file.roots start finish)
-    (keeps : ForestKeeps problem states grown.slots network.order grown.nodes (length file.actions)) where
+    (start finish : ℕ → ℕ) (trees_laid : Forest naming problem file states network.children file.roots start finish)
+    (keeps : ForestKeeps problem states trees_laid.slots network.order trees_laid.nodes (length file.actions)) where
   abbrev trees : Nodes
-  trees = grown.nodes
+  trees = trees_laid.nodes
 
   abbrev earlier : Place → Place → Bool
-  earlier = precedes problem network.order trees grown.slots
+  earlier = precedes problem network.order trees trees_laid.slots
 
   abbrev places : List Place
   places = primitives_from [] 0 trees
@@ -96,16 +96,16 @@ module _ (naming : Naming) (problem : Problem) (grounded : IsGrounded problem) (
   rearranged = sorted_rearranged earlier places
 
   in_order : Respects earlier list
-  in_order = sorted_respects earlier (λ p. IsPrimitive (node_at trees p)) (precedes_irreflexive problem network.order trees grown.slots)
-      (precedes_transitive problem network.order trees grown.slots grounded (grounded.initials number network is_initial).closed states (length file.actions) keeps)
+  in_order = sorted_respects earlier (λ p. IsPrimitive (node_at trees p)) (precedes_irreflexive problem network.order trees trees_laid.slots)
+      (precedes_transitive problem network.order trees trees_laid.slots grounded (grounded.initials number network is_initial).closed states (length file.actions) keeps)
       places stand
 
-  listed : IsRearrangementOf file.roots (map (id_below grown.ids) (subtask_positions 0 (roots trees)))
-  listed = subst (λ c. IsRearrangementOf file.roots (map (id_below grown.ids) (subtask_positions 0 c))) (sym grown.laid.are_roots) grown.listed
+  listed : IsRearrangementOf file.roots (map (id_below trees_laid.ids) (subtask_positions 0 (roots trees)))
+  listed = subst (λ c. IsRearrangementOf file.roots (map (id_below trees_laid.ids) (subtask_positions 0 c))) (sym trees_laid.laid.are_roots) trees_laid.listed
 
-  waits : Waits naming problem file states runs network.order trees grown.slots grown.ids grown.laid.marks keeps
-      (leaf_of naming file grown.slots grown.ids trees grown.laid.marks is_forest listed)
-      (one_leaf naming file grown.slots grown.ids trees grown.laid.marks is_forest listed) 0 file.actions list
+  waits : Waits naming problem file states runs network.order trees trees_laid.slots trees_laid.ids trees_laid.laid.marks keeps
+      (leaf_of naming file trees_laid.slots trees_laid.ids trees trees_laid.laid.marks is_forest listed)
+      (one_leaf naming file trees_laid.slots trees_laid.ids trees trees_laid.laid.marks is_forest listed) 0 file.actions list
   waits = record {
     are_lines = λ k. ap (slice_get file.actions) (let e : k ≡ 0 + k = omega arith in e);
     up_to = omega arith;
@@ -116,12 +116,12 @@ module _ (naming : Naming) (problem : Problem) (grounded : IsGrounded problem) (
     complete = λ p g e up. in_arranged p list places rearranged (in_primitives trees p (subst IsPrimitive (sym e) tt));
   }
 
-  played : Plays naming problem file states runs network.order trees grown.slots grown.ids grown.laid.marks keeps
-      (leaf_of naming file grown.slots grown.ids trees grown.laid.marks is_forest listed)
-      (one_leaf naming file grown.slots grown.ids trees grown.laid.marks is_forest listed) 0 file.actions list
-  played = plays naming problem file states runs network.order trees grown.slots grown.ids grown.laid.marks keeps
-      (leaf_of naming file grown.slots grown.ids trees grown.laid.marks is_forest listed)
-      (one_leaf naming file grown.slots grown.ids trees grown.laid.marks is_forest listed) list 0 file.actions waits
+  executed : Executes naming problem file states runs network.order trees trees_laid.slots trees_laid.ids trees_laid.laid.marks keeps
+      (leaf_of naming file trees_laid.slots trees_laid.ids trees trees_laid.laid.marks is_forest listed)
+      (one_leaf naming file trees_laid.slots trees_laid.ids trees trees_laid.laid.marks is_forest listed) 0 file.actions list
+  executed = executes naming problem file states runs network.order trees trees_laid.slots trees_laid.ids trees_laid.laid.marks keeps
+      (leaf_of naming file trees_laid.slots trees_laid.ids trees trees_laid.laid.marks is_forest listed)
+      (one_leaf naming file trees_laid.slots trees_laid.ids trees trees_laid.laid.marks is_forest listed) list 0 file.actions waits
 
   abbrev solution : Solution
   solution = record { number = number; trees = trees; linearisation = list }
@@ -130,23 +130,23 @@ module _ (naming : Naming) (problem : Problem) (grounded : IsGrounded problem) (
   solves = record {
     network = network;
     is_initial = is_initial;
-    are_roots = grown.laid.are_roots;
-    are_trees = grown.laid.trees;
+    are_roots = trees_laid.laid.are_roots;
+    are_trees = trees_laid.laid.trees;
     is_rearrangement = rearranged;
     respects = subst (λ o. Respects (before problem o trees) list) (ap order_of_network (sym is_initial))
-        (respects_order problem network.order trees grown.slots list in_order);
-    reaches_goal = (states (length file.actions), subst (λ s. run problem trees s list ≡ Some (states (length file.actions))) runs.starts played.ends, runs.ends);
+        (respects_order problem network.order trees trees_laid.slots list in_order);
+    reaches_goal = (states (length file.actions), subst (λ s. run problem trees s list ≡ Some (states (length file.actions))) runs.starts executed.ends, runs.ends);
   }
 
-  line_of : (p : Place) → IsIn p (compounds_from [] 0 trees) → HasLine naming trees grown.ids file.decompositions p
+  line_of : (p : Place) → IsIn p (compounds_from [] 0 trees) → HasLine naming trees trees_laid.ids file.decompositions p
   line_of p i = by (node_at trees p) refl (all_in _ p _ (all_map _ _ _ (top IsCompound trees) (compounds_from_stand [] 0 trees)) i)
     where
-      by : (m : Option Node) → node_at trees p ≡ m → IsCompound m → HasLine naming trees grown.ids file.decompositions p
+      by : (m : Option Node) → node_at trees p ≡ m → IsCompound m → HasLine naming trees trees_laid.ids file.decompositions p
       by None e h = absurd h
       by (Some (leaf g)) e h = absurd h
       by (Some (step literals)) e h = absurd h
       by (Some (compound t k nodes)) e h =
-          let c = compound_line naming file grown.slots grown.ids trees grown.laid.marks p t k nodes e in (
+          let c = compound_line naming file trees_laid.slots trees_laid.ids trees trees_laid.laid.marks p t k nodes e in (
             c.line,
             c.stands,
             record {
@@ -157,13 +157,13 @@ module _ (naming : Naming) (problem : Problem) (grounded : IsGrounded problem) (
               id = c.is;
               named = c.named;
               method = c.method;
-              children = subst (IsRearrangementOf c.line.children) (sym (shown_ids grown.ids p 0 nodes)) c.children;
+              children = subst (IsRearrangementOf c.line.children) (sym (shown_ids trees_laid.ids p 0 nodes)) c.children;
             },
           )
 
-  onto : (line : DecompositionLine) → IsIn line file.decompositions → (p : Place) × IsIn p (compounds_from [] 0 trees) × (grown.ids p ≡ line.id)
+  onto : (line : DecompositionLine) → IsIn line file.decompositions → (p : Place) × IsIn p (compounds_from [] 0 trees) × (trees_laid.ids p ≡ line.id)
   onto line i =
-      let (p, t, k, nodes, e, same) = compound_of naming file grown.slots grown.ids trees grown.laid.marks is_forest listed line i in
+      let (p, t, k, nodes, e, same) = compound_of naming file trees_laid.slots trees_laid.ids trees trees_laid.laid.marks is_forest listed line i in
       (p, in_compounds trees p (subst IsCompound (sym e) tt), same)
 
   has_id : (p : Place) → IsIn p (compounds_from [] 0 trees) → HasId (node_at trees p)
@@ -171,13 +171,13 @@ module _ (naming : Naming) (problem : Problem) (grounded : IsGrounded problem) (
 
   shadow : IsShadow naming file solution
   shadow = record {
-    id_at = grown.ids;
-    one_to_one = one_to_one naming file grown.slots grown.ids trees grown.laid.marks is_forest listed;
-    actions = played.shown;
-    roots = subst (IsRearrangementOf file.roots) (sym (shown_ids grown.ids [] 0 trees)) listed;
-    decompositions = lines_of_places naming trees grown.ids (compounds_from [] 0 trees) file.decompositions (all_compounds_distinct [] 0 trees)
+    id_at = trees_laid.ids;
+    one_to_one = one_to_one naming file trees_laid.slots trees_laid.ids trees trees_laid.laid.marks is_forest listed;
+    actions = executed.shown;
+    roots = subst (IsRearrangementOf file.roots) (sym (shown_ids trees_laid.ids [] 0 trees)) listed;
+    decompositions = lines_of_places naming trees trees_laid.ids (compounds_from [] 0 trees) file.decompositions (all_compounds_distinct [] 0 trees)
         (distinct_right (action_ids file.actions) (decomposition_ids file.decompositions) is_forest.defined_once)
-        line_of onto (λ p q i j. one_to_one naming file grown.slots grown.ids trees grown.laid.marks is_forest listed p q (has_id p i) (has_id q j));
+        line_of onto (λ p q i j. one_to_one naming file trees_laid.slots trees_laid.ids trees trees_laid.laid.marks is_forest listed p q (has_id p i) (has_id q j));
   }
 
   pub accepted : IsAccepted naming problem file
@@ -189,7 +189,7 @@ pub fitting_accepted : (naming : Naming) (problem : Problem) → IsGrounded prob
 fitting_accepted naming problem grounded file states plans is_forest runs shows (number, network, is_initial, room) =
     let start = room.2 in
     let finish = room.3 in
-    let grown = forest_grown naming problem file states network.children room.0 file.roots plans start finish room.1 room.5
-    (grow_all naming problem file states runs plans room.0 file.roots network.children start finish room.1.stand shows room.6) in
-    accepted naming problem grounded file is_forest states runs number network is_initial start finish grown
-    ((networks_decouple problem grounded).keeps states grown.slots network.order grown.nodes (length file.actions) (start, finish, room.4, grown.laid.sit))
+    let trees_laid = forest_laid naming problem file states network.children room.0 file.roots plans start finish room.1 room.5
+    (lay_all naming problem file states runs plans room.0 file.roots network.children start finish room.1.stand shows room.6) in
+    accepted naming problem grounded file is_forest states runs number network is_initial start finish trees_laid
+    ((networks_decouple problem grounded).keeps states trees_laid.slots network.order trees_laid.nodes (length file.actions) (start, finish, room.4, trees_laid.laid.sit))

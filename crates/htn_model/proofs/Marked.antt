@@ -10,7 +10,7 @@ use Rattle.htn_model.specs.Shadow.{HasId}
 use Rattle.htn_model.proofs.Ascending.{in_left, in_right, in_map, in_mapped, at_in}
 use Rattle.htn_model.proofs.Decoupled.{nothing_below}
 use Rattle.htn_model.proofs.Rearranged.{in_rearranged, in_arranged, distinct_rearranged, distinct_left, distinct_right, distinct_apart, distinct_mapped}
-use Rattle.htn_model.proofs.Grown.{IsSubtask, subtask_at, in_subtasks, Marks, AllMarks, id_below}
+use Rattle.htn_model.proofs.Laid.{IsSubtask, subtask_at, in_subtasks, Marks, AllMarks, id_below}
 
 -- ## Lines of a file
 

@@ -20,7 +20,7 @@ use Rattle.htn_model.proofs.Numbered.{IsCompound, in_primitives, in_compounds, i
 use Rattle.htn_model.proofs.Rearranged as lists
 use Rattle.htn_model.proofs.Rearranged.{in_wider, in_narrower, in_rearranged, split_in, distinct_with, distinct_arranged, distinct_join, distinct_without}
 use Rattle.htn_model.proofs.Apart.{after_place, all_primitives_distinct, all_compounds_distinct}
-use Rattle.htn_model.proofs.Grown.{subtasks_distinct}
+use Rattle.htn_model.proofs.Laid.{subtasks_distinct}
 use Rattle.htn_model.proofs.Marked.{at_child, has_id_at, Parent, a_root, a_child, parent_of, child_listed, id_listed, action_id_listed}
 use Rattle.htn_model.proofs.Accepted.{shown_ids, ids_join}
 use Rattle.htn_model.proofs.Fitted.{compound_has_line}

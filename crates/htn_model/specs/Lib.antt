@@ -29,6 +29,7 @@ pub mod Greedy
 pub mod Numbered
 pub mod Sketch
 pub mod Examples
+pub mod WorkedFiles
 pub mod Road
 pub mod Schema
 pub mod Task

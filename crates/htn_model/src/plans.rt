@@ -8,6 +8,7 @@ ghost use Rattle.htn_model.specs.Problem.{IsGrounded, Problem};
 ghost use Rattle.htn_model.specs.Shades.{PlacedForestsFit};
 ghost use Rattle.htn_model.specs.Shown.{FilesArePlans, FitIsAcceptance, RoomIsVerdict, ValidIsAcceptance};
 ghost use Rattle.htn_model.specs.Verdict.{VerdictsAreUnique};
+ghost use Rattle.htn_model.specs.WorkedFiles.{FilesHaveVerdicts};
 
 /// The leaves and steps of a forest are placed in its inherited order exactly where each network's
 /// children keep to spans of their own, in that network's order.
@@ -62,4 +63,11 @@ pub fn valid_is_acceptance()
 pub fn greedy_spans_decide()
     ensures decide { (naming : Naming) (problem : Problem) → GreedySpansDecide naming problem }
     ensures lines { (naming : Naming) (problem : Problem) → IsGrounded problem → LinesDecide naming problem }
+{}
+
+/// Small plan files with their verdicts, as the definitions give them. Roots and children may stand in
+/// another order than the declared one, a line has an instance where any method's instance of its name
+/// has its children's tasks, and lines that no root reaches are no part of a forest.
+pub fn worked_files_hold()
+    ensures hold { FilesHaveVerdicts }
 {}

@@ -15,7 +15,7 @@ use Rattle.htn_model.specs.Shown.{LinesRun}
 use Rattle.htn_model.proofs.Ascending.{all_in, all_from}
 use Rattle.htn_model.proofs.Orders.{before_irreflexive, before_transitive}
 use Rattle.htn_model.proofs.Pending.{all_map}
-use Rattle.htn_model.proofs.Grown.{AllMarks}
+use Rattle.htn_model.proofs.Laid.{AllMarks}
 use Rattle.htn_model.proofs.Marked.{leaf_line}
 
 -- ## Lines by their places
@@ -117,7 +117,7 @@ module _ (naming : Naming) (problem : Problem) (file : PlanFile) (states : ℕ �
     pub low : AllByRecursion (λ q. i + i ≤ key_of q) qs
     pub complete : (p : Place) (g : GroundTask) → node_at trees p ≡ Some (leaf g) → i ≤ slots p → IsIn p qs
 
-  pub record Plays (i : ℕ) (lines : List ActionLine) (qs : List Place) : Type 0 where
+  pub record Executes (i : ℕ) (lines : List ActionLine) (qs : List Place) : Type 0 where
     pub shown : AreActionLines naming trees ids qs lines
     pub ends : run problem trees (states i) qs ≡ Some (states n)
 
@@ -145,7 +145,7 @@ module _ (naming : Naming) (problem : Problem) (file : PlanFile) (states : ℕ �
     | inr up ↦ (let u = w.up_to in omega arith)
   ]
 
-  ended : (i : ℕ) (lines : List ActionLine) → Waits i lines [] → Plays i lines []
+  ended : (i : ℕ) (lines : List ActionLine) → Waits i lines [] → Executes i lines []
   ended i [] w = record { shown = end; ends = ap (λ k. Some (states k)) (no_lines i [] w) }
   ended i (line ∷ lines) w =
       let e = no_lines i (line ∷ lines) w in
@@ -178,9 +178,9 @@ module _ (naming : Naming) (problem : Problem) (file : PlanFile) (states : ℕ �
         | inr past ↦ (let u = w.up_to in let e = keeps.ends p w.stand.0 in omega arith)
       ]
 
-  play_step : (p : Place) (qs : List Place) (i : ℕ) (lines : List ActionLine) (literals : List Literal) → node_at trees p ≡ Some (step literals)
-      → Waits i lines (p ∷ qs) → Plays i lines qs → Plays i lines (p ∷ qs)
-  play_step p qs i lines literals is w more =
+  execute_step : (p : Place) (qs : List Place) (i : ℕ) (lines : List ActionLine) (literals : List Literal) → node_at trees p ≡ Some (step literals)
+      → Waits i lines (p ∷ qs) → Executes i lines qs → Executes i lines (p ∷ qs)
+  execute_step p qs i lines literals is w more =
       let holds_there : holds (states i) literals ≡ true = subst (λ k. holds (states k) literals ≡ true) (step_slot p qs i lines literals is w) (keeps.steps p literals is) in
       let stays : perform_at problem (states i) (node_at trees p) ≡ Some (states i) =
       ap (perform_at problem (states i)) is ∙ ap (λ b. cond b (Some (states i)) None) holds_there in
@@ -236,9 +236,9 @@ module _ (naming : Naming) (problem : Problem) (file : PlanFile) (states : ℕ �
         ];
       }
 
-  play_leaf : (p : Place) (qs : List Place) (i : ℕ) (line : ActionLine) (lines : List ActionLine) (g : GroundTask) → node_at trees p ≡ Some (leaf g)
-      → Waits i (line ∷ lines) (p ∷ qs) → Plays (suc i) lines qs → Plays i (line ∷ lines) (p ∷ qs)
-  play_leaf p qs i line lines g is w more =
+  execute_leaf : (p : Place) (qs : List Place) (i : ℕ) (line : ActionLine) (lines : List ActionLine) (g : GroundTask) → node_at trees p ≡ Some (leaf g)
+      → Waits i (line ∷ lines) (p ∷ qs) → Executes (suc i) lines qs → Executes i (line ∷ lines) (p ∷ qs)
+  execute_leaf p qs i line lines g is w more =
       let (at, below) = leaf_slot p qs i (line ∷ lines) g is w in
       let l = leaf_line naming file slots ids trees marks p g is in
       let there : slice_get file.actions i ≡ Some l.line = subst (λ k. slice_get file.actions k ≡ Some l.line) at l.stands in
@@ -259,14 +259,14 @@ module _ (naming : Naming) (problem : Problem) (file : PlanFile) (states : ℕ �
       let none : None ≡ slice_get file.actions i = w.are_lines 0 ∙ ap (slice_get file.actions) (let e : i + 0 ≡ i = omega arith in e) in
       cc
 
-  pub plays : (qs : List Place) (i : ℕ) (lines : List ActionLine) → Waits i lines qs → Plays i lines qs
-  plays [] i lines w = ended i lines w
-  plays (p ∷ qs) i lines w = by (node_at trees p) refl w.stand.0 lines w (plays qs)
+  pub executes : (qs : List Place) (i : ℕ) (lines : List ActionLine) → Waits i lines qs → Executes i lines qs
+  executes [] i lines w = ended i lines w
+  executes (p ∷ qs) i lines w = by (node_at trees p) refl w.stand.0 lines w (executes qs)
     where
       by : (m : Option Node) → node_at trees p ≡ m → IsPrimitive m → (lines : List ActionLine) → Waits i lines (p ∷ qs)
-          → ((i : ℕ) (lines : List ActionLine) → Waits i lines qs → Plays i lines qs) → Plays i lines (p ∷ qs)
+          → ((i : ℕ) (lines : List ActionLine) → Waits i lines qs → Executes i lines qs) → Executes i lines (p ∷ qs)
       by None e h lines w more = absurd h
       by (Some (leaf g)) e h [] w more = absurd (no_line_left p qs i g e w)
-      by (Some (leaf g)) e h (line ∷ lines) w more = play_leaf p qs i line lines g e w (more (suc i) lines (after_leaf p qs i line lines g e w))
-      by (Some (step literals)) e h lines w more = play_step p qs i lines literals e w (more i lines (after_step p qs i lines literals e w))
+      by (Some (leaf g)) e h (line ∷ lines) w more = execute_leaf p qs i line lines g e w (more (suc i) lines (after_leaf p qs i line lines g e w))
+      by (Some (step literals)) e h lines w more = execute_step p qs i lines literals e w (more i lines (after_step p qs i lines literals e w))
       by (Some (compound t number nodes)) e h lines w more = absurd h

@@ -246,8 +246,8 @@ module _ (naming : Naming) (problem : Problem) (file : PlanFile) (states : ℕ �
         marks = (here.marks, more.marks);
       }
 
-  abbrev pub Grown : (ℕ → ℕ) → (ℕ → ℕ) → ℕ → ℕ → PlanTree → Laid → Type 0
-  Grown start finish a id p y = IsLaid (child_of p) (start a) (finish a) y × (y.ids [] ≡ id)
+  abbrev pub LaidAt : (ℕ → ℕ) → (ℕ → ℕ) → ℕ → ℕ → PlanTree → Laid → Type 0
+  LaidAt start finish a id p y = IsLaid (child_of p) (start a) (finish a) y × (y.ids [] ≡ id)
 
   -- what stands at a position that is one of the plans'
   found_plan : (Q : ℕ → ℕ → PlanTree → Type 0) (children : List Child) (positions ids : List ℕ) (plans : PlanTrees) (a : ℕ) → StandAt children positions plans
@@ -260,7 +260,7 @@ module _ (naming : Naming) (problem : Problem) (file : PlanFile) (states : ℕ �
   found_plan Q children (b ∷ positions) (id ∷ ids) (plan p plans) a stand all (inr i) = found_plan Q children positions ids plans a stand.1 all.1 i
 
   ids_of_all : (f : ℕ → Laid) (start finish : ℕ → ℕ) (positions ids : List ℕ) (plans : PlanTrees)
-      → AllOf (λ a id p. Grown start finish a id p (f a)) positions ids plans → ids ≡ map (id_below (ids_from f)) positions
+      → AllOf (λ a id p. LaidAt start finish a id p (f a)) positions ids plans → ids ≡ map (id_below (ids_from f)) positions
   ids_of_all f start finish positions ids no_plans all = all.1 ∙ ap (map (id_below (ids_from f))) (sym all.0)
   ids_of_all f start finish [] ids (plan p plans) all = absurd all
   ids_of_all f start finish (a ∷ positions) [] (plan p plans) all = absurd all
@@ -273,16 +273,16 @@ module _ (naming : Naming) (problem : Problem) (file : PlanFile) (states : ℕ �
     pub laid : AreLaid children start finish nodes slots ids 0
     pub listed : IsRearrangementOf ids_listed (map (id_below ids) (subtask_positions 0 children))
 
-  pub forest_grown : (children : List Child) (positions listed : List ℕ) (plans : PlanTrees) (start finish : ℕ → ℕ)
+  pub forest_laid : (children : List Child) (positions listed : List ℕ) (plans : PlanTrees) (start finish : ℕ → ℕ)
       → IsMatching children positions plans → StepsFit states children start finish
-      → AllOf (λ a id p. (y : Laid) × Grown start finish a id p y) positions listed plans → Forest children listed start finish
-  forest_grown children positions listed plans start finish matching steps all =
+      → AllOf (λ a id p. (y : Laid) × LaidAt start finish a id p y) positions listed plans → Forest children listed start finish
+  forest_laid children positions listed plans start finish matching steps all =
       let gap = gaps states children start finish steps in
       let base : ℕ → Laid = λ a. record { node = step (literals_at children a); slots = λ q. gap.gap a; ids = λ q. 0 } in
-      let chosen = choose (Grown start finish) base positions listed plans (distinct_arranged positions _ matching.each_once (subtasks_distinct 0 children)) all in
+      let chosen = choose (LaidAt start finish) base positions listed plans (distinct_arranged positions _ matching.each_once (subtasks_distinct 0 children)) all in
       let subtask_there : (k : ℕ) (c : Child) → slice_get children k ≡ Some c → IsSubtask c → IsLaid c (start k) (finish k) (chosen.at k) = λ k c e h.
       (let i = in_arranged k positions _ matching.each_once (moved_in (0 + k) k _ (omega arith) (in_subtasks 0 children k c e h)) in
-      let found = found_plan (λ a id p. Grown start finish a id p (chosen.at a)) children positions listed plans k matching.stand chosen.each i in
+      let found = found_plan (λ a id p. LaidAt start finish a id p (chosen.at a)) children positions listed plans k matching.stand chosen.each i in
       let there = found.2 in
       let same : child_of found.1 ≡ c = cc in
       subst (λ d. IsLaid d (start k) (finish k) (chosen.at k)) same found.3.0) in
@@ -336,17 +336,17 @@ module _ (naming : Naming) (problem : Problem) (file : PlanFile) (states : ℕ �
         by (Some a) e = (a, e)
 
     mutual
-      pub grow : (p : PlanTree) (id g h : ℕ) → ShowsTree naming file id p → Fits naming problem states p g h
+      pub lay : (p : PlanTree) (id g h : ℕ) → ShowsTree naming file id p → Fits naming problem states p g h
           → (y : Laid) × (IsLaid (child_of p) g h y × (y.ids [] ≡ id))
-      grow (action_at t i) id g h (line, there, is, named) (low, high) = (
+      lay (action_at t i) id g h (line, there, is, named) (low, high) = (
         record { node = leaf t; slots = λ q. i; ids = λ q. id },
         (record { is_root = refl; tree = is_action t i line there named; sits = (low, high); marks = (line, there, is, named) }, refl),
       )
-      grow (decomposition t method plans) id g h (line, listed, is, named, is_method, shows) (number, network, found, name, room) =
+      lay (decomposition t method plans) id g h (line, listed, is, named, is_method, shows) (number, network, found, name, room) =
           let start = room.2 in
           let finish = room.3 in
-          let forest = forest_grown network.children room.0 line.children plans start finish room.1 room.5
-          (grow_all plans room.0 line.children network.children start finish room.1.stand shows room.6) in (
+          let forest = forest_laid network.children room.0 line.children plans start finish room.1 room.5
+          (lay_all plans room.0 line.children network.children start finish room.1.stand shows room.6) in (
             record { node = compound t number forest.nodes; slots = forest.slots; ids = with_id id forest.ids },
             (
               record {
@@ -367,11 +367,11 @@ module _ (naming : Naming) (problem : Problem) (file : PlanFile) (states : ℕ �
             ),
           )
 
-      pub grow_all : (plans : PlanTrees) (positions ids : List ℕ) (children : List Child) (start finish : ℕ → ℕ) → StandAt children positions plans
+      pub lay_all : (plans : PlanTrees) (positions ids : List ℕ) (children : List Child) (start finish : ℕ → ℕ) → StandAt children positions plans
           → ShowTrees naming file ids plans → AllFit naming problem states positions plans start finish
-          → AllOf (λ a id p. (y : Laid) × Grown start finish a id p y) positions ids plans
-      grow_all no_plans positions ids children start finish stand shows fit = (stand, shows)
-      grow_all (plan p plans) [] ids children start finish stand shows fit = absurd stand
-      grow_all (plan p plans) (a ∷ positions) [] children start finish stand shows fit = absurd shows
-      grow_all (plan p plans) (a ∷ positions) (id ∷ ids) children start finish stand shows fit =
-          (grow p id (start a) (finish a) shows.0 fit.0, grow_all plans positions ids children start finish stand.1 shows.1 fit.1)
+          → AllOf (λ a id p. (y : Laid) × LaidAt start finish a id p y) positions ids plans
+      lay_all no_plans positions ids children start finish stand shows fit = (stand, shows)
+      lay_all (plan p plans) [] ids children start finish stand shows fit = absurd stand
+      lay_all (plan p plans) (a ∷ positions) [] children start finish stand shows fit = absurd shows
+      lay_all (plan p plans) (a ∷ positions) (id ∷ ids) children start finish stand shows fit =
+          (lay p id (start a) (finish a) shows.0 fit.0, lay_all plans positions ids children start finish stand.1 shows.1 fit.1)
