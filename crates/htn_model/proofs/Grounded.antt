@@ -1,19 +1,20 @@
 -- The ground problem of a well-typed task: its networks are closed, and its actions change what effects name.
-use Rattle.std.proofs.Common.{Bool, List, None, Option, Some, [], cond, false, get_or, length, map, refl, slice_get, subst, suc, sym, true, zero, ℕ, ◌++◌, ◌+◌, ◌-◌, ◌<◌, ◌∷◌, ◌≡◌, ◌∙◌, ◌⊎◌, ◌||◌, ap, inl, inr, option_and_then, arith, nat_lt, nat_eq}
-use Rattle.std.specs.List.{AllByRecursion, enumerate_from, flat_map, list_any}
+use Rattle.std.proofs.Common.{Bool, List, None, Option, Some, [], cond, false, get_or, length, map, not, refl, slice_get, subst, suc, sym, true, zero, ℕ, ◌++◌, ◌+◌, ◌-◌, ◌<◌, ◌∷◌, ◌≡◌, ◌∙◌, ◌⊎◌, ◌||◌, ap, inl, inr, option_map, option_and_then, arith, nat_lt, nat_eq}
+use Rattle.std.specs.List.{All, AllByRecursion, enumerate_from, filter, flat_map, list_any}
 use Rattle.std.specs.Cmp.{unsigned_Decides}
 use Rattle.std.proofs.lemmas.Bool.{both_ways}
 use Rattle.std.proofs.lemmas.List.{length-map}
 use Rattle.std.proofs.lemmas.List.Elements.{recursion_from_All}
 use Rattle.htn_model.specs.Atom.{Atom}
-use Rattle.htn_model.specs.State.{contains}
+use Rattle.htn_model.specs.AtomOrder.{both_true}
+use Rattle.htn_model.specs.State.{contains, set_of}
 use Rattle.htn_model.specs.Literal.{Action}
 use Rattle.htn_model.specs.Problem as problem
 use Rattle.htn_model.specs.Problem.{AreChanged, Child, GroundTask, IsClosed, IsGrounded, IsNetwork, IsSquare, Network, Order, is_before}
 use Rattle.htn_model.specs.Instance.{Instance}
 use Rattle.htn_model.specs.Schema.{AtomSchema, Formula, NetworkSchema}
 use Rattle.htn_model.specs.Task.{ActionSchema, IsMethodSchema, IsWellTyped, MethodSchema, Task}
-use Rattle.htn_model.specs.Instances.{action_at, action_of, action_conditions, child_of, ground_action, ground_atom, ground_task, has_step, initial_instance, initials, instances_of_method, is_instance, literals_of, method_instance, methods_of, network_of, order_with_step, state_formulas, step_first}
+use Rattle.htn_model.specs.Instances.{action_at, action_of, action_conditions, child_of, ground_action, ground_atom, ground_task, has_step, initial_instance, initials, instances_of_method, is_instance, literals_of, method_instance, methods_of, network_of, order_with_step, state_formulas, step_first, steps_of}
 use Rattle.htn_model.specs.Grounding.{TasksAreGrounded, is_changed, problem_of}
 use Rattle.htn_model.proofs.Sets.{contains-set_of, is_same, same_as}
 

@@ -1,12 +1,13 @@
 -- Small tasks, whose instances are computed by the definitions.
-use Rattle.std.proofs.Common.{Bool, List, None, Some, [], false, length, refl, slice_get, true, ℕ, ◌∷◌, ◌≡◌}
+use Rattle.std.proofs.Common.{Bool, List, None, Option, Some, [], cond, false, length, map, refl, slice_get, true, ℕ, ◌∷◌, ◌≡◌}
+use Rattle.htn_model.specs.Atom.{Atom}
 use Rattle.htn_model.specs.State.{set_of}
-use Rattle.htn_model.specs.Literal.{Literal, atom, equality}
+use Rattle.htn_model.specs.Literal.{Action, Literal, atom, equality}
 use Rattle.htn_model.specs.Problem as problem
 use Rattle.htn_model.specs.Problem.{GroundTask, Network}
 use Rattle.htn_model.specs.Instance.{Instance}
-use Rattle.htn_model.specs.Schema.{AtomSchema, Name, TaskSchema, Term, equation, for_all, formulas_of, literal, object, parameter}
-use Rattle.htn_model.specs.Task.{ActionSchema, Declaration, MethodSchema, ObjectType, Task}
+use Rattle.htn_model.specs.Schema.{AtomSchema, EqualitySchema, Formula, Name, NetworkSchema, TaskSchema, Term, equation, for_all, formulas_of, literal, object, parameter}
+use Rattle.htn_model.specs.Task.{ActionSchema, Declaration, InitialSchema, MethodSchema, ObjectType, Task}
 use Rattle.htn_model.specs.Instances.{action_of, initials, methods_of}
 
 abbrev called : ℕ → List ℕ → Declaration

@@ -1,5 +1,5 @@
 -- The instances of a task's schemas: which objects its parameters may stand for, and what a schema is then.
-use Rattle.std.specs.Prelude.{ℕ, ◌-◌, Bool, true, false, not, ◌&&◌, cond, nat_eq, nat_lt, List, [], ◌∷◌, ◌++◌, length, map, Option, Some, None, option_and_then, slice_get, slice_index}
+use Rattle.std.specs.Prelude.{ℕ, ◌+◌, ◌-◌, Bool, true, false, not, ◌&&◌, cond, nat_eq, nat_lt, List, [], ◌∷◌, ◌++◌, length, map, Option, Some, None, option_and_then, slice_get, slice_index}
 use Rattle.std.specs.Bool.{beq}
 use Rattle.std.specs.List.{filter, list_all, list_any, flat_map, enumerate_from, zip}
 use Rattle.htn_model.specs.Atom.{Atom}
