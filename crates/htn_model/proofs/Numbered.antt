@@ -14,11 +14,11 @@ use Rattle.htn_model.proofs.Decoupled.{nothing_below}
 
 -- ## Positions
 
-same_place_itself : (p : Place) → is_same_place p p ≡ true
+pub same_place_itself : (p : Place) → is_same_place p p ≡ true
 same_place_itself [] = refl
 same_place_itself (i ∷ p) = ap₂ ◌&&◌ (eq-eqb i i refl) (same_place_itself p)
 
-same_place : (p q : Place) → is_same_place p q ≡ true → p ≡ q
+pub same_place : (p q : Place) → is_same_place p q ≡ true → p ≡ q
 same_place [] [] h = refl
 same_place [] (j ∷ q) h = absurd cc
 same_place (i ∷ p) [] h = absurd cc
@@ -41,11 +41,11 @@ at_position p (x ∷ xs) i = by (is_same_place p x) refl i (at_position p xs)
 -- ## The places that the lists of a forest have
 
 -- the place of a node of this kind, below a place where the node n stands
-abbrev At : (Option Node → Type 0) → Place → Node → Place → Type 0
+abbrev pub At : (Option Node → Type 0) → Place → Node → Place → Type 0
 At P place n q = (r : Place) × (q ≡ place ++ r) × P (node_below (Some n) r)
 
 -- or where the nodes stand as its children from position k on
-abbrev FromAt : (Option Node → Type 0) → Place → ℕ → Nodes → Place → Type 0
+abbrev pub FromAt : (Option Node → Type 0) → Place → ℕ → Nodes → Place → Type 0
 FromAt P place k ns q = (i : ℕ) × (r : Place) × (q ≡ place ++ (k + i) ∷ r) × P (node_below (child_at ns i) r)
 
 shifted : (place r : Place) (a b : ℕ) → a ≡ b → place ++ a ∷ r ≡ place ++ b ∷ r
@@ -64,14 +64,14 @@ later_child : (P : Option Node → Type 0) (place : Place) (k : ℕ) (n : Node) 
 later_child P place k n ns q (i, r, e, is) = (suc i, r, e ∙ shifted place r (suc k + i) (k + suc i) (omega arith), is)
 
 mutual
-  primitives_stand : (place : Place) (n : Node) → AllByRecursion (At IsPrimitive place n) (primitives place n)
+  pub primitives_stand : (place : Place) (n : Node) → AllByRecursion (At IsPrimitive place n) (primitives place n)
   primitives_stand place (leaf g) = (([], sym (append-nil place), tt), tt)
   primitives_stand place (step literals) = (([], sym (append-nil place), tt), tt)
   primitives_stand place (compound t number nodes) =
       all_map (FromAt IsPrimitive place 0 nodes) (At IsPrimitive place (compound t number nodes)) (primitives_from place 0 nodes)
       (child_below IsPrimitive place t number nodes) (primitives_from_stand place 0 nodes)
 
-  primitives_from_stand : (place : Place) (k : ℕ) (ns : Nodes) → AllByRecursion (FromAt IsPrimitive place k ns) (primitives_from place k ns)
+  pub primitives_from_stand : (place : Place) (k : ℕ) (ns : Nodes) → AllByRecursion (FromAt IsPrimitive place k ns) (primitives_from place k ns)
   primitives_from_stand place k no_nodes = tt
   primitives_from_stand place k (node n ns) =
       all_join (FromAt IsPrimitive place k (node n ns)) (primitives (place ++ k ∷ []) n) (primitives_from place (suc k) ns)
@@ -80,14 +80,14 @@ mutual
       (all_map (FromAt IsPrimitive place (suc k) ns) (FromAt IsPrimitive place k (node n ns)) (primitives_from place (suc k) ns)
       (later_child IsPrimitive place k n ns) (primitives_from_stand place (suc k) ns))
 
-abbrev IsCompound : Option Node → Type 0
+abbrev pub IsCompound : Option Node → Type 0
 IsCompound None = ⊥
 IsCompound (Some (leaf g)) = ⊥
 IsCompound (Some (step literals)) = ⊥
 IsCompound (Some (compound t number nodes)) = Unit {0}
 
 mutual
-  compounds_stand : (place : Place) (n : Node) → AllByRecursion (At IsCompound place n) (compounds place n)
+  pub compounds_stand : (place : Place) (n : Node) → AllByRecursion (At IsCompound place n) (compounds place n)
   compounds_stand place (leaf g) = tt
   compounds_stand place (step literals) = tt
   compounds_stand place (compound t number nodes) = (
@@ -96,7 +96,7 @@ mutual
         (child_below IsCompound place t number nodes) (compounds_from_stand place 0 nodes),
   )
 
-  compounds_from_stand : (place : Place) (k : ℕ) (ns : Nodes) → AllByRecursion (FromAt IsCompound place k ns) (compounds_from place k ns)
+  pub compounds_from_stand : (place : Place) (k : ℕ) (ns : Nodes) → AllByRecursion (FromAt IsCompound place k ns) (compounds_from place k ns)
   compounds_from_stand place k no_nodes = tt
   compounds_from_stand place k (node n ns) =
       all_join (FromAt IsCompound place k (node n ns)) (compounds (place ++ k ∷ []) n) (compounds_from place (suc k) ns)
@@ -105,7 +105,7 @@ mutual
       (all_map (FromAt IsCompound place (suc k) ns) (FromAt IsCompound place k (node n ns)) (compounds_from place (suc k) ns)
       (later_child IsCompound place k n ns) (compounds_from_stand place (suc k) ns))
 
-top : (P : Option Node → Type 0) (trees : Nodes) (q : Place) → FromAt P [] 0 trees q → P (node_at trees q)
+pub top : (P : Option Node → Type 0) (trees : Nodes) (q : Place) → FromAt P [] 0 trees q → P (node_at trees q)
 top P trees q (i, r, e, is) = subst (λ p. P (node_at trees p)) (sym (e ∙ shifted [] r (0 + i) i (omega arith))) is
 
 -- ## Each place of such a node is in the list
@@ -155,17 +155,17 @@ mutual
       in_right _ (compounds (place ++ k ∷ []) n) (compounds_from place (suc k) ns)
       (subst (λ q. In q (compounds_from place (suc k) ns)) (shifted place r (suc k + i) (k + suc i) (omega arith)) (compound_in_from place (suc k) ns i r h))
 
-in_primitives : (trees : Nodes) (p : Place) → IsPrimitive (node_at trees p) → In p (primitives_from [] 0 trees)
+pub in_primitives : (trees : Nodes) (p : Place) → IsPrimitive (node_at trees p) → In p (primitives_from [] 0 trees)
 in_primitives trees [] h = absurd h
 in_primitives trees (i ∷ r) h =
     subst (λ q. In q (primitives_from [] 0 trees)) (shifted [] r (0 + i) i (omega arith)) (primitive_in_from [] 0 trees i r h)
 
-in_compounds : (trees : Nodes) (p : Place) → IsCompound (node_at trees p) → In p (compounds_from [] 0 trees)
+pub in_compounds : (trees : Nodes) (p : Place) → IsCompound (node_at trees p) → In p (compounds_from [] 0 trees)
 in_compounds trees [] h = absurd h
 in_compounds trees (i ∷ r) h =
     subst (λ q. In q (compounds_from [] 0 trees)) (shifted [] r (0 + i) i (omega arith)) (compound_in_from [] 0 trees i r h)
 
-in_arranged : (p : Place) (ps qs : List Place) → IsRearrangement ps qs → In p qs → In p ps
+pub in_arranged : (p : Place) (ps qs : List Place) → IsRearrangement ps qs → In p qs → In p ps
 in_arranged p [] qs r i = absurd (subst (In p) r i)
 in_arranged p (x ∷ ps) qs (left, right, e, r) i = by (in_split p left (x ∷ right) (subst (In p) e i)) (in_arranged p ps (left ++ right) r)
   where

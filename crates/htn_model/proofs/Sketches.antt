@@ -89,7 +89,8 @@ if_holds : (b : Bool) (atoms : List Atom) → cond b (Some (set_of atoms)) None 
 if_holds true atoms = refl
 if_holds false atoms = refl
 
-action_shown : (atoms : List Atom) (o : Option SketchAction) → perform_action (set_of atoms) (option_map drawn o) ≡ option_map set_of (shown_action atoms o)
+-- an action over a set is one over its list
+pub action_shown : (atoms : List Atom) (o : Option SketchAction) → perform_action (set_of atoms) (option_map drawn o) ≡ option_map set_of (shown_action atoms o)
 action_shown atoms None = refl
 action_shown atoms (Some a) = ap₂ (λ b s. cond b (Some s) None) (holds_shown atoms a.precondition) (after_shown atoms a) ∙ if_holds (shown_holds atoms a.precondition) (shown_after atoms a)
 

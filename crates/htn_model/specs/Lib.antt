@@ -24,9 +24,12 @@ pub mod Fits
 pub mod Placement
 pub mod Decoupling
 pub mod Shades
+pub mod Shown
+pub mod Greedy
 pub mod Numbered
 pub mod Sketch
 pub mod Examples
+pub mod WorkedFiles
 pub mod Road
 pub mod Schema
 pub mod Task
