@@ -1,9 +1,10 @@
--- The first type on a cycle, as a finding.
+-- The first pair of types on a cycle, as a finding.
 use Rattle.std.proofs.Common.{ℕ, ◌∷◌, Option, Some, None, MatchOption, IsSome, option_map, inl, refl, sym, subst}
 use Rattle.std.proofs.lemmas.Bool.{true≢false}
 use Rattle.hddl_tree.specs.declared.domain.DomainText.{DomainText}
 use Rattle.hddl_tree.specs.declared.problem.ProblemText.{ProblemText}
 use Rattle.hddl_meaning.specs.Mentions.{IsIn}
+use Rattle.hddl_meaning.specs.Items.{type_of}
 use Rattle.hddl_meaning.specs.declared.fault.Source.TheVariants as source
 use Rattle.hddl_meaning.specs.declared.fault.CheckFault.{CheckFault}
 use Rattle.hddl_meaning.specs.declared.fault.CheckFault.TheVariants as fault
@@ -17,16 +18,18 @@ abbrev pub fault_at : ℕ → CheckFault
 fault_at place = fault.TypeCycle (record { source = source.Domain; place = place })
 
 pub finds_cycle : (d : DomainText) (place : Option ℕ) → MatchOption place (HasNoCycle d) (IsFirstCycle d) → Finds (IsCycleFault d) (option_map fault_at place)
-finds_cycle d None none = Finds-none (λ f (at, is, (text, m, in', on, same)). none m in' on)
+finds_cycle d None none = Finds-none (λ f (at, is, (text, t, m, in', on, here, same)). none t in' on)
 finds_cycle d (Some place) first =
     Finds-some (fault_at place) (
       record { source = source.Domain; place = place },
       refl,
       (
         refl,
-        first.mention,
-        subst (IsIn first.mention) (sym first.splits) (in_right first.mention first.before (first.mention ∷ first.after) (at_head first.mention first.after)),
+        first.pair,
+        first.pair.mention,
+        subst (IsIn first.pair) (sym first.splits) (in_right first.pair first.before (first.pair ∷ first.after) (at_head first.pair first.after)),
         first.on,
+        at_head first.pair.mention (type_of first.pair),
         first.at,
       ),
     )

@@ -1,6 +1,5 @@
 pub mod KnownTypes
 pub mod Cyclic
-pub mod InForce
 pub mod Typing
 pub mod SchemaLists
 pub mod TextParts

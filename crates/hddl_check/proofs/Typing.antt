@@ -1,48 +1,23 @@
 -- Where no item of the types and the limits fails, all types that are named are declared, and the objects are known.
-use Rattle.std.proofs.Common.{◌≡◌, ℕ, ◌+◌, ◌≤◌, Bool, true, false, cond, List, [], ◌∷◌, ◌++◌, map, length, Option, Some, None, is_some, inl, inr, refl, sym, ap, subst, ◌∙◌, arith, true≢false, append_assoc, append-nil}
-use Rattle.std.specs.List.{find, flat_map, list_any, position, zip}
+use Rattle.std.proofs.Common.{◌≡◌, ℕ, ◌+◌, ◌≤◌, Bool, true, false, cond, List, [], ◌∷◌, ◌++◌, length, Option, Some, None, is_some, inl, inr, refl, sym, ap, subst, ◌∙◌, arith, true≢false, append_assoc, append-nil}
+use Rattle.std.specs.List.{flat_map, list_any, position}
 use Rattle.std.proofs.lemmas.Bool.{cases_order}
 use Rattle.std.proofs.lemmas.List.{length_push, map-append}
 use Rattle.std.proofs.lemmas.List.Elements.{Contains-append_cases}
-use Rattle.hddl_tree.specs.declared.term.Term.{Term}
-use Rattle.hddl_tree.specs.declared.term.Term.TheVariants as term
 use Rattle.hddl_tree.specs.declared.domain.DomainText.{DomainText}
 use Rattle.hddl_tree.specs.declared.problem.ProblemText.{ProblemText}
-use Rattle.hddl_meaning.specs.Mentions.{Text, Mention, Typed, IsIn, folded, mentions_of, texts, typed_names, typed_variables}
+use Rattle.hddl_meaning.specs.Mentions.{Text, Mention, Typed, IsIn, mentions_of, texts, typed_names, typed_variables}
 use Rattle.hddl_meaning.specs.Names.{distinct, is_same_text, object_names, type_names, with_name}
 use Rattle.hddl_meaning.specs.Types.{text_or_object}
-use Rattle.hddl_meaning.specs.Uses.{Schema, Use, domain_schemas, schema_of_action, schema_of_method}
-use Rattle.hddl_meaning.specs.Items.{IsClash, IsDeclaredType, IsTooMany, IsUnknownType, Signature, declaration_in, declared_objects, flattened, predicate_signatures, schemas_in, signature, task_signatures, tasks_in, type_of, type_uses}
+use Rattle.hddl_meaning.specs.Uses.{Schema}
+use Rattle.hddl_meaning.specs.Items.{IsDeclaredType, IsTooMany, IsUnknownType, declared_objects, schemas_in, type_of, type_uses}
 use Rattle.hddl_meaning.specs.declared.fault.Source.{Source}
 use Rattle.hddl_meaning.specs.declared.fault.Source.TheVariants as source
 use Rattle.hddl_meaning.specs.declared.fault.At.{At}
-use Rattle.hddl_meaning.proofs.Listed.{at_head, at_tail, distinct_push, in_cases, in_distinct, in_flat_map, in_left, in_map, in_nothing, in_right}
-use Rattle.hddl_uses.specs.Known.{AreKnown, IsKnown, IsKnownClash, IsTyped}
+use Rattle.hddl_meaning.proofs.Listed.{at_head, distinct_push, in_distinct, in_flat_map, in_left}
+use Rattle.hddl_uses.specs.Known.{AreKnown, IsTyped}
 use Rattle.hddl_scope.specs.Repeats.{IsPastAfter}
-use Rattle.hddl_scope.proofs.Finding.{flat_mapped, mapped}
-use Rattle.hddl_check.proofs.InForce.{AreAll, AreInForce, IsTypedSchema, in_force}
 use Rattle.hddl_uses.proofs.TypeNames.{is_type_number}
-
--- ## Lists
-
--- what a search finds is in the list
-found_in : {X : Type 0} (test : X → Bool) (x : X) (xs : List X) → find test xs ≡ Some x → IsIn x xs
-found_in test x [] e = cc
-found_in {X} test x (y ∷ xs) e = by (test y) e (found_in test x xs)
-  where
-    by : (b : Bool) → cond b (Some y) (find test xs) ≡ Some x → (find test xs ≡ Some x → IsIn x xs) → IsIn x (y ∷ xs)
-    by true e later = let same : y ≡ x = cc in subst (λ z. IsIn z (y ∷ xs)) same (at_head y xs)
-    by false e later = at_tail y x xs (later e)
-
--- what stands beside an item of the first list is in the second
-in_second : {X Y : Type 0} (x : X) (y : Y) (xs : List X) (ys : List Y) → IsIn (x, y) (zip xs ys) → IsIn y ys
-in_second x y [] ys at = absurd (in_nothing (x, y) at)
-in_second x y (z ∷ xs) [] at = absurd (in_nothing (x, y) at)
-in_second {X} {Y} x y (z ∷ xs) (w ∷ ys) at =
-    elim (in_cases (z, w) (x, y) (zip xs ys) at) [
-      | inl e ↦ subst (λ v. IsIn v (w ∷ ys)) (ap (λ (v : X × Y). v.1) e) (at_head w ys)
-      | inr later ↦ at_tail w y ys (in_second x y xs ys later)
-    ]
 
 -- ## Names within the limit
 
@@ -139,78 +114,6 @@ module _ (d : DomainText) (p : ProblemText) (types : (at : At) → IsUnknownType
   object_typed text t at =
       all_typed text t
       (in_left t (before_schemas text) (flat_map typed_of (schemas_in d p text)) (in_left t (declared_objects d p text) (declared_parameters text) at))
-
-  parameter_typed : (t : Typed) → IsIn t (declared_parameters source.Domain) → IsTyped d t
-  parameter_typed t at =
-      all_typed source.Domain t
-      (in_left t (before_schemas source.Domain) (flat_map typed_of (domain_schemas d)) (in_right t (typed_names d.constants) (declared_parameters source.Domain) at))
-
-  schema_typed : (text : Source) (s : Schema) (t : Typed) → IsIn s (schemas_in d p text) → IsIn t (typed_of s) → IsTyped d t
-  schema_typed text s t has at =
-      all_typed text t (in_right t (before_schemas text) (flat_map typed_of (schemas_in d p text)) (in_flat_map typed_of s t (schemas_in d p text) has at))
-
-  schema_is_typed : (text : Source) (s : Schema) → IsIn s (schemas_in d p text) → IsTypedSchema (IsTyped d) s
-  schema_is_typed text s has = (
-    λ t at. schema_typed text s t has (in_left t (typed_variables s.parameters) (flat_map (λ q. typed_variables q.own) s.quantifiers) at),
-    λ q t in' at. schema_typed text s t has
-        (in_right t (typed_variables s.parameters) (flat_map (λ q. typed_variables q.own) s.quantifiers)
-        (in_flat_map (λ q. typed_variables q.own) q t s.quantifiers in' at)),
-  )
-
-  uses_typed : (text : Source) (s : Schema) → IsIn s (schemas_in d p text) → AreInForce (IsTyped d) s
-  uses_typed text s has = in_force (IsTyped d) d p text s has (schema_is_typed text s has)
-
-  -- ### The variables in force have declared types
-
-  pub atom_typed : (text : Source) (u : Use) → IsIn u (flattened (λ s. s.atoms) (schemas_in d p text)) → AreAll (IsTyped d) u.variables
-  atom_typed text u at = let (s, has, in') = flat_mapped (λ s. s.atoms) (schemas_in d p text) u at in (uses_typed text s has).0 u in'
-
-  pub task_typed : (text : Source) (u : Use) → IsIn u (flattened tasks_in (schemas_in d p text)) → AreAll (IsTyped d) u.variables
-  task_typed text u at = let (s, has, in') = flat_mapped tasks_in (schemas_in d p text) u at in (uses_typed text s has).1 u in'
-
-  -- ### The places of declarations have declared types
-
-  abbrev pub HaveTypedPlaces : List Signature → Type 0
-  HaveTypedPlaces signatures = (s : Signature) (t : Typed) → IsIn s signatures → IsIn t s.places → IsTyped d t
-
-  pub predicates_typed : HaveTypedPlaces (predicate_signatures d)
-  predicates_typed s t at in' =
-      let (x, among, is) = mapped (λ x. signature x.name x.parameters) d.predicates s at in
-      parameter_typed t
-      (in_left t (flat_map (λ x. typed_variables x.parameters) d.predicates) (flat_map (λ x. typed_variables x.parameters) d.tasks)
-      (in_flat_map (λ x. typed_variables x.parameters) x t d.predicates among (subst (λ (s : Signature). IsIn t s.places) is in')))
-
-  pub tasks_typed : HaveTypedPlaces (task_signatures d)
-  tasks_typed s t at in' =
-      elim (Contains-append_cases (map (λ x. signature x.name x.parameters) d.tasks) (map (λ x. signature x.name x.parameters) d.actions) s at) [
-        | inl i ↦ let (x, among, is) = mapped (λ x. signature x.name x.parameters) d.tasks s i in
-            parameter_typed t
-            (in_right t (flat_map (λ x. typed_variables x.parameters) d.predicates) (flat_map (λ x. typed_variables x.parameters) d.tasks)
-            (in_flat_map (λ x. typed_variables x.parameters) x t d.tasks among (subst (λ (s : Signature). IsIn t s.places) is in')))
-        | inr i ↦ let (x, among, is) = mapped (λ x. signature x.name x.parameters) d.actions s i in
-            (schema_is_typed source.Domain (schema_of_action x)
-            (in_right (schema_of_action x) (map schema_of_method d.methods) (map schema_of_action d.actions) (in_map schema_of_action x d.actions among))).0 t
-            (subst (λ (s : Signature). IsIn t s.places) is in')
-      ]
-
-  -- ### A clash is one between declared types
-
-  module _ (known : AreKnown d p) where
-    known_argument : (u : Use) (argument : Term) (at_place : Typed) (place : ℕ) → AreAll (IsTyped d) u.variables
-        → IsClash d p u.variables argument at_place place → IsKnown d p u.variables argument
-    known_argument u (term.Variable x) at_place place all (v, e, misfit, is) =
-        (v, e, all v (found_in (λ v. is_same_text (folded x.text) v.typed.mention.text) v u.variables e))
-    known_argument u (term.Object x) at_place place all clash = ∣ known ∣₁
-
-    pub known_clash : (signatures : List Signature) (u : Use) (s : Signature) (argument : Term) (at_place : Typed) (place : ℕ) → HaveTypedPlaces signatures
-        → AreAll (IsTyped d) u.variables → declaration_in signatures u.atom.name ≡ Some s → IsIn (argument, at_place) (zip u.atom.terms s.places)
-        → IsClash d p u.variables argument at_place place → IsKnownClash d p u.variables argument at_place place
-    known_clash signatures u s argument at_place place places all e in' clash = record {
-      clash = clash;
-      known = known_argument u argument at_place place all clash;
-      known_place = places s at_place (found_in (λ s. is_same_text (folded u.atom.name.text) s.name) s signatures e)
-          (in_second argument at_place u.atom.terms s.places in');
-    }
 
   -- ### The objects are known
 

@@ -2,6 +2,8 @@
 use Rattle.std.proofs.Common.{◌≡◌, ℕ, List, ◌++◌, ◌⊎◌, inl, inr, refl, sym, subst}
 use Rattle.std.specs.List.{flat_map}
 use Rattle.std.proofs.lemmas.List.Elements.{Contains-append_cases}
+use Rattle.hddl_tree.specs.declared.term.Term.{Term}
+use Rattle.hddl_tree.specs.declared.term.Term.TheVariants as term
 use Rattle.hddl_tree.specs.declared.network.NetworkText.{NetworkText}
 use Rattle.hddl_tree.specs.declared.domain.DomainText.{DomainText}
 use Rattle.hddl_tree.specs.declared.problem.ProblemText.{ProblemText}
@@ -16,13 +18,13 @@ use Rattle.hddl_meaning.specs.declared.fault.At.{At}
 use Rattle.hddl_meaning.specs.declared.fault.CheckFault.{CheckFault}
 use Rattle.hddl_meaning.specs.declared.fault.CheckFault.TheVariants as fault
 use Rattle.hddl_meaning.proofs.Listed.{in_left, in_right, in_flat_map}
-use Rattle.hddl_uses.specs.Known.{AreKnown}
+use Rattle.hddl_uses.specs.Known.{AreKnown, IsKnown}
 use Rattle.hddl_uses.specs.Parts.{Part, FailsIn, UseFails, IsWrongCount, HasClash}
 use Rattle.hddl_check.specs.TextParts.{PartFails}
 use Rattle.hddl_check.specs.Cycles.{IsCycleFault}
 use Rattle.hddl_uses.specs.Parts.Part.{Different, Limited, TypeName, Atom, Decomposed, Subtask, Side, Network, Types, Objects}
 use Rattle.hddl_scope.proofs.Finding.{flat_mapped}
-use Rattle.hddl_check.proofs.Typing.{atom_typed, known_clash, objects_known, predicates_typed, task_typed, tasks_typed}
+use Rattle.hddl_check.proofs.Typing.{objects_known}
 use Rattle.hddl_check.proofs.TextParts.{IsPart, IsLimited, is_part, has_part}
 
 module _ (d : DomainText) (p : ProblemText) where
@@ -212,17 +214,19 @@ module _ (d : DomainText) (p : ProblemText) where
   count_faults at (inr (u, s, in', e, wrong, is)) =
       task_faults at.source u (fault.Arity at) in' (λ names. inr (inr (inl (at.place, refl, (s, e, wrong, is)))))
 
-  -- the types of variables and of places are declared, and the objects are known
-  module _ (types : (at : At) → IsUnknownType d p at → ⊥) (known : AreKnown d p) where
+  -- the objects are known
+  module _ (known : AreKnown d p) where
+    is_known : (argument : Term) → IsKnown d p argument
+    is_known (term.Variable x) = tt
+    is_known (term.Object x) = ∣ known ∣₁
+
     clash_faults : (at : At) → IsTypeClash d p at → PartFails d p (fault.TypeClash at)
     clash_faults at (inl (u, s, argument, of_place, in', e, among, clash)) =
-        let variables = atom_typed d p types at.source u in' in
-        let known = known_clash d p types known (predicate_signatures d) u s argument of_place at.place (predicates_typed d p types) variables e among clash in
-        failing_part (fault.TypeClash at) at.source (Atom u) in' (inr (inr (inr (at.place, refl, (s, argument, of_place, e, among, known)))))
+        failing_part (fault.TypeClash at) at.source (Atom u) in'
+        (inr (inr (inr (at.place, refl, (s, argument, of_place, e, among, record { clash = clash; known = is_known argument })))))
     clash_faults at (inr (u, s, argument, of_place, in', e, among, clash)) =
-        let variables = task_typed d p types at.source u in' in
-        let known = known_clash d p types known (task_signatures d) u s argument of_place at.place (tasks_typed d p types) variables e among clash in
-        task_faults at.source u (fault.TypeClash at) in' (λ names. inr (inr (inr (at.place, refl, (s, argument, of_place, e, among, known)))))
+        task_faults at.source u (fault.TypeClash at) in'
+        (λ names. inr (inr (inr (at.place, refl, (s, argument, of_place, e, among, record { clash = clash; known = is_known argument })))))
 
     pub faults_complete : (f : CheckFault) → FailsAt d p f → IsCycleFault d f ⊎ PartFails d p f
     faults_complete (fault.Duplicate at) (g, before, first, middle, second, after, in', whole, same, is) =
@@ -254,4 +258,4 @@ module _ (d : DomainText) (p : ProblemText) where
 
     -- nothing fails
     pub pair_is_well_typed : AreKnown d p → IsWellTypedPair d p
-    pair_is_well_typed known f h = none f (faults_complete no_type_fault known f h)
+    pair_is_well_typed known f h = none f (faults_complete known f h)

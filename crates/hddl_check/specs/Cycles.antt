@@ -11,6 +11,6 @@ use Rattle.hddl_check.specs.TextParts.{PartFails}
 abbrev pub IsCycleFault : DomainText → CheckFault → Type 0
 IsCycleFault d f = (at : At) × (f ≡ fault.TypeCycle at) × IsTypeCycle d at
 
--- a type is below itself, or a part of one of the texts fails
+-- a pair of types lies on a cycle, or a part of one of the texts fails
 abbrev pub PairFails : DomainText → ProblemText → CheckFault → Type 0
 PairFails d p f = IsCycleFault d f ⊎ PartFails d p f

@@ -23,7 +23,7 @@ fn cycle_fault(place: Option<usize>) -> Option<CheckFault>
     }
 }
 
-/// The first type in the text of `:types` that is below itself.
+/// The first name in the text of `:types` that stands in a declared pair on a cycle.
 pub(crate) fn type_cycle(
     alloc: Global,
     types: &TypeHierarchy,

@@ -11,4 +11,7 @@ mod shape;
 #[cfg(test)]
 mod tests;
 
+pub use hddl_meaning::{At, CheckFault, Source};
+pub use hddl_tree::{DomainText, ProblemText};
+pub use htn_task::Task;
 pub use pair::check;

@@ -1,5 +1,4 @@
-use crate::check;
-use hddl_meaning::{At, CheckFault, Source};
+use crate::{At, CheckFault, Source, check};
 use hddl_text::{read_domain, read_problem};
 use std::alloc::Global;
 use std::test::Fail;
@@ -287,5 +286,105 @@ fn hierarchies(rt: HostRuntime) -> Result<(), Fail> {
         let problem = "(define (problem x) (:domain d) (:htn :subtasks ()))";
         assert_eq!(rt; fault(rt.alloc(), domain, problem), expected);
     }
+    Ok(())
+}
+
+/// Cycles of types at the first name of a declared pair that lies on one.
+#[test]
+fn type_cycles(rt: HostRuntime) -> Result<(), Fail> {
+    let rows: [(&str, usize); 6] = [
+        (
+            "(define (domain d) (:types object - object object - a))",
+            43,
+        ),
+        ("(define (domain d) (:types c - a a - b b - a))", 33),
+        ("(define (domain d) (:types object - a))", 27),
+        ("(define (domain d) (:types c - object object - a))", 38),
+        ("(define (domain d) (:types a - c a - b b - a))", 33),
+        ("(define (domain d) (:types x a - b b - a))", 29),
+    ];
+    for (domain, place) in rows {
+        let problem = "(define (problem x) (:domain d) (:htn))";
+        let expected = Some(CheckFault::TypeCycle(in_domain(place)));
+        assert_eq!(rt; fault(rt.alloc(), domain, problem), expected);
+    }
+    Ok(())
+}
+
+/// A type that isn't declared clashes with none.
+#[test]
+fn undeclared_types(rt: HostRuntime) -> Result<(), Fail> {
+    let constant = fault(
+        rt.alloc(),
+        "(define (domain d) (:predicates (p ?x)) (:action a :precondition (p c)) (:constants c - u))",
+        "(define (problem x) (:domain d) (:htn))",
+    );
+    let object = fault(
+        rt.alloc(),
+        "(define (domain d) (:predicates (p ?x)))",
+        "(define (problem x) (:domain d) (:init (p o)) (:objects o - u) (:htn))",
+    );
+    assert_eq!(rt; constant, Some(CheckFault::UnknownType(in_domain(88))));
+    assert_eq!(rt; object, Some(CheckFault::UnknownType(in_problem(60))));
+    Ok(())
+}
+
+/// The variables of a `forall` are in force in its body alone.
+#[test]
+fn quantified_variables(rt: HostRuntime) -> Result<(), Fail> {
+    let rows: [(&str, Option<CheckFault>); 4] = [
+        (
+            "(define (domain d) (:predicates (p ?x)) (:action a :precondition (and (forall (?x) (p ?x)) (p ?x))))",
+            Some(CheckFault::UnknownName(in_domain(94))),
+        ),
+        (
+            "(define (domain d) (:predicates (p ?x)) (:action a :precondition (forall (?x) (forall (?y) (forall (?x) ())))))",
+            Some(CheckFault::Duplicate(in_domain(100))),
+        ),
+        (
+            "(define (domain d) (:predicates (p ?x)) (:action a :precondition (and (forall (?x) (forall (?y) (p ?y))) (forall (?y) (p ?y)))))",
+            None,
+        ),
+        (
+            "(define (domain d) (:predicates (p ?x)) (:action a :parameters (?x) :precondition (and (forall (?y) (p ?x)) (forall (?y ?z) (p ?z)))))",
+            None,
+        ),
+    ];
+    for (domain, expected) in rows {
+        let problem = "(define (problem x) (:domain d) (:htn))";
+        assert_eq!(rt; fault(rt.alloc(), domain, problem), expected);
+    }
+    Ok(())
+}
+
+/// A domain with a `forall` for each letter in one another, of which the innermost uses a variable.
+fn nested(alloc: Global, used: &str) -> Result<String, Fail> {
+    let mut text = String::new(alloc);
+    text.push_str("(define (domain d) (:predicates (p ?x)) (:action a :precondition ")?;
+    for letter in 'a'..='z' {
+        text.push_str("(forall (?")?;
+        text.push(letter)?;
+        text.push_str(") ")?;
+    }
+    text.push_str("(p ")?;
+    text.push_str(used)?;
+    text.push_str(")")?;
+    for _ in 'a'..='z' {
+        text.push_str(")")?;
+    }
+    text.push_str("))")?;
+    Ok(text)
+}
+
+/// The variables of all of them are in force in the innermost one.
+#[test]
+fn deep_quantifiers(rt: HostRuntime) -> Result<(), Fail> {
+    let problem = "(define (problem x) (:domain d) (:htn))";
+    let outer = nested(rt.alloc(), "?a")?;
+    let inner = nested(rt.alloc(), "?z")?;
+    let none = nested(rt.alloc(), "?aa")?;
+    assert_eq!(rt; fault(rt.alloc(), &outer, problem), None);
+    assert_eq!(rt; fault(rt.alloc(), &inner, problem), None);
+    assert_eq!(rt; fault(rt.alloc(), &none, problem), Some(CheckFault::UnknownName(in_domain(406))));
     Ok(())
 }

@@ -14,7 +14,7 @@ use Rattle.hddl_meaning.specs.Mentions.{IsIn, Mention, Text, Typed, mention_of, 
 use Rattle.hddl_meaning.specs.Names.{is_same_text, object}
 use Rattle.hddl_meaning.specs.Types.{Direct, HasType, IsBelow, Leads, Through, parent_pairs, text_or_object}
 use Rattle.hddl_meaning.specs.Uses.{domain_schemas, Use, Variable, atoms_in, atoms_step, schema_of_action}
-use Rattle.hddl_meaning.specs.Items.{IsDeclaredType, signature}
+use Rattle.hddl_meaning.specs.Items.{HasDeclaredTypes, IsDeclaredType, signature}
 use Rattle.hddl_meaning.specs.Building.{Vocabulary, formula_step, vocabulary_of}
 use Rattle.hddl_meaning.specs.Examples.{FaultsHavePlaces, TreesHaveMeanings, action, at_terms, atom, called, empty_problem, no_argument, no_box, no_predicate, no_subtask, no_type, two_ways, typed_as, untyped, variable}
 use Rattle.hddl_meaning.proofs.Listed.{at_head, found, in_cases, in_flat_map, in_left, in_map, in_nothing, texts_decide}
@@ -66,6 +66,14 @@ no_type_box h =
       | inr k ↦ in_nothing h.0 k
     ]
 
+-- its one type is declared
+can_declared : HasDeclaredTypes no_box empty_problem (codes "c")
+can_declared t at is =
+    elim (in_cases the_can t [] at) [
+      | inl e ↦ subst (λ (x : Typed). IsDeclaredType no_box (text_or_object x.of_type)) e (inr (1, omega arith, refl))
+      | inr k ↦ absurd (in_nothing t k)
+    ]
+
 pub faults : FaultsHavePlaces
 faults = record {
   duplicate = (
@@ -83,9 +91,11 @@ faults = record {
   unknown_type = (mention_of (called 40 (codes "t")), (0, omega arith, refl), not_declared, refl);
   type_cycle = (
     refl,
+    record { mention = mention_of (called 27 (codes "a")); of_type = Some (mention_of (called 31 (codes "b"))) },
     mention_of (called 27 (codes "a")),
     (0, omega arith, refl),
-    Through (codes "a") (codes "b") (codes "a") (0, omega arith, refl) (Direct (codes "b") (codes "a") (1, omega arith, refl)),
+    (refl, inr (Direct (codes "b") (codes "a") (1, omega arith, refl))),
+    (0, omega arith, refl),
     refl,
   );
   unknown_name =
@@ -112,7 +122,7 @@ faults = record {
         in_flat_map (λ s. s.atoms) (schema_of_action (action (called 93 (codes "a")) [] (atom a ∷ []))) (use_of a) (domain_schemas no_box) (0, omega arith, refl) (only_atom 93 a),
         refl,
         (0, omega arith, refl),
-        ((0, omega arith, refl), no_type_box, refl),
+        (inr (0, omega arith, refl), ((0, omega arith, refl), can_declared, no_type_box, refl)),
       );
   order_cycle = ((32, two_ways), 0, (0, omega arith, refl), closure.Through 0 1 0 (0, omega arith, refl) (closure.Direct 1 0 (1, omega arith, refl)), refl);
   unknown_subtask = ((32, no_subtask), called 96 (codes "s3"), (0, omega arith, refl), (1, omega arith, refl), (absent (codes "s3") (codes "s1" ∷ codes "s2" ∷ []) refl, refl));

@@ -8,3 +8,4 @@ pub mod OneTask
 pub mod SomeTask
 pub mod Examples
 pub mod Packing
+pub mod Reasons

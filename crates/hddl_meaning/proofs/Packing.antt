@@ -1,5 +1,5 @@
 -- The pair of the example fits together, and its task is that of the example.
-use Rattle.std.proofs.Common.{◌≡◌, ℕ, zero, suc, ◌+◌, ◌<◌, ◌≤◌, Bool, true, false, cond, Some, length, List, [], ◌∷◌, ◌++◌, codes, inl, inr, refl, sym, ap, ◌∙◌, subst, arith, slice_get, length-append, nat_eq}
+use Rattle.std.proofs.Common.{◌≡◌, ℕ, zero, suc, ◌+◌, ◌<◌, ◌≤◌, Bool, true, false, cond, None, Some, length, List, [], ◌∷◌, ◌++◌, codes, inl, inr, refl, sym, ap, ◌∙◌, subst, arith, slice_get, length-append, nat_eq}
 use Rattle.std.specs.List.{AllByRecursion, fold, list_any, zip}
 use Rattle.std.specs.List.Sorted.{IsStrictlySortedBy}
 use Rattle.std.specs.Ordering.{nat_cmp}
@@ -9,15 +9,17 @@ use Rattle.std.proofs.lemmas.Bool.{or_cases}
 use Rattle.std.proofs.lemmas.Option.{slice_get_within}
 use Rattle.std.proofs.lemmas.List.Elements.{All-from_recursion}
 use Rattle.hddl_tree.specs.declared.term.Term.{Term}
+use Rattle.hddl_tree.specs.declared.domain.DomainText.{DomainText}
+use Rattle.hddl_tree.specs.declared.problem.ProblemText.{ProblemText}
 use Rattle.hddl_tree.specs.declared.term.Term.TheVariants as term
 use Rattle.htn_model.specs.Problem.{is_before}
 use Rattle.htn_model.specs.Task.{ObjectType, has_type}
 use Rattle.htn_order.specs.Closure as closure
 use Rattle.htn_order.specs.Closure.{IsClosureOf, Precedes}
 use Rattle.hddl_words.specs.Names.{Name}
-use Rattle.hddl_meaning.specs.Mentions.{IsIn, Mention, Text, Typed, folded, mention_of, texts, variable_mention}
+use Rattle.hddl_meaning.specs.Mentions.{IsIn, Mention, Text, Typed, folded, mention_of, texts, typed_names, variable_mention}
 use Rattle.hddl_meaning.specs.Names.{distinct, is_same_text, object, object_names, compound_names, predicate_names, task_names, type_mentions, with_name}
-use Rattle.hddl_meaning.specs.Types.{Direct, HasType, Leads, Through, parent_pairs}
+use Rattle.hddl_meaning.specs.Types.{Direct, HasType, IsOnCycle, Leads, Through, parent_pairs}
 use Rattle.hddl_meaning.specs.Networks.{order_pairs}
 use Rattle.hddl_meaning.specs.Uses.{TermUse, Use, Variable}
 use Rattle.hddl_meaning.specs.Items.{IsClash, IsDeclaredType, IsDuplicate, IsOrderCycle, IsPast, IsPastDistinct, IsPastObjects, IsTooMany, IsTypeClash, IsTypeCycle, IsUnknownName, IsUnknownSubtask, IsUnknownTerm, IsUnknownType, IsWellTypedPair, IsWrongArity, MayStand, Signature, declaration_in, declaration_lists, flattened, groups, networks_in, ordering_names, parameter_lists, predicate_signatures, schemas_in, subtask_mentions, task_signatures, tasks_in, terms_in, type_uses, variable_lists}
@@ -28,11 +30,11 @@ use Rattle.hddl_meaning.specs.declared.fault.Source.TheVariants as source
 use Rattle.hddl_meaning.specs.declared.fault.At.{At}
 use Rattle.hddl_meaning.specs.declared.fault.CheckFault.TheVariants as fault
 use Rattle.hddl_meaning.proofs.Listed.{AreDifferent, at_head, in_cases, in_map, in_nothing, in_right}
-use Rattle.hddl_meaning.proofs.Examples.{absent, differ, last_of}
+use Rattle.hddl_meaning.proofs.Examples.{absent, differ}
 
 -- ## What holds of each element
 
-member : {X : Type 0} (P : X → Type 0) (xs : List X) → AllByRecursion P xs → (x : X) → IsIn x xs → P x
+pub member : {X : Type 0} (P : X → Type 0) (xs : List X) → AllByRecursion P xs → (x : X) → IsIn x xs → P x
 member P xs all x h = subst P h.2 (All-from_recursion P xs all h.0 x h.1)
 
 member_at : {X : Type 0} (P : X → Type 0) (xs : List X) → AllByRecursion P xs → (k : ℕ) (x : X) → slice_get xs k ≡ Some x → P x
@@ -81,14 +83,16 @@ first_of : (pairs : List (Text × Text)) (t u : Text) → Leads pairs t u → (w
 first_of pairs t u (Direct x y h) = (y, h)
 first_of pairs t u (Through x y z h more) = (y, h)
 
+-- the one pair leads from `box` to `object`, from where none leads
 no_type_cycle : (place : At) → IsTypeCycle packing place → ⊥
-no_type_cycle place (_, m, _, leads, _) =
-    let pairs = parent_pairs packing in
-    let start = first_of pairs m.text m.text leads in
-    let end = last_of pairs m.text m.text leads in
-    differ (codes "box") object refl
-    (sym (member (λ (pair : Text × Text). pair.0 ≡ codes "box") pairs (refl, (refl, tt)) (m.text, start.0) start.1)
-    ∙ member (λ (pair : Text × Text). pair.1 ≡ object) pairs (refl, (refl, tt)) (end.0, m.text) end.1)
+no_type_cycle place (_, t, _, in', on, _, _) = member (λ t. IsOnCycle packing t → ⊥) (typed_names packing.types) (never, tt) t in' on
+  where
+    never : IsOnCycle packing (record { mention = mention_of (called 27 (codes "box")); of_type = None }) → ⊥
+    never (_, inl is) = differ (codes "box") object refl (sym is)
+    never (_, inr leads) =
+        let pairs = parent_pairs packing in
+        let start = first_of pairs object (codes "box") leads in
+        differ (codes "box") object refl (sym (member (λ (pair : Text × Text). pair.0 ≡ codes "box") pairs (refl, (refl, tt)) (object, start.0) start.1))
 
 -- ## 4.
 
@@ -156,13 +160,13 @@ same_some : {X : Type 0} (x y : X) → Some x ≡ Some y → x ≡ y
 same_some x y e = cc
 
 -- one argument in the one place
-one_fits : (variables : List Variable) (x : Term) (only : Typed) → ((place : ℕ) → IsClash packing one_box variables x only place → ⊥)
+pub one_fits : (d : DomainText) (p : ProblemText) (variables : List Variable) (x : Term) (only : Typed) → ((place : ℕ) → IsClash d p variables x only place → ⊥)
     → (first s : Signature) → first.places ≡ only ∷ [] → Some first ≡ Some s → (argument : Term) (at_place : Typed) → IsIn (argument, at_place) (zip (x ∷ []) s.places)
-    → (place : ℕ) → IsClash packing one_box variables argument at_place place → ⊥
-one_fits variables x only none first s places e argument at_place h place clash =
+    → (place : ℕ) → IsClash d p variables argument at_place place → ⊥
+one_fits d p variables x only none first s places e argument at_place h place clash =
     let all : zip (x ∷ []) s.places ≡ (x, only) ∷ [] = ap (λ ps. zip (x ∷ []) ps) (ap (λ (z : Signature). z.places) (sym (same_some first s e)) ∙ places) in
     elim (in_cases (x, only) (argument, at_place) [] (subst (IsIn (argument, at_place)) all h)) [
-      | inl same ↦ none place (subst (λ (pair : Term × Typed). IsClash packing one_box variables pair.0 pair.1 place) (sym same) clash)
+      | inl same ↦ none place (subst (λ (pair : Term × Typed). IsClash d p variables pair.0 pair.1 place) (sym same) clash)
       | inr k ↦ in_nothing (argument, at_place) k
     ]
 
@@ -174,22 +178,22 @@ abbrev parameter : ℕ → List Variable
 parameter place = record { typed = boxed place; is_quantified = false } ∷ []
 
 box_fits : (declared used at_place place : ℕ) → IsClash packing one_box (parameter declared) (term.Variable (variable used (codes "?b"))) (boxed at_place) place → ⊥
-box_fits declared used at_place place (v, e, clash, _) =
+box_fits declared used at_place place (_, (v, e, _, clash, _)) =
     clash
     (subst (λ w. MayStand packing w (codes "box")) (same_some (record { typed = boxed declared; is_quantified = false }) v e) (codes "box", inr (0, omega arith, refl), inl refl, inl refl))
 
 atoms_fit : (text : Source) → AllByRecursion (Fits (predicate_signatures packing)) (flattened (λ s. s.atoms) (schemas_in packing one_box text))
-atoms_fit source.Domain = ((λ s argument at_place e h place clash. one_fits (parameter 204) _ (boxed 51) (box_fits 204 228 51) _ s refl e argument at_place h place clash), tt)
+atoms_fit source.Domain = ((λ s argument at_place e h place clash. one_fits packing one_box (parameter 204) _ (boxed 51) (box_fits 204 228 51) _ s refl e argument at_place h place clash), tt)
 atoms_fit source.Problem = tt
 
 tasks_fit : (text : Source) → AllByRecursion (Fits (task_signatures packing)) (flattened tasks_in (schemas_in packing one_box text))
 tasks_fit source.Domain = (
-  (λ s argument at_place e h place clash. one_fits (parameter 122) _ (boxed 87) (box_fits 122 144 87) _ s refl e argument at_place h place clash),
-  ((λ s argument at_place e h place clash. one_fits (parameter 122) _ (boxed 204) (box_fits 122 172 204) _ s refl e argument at_place h place clash), tt),
+  (λ s argument at_place e h place clash. one_fits packing one_box (parameter 122) _ (boxed 87) (box_fits 122 144 87) _ s refl e argument at_place h place clash),
+  ((λ s argument at_place e h place clash. one_fits packing one_box (parameter 122) _ (boxed 204) (box_fits 122 172 204) _ s refl e argument at_place h place clash), tt),
 )
 tasks_fit source.Problem = (
   (λ s argument at_place e h place clash.
-      one_fits [] (term.Object (called 82 (codes "b1"))) (boxed 87) (λ place clash. clash.1 (the_box, (0, omega arith, refl), refl, inl refl)) _ s refl e argument at_place h place clash),
+      one_fits packing one_box [] (term.Object (called 82 (codes "b1"))) (boxed 87) (λ place clash. clash.1.2 (the_box, (0, omega arith, refl), refl, inl refl)) _ s refl e argument at_place h place clash),
   tt,
 )
 

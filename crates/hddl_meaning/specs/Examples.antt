@@ -160,6 +160,44 @@ pub record FaultsHavePlaces : Type 0 where
   pub unknown_subtask : FailsAt empty_domain (problem_of no_subtask) (fault.UnknownSubtask (in_problem 96))
   pub too_many : FailsAt many_places empty_problem (fault.TooMany (in_domain 35))
 
+-- `(define (domain d) (:types object - object object - a))`
+abbrev pub object_above_itself : DomainText
+object_above_itself = record empty_domain {
+  types =
+      record { names = called 27 (codes "object") ∷ []; of_type = Some (called 36 (codes "object")) }
+      ∷ record { names = called 43 (codes "object") ∷ []; of_type = Some (called 52 (codes "a")) } ∷ [];
+}
+
+-- `(define (domain d) (:types c - a a - b b - a))`
+abbrev pub below_a_cycle : DomainText
+below_a_cycle = record empty_domain {
+  types =
+      record { names = called 27 (codes "c") ∷ []; of_type = Some (called 31 (codes "a")) }
+      ∷ record { names = called 33 (codes "a") ∷ []; of_type = Some (called 37 (codes "b")) }
+      ∷ record { names = called 39 (codes "b") ∷ []; of_type = Some (called 43 (codes "a")) } ∷ [];
+}
+
+-- `(define (domain d) (:predicates (p ?x)))`
+abbrev pub one_place : DomainText
+one_place = record empty_domain { predicates = predicate (called 33 (codes "p")) (untyped (variable 35 (codes "?x"))) ∷ [] }
+
+-- `(define (problem x) (:domain d) (:objects o - u) (:init (p o)) (:htn))`
+abbrev pub of_no_type : ProblemText
+of_no_type = record empty_problem {
+  objects = record { names = called 42 (codes "o") ∷ []; of_type = Some (called 46 (codes "u")) } ∷ [];
+  init = at_terms (called 57 (codes "p")) (term.Object (called 59 (codes "o")) ∷ []) ∷ [];
+}
+
+pub record FaultsHaveReasons : Type 0 where
+  -- `object` below itself is ignored, and `object` below another type is on a cycle, with both names
+  pub ignored : FailsAt object_above_itself empty_problem (fault.TypeCycle (in_domain 27)) → ⊥
+  pub child : FailsAt object_above_itself empty_problem (fault.TypeCycle (in_domain 43))
+  pub parent : FailsAt object_above_itself empty_problem (fault.TypeCycle (in_domain 52))
+  -- a type of the cycle, but where it is the parent of one that is only below the cycle
+  pub below : FailsAt below_a_cycle empty_problem (fault.TypeCycle (in_domain 31)) → ⊥
+  -- a type that isn't declared clashes with none
+  pub undeclared : FailsAt one_place of_no_type (fault.TypeClash (in_problem 59)) → ⊥
+
 -- ## Meanings
 
 -- `(forall (?c - CAN) (p ?c ?B))` where `?a` and `?b` are in force

@@ -10,8 +10,8 @@ use Rattle.hddl_tree.specs.declared.network.NetworkText.{NetworkText}
 use Rattle.hddl_tree.specs.declared.domain.DomainText.{DomainText}
 use Rattle.hddl_tree.specs.declared.problem.ProblemText.{ProblemText}
 use Rattle.hddl_meaning.specs.Mentions.{Text, Mention, Typed, IsIn, folded, mention_of, mentions_of, texts, typed_names, typed_variables}
-use Rattle.hddl_meaning.specs.Names.{is_same_text, object, type_mentions, optional_mention, object_names, predicate_names, compound_names, task_names, distinct}
-use Rattle.hddl_meaning.specs.Types.{Leads, parent_pairs, text_or_object, IsBelow, HasType}
+use Rattle.hddl_meaning.specs.Names.{is_same_text, object, type_mentions, optional_mention, object_declarations, object_names, predicate_names, compound_names, task_names, distinct}
+use Rattle.hddl_meaning.specs.Types.{text_or_object, IsBelow, IsOnCycle, HasType}
 use Rattle.hddl_meaning.specs.Networks.{order_pairs}
 use Rattle.htn_order.specs.Closure.{Precedes}
 use Rattle.hddl_meaning.specs.declared.fault.Source.{Source}
@@ -98,9 +98,11 @@ IsUnknownType d p at =
 
 -- ## 3. Cycles of types
 
+-- the child or the parent, where one is written, of a declared pair on a cycle
 abbrev pub IsTypeCycle : DomainText → At → Type 0
 IsTypeCycle d at =
-    (at.source ≡ source.Domain) × (m : Mention) × IsIn m (type_mentions d) × Leads (parent_pairs d) m.text m.text × (at.place ≡ m.place)
+    (at.source ≡ source.Domain) × (t : Typed) × (m : Mention) × IsIn t (typed_names d.types) × IsOnCycle d t
+    × IsIn m (t.mention ∷ type_of t) × (at.place ≡ m.place)
 
 -- ## 4. Names that are used
 
@@ -194,18 +196,25 @@ MayStand d v type = by v.is_quantified
     by false = ShareSubtype d (text_or_object v.typed.of_type) type
     by true = IsBelow d (text_or_object v.typed.of_type) type
 
--- an argument that can't have the type of its place, where it and its place are declared
+-- each type that is written for the object is declared
+abbrev pub HasDeclaredTypes : DomainText → ProblemText → Text → Type 0
+HasDeclaredTypes d p name =
+    (t : Typed) → IsIn t (object_declarations d p) → (t.mention.text ≡ name) → IsType d (text_or_object t.of_type)
+
+-- an argument that can't have the type of its place, where it, its place and the types of both are declared
 abbrev pub IsClash : DomainText → ProblemText → List Variable → Term → Typed → ℕ → Type 0
-IsClash d p variables argument at_place place = by argument
+IsClash d p variables argument at_place place = IsType d type × by argument
   where
     type : Text
     type = text_or_object at_place.of_type
 
     by : Term → Type 0
     by (term.Variable x) =
-        (v : Variable) × (variable_in variables (folded x.text) ≡ Some v) × (MayStand d v type → ⊥) × (place ≡ x.place)
+        (v : Variable) × (variable_in variables (folded x.text) ≡ Some v) × IsType d (text_or_object v.typed.of_type)
+        × (MayStand d v type → ⊥) × (place ≡ x.place)
     by (term.Object x) =
-        IsIn (folded x.text) (object_names d p) × (HasType d p (folded x.text) type → ⊥) × (place ≡ x.place)
+        IsIn (folded x.text) (object_names d p) × HasDeclaredTypes d p (folded x.text) × (HasType d p (folded x.text) type → ⊥)
+        × (place ≡ x.place)
 
 abbrev pub HasClash : DomainText → ProblemText → List Signature → List Use → ℕ → Type 0
 HasClash d p signatures uses place =

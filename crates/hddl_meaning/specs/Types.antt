@@ -1,5 +1,5 @@
 -- Which types are below which, and the types of objects.
-use Rattle.std.specs.Prelude.{◌≡◌, ◌⊎◌, Bool, not, ◌&&◌, List, ◌++◌, map, filter, Option, Some, None, Contains}
+use Rattle.std.specs.Prelude.{◌≡◌, ◌⊎◌, Bool, false, not, ◌&&◌, List, ◌++◌, map, filter, Option, Some, None, Contains}
 use Rattle.hddl_tree.specs.declared.domain.DomainText.{DomainText}
 use Rattle.hddl_tree.specs.declared.problem.ProblemText.{ProblemText}
 use Rattle.hddl_meaning.specs.Mentions.{Text, Mention, Typed, typed_names, texts}
@@ -14,9 +14,12 @@ abbrev pub text_or_object : Option Mention → Text
 text_or_object None = object
 text_or_object (Some m) = m.text
 
--- each type of `:types` with its parent
+-- a type of `:types` with its parent
+abbrev pub declared_pair : Typed → Text × Text
+declared_pair t = (t.mention.text, text_or_object t.of_type)
+
 abbrev pub declared_pairs : DomainText → List (Text × Text)
-declared_pairs d = map (λ t. (t.mention.text, text_or_object t.of_type)) (typed_names d.types)
+declared_pairs d = map declared_pair (typed_names d.types)
 
 abbrev pub is_object_pair : Text × Text → Bool
 is_object_pair pair = is_same_text pair.0 object && is_same_text pair.1 object
@@ -28,6 +31,10 @@ parent_pairs d = filter (λ pair. not (is_object_pair pair)) (declared_pairs d +
 -- a type is below itself, and below what the pairs lead to
 abbrev pub IsBelow : DomainText → Text → Text → Type 0
 IsBelow d t u = (t ≡ u) ⊎ Leads (parent_pairs d) t u
+
+-- a declared pair lies on a cycle where its parent leads back to its child
+abbrev pub IsOnCycle : DomainText → Typed → Type 0
+IsOnCycle d t = let pair = declared_pair t in (is_object_pair pair ≡ false) × IsBelow d pair.1 pair.0
 
 -- some declaration of the object gives it a type below this one
 abbrev pub HasType : DomainText → ProblemText → Text → Text → Type 0

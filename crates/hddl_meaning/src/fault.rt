@@ -41,7 +41,7 @@ pub enum CheckFault {
     /// A type of a parameter, constant or object that isn't declared. The type's name.
     #[error("{}: UnknownType at {}", .0.source, .0.place)]
     UnknownType(At),
-    /// A type that is below itself. A type's name in a declared pair that lies on the cycle.
+    /// A type that is below itself. A name in a declared pair whose parent leads back to its child.
     #[error("{}: TypeCycle at {}", .0.source, .0.place)]
     TypeCycle(At),
     /// A predicate, task, variable or object that isn't declared, or a method's task that is no compound one. The name.

@@ -7,7 +7,7 @@ mod fault;
 mod tests;
 
 ghost use Rattle.hddl_meaning.specs.Agreement.{TasksAreUnique, TasksAreWellTyped, TasksExist};
-ghost use Rattle.hddl_meaning.specs.Examples.{FaultsHavePlaces, PackingIsATask, TreesHaveMeanings};
+ghost use Rattle.hddl_meaning.specs.Examples.{FaultsHavePlaces, FaultsHaveReasons, PackingIsATask, TreesHaveMeanings};
 
 pub use fault::{At, CheckFault, Source};
 
@@ -27,10 +27,11 @@ pub fn tasks_are_well_typed()
     ensures typed { TasksAreWellTyped }
 {}
 
-/// Small trees: one that fails in the way of each fault, at that fault's place, what some parts mean, and a pair that fits together
-/// with its task.
+/// Small trees: one that fails in the way of each fault, at that fault's place, what some parts mean, a pair that fits together
+/// with its task, and where types are on no cycle and clash with none.
 pub fn worked_examples_hold()
     ensures faults { FaultsHavePlaces }
     ensures meanings { TreesHaveMeanings }
     ensures packing { PackingIsATask }
+    ensures reasons { FaultsHaveReasons }
 {}

@@ -1,141 +1,139 @@
--- Types that lie on cycles.
-use Rattle.std.proofs.Common.{◌≡◌, ℕ, suc, ◌<◌, ◌≤◌, ◌+◌, ◌↔◌, Bool, false, List, [], ◌++◌, refl, sym, ap, subst, ◌∙◌, arith, inl, inr, ⊎_elim, nat_eq, length, get_or, take, drop}
-use Rattle.std.specs.List.{Contains, All, list_any}
+-- Declared pairs that lie on cycles.
+use Rattle.std.proofs.Common.{◌≡◌, ℕ, suc, ◌<◌, ◌≤◌, ◌+◌, ◌↔◌, Bool, true, false, not, List, [], ◌++◌, map, None, refl, sym, ap, ap₂, subst, ◌∙◌, arith, ⊎_elim, length, get_or, take, drop}
+use Rattle.std.specs.List.{Contains}
 use Rattle.std.proofs.lemmas.Bool.{true≢false}
-use Rattle.std.proofs.lemmas.List.{take_more, take_all, get_or_default, get_or-map, length-map, take-append-drop}
-use Rattle.std.proofs.lemmas.List.Elements.{Contains-get_or, Contains-push_cases, All-from_get_or}
-use Rattle.std.proofs.lemmas.Cmp.{nat_eq_equiv}
-use Rattle.std.proofs.lemmas.Map.Views.{list_any-from_Contains}
+use Rattle.std.proofs.lemmas.List.{take_more, take_all, get_or-map, length-map, take-append-drop}
+use Rattle.std.proofs.lemmas.List.Elements.{Contains-get_or, Contains-push_cases, Contains-append_left}
 use Rattle.std.proofs.Math.Seq.{drop-cons}
-use Rattle.htn_order.specs.Closure.{Precedes, Direct, Through}
 use Rattle.hddl_tree.specs.declared.term.NameGroup.{NameGroup}
 use Rattle.hddl_tree.specs.declared.domain.DomainText.{DomainText}
-use Rattle.hddl_meaning.specs.Mentions.{Text, Mention}
-use Rattle.hddl_meaning.specs.Names.{type_mentions, type_names}
-use Rattle.hddl_meaning.specs.Types.{Leads, parent_pairs}
-use Rattle.hddl_names.specs.Reach.{Reaches, IsReached}
-use Rattle.hddl_names.specs.Ranks.{HasAllOnCycles}
-use Rattle.hddl_names.specs.Cycles.{IsOnCycle, HasNoCycle, IsFirstCycle, number_place, places_in}
-use Rattle.hddl_names.specs.TypeNumbers.{AreTypesOf, type_at, numbered_pairs}
+use Rattle.hddl_meaning.specs.Mentions.{Text, Typed, texts, typed_names}
+use Rattle.hddl_meaning.specs.Names.{object, type_mentions, type_names}
+use Rattle.hddl_meaning.specs.Types.{IsBelow, IsOnCycle, declared_pair, declared_pairs, is_object_pair, parent_pairs, text_or_object}
+use Rattle.hddl_names.specs.Ranks.{NeverRise}
+use Rattle.hddl_names.specs.Cycles.{HasNoCycle, IsFirstCycle, placed_pair, placed_in}
+use Rattle.hddl_names.specs.TypeNumbers.{AreTypesOf, is_root, number_pair, numbered_pairs, type_at}
+use Rattle.hddl_names.specs.declared.cycles.PlacedPair.{PlacedPair}
+use Rattle.hddl_names.proofs.Levels.{level}
 use Rattle.hddl_names.proofs.Texts.{number-small, number-names}
-use Rattle.hddl_names.proofs.Parents.{to-leads, to-precedes, at-number, mention-type}
-use Rattle.hddl_names.proofs.Typed.{reached-small}
-use Rattle.hddl_names.proofs.Fronts.{one_more}
-use Rattle.htn_order.proofs.Joining.{follow}
+use Rattle.hddl_names.proofs.Parents.{below-reaches, object_pair-is_root, root-is_object_pair, typed-types, written_pairs}
+use Rattle.hddl_names.proofs.Within.{kept, mapped}
 
--- no number of the list is paired with this one
-pub none-leads : (rows : List (List ℕ)) (found : List ℕ) (number i : ℕ) → length found ≤ i
-    → ((j : ℕ) → j < i → list_any (nat_eq number) (get_or rows (get_or found j 0) []) ≡ false)
-    → ((x : ℕ) × Contains found x × Contains (get_or rows x []) number) → ⊥
-none-leads rows found number i past none (x, (k, lt, is), there) =
-    true≢false (sym (list_any-from_Contains nat_eq_equiv number (get_or rows x []) there) ∙ ap (λ y. list_any (nat_eq number) (get_or rows y [])) (sym (get_or_default found k 0 x lt ∙ is))
-    ∙ none k (omega (arith, lt, past)))
+none : Typed
+none = record { mention = record { text = []; place = 0 }; of_type = None }
 
-last-step : (ps : List (ℕ × ℕ)) (a c : ℕ) → Precedes ps a c → (x : ℕ) × Reaches ps a x × Contains {X = ℕ × ℕ} ps (x, c)
-last-step ps _ _ (Direct a c pair) = (a, inl refl, pair)
-last-step ps _ _ (Through a b c pair rest) = let x = last-step ps b c rest in (x.0, before x.0 x.1, x.2)
-  where
-    before : (x : ℕ) → Reaches ps b x → Reaches ps a x
-    before x (inl is) = inr (subst (Precedes ps a) is (Direct a b pair))
-    before x (inr r) = inr (Through a b x pair r)
+abbrev pub no_pair : PlacedPair
+no_pair = record { child = 0; parent = 0; place = 0 }
 
-pub cycle-found : (d : DomainText) (names : List Text) (up down : List (List ℕ)) (t : ℕ) (found all : List ℕ) → AreTypesOf d names up down → t < length (type_names d) → IsReached up t found → all ≡ found
-    → ((x : ℕ) × Contains all x × Contains (get_or up x []) t) ↔ Leads (parent_pairs d) (type_at d t) (type_at d t)
-cycle-found d names up down t found all types small reached is = (to, from)
-  where
-    pairs : List (ℕ × ℕ)
-    pairs = numbered_pairs d
+-- a pair by number lies on a cycle
+abbrev pub IsCircle : DomainText → PlacedPair → Type 0
+IsCircle d p = (is_root (p.child, p.parent) ≡ false) × IsBelow d (type_at d p.parent) (type_at d p.child)
 
-    to : (x : ℕ) × Contains all x × Contains (get_or up x []) t → Leads (parent_pairs d) (type_at d t) (type_at d t)
-    to (x, here, there) = closing (one_more pairs t x t ((reached pairs types.parents x).0 (subst (λ l. Contains l x) is here)) ((types.parents x t).0 there)) ((types.parents x t).0 there) ((reached pairs types.parents x).0 (subst (λ l. Contains l x) is here))
-      where
-        closing : Reaches pairs t t → Contains {X = ℕ × ℕ} pairs (x, t) → Reaches pairs t x → Leads (parent_pairs d) (type_at d t) (type_at d t)
-        closing _ pair (inl e) = to-leads d t t (Direct t t (subst (λ y. Contains {X = ℕ × ℕ} pairs (y, t)) (sym e) pair))
-        closing _ pair (inr r) = to-leads d t t (follow pairs t x t r (Direct x t pair))
+-- ## One declared pair
 
-    from : Leads (parent_pairs d) (type_at d t) (type_at d t) → (x : ℕ) × Contains all x × Contains (get_or up x []) t
-    from h =
-        let p : Precedes pairs t t = subst (λ k. Precedes pairs k k) (at-number d t small) (to-precedes d (type_at d t) (type_at d t) h) in
-        let x = last-step pairs t t p in
-        (x.0, subst (λ l. Contains l x.0) (sym is) ((reached pairs types.parents x.0).1 x.1), (types.parents x.0 t).1 x.2)
+module _ (d : DomainText) (t : Typed) (there : Contains (typed_names d.types) t) where
+  abbrev pair : PlacedPair
+  pair = placed_pair (type_names d) t
 
-pub found-within : (d : DomainText) (names : List Text) (up down : List (List ℕ)) (t : ℕ) (found all : List ℕ) → AreTypesOf d names up down → t < length (type_names d) → IsReached up t found → all ≡ found
-    → All (λ x. x < length up) all
-found-within d names up down t found all types small reached is =
-    subst (λ l. All (λ x. x < length up) l) (sym is)
-    (All-from_get_or (λ x. x < length up) found 0 (λ i lt.
-    let within = reached-small d t (get_or found i 0) small ((reached (numbered_pairs d) types.parents (get_or found i 0)).0 (Contains-get_or found i 0 lt)) in
-    subst (λ n. get_or found i 0 < n) (sym (types.up_count ∙ ap length types.all)) within))
+  types : Contains (type_names d) t.mention.text × Contains (type_names d) (text_or_object t.of_type)
+  types = typed-types d t there
 
--- a type that isn't marked is on no cycle
-pub unmarked : (d : DomainText) (names : List Text) (up down : List (List ℕ)) (t : ℕ) (marks : List Bool) → AreTypesOf d names up down → t < length (type_names d) → HasAllOnCycles up marks
-    → get_or marks t false ≡ false → Leads (parent_pairs d) (type_at d t) (type_at d t) → ⊥
-unmarked d names up down t marks types small all off h =
-    let p : Precedes (numbered_pairs d) t t = subst (λ k. Precedes (numbered_pairs d) k k) (at-number d t small) (to-precedes d (type_at d t) (type_at d t) h) in
-    true≢false (sym (all (numbered_pairs d) types.parents t p) ∙ off)
+  small : (pair.child < length (type_names d)) × (pair.parent < length (type_names d))
+  small = (number-small (type_names d) t.mention.text types.0, number-small (type_names d) (text_or_object t.of_type) types.1)
 
--- ## The mentions in turn
+  written : Contains {X = Text × Text} (written_pairs d) (declared_pair t)
+  written =
+      Contains-append_left (declared_pairs d) (map (λ text. (text, object)) (texts (type_mentions d))) (declared_pair t)
+      (mapped declared_pair (typed_names d.types) t there)
 
--- the pair at a place is that of the mention there
-pub place-is : (d : DomainText) (places : List (ℕ × ℕ)) (i : ℕ) (m : Mention) → places ≡ places_in (type_names d) d.types → i < length places
-    → ◌≡◌ {A = ℕ × ℕ} (get_or places i (0, 0)) (number_place (type_names d) (get_or (type_mentions d) i m))
-place-is d places i m is lt =
-    ap (λ (l : List (ℕ × ℕ)). get_or l i (0, 0)) is
-    ∙ get_or-map (number_place (type_names d)) (type_mentions d) i m (0, 0) (let n = length-map (type_mentions d) (number_place (type_names d)) in let e = ap length is in omega (arith, lt, n, e))
+  same_test : is_root (pair.child, pair.parent) ≡ is_object_pair (declared_pair t)
+  same_test = by (is_root (pair.child, pair.parent)) (is_object_pair (declared_pair t)) refl refl
+    where
+      by : (a b : Bool) → is_root (pair.child, pair.parent) ≡ a → is_object_pair (declared_pair t) ≡ b → a ≡ b
+      by true true _ _ = refl
+      by false false _ _ = refl
+      by true false a_is b_is = absurd (true≢false (sym (root-is_object_pair d (declared_pair t) written a_is) ∙ b_is))
+      by false true a_is b_is = absurd (true≢false (sym (object_pair-is_root d (declared_pair t) b_is) ∙ a_is))
 
-pub place-count : (d : DomainText) (places : List (ℕ × ℕ)) → places ≡ places_in (type_names d) d.types → length places ≡ length (type_mentions d)
-place-count d places is = ap length is ∙ length-map (type_mentions d) (number_place (type_names d))
+  same_types : IsBelow d (type_at d pair.parent) (type_at d pair.child) ≡ IsBelow d (text_or_object t.of_type) t.mention.text
+  same_types = ap₂ (IsBelow d) (number-names (type_names d) (text_or_object t.of_type) types.1) (number-names (type_names d) t.mention.text types.0)
 
-pub place-small : (d : DomainText) (places : List (ℕ × ℕ)) (i : ℕ) → places ≡ places_in (type_names d) d.types → i < length places → (get_or places i (0, 0)).0 < length (type_names d)
-place-small d places i is lt =
-    let m = get_or (type_mentions d) i (record { text = []; place = 0 }) in
-    let count = place-count d places is in
-    subst (λ (p : ℕ × ℕ). p.0 < length (type_names d)) (sym (place-is d places i (record { text = []; place = 0 }) is lt))
-    (number-small (type_names d) m.text (mention-type d m (Contains-get_or (type_mentions d) i (record { text = []; place = 0 }) (omega (arith, lt, count)))))
+  circle-typed : IsCircle d pair ↔ IsOnCycle d t
+  circle-typed = (
+    λ h. (sym same_test ∙ h.0, subst (λ (X : Type 0). X) same_types h.1),
+    λ h. (same_test ∙ h.0, subst (λ (X : Type 0). X) (sym same_types) h.1),
+  )
 
-pub places-are : (d inside : DomainText) (names : List Text) (groups : List NameGroup) (places all : List (ℕ × ℕ)) → inside ≡ d → names ≡ type_names inside → groups ≡ inside.types
-    → places ≡ places_in names groups → all ≡ places → all ≡ places_in (type_names d) d.types
-places-are d inside names groups places all same named grouped listed is =
-    is ∙ listed ∙ ap (λ (ns : List Text). places_in ns groups) named ∙ ap (λ (gs : List NameGroup). places_in (type_names inside) gs) grouped ∙ ap (λ (d : DomainText). places_in (type_names d) d.types) same
+  -- of two ranks it lies on none
+  uneven : (names : List Text) (up down : List (List ℕ)) (ranks : List ℕ) → AreTypesOf d names up down → NeverRise up ranks
+      → (get_or ranks pair.child 0 ≡ get_or ranks pair.parent 0 → ⊥) → IsOnCycle d t → ⊥
+  uneven names up down ranks are never differ h =
+      let numbered : Contains {X = ℕ × ℕ} (numbered_pairs d) (pair.child, pair.parent) =
+      mapped (number_pair (type_names d)) (parent_pairs d) (declared_pair t)
+      (kept (λ pair. not (is_object_pair pair)) (written_pairs d) (declared_pair t) written (ap not h.0)) in
+      differ (level up ranks (numbered_pairs d) never are.parents pair.child pair.parent numbered (below-reaches d pair.parent pair.child small.1 small.0 (circle-typed.1 h).1))
 
-none : Mention
-none = record { text = []; place = 0 }
+-- ## The pairs in turn
 
-at-mention : (d : DomainText) (places : List (ℕ × ℕ)) (i : ℕ) → places ≡ places_in (type_names d) d.types → i < length places
-    → type_at d (get_or places i (0, 0)).0 ≡ (get_or (type_mentions d) i none).text
-at-mention d places i is lt =
-    let m = get_or (type_mentions d) i none in
-    let count = place-count d places is in
-    ap (λ (p : ℕ × ℕ). type_at d p.0) (place-is d places i none is lt)
-    ∙ number-names (type_names d) m.text (mention-type d m (Contains-get_or (type_mentions d) i none (omega (arith, lt, count))))
+pub places-are : (d inside : DomainText) (names : List Text) (groups : List NameGroup) (pairs all : List PlacedPair) → inside ≡ d → names ≡ type_names inside → groups ≡ inside.types
+    → pairs ≡ placed_in names groups → all ≡ pairs → all ≡ placed_in (type_names d) d.types
+places-are d inside names groups pairs all same named grouped listed is =
+    is ∙ listed ∙ ap (λ (ns : List Text). placed_in ns groups) named ∙ ap (λ (gs : List NameGroup). placed_in (type_names inside) gs) grouped ∙ ap (λ (d : DomainText). placed_in (type_names d) d.types) same
 
+-- none of the first pairs lies on a cycle
 abbrev pub NoneBefore : DomainText → ℕ → Type 0
-NoneBefore d i = (m : Mention) → Contains (take i (type_mentions d)) m → IsOnCycle d m → ⊥
+NoneBefore d i = (t : Typed) → Contains (take i (typed_names d.types)) t → IsOnCycle d t → ⊥
 
-pub circle-more : (d : DomainText) (places : List (ℕ × ℕ)) (i : ℕ) → places ≡ places_in (type_names d) d.types → i < length places
-    → (Leads (parent_pairs d) (type_at d (get_or places i (0, 0)).0) (type_at d (get_or places i (0, 0)).0) → ⊥) → NoneBefore d i → NoneBefore d (i + 1)
-circle-more d places i is lt off before m h cycle =
-    let count = place-count d places is in
-    let more = take_more (type_mentions d) i none (omega (arith, lt, count)) in
-    ⊎_elim (λ old. before m old cycle)
-    (λ last. off (subst (λ x. Leads (parent_pairs d) x x) (sym (at-mention d places i is lt ∙ ap (λ (m : Mention). m.text) last)) cycle))
-    (Contains-push_cases (take i (type_mentions d)) (get_or (type_mentions d) i none) m (subst (λ l. Contains l m) more h))
+module _ (d : DomainText) (pairs : List PlacedPair) (i : ℕ) (are : pairs ≡ placed_in (type_names d) d.types) where
+  abbrev all : List Typed
+  all = typed_names d.types
 
-pub circle-first : (d : DomainText) (places : List (ℕ × ℕ)) (i : ℕ) → places ≡ places_in (type_names d) d.types → i < length places
-    → Leads (parent_pairs d) (type_at d (get_or places i (0, 0)).0) (type_at d (get_or places i (0, 0)).0) → NoneBefore d i → IsFirstCycle d (get_or places i (0, 0)).1
-circle-first d places i is lt on before =
-    let count = place-count d places is in
-    record {
-      before = take i (type_mentions d);
-      mention = get_or (type_mentions d) i none;
-      after = drop (suc i) (type_mentions d);
-      splits = sym (take-append-drop i (type_mentions d)) ∙ ap (λ r. take i (type_mentions d) ++ r) (drop-cons (type_mentions d) i none (omega (arith, lt, count)));
-      on = subst (λ x. Leads (parent_pairs d) x x) (at-mention d places i is lt) on;
+  abbrev here : Typed
+  here = get_or all i none
+
+  count : length pairs ≡ length all
+  count = ap length are ∙ length-map all (placed_pair (type_names d))
+
+  pub circle-none : length pairs ≤ i → NoneBefore d i → HasNoCycle d
+  circle-none past before t h =
+      let n = count in
+      before t (subst (λ l. Contains l t) (sym (take_all i all (omega (arith, past, n)))) h)
+
+  module _ (lt : i < length pairs) where
+    below : i < length all
+    below = let n = count in omega (arith, lt, n)
+
+    there : Contains all here
+    there = Contains-get_or all i none below
+
+    is_placed : get_or pairs i no_pair ≡ placed_pair (type_names d) here
+    is_placed = ap (λ (l : List PlacedPair). get_or l i no_pair) are ∙ get_or-map (placed_pair (type_names d)) all i none no_pair below
+
+    pub pair-small : ((get_or pairs i no_pair).child < length (type_names d)) × ((get_or pairs i no_pair).parent < length (type_names d))
+    pair-small = subst (λ (p : PlacedPair). (p.child < length (type_names d)) × (p.parent < length (type_names d))) (sym is_placed) (small d here there)
+
+    more : (IsOnCycle d here → ⊥) → NoneBefore d i → NoneBefore d (i + 1)
+    more off before t h cycle =
+        ⊎_elim (λ old. before t old cycle) (λ last. off (subst (IsOnCycle d) (sym last) cycle))
+        (Contains-push_cases (take i all) here t (subst (λ l. Contains l t) (take_more all i none below) h))
+
+    pub circle-more : (IsCircle d (get_or pairs i no_pair) → ⊥) → NoneBefore d i → NoneBefore d (i + 1)
+    circle-more off = more (λ h. off (subst (IsCircle d) (sym is_placed) ((circle-typed d here there).1 h)))
+
+    pub circle-uneven : (names : List Text) (up down : List (List ℕ)) (ranks : List ℕ) → AreTypesOf d names up down → NeverRise up ranks
+        → (get_or ranks (get_or pairs i no_pair).child 0 ≡ get_or ranks (get_or pairs i no_pair).parent 0 → ⊥) → NoneBefore d i → NoneBefore d (i + 1)
+    circle-uneven names up down ranks types never differ =
+        more
+        (uneven d here there names up down ranks types never
+        (subst (λ (p : PlacedPair). get_or ranks p.child 0 ≡ get_or ranks p.parent 0 → ⊥) is_placed differ))
+
+    pub circle-first : IsCircle d (get_or pairs i no_pair) → NoneBefore d i → IsFirstCycle d (get_or pairs i no_pair).place
+    circle-first on before = record {
+      before = take i all;
+      pair = here;
+      after = drop (suc i) all;
+      splits = sym (take-append-drop i all) ∙ ap (λ r. take i all ++ r) (drop-cons all i none below);
+      on = (circle-typed d here there).0 (subst (IsCircle d) is_placed on);
       first = before;
-      at = ap (λ (p : ℕ × ℕ). p.1) (place-is d places i none is lt);
+      at = ap (λ (p : PlacedPair). p.place) is_placed;
     }
-
-pub circle-none : (d : DomainText) (places : List (ℕ × ℕ)) (i : ℕ) → places ≡ places_in (type_names d) d.types → length places ≤ i → NoneBefore d i → HasNoCycle d
-circle-none d places i is past before m h =
-    let count = place-count d places is in
-    before m (subst (λ l. Contains l m) (sym (take_all i (type_mentions d) (omega (arith, past, count)))) h)

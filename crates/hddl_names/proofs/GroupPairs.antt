@@ -6,7 +6,8 @@ use Rattle.hddl_meaning.specs.Mentions.{Text, Mention, folded, mention_of}
 use Rattle.hddl_meaning.specs.Names.{number_in, object, optional_mention}
 use Rattle.hddl_meaning.specs.Types.{text_or_object}
 use Rattle.hddl_names.specs.Members.{number_typed, declared_in}
-use Rattle.hddl_names.specs.Cycles.{number_place, places_in}
+use Rattle.hddl_names.specs.Cycles.{placed_pair, placed_in}
+use Rattle.hddl_names.specs.declared.cycles.PlacedPair.{PlacedPair}
 use Rattle.hddl_names.specs.TypeNumbers.{number_pair, with_parents, with_object, pairs_in, object_pairs_in}
 
 pub group_pairs : (names : List Text) (g : NameGroup) (parent : ℕ) → parent ≡ number_in names (text_or_object (option_map mention_of g.of_type))
@@ -42,15 +43,15 @@ group_declared objects types g parent is = ap (λ q. map (λ (x : Name). (number
     by [] = refl
     by (x ∷ ns) = ap (λ r. (number_in objects (folded x.text), number_in types (text_or_object (option_map mention_of g.of_type))) ∷ r) (by ns)
 
-pub group_places : (names : List Text) (g : NameGroup)
-    → map (λ x. number_place names (mention_of x)) g.names ++ map (number_place names) (optional_mention g.of_type) ≡ places_in names (g ∷ [])
-group_places names g = by g.names
-  where
-    last : (ms : List Mention) → map (number_place names) ms ≡ map (number_place names) (ms ++ [])
-    last [] = refl
-    last (m ∷ ms) = ap (λ r. number_place names m ∷ r) (last ms)
+abbrev placed : ℕ → ℕ → ℕ → PlacedPair
+placed child parent place = record { child = child; parent = parent; place = place }
 
-    by : (ns : List Name) → map (λ x. number_place names (mention_of x)) ns ++ map (number_place names) (optional_mention g.of_type)
-        ≡ map (number_place names) ((map mention_of ns ++ optional_mention g.of_type) ++ [])
-    by [] = last (optional_mention g.of_type)
-    by (x ∷ ns) = ap (λ r. number_place names (mention_of x) ∷ r) (by ns)
+pub group_placed : (names : List Text) (g : NameGroup) (parent : ℕ) → parent ≡ number_in names (text_or_object (option_map mention_of g.of_type))
+    → map (λ (x : Name). record { child = number_in names (folded x.text); parent = parent; place = x.place }) g.names ≡ placed_in names (g ∷ [])
+group_placed names g parent is =
+    ap (λ q. map (λ (x : Name). placed (number_in names (folded x.text)) q x.place) g.names) is ∙ by g.names
+  where
+    by : (ns : List Name) → map (λ x. placed (number_in names (folded x.text)) (number_in names (text_or_object (option_map mention_of g.of_type))) x.place) ns
+        ≡ map (placed_pair names) (map (λ x. record { mention = mention_of x; of_type = option_map mention_of g.of_type }) ns ++ [])
+    by [] = refl
+    by (x ∷ ns) = ap (λ r. placed (number_in names (folded x.text)) (number_in names (text_or_object (option_map mention_of g.of_type))) x.place ∷ r) (by ns)

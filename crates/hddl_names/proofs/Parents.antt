@@ -41,7 +41,7 @@ optional-type d g h = by g.of_type (λ m there. mention-type d m (in_parts group
     by None mentions = object-type d
     by (Some x) mentions = mentions (mention_of x) (first (mention_of x) [])
 
-typed-types : (d : DomainText) (t : Typed) → Contains (typed_names d.types) t → Contains (type_names d) t.mention.text × Contains (type_names d) (text_or_object t.of_type)
+pub typed-types : (d : DomainText) (t : Typed) → Contains (typed_names d.types) t → Contains (type_names d) t.mention.text × Contains (type_names d) (text_or_object t.of_type)
 typed-types d t h =
     let group = from_parts typed_of d.types t h in
     let name = unmapped (λ (x : Name). record { mention = mention_of x; of_type = option_map mention_of group.0.of_type }) group.0.names t group.2 in (
@@ -88,7 +88,7 @@ root-is_object_pair d p there h =
     (same_as_itself p.0 object (root-is-object d p.0 types.0 (eqb-true (number_in (type_names d) p.0) 0 parts.0)))
     (same_as_itself p.1 object (root-is-object d p.1 types.1 (eqb-true (number_in (type_names d) p.1) 0 parts.1)))
 
-not-cases : (a b : Bool) → (a ≡ true → b ≡ true) → not b ≡ true → not a ≡ true
+pub not-cases : (a b : Bool) → (a ≡ true → b ≡ true) → not b ≡ true → not a ≡ true
 not-cases true true f h = h
 not-cases true false f h = absurd (true≢false (sym (f refl)))
 not-cases false b f h = refl

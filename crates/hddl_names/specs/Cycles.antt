@@ -1,31 +1,29 @@
--- Types below themselves.
+-- Declared pairs that lie on cycles.
 use Rattle.std.specs.Prelude.{◌≡◌, ℕ, List, ◌∷◌, ◌++◌, map, Contains}
 use Rattle.hddl_tree.specs.declared.term.NameGroup.{NameGroup}
 use Rattle.hddl_tree.specs.declared.domain.DomainText.{DomainText}
-use Rattle.hddl_meaning.specs.Mentions.{Text, Mention}
-use Rattle.hddl_meaning.specs.Names.{type_mentions, number_in}
-use Rattle.hddl_meaning.specs.Types.{Leads, parent_pairs}
-use Rattle.hddl_names.specs.Texts.{mentions_in}
-
-abbrev pub IsOnCycle : DomainText → Mention → Type 0
-IsOnCycle d m = Leads (parent_pairs d) m.text m.text
+use Rattle.hddl_meaning.specs.Mentions.{Text, Typed, typed_names}
+use Rattle.hddl_meaning.specs.Names.{number_in}
+use Rattle.hddl_meaning.specs.Types.{IsOnCycle, text_or_object}
+use Rattle.hddl_names.specs.declared.cycles.PlacedPair.{PlacedPair}
 
 abbrev pub HasNoCycle : DomainText → Type 0
-HasNoCycle d = (m : Mention) → Contains (type_mentions d) m → IsOnCycle d m → ⊥
+HasNoCycle d = (t : Typed) → Contains (typed_names d.types) t → IsOnCycle d t → ⊥
 
--- the place of the first mention of a type that lies on a cycle
+-- the place of the first mention in a declared pair on a cycle: each type is mentioned before its parent
 pub record IsFirstCycle (d : DomainText) (place : ℕ) : Type 0 where
-  pub before : List Mention
-  pub mention : Mention
-  pub after : List Mention
-  pub splits : type_mentions d ≡ before ++ mention ∷ after
-  pub on : IsOnCycle d mention
-  pub first : (m : Mention) → Contains before m → IsOnCycle d m → ⊥
-  pub at : place ≡ mention.place
+  pub before : List Typed
+  pub pair : Typed
+  pub after : List Typed
+  pub splits : typed_names d.types ≡ before ++ pair ∷ after
+  pub on : IsOnCycle d pair
+  pub first : (t : Typed) → Contains before t → IsOnCycle d t → ⊥
+  pub at : place ≡ pair.mention.place
 
--- the number of each mention's type, with its place
-abbrev pub number_place : List Text → Mention → ℕ × ℕ
-number_place names m = (number_in names m.text, m.place)
+-- the numbers of a declared type and its parent, with the type's place
+abbrev pub placed_pair : List Text → Typed → PlacedPair
+placed_pair names t =
+    record { child = number_in names t.mention.text; parent = number_in names (text_or_object t.of_type); place = t.mention.place }
 
-abbrev pub places_in : List Text → List NameGroup → List (ℕ × ℕ)
-places_in names groups = map (number_place names) (mentions_in groups)
+abbrev pub placed_in : List Text → List NameGroup → List PlacedPair
+placed_in names groups = map (placed_pair names) (typed_names groups)

@@ -1,21 +1,20 @@
 //! Which types of a domain are below which.
-ghost use Rattle.std.specs.Prelude.{◌≡◌, ℕ, ◌<◌, ◌↔◌, IsTrue, IfOk, Contains, All, MatchOption, option_map, length};
+ghost use Rattle.std.specs.Prelude.{◌≡◌, ℕ, ◌<◌, ◌↔◌, false, IsTrue, IfOk, Contains, All, MatchOption, option_map, length};
 ghost use Rattle.std.specs.List.{position};
 ghost use Rattle.hddl_meaning.specs.Mentions.{mention_of};
 ghost use Rattle.hddl_meaning.specs.Names.{is_same_text, type_names};
 ghost use Rattle.hddl_meaning.specs.Types.{IsBelow, text_or_object};
 ghost use Rattle.hddl_meaning.specs.Items.{ShareSubtype};
-ghost use Rattle.hddl_meaning.specs.Types.{Leads, parent_pairs as declared_parents};
 ghost use Rattle.hddl_names.specs.Cycles.{HasNoCycle, IsFirstCycle};
 ghost use Rattle.hddl_names.specs.Reach.{IsAboveSome};
-ghost use Rattle.hddl_names.specs.TypeNumbers.{type_at, numbered_pairs};
+ghost use Rattle.hddl_names.specs.TypeNumbers.{type_at, is_root, numbered_pairs};
 
 use crate::closure::Closure;
-use crate::cycles::{leads_to, type_places};
+use crate::cycles::placed_pairs;
 use crate::edges::{rows_of, turned};
 use crate::names::Names;
 use crate::pairs::parent_pairs;
-use crate::ranks::may_return;
+use crate::ranks::{rank_of, ranks_of};
 use crate::reach::{all_reached, reached};
 use crate::rows::Rows;
 use crate::vocabulary::Vocabulary;
@@ -152,26 +151,32 @@ impl<'a> TypeHierarchy<'a> {
         Ok(found)
     }
 
-    /// Whether a type is below itself along one or more pairs.
-    fn is_on_cycle(&self, alloc: Global, t: usize) -> Result<bool, AllocError>
-        requires { t < length (type_names self.now) }
-        ensures { IfOk result (λ cycle. IsTrue cycle ↔ Leads (declared_parents self.now) (type_at self.now t) (type_at self.now t)) }
+    /// Whether a declared pair, of a type and its parent by number, lies on a cycle. `object` with itself doesn't.
+    fn is_on_cycle(&self, alloc: Global, child: usize, parent: usize) -> Result<bool, AllocError>
+        requires child { child < length (type_names self.now) }
+        requires parent { parent < length (type_names self.now) }
+        ensures { IfOk result (λ cycle. IsTrue cycle
+            ↔ ((is_root (child, parent) ≡ false) × IsBelow self.now (type_at self.now parent) (type_at self.now child))) }
     {
-        let above = reached(alloc, &self.parents, t)?;
-        let cycle = leads_to(&self.parents, above.as_slice(), t);
+        if child == OBJECT && parent == OBJECT {
+            return Ok(false);
+        }
+        let cycle = self.is_below(alloc, parent, child)?;
         Ok(cycle)
     }
 
-    /// The place of the first type in the text of `:types` that is below itself along one or more pairs, None where there is
+    /// The place of the first name in the text of `:types` that stands in a declared pair on a cycle, None where there is
     /// none, or an error where memory was refused.
     pub fn cycle_at(&self, alloc: Global) -> Result<Option<usize>, AllocError>
         ensures { IfOk result (λ found. MatchOption found (HasNoCycle self.now) (IsFirstCycle self.now)) }
     {
-        let places = type_places(alloc, self.names, self.domain.types.as_slice())?;
-        let may = may_return(alloc, &self.parents, &self.children)?;
-        for place in places.as_slice() {
-            if may[place.0] && self.is_on_cycle(alloc, place.0)? {
-                return Ok(Some(place.1));
+        let pairs = placed_pairs(alloc, self.names, self.domain.types.as_slice())?;
+        let ranks = ranks_of(alloc, &self.parents, &self.children)?;
+        for pair in pairs.as_slice() {
+            if rank_of(&ranks, pair.child) == rank_of(&ranks, pair.parent)
+                && self.is_on_cycle(alloc, pair.child, pair.parent)?
+            {
+                return Ok(Some(pair.place));
             }
         }
         Ok(None)

@@ -1,12 +1,10 @@
-//! Which numbers may lead back to themselves.
+//! Ranks of numbers, of which no number leads to one of a higher rank.
 //!
-//! Each number has a rank, and no number leads to one of a higher rank. So all numbers of a cycle have
-//! the same rank, and a number is on none if its row has no number of its own rank. Two walks find ranks
-//! that only numbers which lead to one another share, so that those that are left lie on cycles. No promise
+//! So all numbers of a cycle have the same rank, and a pair of two ranks is on none. Two walks find ranks
+//! that only numbers which lead to one another share, so that a pair of one rank lies on a cycle. No promise
 //! rests on these walks but that of speed: whether ranks rise is looked at once, after them.
-ghost use Rattle.std.specs.Prelude.{◌≡◌, ◌≤◌, ◌↔◌, IsTrue, IfOk, All, nat_eq, length, get_or};
-ghost use Rattle.std.specs.List.{list_any};
-ghost use Rattle.hddl_names.specs.Ranks.{NeverRise, HasAllOnCycles};
+ghost use Rattle.std.specs.Prelude.{◌≡◌, ◌≤◌, ◌↔◌, IsTrue, IfOk, All, get_or};
+ghost use Rattle.hddl_names.specs.Ranks.{NeverRise};
 
 use crate::rows::Rows;
 use std::alloc::{AllocError, Global};
@@ -96,7 +94,7 @@ fn likely_ranks(alloc: Global, rows: &Rows, back: &Rows) -> Result<Vec<usize>, A
 }
 
 /// The rank of a number, 0 where none is kept.
-fn rank_of(ranks: &[usize], number: usize) -> usize
+pub(crate) fn rank_of(ranks: &[usize], number: usize) -> usize
     ensures { result ≡ get_or ranks.now number 0 }
 {
     ranks.get(number).copied().unwrap_or(0)
@@ -121,8 +119,9 @@ fn never_rise(rows: &Rows, ranks: &[usize]) -> bool
     true
 }
 
-/// Ranks that never rise. `back` has the rows the other way round.
-fn ranks_of(alloc: Global, rows: &Rows, back: &Rows) -> Result<Vec<usize>, AllocError>
+/// Ranks that never rise: of a number and one in its row they are the same only where the two lead to one another.
+/// `back` has the rows the other way round. The work is that of going over all rows.
+pub(crate) fn ranks_of(alloc: Global, rows: &Rows, back: &Rows) -> Result<Vec<usize>, AllocError>
     ensures { IfOk result (λ ranks. NeverRise rows.now ranks.items) }
 {
     let ranks = likely_ranks(alloc, rows, back)?;
@@ -130,26 +129,4 @@ fn ranks_of(alloc: Global, rows: &Rows, back: &Rows) -> Result<Vec<usize>, Alloc
         return Ok(ranks);
     }
     Ok(Vec::new(alloc))
-}
-
-/// Whether one of these has this rank.
-fn some_has(ranks: &[usize], numbers: &[usize], rank: usize) -> bool
-    ensures { result ≡ list_any (λ x. nat_eq (get_or ranks.now x 0) rank) numbers.now }
-{
-    numbers.iter().any(|x| rank_of(ranks, *x) == rank)
-}
-
-/// For each number whether it may lead back to itself: true for all that do. `back` has the rows the other
-/// way round. The work is that of going over all rows.
-pub fn may_return(alloc: Global, rows: &Rows, back: &Rows) -> Result<Vec<bool>, AllocError>
-    ensures len { IfOk result (λ may. length may.items ≡ length rows.now) }
-    ensures on { IfOk result (λ may. HasAllOnCycles rows.now may.items) }
-{
-    let ranks = ranks_of(alloc, rows, back)?;
-    let mut may = Vec::with_capacity(alloc, rows.len())?;
-    for number in 0..rows.len() {
-        let rank = rank_of(ranks.as_slice(), number);
-        may.push(some_has(ranks.as_slice(), rows.row(number), rank))?;
-    }
-    Ok(may)
 }

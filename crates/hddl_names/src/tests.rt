@@ -3,7 +3,7 @@ ghost use Rattle.htn_order.specs.Closure.{AreBelow};
 use super::*;
 use crate::closure::Closure;
 use crate::edges::{rows_of, turned};
-use crate::ranks::may_return;
+use crate::ranks::{rank_of, ranks_of};
 use crate::rows::Rows;
 use std::alloc::{AllocError, Global};
 use std::test::Fail;
@@ -35,7 +35,8 @@ fn rows_with(alloc: Global, size: usize, pairs: &[(usize, usize)]) -> Result<Row
     Ok(rows)
 }
 
-fn marks_with(
+/// Of each pair, whether both numbers have one rank.
+fn levels_with(
     alloc: Global,
     size: usize,
     pairs: &[(usize, usize)],
@@ -43,11 +44,15 @@ fn marks_with(
     let back = turned(alloc, pairs)?;
     let rows = rows_with(alloc, size, pairs)?;
     let turned_rows = rows_with(alloc, size, back.as_slice())?;
-    may_return(alloc, &rows, &turned_rows)
+    let ranks = ranks_of(alloc, &rows, &turned_rows)?;
+    pairs
+        .iter()
+        .map(|pair| rank_of(&ranks, pair.0) == rank_of(&ranks, pair.1))
+        .collect(alloc)
 }
 
 #[test]
-fn only_numbers_on_cycles_are_marked(rt: HostRuntime) -> Result<(), Fail> {
+fn only_pairs_on_cycles_keep_their_rank(rt: HostRuntime) -> Result<(), Fail> {
     let alloc = rt.alloc();
     let pairs = [
         (0, 1),
@@ -61,9 +66,11 @@ fn only_numbers_on_cycles_are_marked(rt: HostRuntime) -> Result<(), Fail> {
         (7, 7),
         (8, 7),
     ];
-    let marks = marks_with(alloc, 9, &pairs)?;
-    let expected = [true, true, true, false, false, true, true, true, false];
-    assert!(rt; marks.as_slice() == expected.as_slice());
+    let levels = levels_with(alloc, 9, &pairs)?;
+    let expected = [
+        true, true, true, false, false, false, true, true, true, false,
+    ];
+    assert!(rt; levels.as_slice() == expected.as_slice());
     Ok(())
 }
 
@@ -76,10 +83,10 @@ fn a_long_chain_takes_no_time(rt: HostRuntime) -> Result<(), Fail> {
     let down: Vec<(usize, usize)> = (0..65_534usize)
         .map(|k| (k.saturating_add(1), k))
         .collect(alloc)?;
-    let rising = marks_with(alloc, 65_535, up.as_slice())?;
-    let falling = marks_with(alloc, 65_535, down.as_slice())?;
-    assert!(rt; rising.iter().all(|mark| !*mark));
-    assert!(rt; falling.iter().all(|mark| !*mark));
+    let rising = levels_with(alloc, 65_535, up.as_slice())?;
+    let falling = levels_with(alloc, 65_535, down.as_slice())?;
+    assert!(rt; rising.iter().all(|level| !*level));
+    assert!(rt; falling.iter().all(|level| !*level));
     assert_eq!(rt; rising.len(), falling.len());
     Ok(())
 }

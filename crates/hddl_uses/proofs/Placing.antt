@@ -6,8 +6,8 @@ use Rattle.std.proofs.Math.Logic.{∥∥₁_elim, ∥∥₁_map}
 use Rattle.std.proofs.Props.{props}
 use Rattle.hddl_tree.specs.declared.domain.DomainText.{DomainText}
 use Rattle.hddl_tree.specs.declared.problem.ProblemText.{ProblemText}
-use Rattle.hddl_meaning.specs.Mentions.{Text, IsIn}
-use Rattle.hddl_meaning.specs.Names.{is_same_text, number_or_zero, object_names, type_names}
+use Rattle.hddl_meaning.specs.Mentions.{Text, Typed, IsIn}
+use Rattle.hddl_meaning.specs.Names.{is_same_text, number_or_zero, object_declarations, object_names, type_names}
 use Rattle.hddl_meaning.specs.Types.{text_or_object, HasType, IsBelow}
 use Rattle.hddl_meaning.specs.Uses.{Variable}
 use Rattle.hddl_meaning.specs.Items.{IsDeclaredType, MayStand, ShareSubtype}
@@ -58,6 +58,11 @@ type_known d t k e = (is_type_number d t).0 (ap is_some e)
 
 pub type_unknown : (d : DomainText) (t : Text) → position (is_same_text t) (type_names d) ≡ None → IsDeclaredType d t → ⊥
 type_unknown d t e h = true≢false (sym ((is_type_number d t).1 h) ∙ ap is_some e)
+
+-- where all is known, the types of constants and objects are declared
+pub declared_types : (d : DomainText) (p : ProblemText) → ∥ AreKnown d p ∥₁ → (t : Typed) → IsIn t (object_declarations d p) → IsTyped d t
+declared_types d p known t at =
+    let number = is_type_number d (text_or_object t.of_type) in number.0 (∥∥₁_elim known (search props) (λ k. number.1 (k.typed t at)))
 
 module _ (d : DomainText) (v : Variable) (type : Text) where
   pub quantified : v.is_quantified ≡ true → MayStand d v type ↔ IsBelow d (text_or_object v.typed.of_type) type

@@ -26,7 +26,7 @@ use Rattle.hddl_scope.proofs.Finding.{Finds-append, Finds-list, Finds-same, Find
 -- whether one clashes doesn't hang on the variables in force
 pub object_clash : (context : Context) (before after : List Variable) (name : Name) (at_place : Typed) (f : CheckFault)
     → Clashes context before (term.Object name) at_place f → Clashes context after (term.Object name) at_place f
-object_clash context before after name at_place f (place, is, h) = (place, is, record { clash = h.clash; known = h.known; known_place = h.known_place })
+object_clash context before after name at_place f (place, is, h) = (place, is, record { clash = h.clash; known = h.known })
 
 -- ## Pairs of two lists
 

@@ -1,14 +1,14 @@
 -- What has to be known before it can be told whether an argument fits.
-use Rattle.std.specs.Prelude.{◌≡◌, ◌≤◌, ℕ, List, length, Some}
+use Rattle.std.specs.Prelude.{◌≤◌, ℕ, List, length}
 use Rattle.hddl_tree.specs.declared.term.Term.{Term}
 use Rattle.hddl_tree.specs.declared.term.Term.TheVariants as term
 use Rattle.hddl_tree.specs.declared.domain.DomainText.{DomainText}
 use Rattle.hddl_tree.specs.declared.problem.ProblemText.{ProblemText}
-use Rattle.hddl_meaning.specs.Mentions.{Typed, IsIn, folded}
+use Rattle.hddl_meaning.specs.Mentions.{Typed, IsIn}
 use Rattle.hddl_meaning.specs.Names.{object_names}
 use Rattle.hddl_meaning.specs.Types.{text_or_object}
 use Rattle.hddl_meaning.specs.Uses.{Variable}
-use Rattle.hddl_meaning.specs.Items.{IsClash, IsDeclaredType, variable_in}
+use Rattle.hddl_meaning.specs.Items.{IsClash, IsDeclaredType}
 use Rattle.hddl_names.specs.Members.{AreTyped}
 
 -- each constant and object has declared types, and there are few enough to be numbered
@@ -23,13 +23,12 @@ IsTyped d t = IsDeclaredType d (text_or_object t.of_type)
 abbrev pub AllTyped : DomainText → List Typed → Type 0
 AllTyped d typed = (t : Typed) → IsIn t typed → IsTyped d t
 
--- the types of the argument are declared
-abbrev pub IsKnown : DomainText → ProblemText → List Variable → Term → Type 0
-IsKnown d p variables (term.Variable x) = (v : Variable) × (variable_in variables (folded x.text) ≡ Some v) × IsTyped d v.typed
-IsKnown d p variables (term.Object x) = ∥ AreKnown d p ∥₁
+-- of a constant or object, all are
+abbrev pub IsKnown : DomainText → ProblemText → Term → Type 0
+IsKnown d p (term.Variable x) = Unit {0}
+IsKnown d p (term.Object x) = ∥ AreKnown d p ∥₁
 
--- a clash between declared types
+-- a clash that can be told
 pub record IsKnownClash (d : DomainText) (p : ProblemText) (variables : List Variable) (argument : Term) (at_place : Typed) (place : ℕ) : Type 0 where
   pub clash : IsClash d p variables argument at_place place
-  pub known : IsKnown d p variables argument
-  pub known_place : IsTyped d at_place
+  pub known : IsKnown d p argument

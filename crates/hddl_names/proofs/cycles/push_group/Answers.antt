@@ -1,15 +1,15 @@
-use Rattle.std.proofs.Common.{◌++◌, map, ap, ◌∙◌, append_assoc}
-use Rattle.hddl_meaning.specs.Mentions.{mention_of}
-use Rattle.hddl_meaning.specs.Names.{optional_mention}
-use Rattle.hddl_names.specs.Cycles.{number_place}
-use Rattle.hddl_names.proofs.GroupPairs.{group_places}
+use Rattle.std.proofs.Common.{◌++◌, map, ap, ◌∙◌}
+use Rattle.hddl_words.specs.Names.{Name}
+use Rattle.hddl_meaning.specs.Mentions.{folded}
+use Rattle.hddl_meaning.specs.Names.{number_in}
+use Rattle.hddl_names.specs.declared.cycles.PlacedPair.{PlacedPair}
+use Rattle.hddl_names.proofs.GroupPairs.{group_placed}
 use Rattle.hddl_names.proofs.cycles.push_group.Goals as goal
 
 pub returns : goal.returns
 returns c =
     let names = c.args.names.now in
-    let more = map (number_place names) (optional_mention c.args.group.now.of_type) in
-    c.in_ok-push_place.ensures
-    ∙ ap (λ ps. ps ++ more) (c.in_ok-push_places.ensures ∙ ap (λ ns. c.args.places.now.items ++ map (λ x. number_place names (mention_of x)) ns) c.as_slice.ensures)
-    ∙ append_assoc c.args.places.now.items (map (λ x. number_place names (mention_of x)) c.args.group.now.names) more
-    ∙ ap (λ ps. c.args.places.now.items ++ ps) (group_places names c.args.group.now)
+    let parent = c.in_ok-parent.parent in
+    let placed : Name → PlacedPair = λ x. record { child = number_in names (folded x.text); parent = parent; place = x.place } in
+    c.in_ok-push_placed.ensures
+    ∙ ap (λ ps. c.args.pairs.now.items ++ ps) (ap (map placed) c.as_slice.ensures ∙ group_placed names c.args.group.now parent c.in_ok-parent.ensures)

@@ -1,6 +1,6 @@
-use Rattle.std.proofs.Common.{◌∙◌, ℕ, List, sym, ap, subst}
+use Rattle.std.proofs.Common.{◌∙◌, ℕ, List, sym, subst}
 use Rattle.htn_order.specs.Closure.{AreBelow}
-use Rattle.hddl_names.specs.Rows.{AreRows, turned}
+use Rattle.hddl_names.specs.Rows.{AreRows}
 use Rattle.hddl_names.proofs.Parents.{turned-below}
 use Rattle.hddl_names.proofs.tests.closure_with.Goals as goal
 
