@@ -1,6 +1,6 @@
 -- A checked planning task: what a domain and a problem declare, by numbers.
 use Rattle.std.specs.Prelude.{◌≡◌, ℕ, ◌+◌, ◌<◌, Bool, true, nat_lt, nat_eq, List, [], ◌++◌, length, map, get_or}
-use Rattle.std.specs.List.{list_any, All}
+use Rattle.std.specs.List.{flat_map, list_any, All}
 use Rattle.std.specs.List.Sorted.{IsStrictlySortedBy}
 use Rattle.std.specs.Ordering.{nat_cmp}
 use Rattle.htn_model.specs.Atom.{Atom}
@@ -75,6 +75,27 @@ is_compound t name = nat_lt name (length t.tasks)
 -- the types of the places of a compound task or an action
 abbrev pub task_types : Task → ℕ → List ℕ
 task_types t name = get_or (map (λ d. d.types) t.tasks ++ map (λ a. a.parameters) t.actions) name []
+
+-- ## Types that are named
+
+abbrev mutual
+  -- the types of the variables of each `for_all`
+  pub formula_types : Formula → List ℕ
+  formula_types (literal positive a) = []
+  formula_types (equation e) = []
+  formula_types (for_all types body) = types ++ formulas_types body
+
+  pub formulas_types : Formulas → List ℕ
+  formulas_types no_formulas = []
+  formulas_types (formula f fs) = formula_types f ++ formulas_types fs
+
+-- the types of places, of parameters and of quantified variables
+abbrev pub named_types : Task → List ℕ
+named_types t =
+    flat_map (λ d. d.types) t.predicates ++ flat_map (λ d. d.types) t.tasks
+    ++ flat_map (λ m. m.parameters ++ flat_map formula_types m.precondition) t.methods
+    ++ flat_map (λ a. a.parameters ++ flat_map formula_types a.precondition) t.actions
+    ++ t.initial_network.parameters ++ flat_map formula_types t.goal
 
 -- ## Names
 
