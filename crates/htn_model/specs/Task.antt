@@ -90,12 +90,15 @@ abbrev mutual
   formulas_types (formula f fs) = formula_types f ++ formulas_types fs
 
 -- the types of places, of parameters and of quantified variables
+abbrev pub types_named_in : List Declaration → List Declaration → List MethodSchema → List ActionSchema → InitialSchema → List Formula → List ℕ
+types_named_in predicates tasks methods actions initial goal =
+    flat_map (λ d. d.types) predicates ++ flat_map (λ d. d.types) tasks
+    ++ flat_map (λ m. m.parameters ++ flat_map formula_types m.precondition) methods
+    ++ flat_map (λ a. a.parameters ++ flat_map formula_types a.precondition) actions
+    ++ initial.parameters ++ flat_map formula_types goal
+
 abbrev pub named_types : Task → List ℕ
-named_types t =
-    flat_map (λ d. d.types) t.predicates ++ flat_map (λ d. d.types) t.tasks
-    ++ flat_map (λ m. m.parameters ++ flat_map formula_types m.precondition) t.methods
-    ++ flat_map (λ a. a.parameters ++ flat_map formula_types a.precondition) t.actions
-    ++ t.initial_network.parameters ++ flat_map formula_types t.goal
+named_types t = types_named_in t.predicates t.tasks t.methods t.actions t.initial_network t.goal
 
 -- ## Names
 
