@@ -14,7 +14,7 @@ use Rattle.hddl_tree.specs.declared.problem.ProblemText.{ProblemText}
 use Rattle.hddl_meaning.specs.Mentions.{Text}
 use Rattle.hddl_meaning.specs.Names.{type_names, object_names}
 use Rattle.hddl_meaning.specs.Types.{HasType}
-use Rattle.hddl_names.specs.Members.{AreMembersOf}
+use Rattle.hddl_names.specs.Members.{AreNamedMembersOf}
 
 -- a test of numbers finds what a list contains
 any_of : (o : ℕ) (l : List ℕ) → (list_any (nat_eq o) l ≡ true) ↔ Contains l o
@@ -39,20 +39,23 @@ module _ (t : model.Task) (lists : List (List ℕ)) (same : map (λ x. x.objects
       let as_list : model.has_type t k o ≡ list_any (nat_eq o) (get_or lists k []) = ap (λ l. list_any (nat_eq o) (get_or l k [])) same in
       (λ has. (any_of o (get_or lists k [])).0 (sym as_list ∙ has), λ among. as_list ∙ (any_of o (get_or lists k [])).1 among)
 
-  module _ (d : DomainText) (p : ProblemText) (names : map (λ x. x.name) t.types ≡ type_names d) (objects : t.objects ≡ object_names d p) (are : AreMembersOf d p lists) where
+  module _ (d : DomainText) (p : ProblemText) (named : List ℕ) (names : map (λ x. x.name) t.types ≡ type_names d) (objects : t.objects ≡ object_names d p)
+      (listed : named ≡ model.named_types t) (are : AreNamedMembersOf d p named lists) where
     pub ascends : (k : ℕ) (type : model.ObjectType) → slice_get t.types k ≡ Some type → IsStrictlySortedBy nat_cmp type.objects
     ascends k type h = subst (IsStrictlySortedBy nat_cmp) (list_at k type h) (are.ascending k)
 
     pub has_members : (k o : ℕ) (type : model.ObjectType) (name : Text) → slice_get t.types k ≡ Some type → slice_get t.objects o ≡ Some name
-        → (model.has_type t k o ≡ true) ↔ HasType d p name type.name
+        → (model.has_type t k o ≡ true) ↔ (Contains (model.named_types t) k × HasType d p name type.name)
     has_members k o type name h j =
-        let named : slice_get (type_names d) k ≡ Some type.name =
+        let type_name : slice_get (type_names d) k ≡ Some type.name =
         ap (λ l. slice_get l k) (sym names) ∙ slice_get-map (λ x. x.name) t.types k ∙ ap (option_map (λ x. x.name)) h in
         let object : slice_get (object_names d p) o ≡ Some name = ap (λ l. slice_get l o) (sym objects) ∙ j in
-        let are_members = are.members k o (below_length (type_names d) k type.name named) (below_length (object_names d p) o name object) in
+        let are_members = are.members k o (below_length (type_names d) k type.name type_name) (below_length (object_names d p) o name object) in
         let words : HasType d p (get_or (object_names d p) o []) (get_or (type_names d) k []) ≡ HasType d p name type.name =
-        ap₂ (λ (x y : Text). HasType d p x y) (get_or_from_slice_get (object_names d p) o name [] object) (get_or_from_slice_get (type_names d) k type.name [] named) in
-        (λ has. subst (λ (X : Type 0). X) words (are_members.0 ((tested k o).0 has)), λ has. (tested k o).1 (are_members.1 (subst (λ (X : Type 0). X) (sym words) has)))
+        ap₂ (λ (x y : Text). HasType d p x y) (get_or_from_slice_get (object_names d p) o name [] object) (get_or_from_slice_get (type_names d) k type.name [] type_name) in (
+          λ has. let member = are_members.0 ((tested k o).0 has) in (subst (λ (l : List ℕ). Contains l k) listed member.0, subst (λ (X : Type 0). X) words member.1),
+          λ (there, typed). (tested k o).1 (are_members.1 (subst (λ (l : List ℕ). Contains l k) (sym listed) there, subst (λ (X : Type 0). X) (sym words) typed)),
+        )
 
     pub lies_within : (k o : ℕ) → model.has_type t k o ≡ true → o < length t.objects
     lies_within k o has = subst (λ (l : List Text). o < length l) (sym objects) (are.within k o ((tested k o).0 has))

@@ -1,8 +1,12 @@
 //! Objects and types.
-ghost use Rattle.std.specs.Prelude.{◌≡◌, ◌<◌, [], length, map, get_or, IfOk};
+ghost use Rattle.std.specs.Prelude.{◌≡◌, ◌<◌, ◌≤◌, [], length, map, get_or, IfOk};
+ghost use Rattle.hddl_meaning.specs.Building.{vocabulary_of};
+ghost use Rattle.hddl_meaning.specs.Names.{object_names, type_names};
+ghost use Rattle.hddl_names.specs.Members.{AreNamedMembersOf, AreTyped};
 ghost use Rattle.hddl_names.specs.Rows.{lists_of};
 
-use hddl_names::Names;
+use hddl_names::{Names, ObjectsByType, TypeHierarchy, Vocabulary};
+use hddl_tree::ProblemText;
 use htn_task::{Name, ObjectType};
 use std::alloc::{AllocError, Global};
 
@@ -47,7 +51,7 @@ fn object_type(
 }
 
 /// The types, each with its objects.
-pub(crate) fn object_types(
+fn object_types(
     alloc: Global,
     names: &Names,
     lists: Vec<Vec<u16>>,
@@ -61,5 +65,24 @@ pub(crate) fn object_types(
         let number = found.len();
         found.push(object_type(alloc, names, number, objects)?)?;
     }
+    Ok(found)
+}
+
+/// The types, each with its objects where its number is named, and with none where it isn't.
+pub(crate) fn types_with_objects(
+    alloc: Global,
+    problem: &ProblemText,
+    vocabulary: &Vocabulary,
+    types: &TypeHierarchy,
+    named: &[u16],
+) -> Result<Vec<ObjectType>, AllocError>
+    requires vocabulary { vocabulary.now ≡ vocabulary_of types.now problem.now }
+    requires few { length (object_names types.now problem.now) ≤ 65536 }
+    requires typed { AreTyped types.now problem.now }
+    ensures names { IfOk result (λ found. map (λ t. t.name) found.items ≡ type_names types.now) }
+    ensures objects { IfOk result (λ found. AreNamedMembersOf types.now problem.now named.now (map (λ t. t.objects) found.items)) }
+{
+    let objects = ObjectsByType::of_named(alloc, problem, vocabulary, types, named)?;
+    let found = object_types(alloc, vocabulary.types(), objects.into_lists())?;
     Ok(found)
 }

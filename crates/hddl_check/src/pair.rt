@@ -12,7 +12,7 @@ use crate::faults::fault_among;
 use crate::objects::known_objects;
 use hddl_build::build;
 use hddl_meaning::CheckFault;
-use hddl_names::{ObjectsByType, TypeHierarchy, Vocabulary};
+use hddl_names::{TypeHierarchy, Vocabulary};
 use hddl_scope::first_of;
 use hddl_tree::{DomainText, ProblemText};
 use hddl_uses::Declarations;
@@ -61,8 +61,7 @@ fn task_of(
     ensures { IfOk result (IsTaskOf domain.now problem.now) }
 {
     let types = TypeHierarchy::of(alloc, domain, vocabulary)?;
-    let objects = ObjectsByType::of(alloc, problem, vocabulary, &types)?;
-    let task = build(alloc, domain, problem, vocabulary, objects)?;
+    let task = build(alloc, domain, problem, vocabulary, &types)?;
     Ok(task)
 }
 

@@ -1,5 +1,6 @@
 pub mod Listed
 pub mod Unique
+pub mod Apart
 pub mod Limits
 pub mod Numbers
 pub mod Conditions

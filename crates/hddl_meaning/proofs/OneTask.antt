@@ -1,6 +1,6 @@
 -- A pair of trees has one task.
 use Rattle.std.proofs.Common.{◌≡◌, ℕ, ◌<◌, ◌≤◌, Bool, true, false, cond, List, [], ◌∷◌, length, map, get_or, Some, ◌⊎◌, inl, inr, sym, refl, ap, ap₂, ◌∙◌, subst, arith, nat_eq, nat_lt, ◌||◌, slice_get}
-use Rattle.std.specs.List.{AllByRecursion, AllZip, list_any}
+use Rattle.std.specs.List.{AllByRecursion, AllZip, Contains, list_any}
 use Rattle.std.specs.List.Sorted.{IsStrictlySortedBy}
 use Rattle.std.specs.Ordering.{nat_cmp}
 use Rattle.std.specs.declared.cmp.Ordering.TheVariants.{Less, Equal, Greater}
@@ -11,7 +11,7 @@ use Rattle.std.proofs.lemmas.List.{ext_get_or, get_or-map, length-map}
 use Rattle.std.proofs.lemmas.Option.{slice_get-get_or}
 use Rattle.htn_model.specs.Problem.{Order, is_before}
 use Rattle.htn_model.specs.Schema as model
-use Rattle.htn_model.specs.Task.{MethodSchema, ObjectType, Task, has_type, objects_of}
+use Rattle.htn_model.specs.Task.{MethodSchema, ObjectType, Task, has_type, named_types, objects_of}
 use Rattle.htn_model.proofs.Splices.{same_order}
 use Rattle.hddl_tree.specs.declared.network.NetworkText.{NetworkText}
 use Rattle.hddl_tree.specs.declared.domain.MethodText.{MethodText}
@@ -82,56 +82,6 @@ same_ascending (x ∷ xs) (y ∷ ys) p q alike = by (cases_order x y) (same_asce
     by (inr (inl lt)) again = absurd (both_ways (list_any (nat_eq x) (x ∷ xs)) (alike x ∙ less_than_first x y ys lt q.0) (among x xs))
     by (inr (inr lt)) again = absurd (both_ways (list_any (nat_eq y) (y ∷ ys)) (sym (alike y) ∙ less_than_first y x xs lt p.0) (among y ys))
 
--- ## Types of objects
-
-abbrev nobody : ObjectType
-nobody = record { name = []; objects = [] }
-
-module _ (d : DomainText) (p : ProblemText) where
-  names_agree : (t u : Task) → IsTaskOf d p t → IsTaskOf d p u → map (λ x. x.name) t.types ≡ map (λ x. x.name) u.types
-  names_agree t u is also = is.types ∙ sym also.types
-
-  types_long : (t u : Task) → IsTaskOf d p t → IsTaskOf d p u → length t.types ≡ length u.types
-  types_long t u is also = sym (length-map t.types (λ x. x.name)) ∙ ap length (names_agree t u is also) ∙ length-map u.types (λ x. x.name)
-
-  -- the name of a type
-  name_at : (t u : Task) → IsTaskOf d p t → IsTaskOf d p u → (k : ℕ) → k < length t.types → k < length u.types → (get_or t.types k nobody).name ≡ (get_or u.types k nobody).name
-  name_at t u is also k low high =
-      sym (get_or-map (λ x. x.name) t.types k nobody [] low) ∙ ap (λ names. get_or names k []) (names_agree t u is also) ∙ get_or-map (λ x. x.name) u.types k nobody [] high
-
-  -- an object that has a type in the one task has it in the other
-  keeps : (t u : Task) → IsTaskOf d p t → IsTaskOf d p u → (k o : ℕ) → k < length t.types → k < length u.types → has_type t k o ≡ true → has_type u k o ≡ true
-  keeps t u is also k o low high h =
-      let within : o < length t.objects = is.within k o h in
-      let type : ObjectType = get_or t.types k nobody in
-      let other : ObjectType = get_or u.types k nobody in
-      let name : Text = get_or t.objects o [] in
-      let here : slice_get t.objects o ≡ Some name = slice_get-get_or t.objects o [] within in
-      let there : slice_get u.objects o ≡ Some name = subst (λ names. slice_get names o ≡ Some name) (is.objects ∙ sym also.objects) here in
-      let has : HasType d p name type.name = (is.members k o type name (slice_get-get_or t.types k nobody low) here).0 h in
-      (also.members k o other name (slice_get-get_or u.types k nobody high) there).1 (subst (HasType d p name) (name_at t u is also k low high) has)
-
-  members_agree : (t u : Task) → IsTaskOf d p t → IsTaskOf d p u → (k : ℕ) → k < length t.types → k < length u.types
-      → (get_or t.types k nobody).objects ≡ (get_or u.types k nobody).objects
-  members_agree t u is also k low high =
-      let type : ObjectType = get_or t.types k nobody in
-      let other : ObjectType = get_or u.types k nobody in
-      let first : objects_of t k ≡ type.objects = get_or-map (λ x. x.objects) t.types k nobody [] low in
-      let second : objects_of u k ≡ other.objects = get_or-map (λ x. x.objects) u.types k nobody [] high in
-      same_ascending type.objects other.objects (is.ascending k type (slice_get-get_or t.types k nobody low)) (also.ascending k other (slice_get-get_or u.types k nobody high))
-      (λ o.
-      ap (list_any (nat_eq o)) (sym first)
-      ∙ cmp.both_ways (has_type t k o) (has_type u k o) (keeps t u is also k o low high) (keeps u t also is k o high low)
-      ∙ ap (list_any (nat_eq o)) second)
-
-  types_agree : (t u : Task) → IsTaskOf d p t → IsTaskOf d p u → t.types ≡ u.types
-  types_agree t u is also =
-      let long : length t.types ≡ length u.types = types_long t u is also in
-      ext_get_or nobody t.types u.types long (λ k low. type_at k low (subst (λ n. k < n) long low))
-    where
-      type_at : (k : ℕ) → k < length t.types → k < length u.types → get_or t.types k nobody ≡ get_or u.types k nobody
-      type_at k low high = λ i. record { name = name_at t u is also k low high i; objects = members_agree t u is also k low high i }
-
 -- ## Networks and methods
 
 orders_agree : (n : NetworkText) (r s : Order) → IsOrderOf n r → IsOrderOf n s → r ≡ s
@@ -160,6 +110,78 @@ zipped_agree R (x ∷ xs) [] zs p q same = absurd p
 zipped_agree R (x ∷ xs) (y ∷ ys) [] p q same = absurd q
 zipped_agree R (x ∷ xs) (y ∷ ys) (z ∷ zs) p q same = ap₂ ◌∷◌ (same x y z p.0 q.0) (zipped_agree R xs ys zs p.1 q.1 same)
 
+all_methods_agree : (d : DomainText) (p : ProblemText) (t u : Task) → IsTaskOf d p t → IsTaskOf d p u → t.methods ≡ u.methods
+all_methods_agree d p t u is also = zipped_agree (IsMethodOf (vocabulary_of d p)) d.methods t.methods u.methods is.methods also.methods (methods_agree (vocabulary_of d p))
+
+-- ## Types of objects
+
+abbrev nobody : ObjectType
+nobody = record { name = []; objects = [] }
+
+module _ (d : DomainText) (p : ProblemText) where
+  names_agree : (t u : Task) → IsTaskOf d p t → IsTaskOf d p u → map (λ x. x.name) t.types ≡ map (λ x. x.name) u.types
+  names_agree t u is also = is.types ∙ sym also.types
+
+  types_long : (t u : Task) → IsTaskOf d p t → IsTaskOf d p u → length t.types ≡ length u.types
+  types_long t u is also = sym (length-map t.types (λ x. x.name)) ∙ ap length (names_agree t u is also) ∙ length-map u.types (λ x. x.name)
+
+  -- the name of a type
+  name_at : (t u : Task) → IsTaskOf d p t → IsTaskOf d p u → (k : ℕ) → k < length t.types → k < length u.types → (get_or t.types k nobody).name ≡ (get_or u.types k nobody).name
+  name_at t u is also k low high =
+      sym (get_or-map (λ x. x.name) t.types k nobody [] low) ∙ ap (λ names. get_or names k []) (names_agree t u is also) ∙ get_or-map (λ x. x.name) u.types k nobody [] high
+
+  -- the same types are named
+  named_agree : (t u : Task) → IsTaskOf d p t → IsTaskOf d p u → named_types t ≡ named_types u
+  named_agree t u is also = λ i. named_types (record {
+    objects = t.objects;
+    types = t.types;
+    predicates = (is.predicates ∙ sym also.predicates) i;
+    tasks = (is.tasks ∙ sym also.tasks) i;
+    methods = all_methods_agree d p t u is also i;
+    actions = (is.actions ∙ sym also.actions) i;
+    initial_network = record {
+      parameters = (is.parameters ∙ sym also.parameters) i;
+      constraints = t.initial_network.constraints;
+      network = t.initial_network.network;
+    };
+    initial_atoms = t.initial_atoms;
+    goal = (is.goal ∙ sym also.goal) i;
+  })
+
+  -- an object that has a type in the one task has it in the other
+  keeps : (t u : Task) → IsTaskOf d p t → IsTaskOf d p u → (k o : ℕ) → k < length t.types → k < length u.types → has_type t k o ≡ true → has_type u k o ≡ true
+  keeps t u is also k o low high h =
+      let within : o < length t.objects = is.within k o h in
+      let type : ObjectType = get_or t.types k nobody in
+      let other : ObjectType = get_or u.types k nobody in
+      let name : Text = get_or t.objects o [] in
+      let here : slice_get t.objects o ≡ Some name = slice_get-get_or t.objects o [] within in
+      let there : slice_get u.objects o ≡ Some name = subst (λ names. slice_get names o ≡ Some name) (is.objects ∙ sym also.objects) here in
+      let has : Contains (named_types t) k × HasType d p name type.name = (is.members k o type name (slice_get-get_or t.types k nobody low) here).0 h in
+      (also.members k o other name (slice_get-get_or u.types k nobody high) there).1
+      (subst (λ (l : List ℕ). Contains l k) (named_agree t u is also) has.0, subst (HasType d p name) (name_at t u is also k low high) has.1)
+
+  members_agree : (t u : Task) → IsTaskOf d p t → IsTaskOf d p u → (k : ℕ) → k < length t.types → k < length u.types
+      → (get_or t.types k nobody).objects ≡ (get_or u.types k nobody).objects
+  members_agree t u is also k low high =
+      let type : ObjectType = get_or t.types k nobody in
+      let other : ObjectType = get_or u.types k nobody in
+      let first : objects_of t k ≡ type.objects = get_or-map (λ x. x.objects) t.types k nobody [] low in
+      let second : objects_of u k ≡ other.objects = get_or-map (λ x. x.objects) u.types k nobody [] high in
+      same_ascending type.objects other.objects (is.ascending k type (slice_get-get_or t.types k nobody low)) (also.ascending k other (slice_get-get_or u.types k nobody high))
+      (λ o.
+      ap (list_any (nat_eq o)) (sym first)
+      ∙ cmp.both_ways (has_type t k o) (has_type u k o) (keeps t u is also k o low high) (keeps u t also is k o high low)
+      ∙ ap (list_any (nat_eq o)) second)
+
+  types_agree : (t u : Task) → IsTaskOf d p t → IsTaskOf d p u → t.types ≡ u.types
+  types_agree t u is also =
+      let long : length t.types ≡ length u.types = types_long t u is also in
+      ext_get_or nobody t.types u.types long (λ k low. type_at k low (subst (λ n. k < n) long low))
+    where
+      type_at : (k : ℕ) → k < length t.types → k < length u.types → get_or t.types k nobody ≡ get_or u.types k nobody
+      type_at k low high = λ i. record { name = name_at t u is also k low high i; objects = members_agree t u is also k low high i }
+
 -- ## Tasks
 
 pub tasks_are_unique : TasksAreUnique
@@ -168,7 +190,7 @@ tasks_are_unique d p t u is also = λ i. record {
   types = types_agree d p t u is also i;
   predicates = (is.predicates ∙ sym also.predicates) i;
   tasks = (is.tasks ∙ sym also.tasks) i;
-  methods = zipped_agree (IsMethodOf (vocabulary_of d p)) d.methods t.methods u.methods is.methods also.methods (methods_agree (vocabulary_of d p)) i;
+  methods = all_methods_agree d p t u is also i;
   actions = (is.actions ∙ sym also.actions) i;
   initial_network = record {
     parameters = (is.parameters ∙ sym also.parameters) i;

@@ -1,19 +1,21 @@
 -- The pair of the example fits together, and its task is that of the example.
-use Rattle.std.proofs.Common.{◌≡◌, ℕ, zero, suc, ◌+◌, ◌<◌, ◌≤◌, Bool, true, false, cond, None, Some, length, List, [], ◌∷◌, ◌++◌, codes, inl, inr, refl, sym, ap, ◌∙◌, subst, arith, slice_get, length-append, nat_eq}
-use Rattle.std.specs.List.{AllByRecursion, fold, list_any, zip}
+use Rattle.std.proofs.Common.{◌≡◌, ℕ, zero, suc, ◌+◌, ◌<◌, ◌≤◌, ◌↔◌, Bool, true, false, cond, None, Some, length, List, [], ◌∷◌, ◌++◌, codes, inl, inr, refl, sym, ap, ◌∙◌, subst, arith, slice_get, length-append, nat_eq}
+use Rattle.std.specs.List.{AllByRecursion, Contains, fold, list_any, zip}
 use Rattle.std.specs.List.Sorted.{IsStrictlySortedBy}
 use Rattle.std.specs.Ordering.{nat_cmp}
 use Rattle.std.proofs.lemmas.List.{length-map, length_push}
 use Rattle.std.specs.Cmp.{unsigned_Decides}
 use Rattle.std.proofs.lemmas.Bool.{or_cases}
 use Rattle.std.proofs.lemmas.Option.{slice_get_within}
+use Rattle.std.proofs.lemmas.Map.Views.{list_any-from_Contains}
+use Rattle.std.proofs.lemmas.Cmp.{nat_eq_equiv}
 use Rattle.std.proofs.lemmas.List.Elements.{All-from_recursion}
 use Rattle.hddl_tree.specs.declared.term.Term.{Term}
 use Rattle.hddl_tree.specs.declared.domain.DomainText.{DomainText}
 use Rattle.hddl_tree.specs.declared.problem.ProblemText.{ProblemText}
 use Rattle.hddl_tree.specs.declared.term.Term.TheVariants as term
 use Rattle.htn_model.specs.Problem.{is_before}
-use Rattle.htn_model.specs.Task.{ObjectType, has_type}
+use Rattle.htn_model.specs.Task.{ObjectType, has_type, named_types}
 use Rattle.htn_order.specs.Closure as closure
 use Rattle.htn_order.specs.Closure.{IsClosureOf, Precedes}
 use Rattle.hddl_words.specs.Names.{Name}
@@ -312,18 +314,16 @@ fits_together fault.OutOfMemory h = h
 
 -- ## The task
 
--- the one object has both types
-has_both : (o k : ℕ) → o < 1 → k < 2 → has_type packing_task k o ≡ true
-has_both zero zero h g = refl
-has_both zero (suc zero) h g = refl
-has_both zero (suc (suc k)) h g = absurd (omega arith)
-has_both (suc o) k h g = absurd (omega arith)
+-- the one object is a box
+has_box : (o : ℕ) → o < 1 → has_type packing_task 1 o ≡ true
+has_box zero h = refl
+has_box (suc o) h = absurd (omega arith)
 
 only_zero : (o : ℕ) → list_any (nat_eq o) (0 ∷ []) ≡ true → o < 1
 only_zero o h = elim (or_cases (nat_eq o 0) false h) [ inl e ↦ let same : o ≡ 0 = (unsigned_Decides o 0).0 e in omega arith | inr e ↦ absurd cc ]
 
 has_within : (k o : ℕ) → has_type packing_task k o ≡ true → o < 1
-has_within zero o h = only_zero o h
+has_within zero o h = absurd cc
 has_within (suc zero) o h = only_zero o h
 has_within (suc (suc k)) o h = absurd cc
 
@@ -331,13 +331,30 @@ one_ascends : IsStrictlySortedBy nat_cmp (0 ∷ [])
 unfolding IsStrictlySortedBy
 one_ascends = (tt, tt)
 
+none_ascends : IsStrictlySortedBy nat_cmp []
+unfolding IsStrictlySortedBy
+none_ascends = tt
+
 ascends : (k : ℕ) (type : ObjectType) → slice_get packing_task.types k ≡ Some type → IsStrictlySortedBy nat_cmp type.objects
-ascends k type e = member_at (λ (x : ObjectType). IsStrictlySortedBy nat_cmp x.objects) packing_task.types (one_ascends, (one_ascends, tt)) k type e
+ascends k type e = member_at (λ (x : ObjectType). IsStrictlySortedBy nat_cmp x.objects) packing_task.types (none_ascends, (one_ascends, tt)) k type e
 
 is_a : (k : ℕ) (type : ObjectType) → slice_get packing_task.types k ≡ Some type → HasType packing one_box (codes "b1") type.name
 is_a k type e =
     member_at (λ (x : ObjectType). HasType packing one_box (codes "b1") x.name) packing_task.types
     ((the_box, (0, omega arith, refl), refl, inr (Direct (codes "box") object (0, omega arith, refl))), ((the_box, (0, omega arith, refl), refl, inl refl), tt)) k type e
+
+object_unnamed : Contains (named_types packing_task) 0 → ⊥
+object_unnamed h = let among : list_any (nat_eq 0) (named_types packing_task) ≡ true = list_any-from_Contains nat_eq_equiv 0 (named_types packing_task) h in cc
+
+members : (k o : ℕ) (type : ObjectType) (name : Text) → slice_get packing_task.types k ≡ Some type → slice_get packing_task.objects o ≡ Some name
+    → (has_type packing_task k o ≡ true) ↔ (Contains (named_types packing_task) k × HasType packing one_box name type.name)
+members zero o type name e g = (λ h. absurd cc, λ h. absurd (object_unnamed h.0))
+members (suc zero) o type name e g =
+    let called : codes "b1" ≡ name = member_at (λ (x : Text). codes "b1" ≡ x) packing_task.objects (refl, tt) o name g in (
+      λ h. ((0, omega arith, refl), subst (λ (x : Text). HasType packing one_box x type.name) called (is_a 1 type e)),
+      λ h. has_box o (slice_get_within packing_task.objects o name g),
+    )
+members (suc (suc k)) o type name e g = absurd cc
 
 -- nothing is before anything
 one_alone : IsClosureOf [] ((false ∷ []) ∷ [])
@@ -353,11 +370,7 @@ task_is = record {
   objects = refl;
   types = refl;
   ascending = ascends;
-  members = λ k o type name e g.
-      let called : codes "b1" ≡ name = member_at (λ (x : Text). codes "b1" ≡ x) packing_task.objects (refl, tt) o name g in (
-        λ h. subst (λ (x : Text). HasType packing one_box x type.name) called (is_a k type e),
-        λ h. has_both o k (slice_get_within packing_task.objects o name g) (slice_get_within packing_task.types k type e),
-      );
+  members = members;
   within = has_within;
   predicates = refl;
   tasks = refl;

@@ -10,13 +10,14 @@ use Rattle.std.proofs.lemmas.List.Elements.{Contains-append_cases}
 use Rattle.std.proofs.lemmas.List.Folds.{list_any_at}
 use Rattle.std.proofs.lemmas.List.FromFn.{get_or-range_with_len, length-range_with_len}
 use Rattle.std.proofs.lemmas.List.Quantifiers.{position-Some}
-use Rattle.std.proofs.lemmas.Map.Views.{any-filter_same, Contains-from_any}
+use Rattle.std.proofs.lemmas.Map.Views.{any-filter_same, Contains-from_any, list_any-from_Contains}
+use Rattle.std.proofs.lemmas.Cmp.{nat_eq_equiv}
 use Rattle.std.proofs.lemmas.Option.{get_or_from_slice_get, slice_get_within}
 use Rattle.htn_model.specs.Problem.{Order, is_before}
 use Rattle.htn_model.specs.Machine.{table}
 use Rattle.htn_model.specs.State.{set_of}
 use Rattle.htn_model.specs.Schema as model
-use Rattle.htn_model.specs.Task.{MethodSchema, ObjectType, Task}
+use Rattle.htn_model.specs.Task.{MethodSchema, ObjectType, Task, named_types}
 use Rattle.htn_model.specs.Instances.{ground_atom}
 use Rattle.htn_model.proofs.Splices.{table_past_left, table_past_right, table_square, table_within}
 use Rattle.htn_order.specs.Closure as closure
@@ -313,20 +314,58 @@ module _ (d : DomainText) (p : ProblemText) where
   unfolding has
   has_so type name o e = subst (λ x. (is_so (type_or_not (get_or (object_names d p) o []) type) ≡ true) ↔ HasType d p x type) e (so (type_or_not (get_or (object_names d p) o []) type))
 
-  abbrev numbers_of : Text → List ℕ
-  numbers_of type = filter (has type) (range_with_len 0 (length (object_names d p)))
+and_left : (a b : Bool) → (a && b) ≡ true → a ≡ true
+and_left true b h = refl
+and_left false b h = absurd cc
 
-  abbrev type_of : Text → ObjectType
-  type_of type = record { name = type; objects = numbers_of type }
+and_right : (a b : Bool) → (a && b) ≡ true → b ≡ true
+and_right true b h = h
+and_right false b h = absurd cc
 
-  named : (names : List Text) → map (λ x. x.name) (map type_of names) ≡ names
-  named [] = refl
-  named (name ∷ names) = ap (λ xs. name ∷ xs) (named names)
+and_true : (a b : Bool) → b ≡ true → (a && b) ≡ a
+and_true true b h = h
+and_true false b h = refl
 
-  type_at : (names : List Text) (k : ℕ) (type : ObjectType) → slice_get (map type_of names) k ≡ Some type → type ≡ type_of type.name
-  type_at [] k type h = absurd cc
-  type_at (name ∷ names) zero type h = let same : type_of name ≡ type = cc in sym same ∙ ap (λ (x : ObjectType). type_of x.name) same
-  type_at (name ∷ names) (suc k) type h = type_at names k type h
+-- with the objects of the types of these numbers
+module _ (d : DomainText) (p : ProblemText) (listed : List ℕ) where
+  -- whether the type of a number is listed, and an object has it
+  lists : ℕ → Text → ℕ → Bool
+  lists k type o = list_any (nat_eq k) listed && has d p type o
+
+  lists_so : (k : ℕ) (type name : Text) (o : ℕ) → get_or (object_names d p) o [] ≡ name → (lists k type o ≡ true) ↔ (Contains listed k × HasType d p name type)
+  unfolding lists
+  lists_so k type name o e =
+      let is = has_so d p type name o e in (
+        λ h. (
+          Contains-from_any eqb-true k listed (and_left (list_any (nat_eq k) listed) (has d p type o) h),
+          is.0 (and_right (list_any (nat_eq k) listed) (has d p type o) h),
+        ),
+        λ (among, typed). and_true (list_any (nat_eq k) listed) (has d p type o) (is.1 typed) ∙ list_any-from_Contains nat_eq_equiv k listed among,
+      )
+
+  abbrev numbers_of : ℕ → Text → List ℕ
+  numbers_of k type = filter (lists k type) (range_with_len 0 (length (object_names d p)))
+
+  abbrev type_of : ℕ → Text → ObjectType
+  type_of k type = record { name = type; objects = numbers_of k type }
+
+  abbrev types_from : ℕ → List Text → List ObjectType
+  types_from k [] = []
+  types_from k (name ∷ names) = type_of k name ∷ types_from (suc k) names
+
+  named : (k : ℕ) (names : List Text) → map (λ x. x.name) (types_from k names) ≡ names
+  named k [] = refl
+  named k (name ∷ names) = ap (λ xs. name ∷ xs) (named (suc k) names)
+
+  type_at : (a : ℕ) (names : List Text) (k : ℕ) (type : ObjectType) → slice_get (types_from a names) k ≡ Some type → type ≡ type_of (a + k) type.name
+  type_at a [] k type h = absurd cc
+  type_at a (name ∷ names) zero type h =
+      let same : type_of a name ≡ type = cc in
+      let first : a ≡ a + 0 = omega arith in
+      sym same ∙ ap (λ (x : ObjectType). type_of a x.name) same ∙ ap (λ n. type_of n type.name) first
+  type_at a (name ∷ names) (suc k) type h =
+      let next : suc a + k ≡ a + suc k = omega arith in
+      type_at (suc a) names k type h ∙ ap (λ n. type_of n type.name) next
 
   less : (x y : ℕ) → x < y → nat_cmp x y ≡ Less
   less x y lt = ap (λ b. cond b Less (cond (nat_eq x y) Equal Greater)) (lt-ltb x y lt)
@@ -356,42 +395,35 @@ module _ (d : DomainText) (p : ProblemText) where
       let at : get_or (range_with_len 0 n) o 0 ≡ 0 + o = get_or-range_with_len 0 n o 0 lt in
       list_any_at (nat_eq o) (range_with_len 0 n) o 0 (omega arith) (eq-eqb o (get_or (range_with_len 0 n) o 0) (omega arith))
 
-  any_numbers : (type : Text) (o : ℕ) → list_any (nat_eq o) (numbers_of type) ≡ (has type o && list_any (nat_eq o) (range_with_len 0 (length (object_names d p))))
-  any_numbers type o =
-      any-filter_same (nat_eq o) (has type) (has type o) (λ k e. let same : o ≡ k = eqb-true o k e in ap (has type) (sym same)) (range_with_len 0 (length (object_names d p)))
+  any_numbers : (k : ℕ) (type : Text) (o : ℕ) → list_any (nat_eq o) (numbers_of k type) ≡ (lists k type o && list_any (nat_eq o) (range_with_len 0 (length (object_names d p))))
+  any_numbers k type o =
+      any-filter_same (nat_eq o) (lists k type) (lists k type o) (λ n e. let same : o ≡ n = eqb-true o n e in ap (lists k type) (sym same)) (range_with_len 0 (length (object_names d p)))
 
-  and_right : (a b : Bool) → (a && b) ≡ true → b ≡ true
-  and_right true b h = h
-  and_right false b h = absurd cc
-
-  and_true : (a b : Bool) → b ≡ true → (a && b) ≡ a
-  and_true true b h = h
-  and_true false b h = refl
-
-  numbers_within : (type : Text) (o : ℕ) → list_any (nat_eq o) (numbers_of type) ≡ true → o < length (object_names d p)
-  numbers_within type o h =
+  numbers_within : (k : ℕ) (type : Text) (o : ℕ) → list_any (nat_eq o) (numbers_of k type) ≡ true → o < length (object_names d p)
+  numbers_within k type o h =
       in_range (length (object_names d p)) o
       (Contains-from_any eqb-true o (range_with_len 0 (length (object_names d p)))
-      (and_right (has type o) (list_any (nat_eq o) (range_with_len 0 (length (object_names d p)))) (sym (any_numbers type o) ∙ h)))
+      (and_right (lists k type o) (list_any (nat_eq o) (range_with_len 0 (length (object_names d p)))) (sym (any_numbers k type o) ∙ h)))
 
-  types_within : (names : List Text) (k o : ℕ) → list_any (nat_eq o) (get_or (map (λ x. x.objects) (map type_of names)) k []) ≡ true → o < length (object_names d p)
-  types_within [] k o h = absurd cc
-  types_within (name ∷ names) zero o h = numbers_within name o h
-  types_within (name ∷ names) (suc k) o h = types_within names k o h
+  types_within : (a : ℕ) (names : List Text) (k o : ℕ) → list_any (nat_eq o) (get_or (map (λ x. x.objects) (types_from a names)) k []) ≡ true → o < length (object_names d p)
+  types_within a [] k o h = absurd cc
+  types_within a (name ∷ names) zero o h = numbers_within a name o h
+  types_within a (name ∷ names) (suc k) o h = types_within (suc a) names k o h
 
-  objects_at : (names : List Text) (k : ℕ) (type : ObjectType) → slice_get (map type_of names) k ≡ Some type
-      → get_or (map (λ x. x.objects) (map type_of names)) k [] ≡ numbers_of type.name
+  objects_at : (names : List Text) (k : ℕ) (type : ObjectType) → slice_get (types_from 0 names) k ≡ Some type
+      → get_or (map (λ x. x.objects) (types_from 0 names)) k [] ≡ numbers_of k type.name
   objects_at names k type h =
-      get_or-map (λ x. x.objects) (map type_of names) k type [] (slice_get_within (map type_of names) k type h)
-      ∙ ap (λ (x : ObjectType). x.objects) (get_or_from_slice_get (map type_of names) k type type h ∙ type_at names k type h)
+      let same : 0 + k ≡ k = omega arith in
+      get_or-map (λ x. x.objects) (types_from 0 names) k type [] (slice_get_within (types_from 0 names) k type h)
+      ∙ ap (λ (x : ObjectType). x.objects) (get_or_from_slice_get (types_from 0 names) k type type h ∙ type_at 0 names k type h ∙ ap (λ n. type_of n type.name) same)
 
-  member : (names : List Text) (k o : ℕ) (type : ObjectType) (name : Text) → slice_get (map type_of names) k ≡ Some type → slice_get (object_names d p) o ≡ Some name
-      → list_any (nat_eq o) (get_or (map (λ x. x.objects) (map type_of names)) k []) ≡ has type.name o
+  member : (names : List Text) (k o : ℕ) (type : ObjectType) (name : Text) → slice_get (types_from 0 names) k ≡ Some type → slice_get (object_names d p) o ≡ Some name
+      → list_any (nat_eq o) (get_or (map (λ x. x.objects) (types_from 0 names)) k []) ≡ lists k type.name o
   member names k o type name h g =
       let within : o < length (object_names d p) = slice_get_within (object_names d p) o name g in
       ap (list_any (nat_eq o)) (objects_at names k type h)
-      ∙ any_numbers type.name o
-      ∙ and_true (has type.name o) (list_any (nat_eq o) (range_with_len 0 (length (object_names d p)))) (any_range (length (object_names d p)) o within)
+      ∙ any_numbers k type.name o
+      ∙ and_true (lists k type.name o) (list_any (nat_eq o) (range_with_len 0 (length (object_names d p)))) (any_range (length (object_names d p)) o within)
 
 -- ## The task
 
@@ -425,12 +457,13 @@ methods_are : (v : Vocabulary) (xs : List MethodText) → AllZip (IsMethodOf v) 
 methods_are v [] = tt
 methods_are v (x ∷ xs) = (method_is v x, methods_are v xs)
 
-abbrev task_of : DomainText → ProblemText → Task
-task_of d p =
+-- with these types
+abbrev task_with : DomainText → ProblemText → List ObjectType → Task
+task_with d p types =
     let v = vocabulary_of d p in
     record {
       objects = object_names d p;
-      types = map (type_of d p) (type_names d);
+      types = types;
       predicates = map (predicate_of v) d.predicates;
       tasks = map (compound_of v) d.tasks;
       methods = map (method_of v) d.methods;
@@ -444,19 +477,27 @@ task_of d p =
       goal = formulas_of v [] p.goal;
     }
 
+-- the numbers of the types that it names
+abbrev named_in : DomainText → ProblemText → List ℕ
+named_in d p = named_types (task_with d p [])
+
+abbrev task_of : DomainText → ProblemText → Task
+task_of d p = task_with d p (types_from d p (named_in d p) 0 (type_names d))
+
 pub tasks_exist : TasksExist
 tasks_exist d p = (
   task_of d p,
   record {
     objects = refl;
-    types = named d p (type_names d);
+    types = named d p (named_in d p) 0 (type_names d);
     ascending = λ k type h.
-        subst (λ (x : ObjectType). IsStrictlySortedBy nat_cmp x.objects) (sym (type_at d p (type_names d) k type h)) (ascends d p (has d p type.name) 0 (length (object_names d p)));
+        subst (λ (x : ObjectType). IsStrictlySortedBy nat_cmp x.objects) (sym (type_at d p (named_in d p) 0 (type_names d) k type h))
+        (ascends d p (named_in d p) (lists d p (named_in d p) (0 + k) type.name) 0 (length (object_names d p)));
     members = λ k o type name h g.
-        let same = member d p (type_names d) k o type name h g in
-        let is = has_so d p type.name name o (get_or_from_slice_get (object_names d p) o name [] g) in
+        let same = member d p (named_in d p) (type_names d) k o type name h g in
+        let is = lists_so d p (named_in d p) k type.name name o (get_or_from_slice_get (object_names d p) o name [] g) in
         (λ e. is.0 (sym same ∙ e), λ e. same ∙ is.1 e);
-    within = λ k o h. types_within d p (type_names d) k o h;
+    within = λ k o h. types_within d p (named_in d p) 0 (type_names d) k o h;
     predicates = refl;
     tasks = refl;
     methods = methods_are (vocabulary_of d p) d.methods;

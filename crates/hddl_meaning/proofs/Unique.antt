@@ -1,10 +1,10 @@
--- In a pair that fits together no two predicates, and no two tasks or actions, have one name.
+-- In a pair that fits together no two predicates, no two methods, and no two tasks or actions, have one name.
 use Rattle.std.proofs.Common.{◌≡◌, List, [], ◌∷◌, ◌++◌, map, inl, inr, sym, refl, ap, ◌∙◌, subst, arith, max}
 use Rattle.std.proofs.lemmas.List.{map-append}
 use Rattle.std.proofs.lemmas.Simd.{map-map}
 use Rattle.hddl_tree.specs.declared.domain.DomainText.{DomainText}
 use Rattle.hddl_tree.specs.declared.problem.ProblemText.{ProblemText}
-use Rattle.hddl_meaning.specs.Mentions.{IsIn, Mention, Text, mention_of, texts}
+use Rattle.hddl_meaning.specs.Mentions.{IsIn, Mention, Text, folded, mention_of, texts}
 use Rattle.hddl_meaning.specs.Names.{compound_names, distinct, predicate_names, task_names}
 use Rattle.hddl_meaning.specs.Items.{IsWellTypedPair, declaration_groups, groups}
 use Rattle.hddl_meaning.specs.declared.fault.Source.{Source}
@@ -57,6 +57,10 @@ module _ (d : DomainText) (p : ProblemText) (fits : IsWellTypedPair d p) where
   pub predicates_differ : AreDifferent (predicate_names d)
   predicates_differ =
       subst AreDifferent (map-map (λ m. m.text) (λ x. mention_of x.name) d.predicates) (declared_differ (map (λ x. mention_of x.name) d.predicates) (0, omega arith, refl))
+
+  pub methods_differ : AreDifferent (map (λ x. folded x.name.text) d.methods)
+  methods_differ =
+      subst AreDifferent (map-map (λ m. m.text) (λ x. mention_of x.name) d.methods) (declared_differ (map (λ x. mention_of x.name) d.methods) (1, omega arith, refl))
 
   pub tasks_differ : AreDifferent (task_names d)
   tasks_differ =

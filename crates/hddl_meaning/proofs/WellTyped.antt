@@ -44,6 +44,7 @@ use Rattle.hddl_meaning.proofs.Listed.{at_head, at_tail, each_mapped, in_cases, 
 use Rattle.hddl_meaning.proofs.Limits.{action_schema, initial_order_acyclic, method_order_acyclic, method_schema}
 use Rattle.hddl_meaning.proofs.Numbers.{Declared, declared, first_within, is_named, names_in, number_is, number_within, some_pass}
 use Rattle.hddl_meaning.proofs.Unique.{distinct_predicates, distinct_tasks}
+use Rattle.hddl_meaning.proofs.Apart.{names_apart}
 use Rattle.hddl_meaning.proofs.Conditions.{atoms_of, formula_typed, length-types, names_of, names_of_parameters, sides_of}
 
 -- ## Lists
@@ -500,6 +501,7 @@ module _ (d : DomainText) (p : ProblemText) (t : Task) (fits : IsWellTypedPair d
 
   well_typed : IsWellTyped t
   well_typed = record {
+    names = names_apart d p t is fits;
     types = λ k type within. object_type_typed k type within;
     predicates =
         subst (All (λ x. AreTypes t x.types)) (sym is.predicates) (each_mapped (λ x. AreTypes t x.types) (predicate_of v) d.predicates (λ x h. types_typed x.parameters));

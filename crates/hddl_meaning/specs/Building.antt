@@ -1,5 +1,5 @@
 -- The task of a domain and a problem.
-use Rattle.std.specs.Prelude.{◌≡◌, ℕ, ◌<◌, ◌↔◌, Bool, true, List, [], ◌++◌, map, length, Some, slice_get, not}
+use Rattle.std.specs.Prelude.{◌≡◌, ℕ, ◌<◌, ◌↔◌, Bool, true, List, [], ◌++◌, map, length, Some, slice_get, not, Contains}
 use Rattle.std.specs.List.{filter, AllZip}
 use Rattle.std.specs.List.Sorted.{IsStrictlySortedBy}
 use Rattle.std.specs.Ordering.{nat_cmp}
@@ -108,13 +108,14 @@ pub record IsMethodOf (v : Vocabulary) (x : MethodText) (m : model_task.MethodSc
   pub constraints : m.constraints ≡ map (equality_of v (variables_of x.parameters)) x.network.constraints
   pub network : IsNetworkOf v (variables_of x.parameters) x.network m.network
 
--- the task of the pair. Of a type it has exactly the objects that have it, ascending
+-- the task of the pair. Of a type that is named for a place, a parameter or a quantified variable it has exactly the
+-- objects that have it, ascending, and of another type none
 pub record IsTaskOf (d : DomainText) (p : ProblemText) (t : model_task.Task) : Type 0 where
   pub objects : t.objects ≡ object_names d p
   pub types : map (λ x. x.name) t.types ≡ type_names d
   pub ascending : (k : ℕ) (type : model_task.ObjectType) → slice_get t.types k ≡ Some type → IsStrictlySortedBy nat_cmp type.objects
   pub members : (k o : ℕ) (type : model_task.ObjectType) (name : Text) → slice_get t.types k ≡ Some type → slice_get t.objects o ≡ Some name
-      → (model_task.has_type t k o ≡ true) ↔ HasType d p name type.name
+      → (model_task.has_type t k o ≡ true) ↔ (Contains (model_task.named_types t) k × HasType d p name type.name)
   pub within : (k o : ℕ) → model_task.has_type t k o ≡ true → o < length t.objects
   pub predicates : t.predicates ≡ map (predicate_of (vocabulary_of d p)) d.predicates
   pub tasks : t.tasks ≡ map (compound_of (vocabulary_of d p)) d.tasks

@@ -262,11 +262,11 @@ one_box = record empty_problem {
   };
 }
 
--- numbers: of types `object` is 0 and `box` 1; of tasks `pack` is 0 and `mark` 1
+-- numbers: of types `object`, which isn't named, is 0 and `box` 1; of tasks `pack` is 0 and `mark` 1
 abbrev pub packing_task : Task
 packing_task = record {
   objects = codes "b1" ∷ [];
-  types = record { name = codes "object"; objects = 0 ∷ [] } ∷ record { name = codes "box"; objects = 0 ∷ [] } ∷ [];
+  types = record { name = codes "object"; objects = [] } ∷ record { name = codes "box"; objects = 0 ∷ [] } ∷ [];
   predicates = record { name = codes "done"; types = 1 ∷ [] } ∷ [];
   tasks = record { name = codes "pack"; types = 1 ∷ [] } ∷ [];
   methods = record {

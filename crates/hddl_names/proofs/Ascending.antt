@@ -1,6 +1,6 @@
 -- Lists of objects that grow by one object after another.
-use Rattle.std.proofs.Common.{◌≡◌, ◌≢◌, ℕ, ◌<◌, ◌+◌, ◌||◌, Bool, true, false, not, cond, List, [], ◌∷◌, ◌++◌, refl, sym, ap, subst, ◌∙◌, arith, ⊎_elim, nat_eq, length, get_or, set, take, replicate, get_or-set_same, get_or-set_other}
-use Rattle.std.specs.List.{Contains, AllByRecursion, IsDistinct, list_any}
+use Rattle.std.proofs.Common.{◌≡◌, ◌≢◌, ℕ, ◌<◌, ◌≤◌, ◌+◌, ◌||◌, Bool, true, false, not, cond, List, [], ◌∷◌, ◌++◌, refl, sym, ap, subst, ◌∙◌, arith, ⊎_elim, nat_eq, length, get_or, set, take, replicate, get_or-set_same, get_or-set_other}
+use Rattle.std.specs.List.{Contains, AllByRecursion, IsDistinct, filter, list_any}
 use Rattle.std.specs.List.Sorted.{IsStrictlySortedBy}
 use Rattle.std.specs.Ordering.{nat_cmp}
 use Rattle.std.specs.declared.cmp.Ordering.TheVariants.{Less, Equal, Greater}
@@ -15,8 +15,8 @@ use Rattle.std.proofs.lemmas.List.Elements.{Contains-append_left, Contains-appen
 use Rattle.std.proofs.lemmas.Map.Made.{AllPairs-from_IsDistinct}
 use Rattle.std.proofs.lemmas.Map.Views.{list_any-from_Contains, Contains-from_any}
 use Rattle.hddl_names.specs.Reach.{Reaches, IsAboveSome}
-use Rattle.hddl_names.specs.Members.{AreFilled}
-use Rattle.hddl_names.proofs.Within.{first, cons_cases, nothing}
+use Rattle.hddl_names.specs.Members.{AreFilled, IsFlaggedAbove}
+use Rattle.hddl_names.proofs.Within.{first, cons_cases, kept, nothing, unkept}
 
 -- ## An object more for some types
 
@@ -90,9 +90,9 @@ sorted-none : IsStrictlySortedBy nat_cmp []
 unfolding IsStrictlySortedBy
 sorted-none = tt
 
-pub filled-start : (pairs : List (ℕ × ℕ)) (declared : List (List ℕ)) (n : ℕ) (lists : List (List ℕ)) → lists ≡ replicate n [] → AreFilled pairs declared n 0 lists
-filled-start pairs declared n lists is =
-    subst (AreFilled pairs declared n 0) (sym is)
+pub filled-start : (pairs : List (ℕ × ℕ)) (declared : List (List ℕ)) (flags : List Bool) (n : ℕ) (lists : List (List ℕ)) → lists ≡ replicate n [] → AreFilled pairs declared flags n 0 lists
+filled-start pairs declared flags n lists is =
+    subst (AreFilled pairs declared flags n 0) (sym is)
     record {
       count = length-replicate {A = List ℕ} n [];
       ascending = λ k. subst (IsStrictlySortedBy nat_cmp) (sym (empty k)) sorted-none;
@@ -102,10 +102,18 @@ filled-start pairs declared n lists is =
     empty : (k : ℕ) → get_or (replicate {A = List ℕ} n []) k [] ≡ []
     empty k = ⊎_elim (λ lt. get_or-replicate n k [] [] lt) (λ past. get_or_past (replicate {A = List ℕ} n []) k [] (omega (arith, past, length-replicate {A = List ℕ} n []))) (cases_lt k n)
 
-pub filled-more : (pairs : List (ℕ × ℕ)) (declared : List (List ℕ)) (n i : ℕ) (lists new : List (List ℕ)) (above : List ℕ) → IsAboveSome pairs (get_or declared i []) above
-    → length new ≡ length lists → ((k : ℕ) → get_or new k [] ≡ get_or lists k [] ++ cond (list_any (nat_eq k) above) (i ∷ []) []) → AreFilled pairs declared n i lists
-    → AreFilled pairs declared n (i + 1) new
-filled-more pairs declared n i lists new above some same grown filled =
+-- a declared type of an object leads to the type
+abbrev Has : List (ℕ × ℕ) → List (List ℕ) → ℕ → ℕ → Type 0
+Has pairs declared k o = (t : ℕ) × Contains (get_or declared o []) t × Reaches pairs t k
+
+-- an object below m is listed for a type
+abbrev IsListed : List (ℕ × ℕ) → List (List ℕ) → List Bool → ℕ → ℕ → ℕ → Type 0
+IsListed pairs declared flags m k o = (o < m) × (get_or flags k false ≡ true) × Has pairs declared k o
+
+pub filled-more : (pairs : List (ℕ × ℕ)) (declared : List (List ℕ)) (flags : List Bool) (n i : ℕ) (lists new : List (List ℕ)) (above : List ℕ) → IsFlaggedAbove pairs flags (get_or declared i []) above
+    → length new ≡ length lists → ((k : ℕ) → get_or new k [] ≡ get_or lists k [] ++ cond (list_any (nat_eq k) above) (i ∷ []) []) → AreFilled pairs declared flags n i lists
+    → AreFilled pairs declared flags n (i + 1) new
+filled-more pairs declared flags n i lists new above some same grown filled =
     record {
       count = same ∙ filled.count;
       ascending = λ k. subst (IsStrictlySortedBy nat_cmp) (sym (grown k)) (sorted k (list_any (nat_eq k) above));
@@ -116,34 +124,112 @@ filled-more pairs declared n i lists new above some same grown filled =
     sorted k true = sorted-push (get_or lists k []) i (filled.ascending k) (λ x h. ((filled.members k x).0 h).0)
     sorted k false = subst (IsStrictlySortedBy nat_cmp) (sym (append-nil (get_or lists k []))) (filled.ascending k)
 
-    widen : (k o : ℕ) → (o < i) × ((t : ℕ) × Contains (get_or declared o []) t × Reaches pairs t k) → (o < i + 1) × ((t : ℕ) × Contains (get_or declared o []) t × Reaches pairs t k)
-    widen k o m = (let lt = m.0 in omega (arith, lt), m.1)
+    widen : (k o : ℕ) → IsListed pairs declared flags i k o → IsListed pairs declared flags (i + 1) k o
+    widen k o m = (let lt = m.0 in omega (arith, lt), m.1, m.2)
 
-    last : (k o : ℕ) (b : Bool) → list_any (nat_eq k) above ≡ b → Contains (cond b (i ∷ []) []) o → (o < i + 1) × ((t : ℕ) × Contains (get_or declared o []) t × Reaches pairs t k)
+    newest : (k : ℕ) → Contains above k → IsListed pairs declared flags (i + 1) k i
+    newest k h = let has = (some.members k).0 h in (omega arith, has.0, has.1)
+
+    last : (k o : ℕ) (b : Bool) → list_any (nat_eq k) above ≡ b → Contains (cond b (i ∷ []) []) o → IsListed pairs declared flags (i + 1) k o
     last k o true e h =
         ⊎_elim
-        (λ is. subst (λ o. (o < i + 1) × ((t : ℕ) × Contains (get_or declared o []) t × Reaches pairs t k)) is (omega arith, (some k).0 (Contains-from_any eqb-true k above e)))
+        (λ is. subst (λ o. IsListed pairs declared flags (i + 1) k o) is (newest k (Contains-from_any eqb-true k above e)))
         (λ none. absurd (nothing o none)) (cons_cases i o [] h)
     last k o false e h = absurd (nothing o h)
 
-    to : (k o : ℕ) (b : Bool) → list_any (nat_eq k) above ≡ b → Contains (get_or lists k [] ++ cond b (i ∷ []) []) o
-        → (o < i + 1) × ((t : ℕ) × Contains (get_or declared o []) t × Reaches pairs t k)
+    to : (k o : ℕ) (b : Bool) → list_any (nat_eq k) above ≡ b → Contains (get_or lists k [] ++ cond b (i ∷ []) []) o → IsListed pairs declared flags (i + 1) k o
     to k o b e h = ⊎_elim (λ old. widen k o ((filled.members k o).0 old)) (λ new. last k o b e new) (Contains-append_cases (get_or lists k []) (cond b (i ∷ []) []) o h)
 
-    from : (k o : ℕ) → (o < i + 1) × ((t : ℕ) × Contains (get_or declared o []) t × Reaches pairs t k) → Contains (get_or lists k [] ++ cond (list_any (nat_eq k) above) (i ∷ []) []) o
-    from k o (lt, t) =
+    from : (k o : ℕ) → IsListed pairs declared flags (i + 1) k o → Contains (get_or lists k [] ++ cond (list_any (nat_eq k) above) (i ∷ []) []) o
+    from k o (lt, flag, t) =
         ⊎_elim
-        (λ before. Contains-append_left (get_or lists k []) (cond (list_any (nat_eq k) above) (i ∷ []) []) o ((filled.members k o).1 (before, t)))
+        (λ before. Contains-append_left (get_or lists k []) (cond (list_any (nat_eq k) above) (i ∷ []) []) o ((filled.members k o).1 (before, flag, t)))
         (λ past. let is : i ≡ o = omega (arith, past, lt) in
-        let there : list_any (nat_eq k) above ≡ true = list_any-from_Contains nat_eq_equiv k above ((some k).1 (subst (λ o. (t : ℕ) × Contains (get_or declared o []) t × Reaches pairs t k) (sym is) t)) in
+        let there : list_any (nat_eq k) above ≡ true = list_any-from_Contains nat_eq_equiv k above ((some.members k).1 (flag, subst (λ o. Has pairs declared k o) (sym is) t)) in
         Contains-append_right (get_or lists k []) (cond (list_any (nat_eq k) above) (i ∷ []) []) o
         (subst (λ b. Contains (cond b (i ∷ []) []) o) (sym there) (subst (Contains (i ∷ [])) is (first i []))))
         (cases_lt o i)
 
--- ## Rows of types that objects share
+-- ## Types with a flag
 
-pub above-none : (pairs : List (ℕ × ℕ)) (found : List ℕ) → length found ≡ 0 → IsAboveSome pairs [] found
-above-none pairs found empty x = (λ (k, lt, is). absurd (omega (arith, lt, empty)), λ (t, none, r). absurd (nothing t none))
+-- two numbers that differ are told apart
+differs : (k n : ℕ) → k ≢ n → nat_eq k n ≡ false
+differs k n ne = ⊎_elim (λ e. absurd (ne (eqb-true k n e))) (λ e. e) (cases_Bool (nat_eq k n))
+
+no_flag : (a b : Bool) → b ≡ false → (a || (b || false)) ≡ a
+no_flag true b e = refl
+no_flag false b e = ap (λ b. b || false) e
+
+-- what is left of different numbers is different
+all-filter : (p : ℕ → Bool) (x : ℕ) (xs : List ℕ) → AllByRecursion (λ y. nat_eq x y ≡ false) xs → AllByRecursion (λ y. nat_eq x y ≡ false) (filter p xs)
+all-filter p x [] all = tt
+all-filter p x (y ∷ ys) all = by (p y) (all-filter p x ys all.1)
+  where
+    by : (b : Bool) → AllByRecursion (λ y. nat_eq x y ≡ false) (filter p ys) → AllByRecursion (λ y. nat_eq x y ≡ false) (cond b (y ∷ filter p ys) (filter p ys))
+    by true rest = (all.0, rest)
+    by false rest = rest
+
+pub distinct-filter : (p : ℕ → Bool) (xs : List ℕ) → IsDistinct nat_eq xs → IsDistinct nat_eq (filter p xs)
+unfolding IsDistinct
+distinct-filter p [] different = tt
+distinct-filter p (x ∷ xs) different = by (p x) (distinct-filter p xs different.1)
+  where
+    by : (b : Bool) → IsDistinct nat_eq (filter p xs) → IsDistinct nat_eq (cond b (x ∷ filter p xs) (filter p xs))
+    by true rest = (all-filter p x xs different.0, rest)
+    by false rest = rest
+
+distinct-none : IsDistinct nat_eq []
+unfolding IsDistinct
+distinct-none = tt
+
+-- no types
+pub flagged-none : (pairs : List (ℕ × ℕ)) (flags : List Bool) (found : List ℕ) → found ≡ [] → IsFlaggedAbove pairs flags [] found
+flagged-none pairs flags found empty = subst (IsFlaggedAbove pairs flags []) (sym empty) record {
+  different = distinct-none;
+  members = λ x. (λ h. absurd (nothing x h), λ h. absurd (nothing h.1.0 h.1.1));
+}
+
+-- those of the types above that have a flag
+pub flagged-above : (pairs : List (ℕ × ℕ)) (flags : List Bool) (starts above found : List ℕ) → IsAboveSome pairs starts above → IsDistinct nat_eq found
+    → found ≡ filter (λ n. get_or flags n false) above → IsFlaggedAbove pairs flags starts found
+flagged-above pairs flags starts above found some different is = record {
+  different = different;
+  members = λ x. (
+    λ h. let there = unkept (λ n. get_or flags n false) above x (subst (λ l. Contains l x) is h) in (there.1, (some x).0 there.0),
+    λ (flag, t). subst (λ l. Contains l x) (sym is) (kept (λ n. get_or flags n false) above x ((some x).1 t) flag),
+  );
+}
+
+-- a flag more
+pub flag-more : (count : ℕ) (flags : List Bool) (numbers : List ℕ) (i n : ℕ) → i < length numbers → n ≡ get_or numbers i 0 → length flags ≡ count → n < count
+    → ((k : ℕ) → k < count → get_or flags k false ≡ list_any (nat_eq k) (take i numbers))
+    → (k : ℕ) → k < count → get_or (set flags n true) k false ≡ list_any (nat_eq k) (take (i + 1) numbers)
+flag-more count flags numbers i n lt is long small before k low = ⊎_elim same other (cases_eq k n)
+  where
+    more : (m : ℕ) → list_any (nat_eq m) (take (i + 1) numbers) ≡ (list_any (nat_eq m) (take i numbers) || (nat_eq m n || false))
+    more m = any-more m numbers i lt ∙ ap (λ x. list_any (nat_eq m) (take i numbers) || (nat_eq m x || false)) (sym is)
+
+    here : get_or (set flags n true) n false ≡ list_any (nat_eq n) (take (i + 1) numbers)
+    here =
+        get_or-set_same flags n true false (omega (arith, long, small))
+        ∙ sym (more n ∙ or_right (list_any (nat_eq n) (take i numbers)) (nat_eq n n || false) (or_left (nat_eq n n) false (eq-eqb n n refl)))
+
+    same : k ≡ n → get_or (set flags n true) k false ≡ list_any (nat_eq k) (take (i + 1) numbers)
+    same e = subst (λ m. get_or (set flags n true) m false ≡ list_any (nat_eq m) (take (i + 1) numbers)) (sym e) here
+
+    other : k ≢ n → get_or (set flags n true) k false ≡ list_any (nat_eq k) (take (i + 1) numbers)
+    other ne = get_or-set_other flags n k true false ne ∙ before k low ∙ sym (more k ∙ no_flag (list_any (nat_eq k) (take i numbers)) (nat_eq k n) (differs k n ne))
+
+-- a number past the flags
+pub flag-past : (count : ℕ) (flags : List Bool) (numbers : List ℕ) (i n : ℕ) → i < length numbers → n ≡ get_or numbers i 0 → count ≤ n
+    → ((k : ℕ) → k < count → get_or flags k false ≡ list_any (nat_eq k) (take i numbers))
+    → (k : ℕ) → k < count → get_or flags k false ≡ list_any (nat_eq k) (take (i + 1) numbers)
+flag-past count flags numbers i n lt is past before k low =
+    before k low
+    ∙ sym (any-more k numbers i lt ∙ ap (λ x. list_any (nat_eq k) (take i numbers) || (nat_eq k x || false)) (sym is)
+    ∙ no_flag (list_any (nat_eq k) (take i numbers)) (nat_eq k n) (differs k n (λ e. omega (arith, e, low, past))))
+
+-- ## Rows of types that objects share
 
 pub same_row : (xs ys : List ℕ) → false ≡ not (pointwise nat_eq xs ys) → xs ≡ ys
 same_row xs ys e = (pointwise_decides unsigned_Decides xs ys).0 (by (pointwise nat_eq xs ys) e)

@@ -1,7 +1,10 @@
 -- The types that the constants and objects have by their declarations.
-use Rattle.std.proofs.Common.{◌≡◌, ℕ, ◌<◌, ◌≤◌, ◌++◌, List, [], map, sym, ap, subst, ◌∙◌, arith, inl, inr, length, get_or}
-use Rattle.std.specs.List.{Contains, All}
-use Rattle.std.proofs.lemmas.List.{map-append}
+use Rattle.std.proofs.Common.{◌≡◌, ℕ, ◌<◌, ◌≤◌, ◌↔◌, ◌++◌, Bool, true, false, nat_eq, List, [], map, sym, ap, subst, ◌∙◌, arith, inl, inr, length, get_or, replicate}
+use Rattle.std.specs.List.{Contains, All, list_any}
+use Rattle.std.proofs.lemmas.Bool.{eqb-true}
+use Rattle.std.proofs.lemmas.Cmp.{nat_eq_equiv}
+use Rattle.std.proofs.lemmas.List.{get_or-replicate, map-append}
+use Rattle.std.proofs.lemmas.Map.Views.{list_any-from_Contains, Contains-from_any}
 use Rattle.std.proofs.lemmas.List.Elements.{Contains-get_or, All-contains, All-from_get_or}
 use Rattle.htn_order.specs.Closure.{Precedes, Direct, Through, AreBelow}
 use Rattle.hddl_tree.specs.declared.term.NameGroup.{NameGroup}
@@ -12,8 +15,8 @@ use Rattle.hddl_meaning.specs.Names.{number_in, type_names, object_names, object
 use Rattle.hddl_meaning.specs.Types.{text_or_object, HasType, IsBelow}
 use Rattle.hddl_meaning.specs.Building.{Vocabulary, vocabulary_of}
 use Rattle.hddl_names.specs.Rows.{AreRows}
-use Rattle.hddl_names.specs.Reach.{Reaches, IsAboveSome}
-use Rattle.hddl_names.specs.Members.{AreTyped, AreMembersOf, AreFilled, declared_in, number_typed, object_at}
+use Rattle.hddl_names.specs.Reach.{Reaches}
+use Rattle.hddl_names.specs.Members.{AreTyped, AreDeclaredTypes, AreMembersOf, AreNamedMembersOf, AreFilled, IsFlaggedAbove, declared_in, number_typed, object_at}
 use Rattle.hddl_names.specs.TypeNumbers.{type_at, numbered_pairs}
 use Rattle.hddl_names.proofs.Texts.{distinct-has, distinct-different, number-small, number-names, number-at}
 use Rattle.hddl_names.proofs.Parents.{numbers-below, below-reaches, reaches-below, type-number}
@@ -29,11 +32,11 @@ pub reached-small : (d : DomainText) (t x : ℕ) → t < length (type_names d) �
 reached-small d t x small (inl is) = subst (λ k. k < length (type_names d)) is small
 reached-small d t x small (inr r) = led-small (length (type_names d)) (numbered_pairs d) t x (numbers-below d) r
 
-pub above-small : (d : DomainText) (starts found all : List ℕ) (n : ℕ) → n ≡ length (type_names d) → All (λ t. t < length (type_names d)) starts → IsAboveSome (numbered_pairs d) starts found
-    → all ≡ found → All (λ x. x < n) all
-above-small d starts found all n count small some is =
+pub flagged-small : (d : DomainText) (flags : List Bool) (starts found all : List ℕ) (n : ℕ) → n ≡ length (type_names d) → All (λ t. t < length (type_names d)) starts
+    → IsFlaggedAbove (numbered_pairs d) flags starts found → all ≡ found → All (λ x. x < n) all
+flagged-small d flags starts found all n count small some is =
     subst (λ l. All (λ x. x < n) l) (sym is)
-    (All-from_get_or (λ x. x < n) found 0 (λ i lt. let t = (some (get_or found i 0)).0 (Contains-get_or found i 0 lt) in
+    (All-from_get_or (λ x. x < n) found 0 (λ i lt. let t = ((some.members (get_or found i 0)).0 (Contains-get_or found i 0 lt)).1 in
     subst (λ n. get_or found i 0 < n) (sym count) (reached-small d t.0 (get_or found i 0) (All-contains (λ t. t < length (type_names d)) starts t.0 small t.1) t.2)))
 
 -- ## Declarations by number
@@ -87,16 +90,14 @@ rows-typed d p all rows typed is are =
 
 -- ## The objects of each type
 
-pub filled-members : (d : DomainText) (p : ProblemText) (all : List (ℕ × ℕ)) (rows lists : List (List ℕ)) (n m : ℕ) → AreTyped d p
-    → all ≡ map (number_typed (object_names d p) (type_names d)) (object_declarations d p) → AreRows all rows → n ≡ length (type_names d) → m ≡ length (object_names d p)
-    → AreFilled (numbered_pairs d) rows n m lists → AreMembersOf d p lists
-filled-members d p all rows lists n m typed is are types count filled =
-    record {
-      count = filled.count ∙ types;
-      ascending = filled.ascending;
-      members = λ k o small few. (λ h. to k o ((filled.members k o).0 h).1, λ h. (filled.members k o).1 (from k o small few h));
-      within = λ k o h. subst (λ m. o < m) count ((filled.members k o).0 h).0;
-    }
+pub declared-types : (d : DomainText) (p : ProblemText) (all : List (ℕ × ℕ)) (rows : List (List ℕ)) (size : ℕ) → AreTyped d p
+    → all ≡ map (number_typed (object_names d p) (type_names d)) (object_declarations d p) → AreRows all rows → length rows ≡ size → length (object_names d p) ≤ size
+    → AreDeclaredTypes d p rows
+declared-types d p all rows size typed is are long enough = record {
+  count = subst (λ n. length (object_names d p) ≤ n) (sym long) enough;
+  typed = rows-typed d p all rows typed is are;
+  members = λ k o small few. (λ h. to k o h, λ h. from k o small few h);
+}
   where
     has : (o t : ℕ) → Contains (get_or rows o []) t → (x : Typed) × Contains (object_declarations d p) x × ◌≡◌ {A = ℕ × ℕ} (number_typed (object_names d p) (type_names d) x) (o, t)
     has o t h = unmapped (number_typed (object_names d p) (type_names d)) (object_declarations d p) (o, t) (subst (λ (ps : List (ℕ × ℕ)). Contains {X = ℕ × ℕ} ps (o, t)) is ((are o t).0 h))
@@ -111,7 +112,7 @@ filled-members d p all rows lists n m typed is are types count filled =
         (x.0, x.1, name, subst (λ u. IsBelow d u (type_at d k)) type (reaches-below d t k r))
 
     from : (k o : ℕ) → k < length (type_names d) → o < length (object_names d p) → HasType d p (object_at d p o) (type_at d k)
-        → (o < m) × ((t : ℕ) × Contains (get_or rows o []) t × Reaches (numbered_pairs d) t k)
+        → (t : ℕ) × Contains (get_or rows o []) t × Reaches (numbered_pairs d) t k
     from k o small few (x, there, name, below) =
         let type = type-number d (text_or_object x.of_type) (typed x there) in
         let t = number_in (type_names d) (text_or_object x.of_type) in
@@ -120,11 +121,46 @@ filled-members d p all rows lists n m typed is are types count filled =
         let pair : Contains {X = ℕ × ℕ} (map (number_typed (object_names d p) (type_names d)) (object_declarations d p)) (o, t) =
         subst (λ o. Contains {X = ℕ × ℕ} (map (number_typed (object_names d p) (type_names d)) (object_declarations d p)) (o, t)) number
         (mapped (number_typed (object_names d p) (type_names d)) (object_declarations d p) x there) in (
-          subst (λ m. o < m) (sym count) few,
-          (
-            t,
-            (are o t).1 (subst (λ (ps : List (ℕ × ℕ)). Contains {X = ℕ × ℕ} ps (o, t)) (sym is) pair),
-            below-reaches d t k (number-small (type_names d) (text_or_object x.of_type) type) small
-                (subst (λ u. IsBelow d u (type_at d k)) (sym (number-names (type_names d) (text_or_object x.of_type) type)) below),
-          ),
+          t,
+          (are o t).1 (subst (λ (ps : List (ℕ × ℕ)). Contains {X = ℕ × ℕ} ps (o, t)) (sym is) pair),
+          below-reaches d t k (number-small (type_names d) (text_or_object x.of_type) type) small
+              (subst (λ u. IsBelow d u (type_at d k)) (sym (number-names (type_names d) (text_or_object x.of_type) type)) below),
         )
+
+-- what a list has where the flags are those of some numbers
+filled-at : (d : DomainText) (p : ProblemText) (rows lists : List (List ℕ)) (flags : List Bool) (n m : ℕ) → AreDeclaredTypes d p rows → AreFilled (numbered_pairs d) rows flags n m lists
+    → m ≡ length (object_names d p) → (k o : ℕ) → k < length (type_names d) → o < length (object_names d p)
+    → Contains (get_or lists k []) o ↔ ((get_or flags k false ≡ true) × HasType d p (object_at d p o) (type_at d k))
+filled-at d p rows lists flags n m declared filled count k o small few =
+    let are = declared.members k o small few in (
+      λ h. let member = (filled.members k o).0 h in (member.1, are.0 member.2),
+      λ (flag, typed). (filled.members k o).1 (subst (λ m. o < m) (sym count) few, flag, are.1 typed),
+    )
+
+-- all flags are set
+pub filled-members : (d : DomainText) (p : ProblemText) (rows lists : List (List ℕ)) (flags : List Bool) (n m : ℕ) → AreDeclaredTypes d p rows → flags ≡ replicate n true
+    → n ≡ length (type_names d) → m ≡ length (object_names d p) → AreFilled (numbered_pairs d) rows flags n m lists → AreMembersOf d p lists
+filled-members d p rows lists flags n m declared all types count filled = record {
+  count = filled.count ∙ types;
+  ascending = filled.ascending;
+  members = λ k o small few.
+      let at = filled-at d p rows lists flags n m declared filled count k o small few in
+      (λ h. (at.0 h).1, λ h. at.1 (ap (λ l. get_or l k false) all ∙ get_or-replicate n k true false (subst (λ n. k < n) (sym types) small), h));
+  within = λ k o h. subst (λ m. o < m) count ((filled.members k o).0 h).0;
+}
+
+-- those of some numbers are set
+pub filled-named : (d : DomainText) (p : ProblemText) (rows lists : List (List ℕ)) (flags : List Bool) (named : List ℕ) (n m : ℕ) → AreDeclaredTypes d p rows
+    → ((k : ℕ) → k < n → get_or flags k false ≡ list_any (nat_eq k) named)
+    → n ≡ length (type_names d) → m ≡ length (object_names d p) → AreFilled (numbered_pairs d) rows flags n m lists → AreNamedMembersOf d p named lists
+filled-named d p rows lists flags named n m declared set types count filled = record {
+  count = filled.count ∙ types;
+  ascending = filled.ascending;
+  members = λ k o small few.
+      let at = filled-at d p rows lists flags n m declared filled count k o small few in
+      let flag = set k (subst (λ n. k < n) (sym types) small) in (
+        λ h. (Contains-from_any eqb-true k named (sym flag ∙ (at.0 h).0), (at.0 h).1),
+        λ (there, typed). at.1 (flag ∙ list_any-from_Contains nat_eq_equiv k named there, typed),
+      );
+  within = λ k o h. subst (λ m. o < m) count ((filled.members k o).0 h).0;
+}

@@ -1,11 +1,11 @@
 //! The objects of each type.
-ghost use Rattle.std.specs.Prelude.{◌≡◌, ℕ, ◌<◌, ◌≤◌, ◌++◌, ◌∷◌, [], ◌↔◌, IsTrue, IfOk, OnOk, Contains, All, length, get_or, slice_set, replicate, nat_eq, cond};
-ghost use Rattle.std.specs.List.{list_any, IsDistinct};
+ghost use Rattle.std.specs.Prelude.{◌≡◌, ℕ, ◌<◌, ◌≤◌, ◌++◌, ◌∷◌, [], false, ◌↔◌, IsTrue, IfOk, OnOk, Contains, All, length, get_or, slice_set, replicate, nat_eq, cond};
+ghost use Rattle.std.specs.List.{filter, list_any, IsDistinct};
 ghost use Rattle.hddl_meaning.specs.Names.{object_names, type_names};
 ghost use Rattle.std.specs.List.Sorted.{IsStrictlySortedBy};
 ghost use Rattle.std.specs.Ordering.{nat_cmp};
 ghost use Rattle.hddl_meaning.specs.Building.{vocabulary_of};
-ghost use Rattle.hddl_names.specs.Members.{AreTyped, AreMembersOf, declared_in, AreFilled};
+ghost use Rattle.hddl_names.specs.Members.{AreTyped, AreDeclaredTypes, AreMembersOf, AreNamedMembersOf, declared_in, AreFilled, IsFlaggedAbove};
 ghost use Rattle.hddl_names.specs.TypeNumbers.{numbered_pairs};
 ghost use Rattle.hddl_names.specs.Rows.{lists_of};
 
@@ -83,6 +83,84 @@ fn declarations(
     Ok(pairs)
 }
 
+/// The types that each constant and object has by its declarations, without those above them.
+fn declared_types(
+    alloc: Global,
+    problem: &ProblemText,
+    vocabulary: &Vocabulary,
+    types: &TypeHierarchy,
+) -> Result<Rows, AllocError>
+    requires vocabulary { vocabulary.now ≡ vocabulary_of types.now problem.now }
+    requires typed { AreTyped types.now problem.now }
+    ensures { IfOk result (AreDeclaredTypes types.now problem.now) }
+{
+    let domain = types.domain();
+    let pairs = declarations(
+        alloc,
+        vocabulary,
+        domain.constants.as_slice(),
+        problem.objects.as_slice(),
+    )?;
+    let count = vocabulary.types().len();
+    let objects = vocabulary.objects().len();
+    let rows = rows_of(alloc, objects.max(count), &pairs)?;
+    Ok(rows)
+}
+
+/// For each number below a count, whether it is among these.
+fn flags_of(alloc: Global, count: usize, numbers: &[u16]) -> Result<Vec<bool>, AllocError>
+    ensures { IfOk result (λ flags. (k : ℕ) → k < count → get_or flags.items k false ≡ list_any (nat_eq k) numbers.now) }
+{
+    let mut flags = vec![in alloc; false; count]?;
+    for number in numbers {
+        let number = *number as usize;
+        if number < flags.len() {
+            flags[number] = true;
+        }
+    }
+    Ok(flags)
+}
+
+/// Whether a number has a flag.
+fn has_flag(flags: &[bool], number: usize) -> bool
+    ensures { result ≡ get_or flags.now number false }
+{
+    match flags.get(number) {
+        Some(flag) => *flag,
+        None => false,
+    }
+}
+
+/// Those of the numbers that have a flag, where each number comes once.
+fn flagged(alloc: Global, flags: &[bool], numbers: &[usize]) -> Result<Vec<usize>, AllocError>
+    requires { IsDistinct nat_eq numbers.now }
+    ensures items { IfOk result (λ found. found.items ≡ filter (λ n. get_or flags.now n false) numbers.now) }
+    ensures different { IfOk result (λ found. IsDistinct nat_eq found.items) }
+{
+    let mut found = Vec::new(alloc);
+    for number in numbers {
+        if has_flag(flags, *number) {
+            found.push(*number)?;
+        }
+    }
+    Ok(found)
+}
+
+/// Those of the types that have a flag, among the types in a row and those above them.
+fn flagged_above(
+    alloc: Global,
+    types: &TypeHierarchy,
+    flags: &[bool],
+    row: &[usize],
+) -> Result<Vec<usize>, AllocError>
+    requires { All (λ t. t < length (type_names types.now)) row.now }
+    ensures { IfOk result (λ found. IsFlaggedAbove (numbered_pairs types.now) flags.now row.now found.items) }
+{
+    let all = types.all_above(alloc, row)?;
+    let found = flagged(alloc, flags, all.as_slice())?;
+    Ok(found)
+}
+
 impl ObjectsByType {
     /// No objects.
     fn new(alloc: Global, types: usize) -> Result<ObjectsByType, AllocError>
@@ -118,10 +196,11 @@ impl ObjectsByType {
         Ok(())
     }
 
-    /// Adds each object to the types that it has by its declarations, which are the types in its row and those above them.
+    /// Adds each object to those of its types that have a flag. Its types are the ones in its row and those above them.
     fn filled(
         alloc: Global,
         types: &TypeHierarchy,
+        flags: &[bool],
         count: usize,
         declared: &Rows,
         objects: usize,
@@ -130,18 +209,18 @@ impl ObjectsByType {
         requires count { count ≡ length (type_names types.now) }
         requires rows { objects ≤ length declared.now }
         requires types { All (All (λ t. t < length (type_names types.now))) declared.now }
-        ensures { IfOk result (λ all. AreFilled (numbered_pairs types.now) declared.now count objects all) }
+        ensures { IfOk result (λ all. AreFilled (numbered_pairs types.now) declared.now flags.now count objects all) }
     {
         let mut all = ObjectsByType::new(alloc, count)?;
         let mut row: &[usize] = &[];
-        let mut above = IndexSet::new(alloc);
+        let mut above = Vec::new(alloc);
         for object in 0..objects {
             // Most objects are declared beside others of the same type.
             if declared.row(object) != row {
                 row = declared.row(object);
-                above = types.all_above(alloc, row)?;
+                above = flagged_above(alloc, types, flags, row)?;
             }
-            all.push_all(above.as_slice(), object as u16)?;
+            all.push_all(&above, object as u16)?;
         }
         Ok(all)
     }
@@ -158,17 +237,32 @@ impl ObjectsByType {
         requires typed { AreTyped types.now problem.now }
         ensures { IfOk result (λ all. AreMembersOf types.now problem.now all) }
     {
-        let domain = types.domain();
-        let pairs = declarations(
-            alloc,
-            vocabulary,
-            domain.constants.as_slice(),
-            problem.objects.as_slice(),
-        )?;
+        let declared = declared_types(alloc, problem, vocabulary, types)?;
         let count = vocabulary.types().len();
+        let flags = vec![in alloc; true; count]?;
         let objects = vocabulary.objects().len();
-        let declared = rows_of(alloc, objects.max(count), &pairs)?;
-        let all = ObjectsByType::filled(alloc, types, count, &declared, objects)?;
+        let all = ObjectsByType::filled(alloc, types, &flags, count, &declared, objects)?;
+        Ok(all)
+    }
+
+    /// The objects of each type whose number is named, and none of another type, or an error where memory was refused.
+    pub fn of_named(
+        alloc: Global,
+        problem: &ProblemText,
+        vocabulary: &Vocabulary,
+        types: &TypeHierarchy,
+        named: &[u16],
+    ) -> Result<ObjectsByType, AllocError>
+        requires vocabulary { vocabulary.now ≡ vocabulary_of types.now problem.now }
+        requires few { length (object_names types.now problem.now) ≤ 65536 }
+        requires typed { AreTyped types.now problem.now }
+        ensures { IfOk result (λ all. AreNamedMembersOf types.now problem.now named.now all) }
+    {
+        let declared = declared_types(alloc, problem, vocabulary, types)?;
+        let count = vocabulary.types().len();
+        let flags = flags_of(alloc, count, named)?;
+        let objects = vocabulary.objects().len();
+        let all = ObjectsByType::filled(alloc, types, &flags, count, &declared, objects)?;
         Ok(all)
     }
 

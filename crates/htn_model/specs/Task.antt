@@ -1,11 +1,12 @@
 -- A checked planning task: what a domain and a problem declare, by numbers.
 use Rattle.std.specs.Prelude.{◌≡◌, ℕ, ◌+◌, ◌<◌, Bool, true, nat_lt, nat_eq, List, [], ◌++◌, length, map, get_or}
-use Rattle.std.specs.List.{list_any, All}
+use Rattle.std.specs.List.{flat_map, list_any, All}
 use Rattle.std.specs.List.Sorted.{IsStrictlySortedBy}
 use Rattle.std.specs.Ordering.{nat_cmp}
 use Rattle.htn_model.specs.Atom.{Atom}
 use Rattle.htn_model.specs.State.{State, contains}
 use Rattle.htn_model.specs.Problem.{IsClosed, IsSquare}
+use Rattle.htn_model.specs.PlanFile.{IsWithoutRepeats}
 use Rattle.htn_model.specs.Schema.{Name, Term, parameter, object, AtomSchema, EqualitySchema, TaskSchema, Formula, literal, equation, for_all, Formulas, no_formulas, formula, NetworkSchema}
 
 -- a type, with the objects that have it, ascending
@@ -74,6 +75,53 @@ is_compound t name = nat_lt name (length t.tasks)
 -- the types of the places of a compound task or an action
 abbrev pub task_types : Task → ℕ → List ℕ
 task_types t name = get_or (map (λ d. d.types) t.tasks ++ map (λ a. a.parameters) t.actions) name []
+
+-- ## Types that are named
+
+abbrev mutual
+  -- the types of the variables of each `for_all`
+  pub formula_types : Formula → List ℕ
+  formula_types (literal positive a) = []
+  formula_types (equation e) = []
+  formula_types (for_all types body) = types ++ formulas_types body
+
+  pub formulas_types : Formulas → List ℕ
+  formulas_types no_formulas = []
+  formulas_types (formula f fs) = formula_types f ++ formulas_types fs
+
+-- the types of places, of parameters and of quantified variables
+abbrev pub types_named_in : List Declaration → List Declaration → List MethodSchema → List ActionSchema → InitialSchema → List Formula → List ℕ
+types_named_in predicates tasks methods actions initial goal =
+    flat_map (λ d. d.types) predicates ++ flat_map (λ d. d.types) tasks
+    ++ flat_map (λ m. m.parameters ++ flat_map formula_types m.precondition) methods
+    ++ flat_map (λ a. a.parameters ++ flat_map formula_types a.precondition) actions
+    ++ initial.parameters ++ flat_map formula_types goal
+
+abbrev pub named_types : Task → List ℕ
+named_types t = types_named_in t.predicates t.tasks t.methods t.actions t.initial_network t.goal
+
+-- ## Names
+
+abbrev pub type_names : Task → List Name
+type_names t = map (λ d. d.name) t.types
+
+abbrev pub predicate_names : Task → List Name
+predicate_names t = map (λ d. d.name) t.predicates
+
+-- the compound tasks, and then the actions
+abbrev pub task_names : Task → List Name
+task_names t = map (λ d. d.name) t.tasks ++ map (λ a. a.name) t.actions
+
+abbrev pub method_names : Task → List Name
+method_names t = map (λ m. m.name) t.methods
+
+-- no name stands twice among those of a kind. Compound tasks and actions are one kind
+pub record HasDistinctNames (t : Task) : Type 0 where
+  pub objects : IsWithoutRepeats t.objects
+  pub types : IsWithoutRepeats (type_names t)
+  pub predicates : IsWithoutRepeats (predicate_names t)
+  pub tasks : IsWithoutRepeats (task_names t)
+  pub methods : IsWithoutRepeats (method_names t)
 
 -- ## Well typed
 
@@ -144,8 +192,10 @@ pub record IsObjectType (t : Task) (d : ObjectType) : Type 0 where
   pub ascending : IsStrictlySortedBy nat_cmp d.objects
   pub declared : All (λ o. o < length t.objects) d.objects
 
--- all numbers name something, each atom and task has its declaration's number of arguments, and orders are closed
+-- names differ, all numbers name something, each atom and task has its declaration's number of arguments, and orders
+-- are closed
 pub record IsWellTyped (t : Task) : Type 0 where
+  pub names : HasDistinctNames t
   pub types : All (IsObjectType t) t.types
   pub predicates : All (λ d. AreTypes t d.types) t.predicates
   pub tasks : All (λ d. AreTypes t d.types) t.tasks

@@ -1,4 +1,4 @@
--- The words of a plan file name what they stand for, where names differ.
+-- The words of a plan file name what they stand for, since the names of a task differ.
 use Rattle.std.proofs.Common.{◌≡◌, ℕ, zero, suc, ◌+◌, ◌<◌, Bool, true, false, cond, nat_lt, List, [], ◌∷◌, length, map, get_or, Option, Some, None, option_and_then, inl, inr, bytes_eq, not, rules, refl, ap, ap₂, subst, ◌∙◌, arith}
 use Rattle.std.specs.List.{AllByRecursion, position_or_len}
 use Rattle.std.proofs.lemmas.Slice.Eq.{bytes_eq-Decides}
@@ -7,9 +7,10 @@ use Rattle.htn_model.specs.Numbered.{NamesNodes, task_at}
 use Rattle.htn_model.specs.PlanFile.{IsIn, IsWithoutRepeats, Word}
 use Rattle.htn_model.specs.Problem.{GroundTask}
 use Rattle.htn_model.specs.Shadow.{HasId}
-use Rattle.htn_model.specs.Task.{IsWellTyped, Task}
+use Rattle.htn_model.specs.Task.{HasDistinctNames, IsWellTyped, Task, task_names}
 use Rattle.htn_model.specs.Tree.{IsSolution, Node, leaf, step, compound, Solution, node_at}
-use Rattle.htn_plan.specs.Naming.{HasDistinctNames, naming_of, number_of, object_name, objects_named, task_name, task_named, task_names, unnamed}
+use Rattle.htn_plan.specs.Naming.{naming_of, object_name, objects_named, task_name, task_named, unnamed}
+use Rattle.htn_task.specs.Numbers.{number_of}
 use Rattle.htn_plan.proofs.Lists.{length_join, length_map}
 use Rattle.htn_plan.proofs.Ranges.{IsInRange, node_fits}
 
@@ -41,18 +42,18 @@ objects_found t apart (o ∷ os) h =
     ap₂ (λ x y. option_and_then (λ n. option_and_then (λ ns. Some (n ∷ ns)) y) x) (number_found t.objects o apart h.0) (objects_found t apart os h.1)
 
 task_found : (t : Task) → HasDistinctNames t → (g : GroundTask) → IsInRange t g → task_named t (task_name t g.name) (map (object_name t) g.arguments) ≡ Some g
-task_found t (tasks, objects) g (within, fit) =
+task_found t apart g (within, fit) =
     ap₂ (λ x y. option_and_then (λ n. option_and_then (λ ns. Some (record { name = n; arguments = ns })) y) x)
-    (number_found (task_names t) g.name tasks (let e = long in omega (arith, e, within))) (objects_found t objects g.arguments fit)
+    (number_found (task_names t) g.name apart.tasks (let e = long in omega (arith, e, within))) (objects_found t apart.objects g.arguments fit)
   where
     long : length (task_names t) ≡ length t.tasks + length t.actions
     long = length_join (map (λ d. d.name) t.tasks) (map (λ a. a.name) t.actions) ∙ ap₂ ◌+◌ (length_map (λ d. d.name) t.tasks) (length_map (λ a. a.name) t.actions)
 
-pub names_nodes : (t : Task) (s : Solution) → IsWellTyped t → HasDistinctNames t → IsSolution (problem_of t) s → NamesNodes (naming_of t) s
-names_nodes t s typed apart solves p has = by (node_at s.trees p) refl has
+pub names_nodes : (t : Task) (s : Solution) → IsWellTyped t → IsSolution (problem_of t) s → NamesNodes (naming_of t) s
+names_nodes t s typed solves p has = by (node_at s.trees p) refl has
   where
     by : (n : Option Node) → node_at s.trees p ≡ n → HasId n → task_named t (task_name t (task_at n).name) (map (object_name t) (task_at n).arguments) ≡ Some (task_at n)
     by None e h = absurd h
-    by (Some (leaf g)) e h = task_found t apart g (node_fits t typed s.trees solves.are_trees p (leaf g) e)
+    by (Some (leaf g)) e h = task_found t typed.names g (node_fits t typed s.trees solves.are_trees p (leaf g) e)
     by (Some (step literals)) e h = absurd h
-    by (Some (compound g number nodes)) e h = task_found t apart g (node_fits t typed s.trees solves.are_trees p (compound g number nodes) e)
+    by (Some (compound g number nodes)) e h = task_found t typed.names g (node_fits t typed s.trees solves.are_trees p (compound g number nodes) e)

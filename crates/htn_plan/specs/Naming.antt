@@ -1,10 +1,10 @@
 -- The names of a task: what the words of a plan file name in it, and the words of what stands in it.
-use Rattle.std.specs.Prelude.{ℕ, List, [], ◌∷◌, ◌++◌, map, get_or, codes, position, Option, Some, None, option_and_then}
-use Rattle.std.specs.Str.{bytes_eq}
+use Rattle.std.specs.Prelude.{ℕ, List, [], ◌∷◌, map, get_or, codes, Option, Some, None, option_and_then}
 use Rattle.htn_ground.specs.Methods.{method_of}
-use Rattle.htn_model.specs.PlanFile.{Word, Naming, IsWithoutRepeats}
+use Rattle.htn_model.specs.PlanFile.{Word, Naming}
 use Rattle.htn_model.specs.Problem.{GroundTask}
-use Rattle.htn_model.specs.Task.{Task}
+use Rattle.htn_model.specs.Task.{Task, method_names, task_names}
+use Rattle.htn_task.specs.Numbers.{number_of}
 
 -- the word for a number that names nothing
 abbrev pub unnamed : Word
@@ -13,24 +13,16 @@ unnamed = codes "?"
 abbrev pub object_name : Task → ℕ → Word
 object_name t o = get_or t.objects o unnamed
 
--- the names of the compound tasks, and then of the actions
-abbrev pub task_names : Task → List Word
-task_names t = map (λ d. d.name) t.tasks ++ map (λ a. a.name) t.actions
-
 abbrev pub task_name : Task → ℕ → Word
 task_name t n = get_or (task_names t) n unnamed
 
 abbrev pub numbered_method_name : Task → Option ℕ → Word
 numbered_method_name t None = unnamed
-numbered_method_name t (Some m) = get_or (map (λ m. m.name) t.methods) m unnamed
+numbered_method_name t (Some m) = get_or (method_names t) m unnamed
 
 -- the method of the instance with this number
 abbrev pub method_name : Task → GroundTask → ℕ → Word
 method_name t g number = numbered_method_name t (method_of t g number)
-
--- the first number of a word in a list
-abbrev pub number_of : List Word → Word → Option ℕ
-number_of names w = position (bytes_eq w) names
 
 -- the objects that the words name, where each names one
 abbrev pub objects_named : Task → List Word → Option (List ℕ)
@@ -48,7 +40,3 @@ naming_of t = record {
   argument_names = λ g. map (object_name t) g.arguments;
   method_name = method_name t;
 }
-
--- no two tasks or actions have one name, and no two objects
-abbrev pub HasDistinctNames : Task → Type 0
-HasDistinctNames t = IsWithoutRepeats (task_names t) × IsWithoutRepeats t.objects

@@ -7,7 +7,7 @@ ghost use Rattle.plan_text.specs.PlanFile.{IsActionLine, IsDecompositionLine};
 ghost use Rattle.htn_model.specs.Grounding.{problem_of};
 ghost use Rattle.htn_model.specs.Shadow.{IsShadow};
 ghost use Rattle.htn_model.specs.Tree.{IsSolution};
-ghost use Rattle.htn_plan.specs.Naming.{HasDistinctNames, naming_of};
+ghost use Rattle.htn_plan.specs.Naming.{naming_of};
 
 use crate::actions::number_actions;
 use crate::compounds::{count_compounds, number_compounds};
@@ -41,11 +41,11 @@ fn plan_file(
 
 /// The plan file of a solution: its actions, numbered 0, 1, .. in order of execution, and then its
 /// compound nodes in preorder. Roots and children stand in declared order. Precondition steps are
-/// left out. Where names differ, the file of a solution of the task is a shadow of it. An error comes
-/// only where memory was refused.
+/// left out. The file of a solution of the task is a shadow of it. An error comes only where memory was
+/// refused.
 pub fn file_of(alloc: Global, task: &Task, solution: &Solution) -> Result<PlanFile, AllocError>
     ensures value { IfOk result (λ file. file ≡ numbered (naming_of task.now) (solution_of solution.now)) }
-    ensures shadow { IfOk result (λ file. HasDistinctNames task.now → IsSolution (problem_of task.now) (solution_of solution.now) → IsShadow (naming_of task.now) file (solution_of solution.now)) }
+    ensures shadow { IfOk result (λ file. IsSolution (problem_of task.now) (solution_of solution.now) → IsShadow (naming_of task.now) file (solution_of solution.now)) }
 {
     // A call on the task, so that the proof knows it to be well typed.
     let _typed = task.objects();

@@ -3,24 +3,10 @@ use Rattle.std.specs.Prelude.{◌≡◌, ℕ, cond, is_some, List, [], ◌∷◌
 use Rattle.std.specs.Map.{lookup}
 use Rattle.std.specs.Str.{bytes_eq}
 use Rattle.htn_model.specs.Schema.{Name}
-use Rattle.htn_model.specs.Task.{Task}
 
 -- the place of the first declaration with this name
 abbrev pub number_of : List Name → Name → Option ℕ
 number_of names name = position (bytes_eq name) names
-
-abbrev pub type_names : Task → List Name
-type_names t = map (λ d. d.name) t.types
-
-abbrev pub predicate_names : Task → List Name
-predicate_names t = map (λ d. d.name) t.predicates
-
--- the compound tasks, and then the actions
-abbrev pub task_names : Task → List Name
-task_names t = map (λ d. d.name) t.tasks ++ map (λ a. a.name) t.actions
-
-abbrev pub method_names : Task → List Name
-method_names t = map (λ m. m.name) t.methods
 
 -- ## Names with their numbers
 

@@ -1,6 +1,6 @@
 -- The numbers of the names of a task.
-use Rattle.htn_model.specs.Task.{Task}
-use Rattle.htn_task.specs.Numbers.{AreNumbersOf, type_names, predicate_names, task_names, method_names}
+use Rattle.htn_model.specs.Task.{Task, type_names, predicate_names, task_names, method_names}
+use Rattle.htn_task.specs.Numbers.{AreNumbersOf}
 use Rattle.htn_task.specs.declared.task_numbers.TaskNumbers.{TaskNumbers}
 
 pub record AreNumbersIn (t : Task) (numbers : TaskNumbers) : Type 0 where

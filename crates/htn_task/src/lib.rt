@@ -8,9 +8,11 @@ mod schema;
 mod task;
 mod task_numbers;
 mod term;
+mod type_uses;
 
 pub use formula::{Formula, FormulaList};
 pub use name::Name;
 pub use schema::{ActionSchema, InitialSchema, MethodSchema, NetworkSchema};
 pub use task::{Declaration, ObjectType, Task, TaskParts};
 pub use term::{AtomSchema, EqualitySchema, TaskSchema, Term, TermList};
+pub use type_uses::named_types;

@@ -3,8 +3,8 @@ ghost use Rattle.std.specs.Prelude.{◌≡◌, IfOk, MatchOption};
 ghost use Rattle.std.specs.List.Sorted.{IsStrictlySortedBy};
 ghost use Rattle.std.specs.Ordering.{nat_cmp};
 ghost use Rattle.htn_model.specs.Instances.{action_at};
-ghost use Rattle.htn_model.specs.Task.{IsWellTyped, has_type, is_compound, objects_of, predicate_types, task_types};
-ghost use Rattle.htn_task.specs.Numbers.{number_of, type_names, predicate_names, task_names, method_names};
+ghost use Rattle.htn_model.specs.Task.{IsWellTyped, has_type, is_compound, method_names, objects_of, predicate_names, predicate_types, task_names, task_types, type_names};
+ghost use Rattle.htn_task.specs.Numbers.{number_of};
 
 use crate::formula::FormulaList;
 use crate::name::Name;
@@ -130,8 +130,9 @@ impl Model for TaskParts {
     } };
 }
 
-/// A well-typed planning task: each number in it names something, each atom and task has its
-/// declaration's number of arguments, and the orders of its networks are closed.
+/// A well-typed planning task: no two objects, types, predicates or methods, and no two tasks or actions, have one
+/// name, each number in it names something, each atom and task has its declaration's number of arguments, and the
+/// orders of its networks are closed.
 #[derive(Drop)]
 pub struct Task {
     parts: TaskParts,
@@ -229,7 +230,8 @@ impl Task {
         &self.parts.goal
     }
 
-    /// The objects that have a type, ascending; none where no type has the number.
+    /// The objects that have a type, ascending; none where no type has the number. The task of two texts has them for the
+    /// types of places, parameters and quantified variables.
     pub fn objects_of(&self, type_number: u16) -> &[u16]
         ensures value { result.now ≡ objects_of self.now type_number }
         ensures ascending { IsStrictlySortedBy nat_cmp result.now }

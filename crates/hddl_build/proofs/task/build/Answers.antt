@@ -1,7 +1,6 @@
 use Rattle.std.proofs.Common.{◌≡◌, sym, subst}
 use Rattle.std.proofs.lemmas.Result.{IfOk-weaker}
 use Rattle.hddl_meaning.specs.Building.{IsTaskOf}
-use Rattle.hddl_names.specs.Members.{AreMembersOf}
 use Rattle.hddl_meaning.proofs.Limits.{initial_order_acyclic}
 use Rattle.hddl_build.proofs.Bounds.{actions_bounded, goal_bounded, initial_bounded, methods_bounded}
 use Rattle.hddl_build.proofs.Numbered.{numbered, methods_acyclic}
@@ -27,9 +26,6 @@ parts_of-requires-clause-initial c = initial_bounded c.args.domain.now c.args.pr
 
 pub parts_of-requires-clause-goal : goal.parts_of-requires-clause-goal
 parts_of-requires-clause-goal c = goal_bounded c.args.domain.now c.args.problem.now c.requires.fits
-
-pub parts_of-requires-clause-objects : goal.parts_of-requires-clause-objects
-parts_of-requires-clause-objects c = subst (AreMembersOf c.args.domain.now c.args.problem.now) (sym c.into_lists.ensures) c.requires.objects
 
 pub returns : goal.returns
 returns c =

@@ -18,9 +18,9 @@ pub returns : goal.returns
 returns c = record {
   value = the_value;
   shadow =
-      λ apart solves. subst (λ file. IsShadow (naming_of c.args.task.now) file (solution_of c.args.solution.now)) (sym the_value)
+      λ solves. subst (λ file. IsShadow (naming_of c.args.task.now) file (solution_of c.args.solution.now)) (sym the_value)
       (numbered_is_shadow (naming_of c.args.task.now) (problem_of c.args.task.now) (solution_of c.args.solution.now) solves
-      (names_nodes c.args.task.now (solution_of c.args.solution.now) c.objects-typed.ensures.typed apart solves));
+      (names_nodes c.args.task.now (solution_of c.args.solution.now) c.objects-typed.ensures.typed solves));
 }
   where
     the_end : c.in_ok-end.end ≡ length c.in_ok-actions.actions.items + compound_count (items_of c.in_ok-items.items.items)
