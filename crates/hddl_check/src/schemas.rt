@@ -8,7 +8,7 @@ ghost use Rattle.hddl_scope.specs.Findings.{Finds};
 ghost use Rattle.hddl_check.specs.TextParts.{action_parts, method_network_parts, method_parts, parameter_parts, schema_parts};
 
 use hddl_meaning::CheckFault;
-use hddl_scope::{MOST_PARAMETERS, Mention, first_of, parameter_scope, variables_in};
+use hddl_scope::{MOST_PARAMETERS, Mention, Scope, first_of, variables_in};
 use hddl_tree::{ActionText, MethodText, ProblemText, VariableGroup};
 use hddl_uses::{
     Context, check_atoms, check_conditions, check_constraints, check_decomposed, check_different,
@@ -44,9 +44,9 @@ fn check_method(
     if check_limit(context, MOST_PARAMETERS, &mentions).is_some() {
         return Ok(own);
     }
-    let scope = parameter_scope(context.alloc, groups)?;
+    let mut scope = Scope::of(context.alloc, groups)?;
     let network = &method.network;
-    let conditions = check_conditions(context, &scope, method.precondition.as_slice())?;
+    let conditions = check_conditions(context, &mut scope, method.precondition.as_slice())?;
     let constraints = check_constraints(context, &scope, network.constraints.as_slice())?;
     let task = check_decomposed(context, &scope, &method.task)?;
     let subtasks = check_tasks_used(context, &scope, network.subtasks.as_slice())?;
@@ -67,8 +67,8 @@ fn check_action(
     if check_limit(context, MOST_PARAMETERS, &mentions).is_some() {
         return Ok(own);
     }
-    let scope = parameter_scope(context.alloc, groups)?;
-    let conditions = check_conditions(context, &scope, action.precondition.as_slice())?;
+    let mut scope = Scope::of(context.alloc, groups)?;
+    let conditions = check_conditions(context, &mut scope, action.precondition.as_slice())?;
     let effects = check_effects(context, &scope, action.effect.as_slice())?;
     Ok(first_of(own, first_of(conditions, effects)))
 }
@@ -87,7 +87,7 @@ pub(crate) fn check_initial(
     if check_limit(context, MOST_PARAMETERS, &mentions).is_some() {
         return Ok(own);
     }
-    let scope = parameter_scope(context.alloc, groups)?;
+    let scope = Scope::of(context.alloc, groups)?;
     let constraints = check_constraints(context, &scope, network.constraints.as_slice())?;
     let subtasks = check_tasks_used(context, &scope, network.subtasks.as_slice())?;
     Ok(first_of(own, first_of(constraints, subtasks)))
@@ -101,8 +101,9 @@ pub(crate) fn check_states(
     ensures { IfOk result (Finds (AnyFails context.now (schema_parts (schema_of_states problem.now)))) }
 {
     let none = check_parameters(context, &[], &[])?;
-    let atoms = check_atoms(context, &[], problem.init.as_slice())?;
-    let goal = check_conditions(context, &[], problem.goal.as_slice())?;
+    let mut scope = Scope::new(context.alloc);
+    let atoms = check_atoms(context, &scope, problem.init.as_slice())?;
+    let goal = check_conditions(context, &mut scope, problem.goal.as_slice())?;
     Ok(first_of(none, first_of(atoms, goal)))
 }
 

@@ -1,7 +1,7 @@
 -- Numbers of texts, in a map and in the list that contracts see.
-use Rattle.std.proofs.Common.{◌≡◌, ℕ, List, [], ◌∷◌, ◌++◌, Vec, Some, cond, refl, ap}
+use Rattle.std.proofs.Common.{◌≡◌, ℕ, List, [], ◌∷◌, ◌++◌, Vec, Some, cond, refl, ap, sym, take}
 use Rattle.std.specs.Map.{lookup}
-use Rattle.std.proofs.lemmas.List.{map-append}
+use Rattle.std.proofs.lemmas.List.{map-append, take-map}
 use Rattle.hddl_meaning.specs.Mentions.{Text}
 use Rattle.hddl_meaning.specs.Names.{is_same_text}
 use Rattle.hddl_scope.specs.Numbers.{number_at, entries_of}
@@ -12,3 +12,6 @@ number_at-entries (e ∷ es) t = ap (λ r. cond (is_same_text t e.0.items) (Some
 
 pub entries_of-added : {A : Type 0} (es : List (Vec ℕ A × ℕ)) (k : Vec ℕ A) (n : ℕ) → entries_of (es ++ (k, n) ∷ []) ≡ entries_of es ++ (k.items, n) ∷ []
 entries_of-added es k n = map-append (λ e. (e.0.items, e.1)) es ((k, n) ∷ [])
+
+pub entries_of-take : {A : Type 0} (n : ℕ) (es : List (Vec ℕ A × ℕ)) → entries_of (take n es) ≡ take n (entries_of es)
+entries_of-take n es = sym (take-map (λ e. (e.0.items, e.1)) n es)

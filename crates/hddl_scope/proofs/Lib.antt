@@ -5,3 +5,4 @@ pub mod Positions
 pub mod Repeating
 pub mod Distinctness
 pub mod ScopeLists
+pub mod InForce

@@ -102,7 +102,7 @@ Kept-start = record {
   repeat = tt;
 }
 
-more : (ms : List Mention) (m : Mention) (place : ℕ) → IsRepeat ms place → IsRepeat (ms ++ m ∷ []) place
+pub more : (ms : List Mention) (m : Mention) (place : ℕ) → IsRepeat ms place → IsRepeat (ms ++ m ∷ []) place
 more ms m place (before, first, middle, second, after, e, same, is) =
     (before, first, middle, second, after ++ m ∷ [], ap (λ l. l ++ m ∷ []) e ∙ append_assoc (before ++ first ∷ middle) (second ∷ after) (m ∷ []), same, is)
 

@@ -2,3 +2,4 @@ pub mod Findings
 pub mod Numbers
 pub mod Repeats
 pub mod Scopes
+pub mod InForce

@@ -3,6 +3,7 @@
 
 mod distinct;
 mod findings;
+mod in_force;
 mod limits;
 mod lists;
 mod mention;
@@ -12,9 +13,10 @@ mod scope;
 
 pub use distinct::past_distinct;
 pub use findings::first_of;
+pub use in_force::Scope;
 pub use limits::{MOST_DECLARATIONS, MOST_PARAMETERS, MOST_SUBTASKS, first_past};
 pub use lists::{method_names, names_in, predicate_names, task_names, types_in, variables_in};
 pub use mention::Mention;
 pub use numbers::Numbers;
 pub use repeated::first_repeat;
-pub use scope::{Declared, inner_scope, parameter_scope, scope_mentions};
+pub use scope::{Declared, parameters};

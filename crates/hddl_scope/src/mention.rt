@@ -43,16 +43,6 @@ impl Mention {
         })
     }
 
-    pub(crate) fn copied(&self, alloc: Global) -> Result<Mention, AllocError>
-        ensures { IfOk result (λ mention. mention ≡ self.now) }
-    {
-        let text = Vec::from_slice(alloc, self.text())?;
-        Ok(Mention {
-            text,
-            place: self.place,
-        })
-    }
-
     /// Its bytes in lower case.
     pub fn text(&self) -> &[u8]
         ensures { result.now ≡ self.now.text }

@@ -1,5 +1,5 @@
 //! Texts with numbers.
-ghost use Rattle.std.specs.Prelude.{◌≡◌, [], ◌∷◌, ◌++◌, None, OnOk, OnErr, length};
+ghost use Rattle.std.specs.Prelude.{◌≡◌, [], ◌∷◌, ◌++◌, None, OnOk, OnErr, length, take};
 ghost use Rattle.hddl_scope.specs.Numbers.{number_at};
 
 use indexmap::IndexMap;
@@ -52,5 +52,12 @@ impl Numbers {
     {
         let _ = self.entries.insert(text, number)?;
         Ok(())
+    }
+
+    /// Leaves only the first `len` texts.
+    pub(crate) fn truncate(&mut self, len: usize)
+        ensures { self.new ≡ take len self.old }
+    {
+        self.entries.truncate(len);
     }
 }

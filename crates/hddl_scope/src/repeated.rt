@@ -8,7 +8,7 @@ use crate::numbers::Numbers;
 use std::alloc::{AllocError, Global};
 
 /// The place that comes first, if there is one.
-fn least(a: Option<usize>, b: Option<usize>) -> Option<usize>
+pub(crate) fn least(a: Option<usize>, b: Option<usize>) -> Option<usize>
     ensures { IsOneOf a b result }
 {
     match (a, b) {
@@ -19,7 +19,7 @@ fn least(a: Option<usize>, b: Option<usize>) -> Option<usize>
 }
 
 /// Where the later of two names stands, if there are two.
-fn later(first: Option<usize>, place: usize) -> Option<usize>
+pub(crate) fn later(first: Option<usize>, place: usize) -> Option<usize>
     ensures { result ≡ repeat_of first place }
 {
     match first {

@@ -1,13 +1,11 @@
-//! Variables in force.
-ghost use Rattle.std.specs.Prelude.{◌≡◌, ◌++◌, IfOk, OnOk, option_map};
-ghost use Rattle.hddl_meaning.specs.Mentions.{mention_of};
-ghost use Rattle.std.specs.List.{flat_map};
-ghost use Rattle.hddl_meaning.specs.Items.{variable_mentions};
-ghost use Rattle.hddl_meaning.specs.Uses.{parameters_of, quantified_of};
+//! Variables with their types.
+ghost use Rattle.std.specs.Prelude.{◌≡◌, ◌++◌, false, IfOk, OnOk, option_map};
+ghost use Rattle.hddl_meaning.specs.Mentions.{mention_of, variable_mention};
+ghost use Rattle.hddl_meaning.specs.Uses.{parameters_of};
 ghost use Rattle.hddl_scope.specs.Scopes.{group_variables};
 
 use crate::mention::Mention;
-use hddl_tree::{Name, VariableGroup};
+use hddl_tree::{Name, Variable, VariableGroup};
 use std::alloc::{AllocError, Global};
 use std::marker::Model;
 
@@ -25,15 +23,6 @@ impl Model for Declared {
     ghost view = { λ v. record { typed = record { mention = v.mention; of_type = v.of_type }; is_quantified = v.is_quantified } };
 }
 
-fn copied_type(alloc: Global, of_type: &Option<Mention>) -> Result<Option<Mention>, AllocError>
-    ensures { IfOk result (λ copy. copy ≡ of_type.now) }
-{
-    match of_type {
-        Some(mention) => Ok(Some(mention.copied(alloc)?)),
-        None => Ok(None),
-    }
-}
-
 fn type_of(alloc: Global, of_type: &Option<Name>) -> Result<Option<Mention>, AllocError>
     ensures { IfOk result (λ mention. mention ≡ option_map mention_of of_type.now) }
 {
@@ -44,6 +33,27 @@ fn type_of(alloc: Global, of_type: &Option<Name>) -> Result<Option<Mention>, All
 }
 
 impl Declared {
+    /// A variable with the type that is written for it.
+    pub(crate) fn of(
+        alloc: Global,
+        variable: &Variable,
+        of_type: &Option<Name>,
+        is_quantified: bool,
+    ) -> Result<Declared, AllocError>
+        ensures { IfOk result (λ v. v ≡ record {
+            typed = record { mention = variable_mention variable.now; of_type = option_map mention_of of_type.now };
+            is_quantified = is_quantified;
+        }) }
+    {
+        let mention = Mention::of_variable(alloc, variable)?;
+        let of_type = type_of(alloc, of_type)?;
+        Ok(Declared {
+            mention,
+            of_type,
+            is_quantified,
+        })
+    }
+
     /// Its bytes in lower case.
     pub fn text(&self) -> &[u8]
         ensures { result.now ≡ self.now.typed.mention.text }
@@ -65,85 +75,35 @@ impl Declared {
         self.is_quantified
     }
 
-    fn copied(&self, alloc: Global) -> Result<Declared, AllocError>
-        ensures { IfOk result (λ copy. copy ≡ self.now) }
+    /// The byte offset of its first byte in the text.
+    pub(crate) fn place(&self) -> usize
+        ensures { result ≡ self.now.typed.mention.place }
     {
-        let mention = self.mention.copied(alloc)?;
-        let of_type = copied_type(alloc, &self.of_type)?;
-        Ok(Declared {
-            mention,
-            of_type,
-            is_quantified: self.is_quantified,
-        })
+        self.mention.place()
     }
 }
 
-/// Adds the variables of a group.
+/// Adds the parameters of a group.
 fn push_group(
     alloc: Global,
-    scope: &mut Vec<Declared>,
+    parameters: &mut Vec<Declared>,
     group: &VariableGroup,
-    is_quantified: bool,
 ) -> Result<(), AllocError>
-    ensures { OnOk result (scope.new.items ≡ scope.old.items ++ group_variables is_quantified group.now) }
+    ensures { OnOk result (parameters.new.items ≡ parameters.old.items ++ group_variables false group.now) }
 {
     for variable in group.variables.as_slice() {
-        scope.push(Declared {
-            mention: Mention::of_variable(alloc, variable)?,
-            of_type: type_of(alloc, &group.of_type)?,
-            is_quantified,
-        })?;
+        parameters.push(Declared::of(alloc, variable, &group.of_type, false)?)?;
     }
     Ok(())
 }
 
-/// Adds the variables of a typed list.
-fn push_groups(
-    alloc: Global,
-    scope: &mut Vec<Declared>,
-    groups: &[VariableGroup],
-    is_quantified: bool,
-) -> Result<(), AllocError>
-    ensures { OnOk result (scope.new.items ≡ scope.old.items ++ flat_map (group_variables is_quantified) groups.now) }
+/// The places of a declaration, as parameters.
+pub fn parameters(alloc: Global, groups: &[VariableGroup]) -> Result<Vec<Declared>, AllocError>
+    ensures { IfOk result (λ parameters. parameters.items ≡ parameters_of groups.now) }
 {
+    let mut parameters = Vec::new(alloc);
     for group in groups {
-        push_group(alloc, scope, group, is_quantified)?;
+        push_group(alloc, &mut parameters, group)?;
     }
-    Ok(())
-}
-
-/// The parameters of a schema.
-pub fn parameter_scope(alloc: Global, groups: &[VariableGroup]) -> Result<Vec<Declared>, AllocError>
-    ensures { IfOk result (λ scope. scope.items ≡ parameters_of groups.now) }
-{
-    let mut scope = Vec::new(alloc);
-    push_groups(alloc, &mut scope, groups, false)?;
-    Ok(scope)
-}
-
-/// The variables in force in a `forall`: those around it, and then its own.
-pub fn inner_scope(
-    alloc: Global,
-    around: &[Declared],
-    groups: &[VariableGroup],
-) -> Result<Vec<Declared>, AllocError>
-    ensures { IfOk result (λ scope. scope.items ≡ around.now ++ quantified_of groups.now) }
-{
-    let mut scope = Vec::new(alloc);
-    for variable in around {
-        scope.push(variable.copied(alloc)?)?;
-    }
-    push_groups(alloc, &mut scope, groups, true)?;
-    Ok(scope)
-}
-
-/// The variables in force, without their types.
-pub fn scope_mentions(alloc: Global, scope: &[Declared]) -> Result<Vec<Mention>, AllocError>
-    ensures { IfOk result (λ mentions. mentions.items ≡ variable_mentions scope.now) }
-{
-    let mut mentions = Vec::new(alloc);
-    for variable in scope {
-        mentions.push(variable.mention.copied(alloc)?)?;
-    }
-    Ok(mentions)
+    Ok(parameters)
 }

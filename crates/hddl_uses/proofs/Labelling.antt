@@ -1,22 +1,9 @@
 -- The first position of each name of a network.
-use Rattle.std.proofs.Common.{◌≡◌, ℕ, ◌+◌, ◌<◌, suc, Bool, true, false, cond, List, [], ◌∷◌, ◌++◌, length, Option, Some, None, is_some, refl, sym, ap, ◌∙◌, take, get_or, arith}
-use Rattle.std.specs.List.{position, position_from}
+use Rattle.std.proofs.Common.{◌≡◌, ℕ, ◌+◌, ◌<◌, Bool, cond, List, [], ◌∷◌, ◌++◌, length, Some, None, is_some, sym, ap, ◌∙◌, take, get_or, arith}
+use Rattle.std.specs.List.{position}
 use Rattle.std.proofs.lemmas.Iterator.Adapters.{position_from-zero}
 use Rattle.std.proofs.lemmas.List.{take_more, length-take-le}
-
-pub push_from : {X : Type 0} (p : X → Bool) (i : ℕ) (xs : List X) (x : X)
-    → position_from p i (xs ++ x ∷ []) ≡ cond (is_some (position_from p i xs)) (position_from p i xs) (cond (p x) (Some (i + length xs)) None)
-push_from p i [] x = ap (λ n. cond (p x) (Some n) None) (omega arith)
-push_from p i (y ∷ xs) x = by (p y) (push_from p (i + 1) xs x)
-  where
-    rest : Option ℕ
-    rest = position_from p (i + 1) xs
-
-    by : (b : Bool) → position_from p (i + 1) (xs ++ x ∷ []) ≡ cond (is_some rest) rest (cond (p x) (Some (i + 1 + length xs)) None)
-        → cond b (Some i) (position_from p (i + 1) (xs ++ x ∷ []))
-        ≡ cond (is_some (cond b (Some i) rest)) (cond b (Some i) rest) (cond (p x) (Some (i + suc (length xs))) None)
-    by true e = refl
-    by false e = e ∙ (let n : i + 1 + length xs ≡ i + suc (length xs) = omega arith in ap (λ n. cond (is_some rest) rest (cond (p x) (Some n) None)) n)
+use Rattle.hddl_scope.proofs.Positions.{push_from}
 
 pub position_next : {X : Type 0} (p : X → Bool) (xs : List X) (k : ℕ) (x : X) → k < length xs → x ≡ get_or xs k x
     → position p (take (k + 1) xs) ≡ cond (is_some (position p (take k xs))) (position p (take k xs)) (cond (p x) (Some k) None)

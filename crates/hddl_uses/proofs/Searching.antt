@@ -1,28 +1,12 @@
--- The first item of a list that passes, and names that are among others.
-use Rattle.std.proofs.Common.{◌≡◌, ℕ, ◌+◌, ◌<◌, ◌||◌, ◌↔◌, Bool, true, false, cond, List, [], ◌∷◌, ◌++◌, map, Option, Some, None, is_some, option_map, refl, sym, ap, subst, ◌∙◌, inl, inr, take, drop, get_or, length, true≢false}
-use Rattle.std.specs.List.{find, list_any, position}
-use Rattle.std.proofs.lemmas.List.{take_more, take-append-drop, drop_more}
-use Rattle.std.proofs.lemmas.List.Folds.{find-append}
-use Rattle.std.specs.Option.{option_or}
+-- Names and variables that are among others.
+use Rattle.std.proofs.Common.{◌≡◌, ◌||◌, ◌↔◌, Bool, true, false, cond, List, [], ◌∷◌, map, Option, Some, None, is_some, option_map, refl, sym, ap, subst, ◌∙◌, inl, inr, true≢false}
+use Rattle.std.specs.List.{list_any, position}
 use Rattle.hddl_meaning.specs.Mentions.{Text, IsIn}
 use Rattle.hddl_meaning.specs.Names.{is_same_text}
 use Rattle.hddl_meaning.specs.Uses.{Variable}
 use Rattle.hddl_meaning.specs.Items.{variable_in}
 use Rattle.hddl_meaning.proofs.Listed.{at_head, at_tail, in_cases, in_nothing, texts_decide, found}
 use Rattle.hddl_scope.proofs.Positions.{has_position}
-
-module _ {X : Type 0} (p : X → Bool) (xs : List X) (k : ℕ) (x : X) where
-  pub found_none : k < length xs → x ≡ get_or xs k x → find p (take k xs) ≡ None → p x ≡ false → find p (take (k + 1) xs) ≡ None
-  found_none lt is none here =
-      ap (find p) (take_more xs k x lt ∙ ap (λ y. take k xs ++ y ∷ []) (sym is)) ∙ find-append p (take k xs) (x ∷ [])
-      ∙ ap (λ o. option_or o (find p (x ∷ []))) none ∙ ap (λ b. cond b (Some x) None) here
-
-  pub found_here : k < length xs → x ≡ get_or xs k x → find p (take k xs) ≡ None → p x ≡ true → find p xs ≡ Some x
-  found_here lt is none here =
-      let split : xs ≡ take k xs ++ x ∷ drop (k + 1) xs =
-      sym (take-append-drop k xs) ∙ ap (λ l. take k xs ++ l) (drop_more xs k x lt ∙ ap (λ y. y ∷ drop (k + 1) xs) (sym is)) in
-      ap (find p) split ∙ find-append p (take k xs) (x ∷ drop (k + 1) xs)
-      ∙ ap (λ o. option_or o (find p (x ∷ drop (k + 1) xs))) none ∙ ap (λ b. cond b (Some x) (find p (drop (k + 1) xs))) here
 
 pub among : (t : Text) (ts : List Text) → list_any (is_same_text t) ts ≡ true → IsIn t ts
 among t [] h = cc

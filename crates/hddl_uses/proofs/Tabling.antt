@@ -2,7 +2,6 @@
 use Rattle.std.proofs.Common.{◌≡◌, ℕ, ◌+◌, ◌<◌, ◌≤◌, min, Bool, true, false, cond, List, [], ◌∷◌, ◌++◌, length, map, take, drop, get_or, slice_get, Vec, Option, Some, None, is_some, true≢false, option_map, refl, sym, ap, subst, ◌∙◌, arith, append_assoc, nat_lt}
 use Rattle.std.specs.List.{list_any, position, position_or_len}
 use Rattle.std.proofs.lemmas.Bool.Decides.{Decides-ltb}
-use Rattle.std.proofs.lemmas.Iterator.Adapters.{position_from-zero}
 use Rattle.std.proofs.lemmas.List.{take_more, take-append-drop, length-take, length-map, map-append, get_or-take}
 use Rattle.std.proofs.lemmas.List.Elements.{All-contains_itself}
 use Rattle.std.proofs.lemmas.List.Folds.{find_at}
@@ -17,45 +16,13 @@ use Rattle.hddl_meaning.proofs.Numbers.{any_mapped, first_within}
 use Rattle.hddl_scope.specs.Numbers.{Entries, number_at}
 use Rattle.hddl_uses.specs.Tables.{HasPlaces, IsAmong, IsTableOf, as_parameter, has_name, lists_of}
 use Rattle.hddl_uses.specs.declared.signatures.Signatures.{Signatures}
-use Rattle.hddl_uses.proofs.Labelling.{push_from}
+use Rattle.hddl_scope.proofs.Positions.{first_is, next_number, numbers_more}
 
 -- ## One more declaration
-
--- what a text's number is after a name was given one, unless it had one
-abbrev pub next_number : Entries → Text → ℕ → Text → Option ℕ
-next_number es u n t = cond (is_some (number_at es t)) (number_at es t) (cond (is_same_text t u) (Some n) None)
-
--- where the name has a number, nothing is added
-pub kept_number : (es : Entries) (u : Text) (n : ℕ) → is_some (number_at es u) ≡ true → (t : Text) → number_at es t ≡ next_number es u n t
-kept_number es u n some t = by (number_at es t) refl
-  where
-    fresh : number_at es t ≡ None → (b : Bool) → is_same_text t u ≡ b → None ≡ cond b (Some n) None
-    fresh none true same =
-        let gone : number_at es u ≡ None = ap (number_at es) (sym ((texts_decide t u).0 same)) ∙ none in
-        absurd (true≢false (sym some ∙ ap is_some gone))
-    fresh none false same = refl
-
-    by : (o : Option ℕ) → number_at es t ≡ o → o ≡ cond (is_some o) o (cond (is_same_text t u) (Some n) None)
-    by None none = fresh none (is_same_text t u) refl
-    by (Some k) is = refl
-
-position_push : {X : Type 0} (p : X → Bool) (xs : List X) (x : X)
-    → position p (xs ++ x ∷ []) ≡ cond (is_some (position p xs)) (position p xs) (cond (p x) (Some (length xs)) None)
-position_push p xs x =
-    let wide : 0 + length xs ≡ length xs = omega arith in
-    position_from-zero p (xs ++ x ∷ []) ∙ push_from p 0 xs x
-    ∙ (λ i. cond (is_some (sym (position_from-zero p xs) i)) (sym (position_from-zero p xs) i) (cond (p x) (Some (wide i)) None))
 
 same_length : {X A : Type 0} (f : Signature → List X) (vectors : List (Vec X A)) (signatures : List Signature) → lists_of vectors ≡ map f signatures
     → length vectors ≡ length signatures
 same_length f vectors signatures e = sym (length-map vectors (λ v. v.items)) ∙ ap length e ∙ length-map signatures f
-
-pub numbers_more : (signatures : List Signature) (s : Signature) (es : Entries) (n : ℕ) (next : Text → Option ℕ) → n ≡ length signatures
-    → ((t : Text) → next t ≡ next_number es s.name n t) → ((t : Text) → number_at es t ≡ position (has_name t) signatures)
-    → (t : Text) → next t ≡ position (has_name t) (signatures ++ s ∷ [])
-numbers_more signatures s es n next long step old t =
-    step t ∙ (λ i. cond (is_some (old t i)) (old t i) (cond (is_same_text t s.name) (Some (long i)) None))
-    ∙ sym (position_push (has_name t) signatures s)
 
 -- the table of one more declaration
 pub one_more : (signatures : List Signature) (s : Signature) (old new : Signatures) (n : ℕ) → n ≡ length old.places.items
@@ -63,7 +30,7 @@ pub one_more : (signatures : List Signature) (s : Signature) (old new : Signatur
     → lists_of new.places.items ≡ lists_of old.places.items ++ map as_parameter s.places ∷ []
     → IsTableOf signatures old → IsTableOf (signatures ++ s ∷ []) new
 one_more signatures s old new n long step more table = record {
-  numbers = numbers_more signatures s old.numbers n (number_at new.numbers)
+  numbers = numbers_more (λ (s : Signature). s.name) signatures s old.numbers n (number_at new.numbers)
       (long ∙ same_length (λ s. map as_parameter s.places) old.places.items signatures table.places) step table.numbers;
   places = more ∙ ap (λ l. l ++ map as_parameter s.places ∷ []) table.places ∙ sym (map-append (λ s. map as_parameter s.places) signatures (s ∷ []));
 }
@@ -94,13 +61,6 @@ among_first signatures count text among =
     let within : first < length signatures = omega (arith, below, long) in
     let early : first < count = omega (arith, below, long) in
     (first, ap (λ b. cond b (Some first) None) ((Decides-ltb first (length signatures)).1 within), early, within)
-
-first_is : {X : Type 0} (p : X → Bool) (xs : List X) (k : ℕ) → position p xs ≡ Some k → position_or_len p xs ≡ k
-first_is p xs k e = by (nat_lt (position_or_len p xs) (length xs)) e
-  where
-    by : (b : Bool) → cond b (Some (position_or_len p xs)) None ≡ Some k → position_or_len p xs ≡ k
-    by true e = cc
-    by false e = cc
 
 places_at : (signatures : List Signature) (k : ℕ) → k < length signatures
     → slice_get (map (λ s. map as_parameter s.places) signatures) k ≡ Some (map as_parameter (get_or signatures k nobody).places)

@@ -1,11 +1,11 @@
 //! Terms where they are used.
-ghost use Rattle.std.specs.Prelude.{◌≡◌, ◌↔◌, IfOk, IsTrue, length, option_map};
+ghost use Rattle.std.specs.Prelude.{◌≡◌, ◌↔◌, IfOk, IsTrue, length};
 ghost use Rattle.std.specs.List.{position, zip};
 ghost use Rattle.hddl_tree.specs.declared.term.Term.TheVariants as term;
 ghost use Rattle.hddl_meaning.specs.Mentions.{IsIn};
 ghost use Rattle.hddl_meaning.specs.Names.{is_same_text, object_names, type_names};
 ghost use Rattle.hddl_meaning.specs.Types.{text_or_object, HasType};
-ghost use Rattle.hddl_meaning.specs.Items.{MayStand, variable_in};
+ghost use Rattle.hddl_meaning.specs.Items.{MayStand};
 ghost use Rattle.hddl_uses.specs.Contexts.{AnyArgumentFails, ArgumentFails, Clashes, Fails, IsUnknownObject, ObjectClashes};
 ghost use Rattle.hddl_scope.specs.Findings.{Finds};
 ghost use Rattle.hddl_uses.specs.Known.{AreKnown, IsTyped};
@@ -14,32 +14,20 @@ ghost use Rattle.hddl_uses.specs.Parts.{Side};
 use crate::context::Context;
 use hddl_meaning::CheckFault;
 use hddl_names::fold;
-use hddl_scope::{Declared, first_of};
+use hddl_scope::{Declared, Scope, first_of};
 use hddl_tree::{Name, Term, Variable};
 use std::alloc::AllocError;
-
-/// The first variable of that text in force.
-fn in_force<'a>(scope: &'a [Declared], text: &[u8]) -> Option<&'a Declared>
-    ensures { option_map (λ v. v.now) result ≡ variable_in scope.now text.now }
-{
-    for variable in scope {
-        if text == variable.text() {
-            return Some(variable);
-        }
-    }
-    None
-}
 
 /// A variable that isn't in force.
 fn check_variable(
     context: &Context<'_>,
-    scope: &[Declared],
+    scope: &Scope,
     variable: &Variable,
 ) -> Result<Option<CheckFault>, AllocError>
     ensures { IfOk result (Finds (Fails context.now (Side (record { variables = scope.now; term = term.Variable variable.now })))) }
 {
     let text = fold(context.alloc, variable.text())?;
-    if in_force(scope, &text).is_some() {
+    if scope.get(&text).is_some() {
         return Ok(None);
     }
     Ok(Some(CheckFault::UnknownName(context.at(variable.place()))))
@@ -59,7 +47,7 @@ fn check_object(context: &Context<'_>, name: &Name) -> Result<Option<CheckFault>
 /// A variable that isn't in force, or a constant or object that isn't declared.
 pub(crate) fn check_term(
     context: &Context<'_>,
-    scope: &[Declared],
+    scope: &Scope,
     term: &Term,
 ) -> Result<Option<CheckFault>, AllocError>
     ensures { IfOk result (Finds (Fails context.now (Side (record { variables = scope.now; term = term.now })))) }
@@ -120,14 +108,14 @@ fn lacks_type(context: &Context<'_>, text: &[u8], place: &Declared) -> bool
 /// A variable that can't have the type of its place.
 fn check_variable_type(
     context: &Context<'_>,
-    scope: &[Declared],
+    scope: &Scope,
     variable: &Variable,
     place: &Declared,
 ) -> Result<Option<CheckFault>, AllocError>
     ensures { IfOk result (Finds (Clashes context.now scope.now (term.Variable variable.now) place.now.typed)) }
 {
     let text = fold(context.alloc, variable.text())?;
-    if let Some(declared) = in_force(scope, &text)
+    if let Some(declared) = scope.get(&text)
         && is_barred(context, declared, place)?
     {
         return Ok(Some(CheckFault::TypeClash(context.at(variable.place()))));
@@ -153,7 +141,7 @@ fn check_object_type(
 /// An argument that can't have the type of its place.
 fn check_type(
     context: &Context<'_>,
-    scope: &[Declared],
+    scope: &Scope,
     argument: &Term,
     place: &Declared,
 ) -> Result<Option<CheckFault>, AllocError>
@@ -168,7 +156,7 @@ fn check_type(
 /// An argument that isn't known, or can't have the type of its place.
 fn check_argument(
     context: &Context<'_>,
-    scope: &[Declared],
+    scope: &Scope,
     argument: &Term,
     place: &Declared,
 ) -> Result<Option<CheckFault>, AllocError>
@@ -182,7 +170,7 @@ fn check_argument(
 /// Such an argument, where there are as many as places.
 pub(crate) fn check_arguments(
     context: &Context<'_>,
-    scope: &[Declared],
+    scope: &Scope,
     arguments: &[Term],
     places: &[Declared],
 ) -> Result<Option<CheckFault>, AllocError>

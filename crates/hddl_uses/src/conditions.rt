@@ -1,51 +1,62 @@
 //! Conditions: the atoms and equalities that they use, and the variables that they declare.
-ghost use Rattle.std.specs.Prelude.{IfOk};
+ghost use Rattle.std.specs.Prelude.{◌≡◌, IfOk};
 ghost use Rattle.hddl_uses.specs.Contexts.{AnyFails};
 ghost use Rattle.hddl_scope.specs.Findings.{Finds};
 ghost use Rattle.hddl_uses.specs.Parts.{conditions_parts};
 ghost use Rattle.hddl_uses.specs.Conditions.{condition_parts};
 
 use crate::context::Context;
-use crate::quantifiers::check_quantifier;
+use crate::quantifiers::enter;
 use crate::uses::{check_atom, check_equality};
 use hddl_meaning::CheckFault;
-use hddl_scope::{Declared, first_of, inner_scope};
+use hddl_scope::{Scope, first_of};
 use hddl_tree::Condition;
 use std::alloc::AllocError;
 
-/// A fault of a condition. The body of a `forall` whose variables have a fault isn't looked at.
+/// A fault of a condition. The body of a `forall` whose variables have a fault isn't looked at. The variables in force
+/// afterwards are those before.
 fn check_condition(
     context: &Context<'_>,
-    scope: &[Declared],
+    scope: &mut Scope,
     condition: &Condition,
 ) -> Result<Option<CheckFault>, AllocError>
-    ensures { IfOk result (Finds (AnyFails context.now (condition_parts scope.now condition.now))) }
+    ensures found { IfOk result (Finds (AnyFails context.now (condition_parts scope.old condition.now))) }
+    ensures kept { scope.new ≡ scope.old }
 {
     match condition {
         Condition::Literal(literal) => check_atom(context, scope, &literal.atom),
         Condition::Equality(equality) => check_equality(context, scope, equality),
         Condition::Forall(groups, body) => {
-            let within = inner_scope(context.alloc, scope, groups.as_slice())?;
-            let own = check_quantifier(context, scope, &within, groups.as_slice())?;
+            let around = scope.len();
+            let own = enter(context, scope, groups.as_slice())?;
             if own.is_some() {
+                scope.truncate(around);
                 return Ok(own);
             }
             let mut found = None;
             for part in body.as_slice() {
-                found = first_of(found, check_condition(context, &within, part)?);
+                match check_condition(context, scope, part) {
+                    Ok(here) => found = first_of(found, here),
+                    Err(error) => {
+                        scope.truncate(around);
+                        return Err(error);
+                    }
+                }
             }
+            scope.truncate(around);
             Ok(found)
         }
     }
 }
 
-/// A fault of conditions.
+/// A fault of conditions. The variables in force afterwards are those before.
 pub fn check_conditions(
     context: &Context<'_>,
-    scope: &[Declared],
+    scope: &mut Scope,
     conditions: &[Condition],
 ) -> Result<Option<CheckFault>, AllocError>
-    ensures { IfOk result (Finds (AnyFails context.now (conditions_parts scope.now conditions.now))) }
+    ensures found { IfOk result (Finds (AnyFails context.now (conditions_parts scope.old conditions.now))) }
+    ensures kept { scope.new ≡ scope.old }
 {
     let mut found = None;
     for condition in conditions {

@@ -1,35 +1,73 @@
 //! The variables that a `forall` declares.
-ghost use Rattle.std.specs.Prelude.{◌≡◌, ◌++◌, IfOk};
-ghost use Rattle.hddl_meaning.specs.Uses.{quantified_of};
-ghost use Rattle.hddl_uses.specs.Contexts.{AnyFails};
+ghost use Rattle.std.specs.Prelude.{◌≡◌, ◌++◌, List, IfOk, OnErr, OnOk};
+ghost use Rattle.hddl_meaning.specs.Items.{most_variables, variable_mentions};
+ghost use Rattle.hddl_meaning.specs.Uses.{Variable, quantified_of};
+ghost use Rattle.hddl_uses.specs.Contexts.{AnyFails, Fails};
 ghost use Rattle.hddl_scope.specs.Findings.{Finds};
-ghost use Rattle.hddl_uses.specs.Parts.{quantifier_parts};
+ghost use Rattle.hddl_uses.specs.Parts.{Different, Limited, quantifier_parts};
 
 use crate::context::Context;
-use crate::mentions::{check_different, check_limit};
+use crate::mentions::check_limit;
 use crate::types::check_variable_types;
 use hddl_meaning::CheckFault;
-use hddl_scope::{
-    Declared, MOST_DECLARATIONS, MOST_PARAMETERS, first_of, scope_mentions, variables_in,
-};
+use hddl_scope::{MOST_DECLARATIONS, MOST_PARAMETERS, Scope, first_of, variables_in};
 use hddl_tree::VariableGroup;
 use std::alloc::AllocError;
 
-/// A fault of the variables that a `forall` declares, of which the last are in force in it.
-pub(crate) fn check_quantifier(
+/// A variable in force whose text stood before.
+fn check_repeat(context: &Context<'_>, scope: &Scope) -> Option<CheckFault>
+    ensures { Finds (Fails context.now (Different (variable_mentions scope.now))) result }
+{
+    match scope.repeat() {
+        Some(place) => Some(CheckFault::Duplicate(context.at(place))),
+        None => None,
+    }
+}
+
+/// The first variable past the limit of those in force at once.
+fn check_count(context: &Context<'_>, scope: &Scope) -> Option<CheckFault>
+    ensures { Finds (Fails context.now (Limited most_variables (variable_mentions scope.now))) result }
+{
+    match scope.first_past(MOST_DECLARATIONS) {
+        Some(place) => Some(CheckFault::TooMany(context.at(place))),
+        None => None,
+    }
+}
+
+/// A fault of the variables that a `forall` declares, which are the last of those in force.
+fn check_quantifier(
     context: &Context<'_>,
-    around: &[Declared],
-    within: &[Declared],
+    scope: &Scope,
     groups: &[VariableGroup],
 ) -> Result<Option<CheckFault>, AllocError>
-    requires { within.now ≡ around.now ++ quantified_of groups.now }
-    ensures { IfOk result (Finds (AnyFails context.now (quantifier_parts (record { around = around.now; own = groups.now })))) }
+    ensures { (around : List Variable) → scope.now ≡ around ++ quantified_of groups.now
+        → IfOk result (Finds (AnyFails context.now (quantifier_parts (record { around = around; own = groups.now })))) }
 {
-    let all = scope_mentions(context.alloc, within)?;
     let own = variables_in(context.alloc, groups)?;
-    let repeated = check_different(context, &all)?;
+    let repeated = check_repeat(context, scope);
     let own_limit = check_limit(context, MOST_PARAMETERS, &own);
-    let limit = check_limit(context, MOST_DECLARATIONS, &all);
+    let limit = check_count(context, scope);
     let types = check_variable_types(context, groups)?;
     Ok(first_of(repeated, first_of(own_limit, first_of(limit, types))))
+}
+
+/// Puts the variables of a `forall` in force, and gives a fault of theirs. Where memory is refused, none of them is in force.
+pub(crate) fn enter(
+    context: &Context<'_>,
+    scope: &mut Scope,
+    groups: &[VariableGroup],
+) -> Result<Option<CheckFault>, AllocError>
+    ensures found { IfOk result (Finds (AnyFails context.now (quantifier_parts (record { around = scope.old; own = groups.now })))) }
+    ensures ok { OnOk result (scope.new ≡ scope.old ++ quantified_of groups.now) }
+    ensures err { OnErr result (scope.new ≡ scope.old) }
+{
+    let around = scope.len();
+    scope.push_quantified(context.alloc, groups)?;
+    match check_quantifier(context, scope, groups) {
+        Ok(found) => Ok(found),
+        Err(error) => {
+            scope.truncate(around);
+            Err(error)
+        }
+    }
 }

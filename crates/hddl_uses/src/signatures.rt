@@ -4,7 +4,7 @@ ghost use Rattle.hddl_meaning.specs.Items.{Signature, signature};
 ghost use Rattle.hddl_uses.specs.Tables.{HasPlaces, IsAmong, IsTableOf};
 
 use hddl_names::fold;
-use hddl_scope::{Declared, Numbers, parameter_scope};
+use hddl_scope::{Declared, Numbers, parameters};
 use hddl_tree::{ActionText, Name, PredicateText, TaskText, VariableGroup};
 use std::alloc::{AllocError, Global};
 
@@ -42,7 +42,7 @@ impl Signatures {
         ensures { OnOk result ((signatures : List Signature) → IsTableOf signatures self.old → IsTableOf (signatures ++ signature name.now groups.now ∷ []) self.new) }
     {
         let text = fold(alloc, name.text())?;
-        let places = parameter_scope(alloc, groups)?;
+        let places = parameters(alloc, groups)?;
         if self.numbers.get(&text).is_none() {
             self.numbers.add(text, self.places.len())?;
         }

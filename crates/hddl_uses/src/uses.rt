@@ -13,7 +13,7 @@ use crate::context::Context;
 use crate::signatures::Signatures;
 use hddl_meaning::CheckFault;
 use hddl_names::fold;
-use hddl_scope::{Declared, first_of};
+use hddl_scope::{Scope, first_of};
 use hddl_tree::{AtomText, EqualityText, LiteralText, SubtaskText};
 use std::alloc::AllocError;
 
@@ -22,7 +22,7 @@ fn check_use(
     context: &Context<'_>,
     declared: &Signatures,
     count: usize,
-    scope: &[Declared],
+    scope: &Scope,
     atom: &AtomText,
 ) -> Result<Option<CheckFault>, AllocError>
     ensures { IfOk result (λ found. (signatures : List Signature) → IsTableOf signatures declared.now
@@ -43,7 +43,7 @@ fn check_use(
 /// A fault of an atom.
 pub(crate) fn check_atom(
     context: &Context<'_>,
-    scope: &[Declared],
+    scope: &Scope,
     atom: &AtomText,
 ) -> Result<Option<CheckFault>, AllocError>
     ensures { IfOk result (Finds (Fails context.now (Atom (record { variables = scope.now; atom = atom.now })))) }
@@ -56,7 +56,7 @@ pub(crate) fn check_atom(
 /// A fault of the task that a method decomposes: it has to be a compound one.
 pub fn check_decomposed(
     context: &Context<'_>,
-    scope: &[Declared],
+    scope: &Scope,
     task: &AtomText,
 ) -> Result<Option<CheckFault>, AllocError>
     ensures { IfOk result (Finds (Fails context.now (Decomposed (record { variables = scope.now; atom = task.now })))) }
@@ -69,7 +69,7 @@ pub fn check_decomposed(
 /// A fault of a subtask.
 fn check_subtask(
     context: &Context<'_>,
-    scope: &[Declared],
+    scope: &Scope,
     task: &AtomText,
 ) -> Result<Option<CheckFault>, AllocError>
     ensures { IfOk result (Finds (Fails context.now (Subtask (record { variables = scope.now; atom = task.now })))) }
@@ -82,7 +82,7 @@ fn check_subtask(
 /// A side of an equality that isn't known.
 pub(crate) fn check_equality(
     context: &Context<'_>,
-    scope: &[Declared],
+    scope: &Scope,
     equality: &EqualityText,
 ) -> Result<Option<CheckFault>, AllocError>
     ensures { IfOk result (Finds (AnyFails context.now (map Side (sides scope.now equality.now)))) }
@@ -95,7 +95,7 @@ pub(crate) fn check_equality(
 /// A fault of atoms.
 pub fn check_atoms(
     context: &Context<'_>,
-    scope: &[Declared],
+    scope: &Scope,
     atoms: &[AtomText],
 ) -> Result<Option<CheckFault>, AllocError>
     ensures { IfOk result (Finds (AnyFails context.now (map Atom (map (λ a. record { variables = scope.now; atom = a }) atoms.now)))) }
@@ -110,7 +110,7 @@ pub fn check_atoms(
 /// A fault of the atoms of effects.
 pub fn check_effects(
     context: &Context<'_>,
-    scope: &[Declared],
+    scope: &Scope,
     effects: &[LiteralText],
 ) -> Result<Option<CheckFault>, AllocError>
     ensures { IfOk result (Finds (AnyFails context.now (map Atom (map (λ l. record { variables = scope.now; atom = l.atom }) effects.now)))) }
@@ -125,7 +125,7 @@ pub fn check_effects(
 /// A fault of the tasks of a network.
 pub fn check_tasks_used(
     context: &Context<'_>,
-    scope: &[Declared],
+    scope: &Scope,
     subtasks: &[SubtaskText],
 ) -> Result<Option<CheckFault>, AllocError>
     ensures { IfOk result (Finds (AnyFails context.now (map Subtask (map (λ s. record { variables = scope.now; atom = s.task }) subtasks.now)))) }
@@ -140,7 +140,7 @@ pub fn check_tasks_used(
 /// A side of a constraint that isn't known.
 pub fn check_constraints(
     context: &Context<'_>,
-    scope: &[Declared],
+    scope: &Scope,
     constraints: &[EqualityText],
 ) -> Result<Option<CheckFault>, AllocError>
     ensures { IfOk result (Finds (AnyFails context.now (map Side (flat_map (sides scope.now) constraints.now)))) }

@@ -36,15 +36,16 @@ returns c =
     let own : List Part = parameter_parts a.parameters in
     let inner : List Part = inner_parts (schema_of_action a) in
     let w : List Variable = parameters_of a.parameters in
-    let scope : c.in_ok-scope.scope.items ≡ w = c.in_ok-scope.ensures ∙ ap parameters_of c.as_slice-groups.ensures in
+    let scope : c.in_ok-scope.scope ≡ w = c.in_ok-scope.ensures ∙ ap parameters_of c.as_slice-groups.ensures in
+    let kept : c.check_conditions.new.scope ≡ w = c.in_ok-conditions.ensures.kept ∙ scope in
     let conditions : List Part = conditions_parts w a.precondition in
     let effects : List Part = map Atom (map (λ l. record { variables = w; atom = l.atom }) a.effect) in
     Finds-append P own inner
     (Finds-list P (ap (λ (g : List VariableGroup). parameter_parts g) c.as_slice-groups.ensures) c.in_ok-own.ensures)
     (Finds-within P (action_inner a) inner (to_action a) (from_action a)
     (Finds-append P conditions effects
-    (Finds-list P (λ i. conditions_parts ((c.deref-3.ensures.value ∙ scope) i) (c.as_slice.ensures i)) c.in_ok-conditions.ensures)
-    (Finds-list P (λ i. map Atom (map (λ (l : LiteralText). record { variables = (c.deref-4.ensures.value ∙ scope) i; atom = l.atom }) (c.as_slice-2.ensures i)))
+    (Finds-list P (λ i. conditions_parts (scope i) (c.as_slice.ensures i)) c.in_ok-conditions.ensures.found)
+    (Finds-list P (λ i. map Atom (map (λ (l : LiteralText). record { variables = kept i; atom = l.atom }) (c.as_slice-2.ensures i)))
     c.in_ok-effects.ensures)
     c.first_of.ensures))
     c.first_of-2.ensures

@@ -37,15 +37,15 @@ returns c =
     let gs : List VariableGroup = p.htn.parameters in
     let own : List Part = parameter_parts gs in
     let w : List Variable = parameters_of gs in
-    let scope : c.in_ok-scope.scope.items ≡ w = c.in_ok-scope.ensures ∙ ap parameters_of c.as_slice-groups.ensures in
+    let scope : c.in_ok-scope.scope ≡ w = c.in_ok-scope.ensures ∙ ap parameters_of c.as_slice-groups.ensures in
     let constraints : List Part = map Side (constraints_in w p.htn.network) in
     let subtasks : List Part = map Subtask (subtasks_in w p.htn.network) in
     Finds-append P own (constraints ++ subtasks)
     (Finds-list P (ap (λ (g : List VariableGroup). parameter_parts g) c.as_slice-groups.ensures) c.in_ok-own.ensures)
     (Finds-append P constraints subtasks
-    (Finds-list P (λ i. map Side (flat_map (sides ((c.deref-3.ensures.value ∙ scope) i)) (c.as_slice.ensures i))) c.in_ok-constraints.ensures)
+    (Finds-list P (λ i. map Side (flat_map (sides (scope i)) (c.as_slice.ensures i))) c.in_ok-constraints.ensures)
     (Finds-list P
-    (λ i. map Subtask (map (λ (s : SubtaskText). record { variables = (c.deref-4.ensures.value ∙ scope) i; atom = s.task }) (c.as_slice-2.ensures i)))
+    (λ i. map Subtask (map (λ (s : SubtaskText). record { variables = scope i; atom = s.task }) (c.as_slice-2.ensures i)))
     c.in_ok-subtasks.ensures)
     c.first_of.ensures)
     c.first_of-2.ensures

@@ -36,7 +36,8 @@ returns c =
     let m = c.args.method.now in
     let own : List Part = parameter_parts m.parameters in
     let w : List Variable = parameters_of m.parameters in
-    let scope : c.in_ok-scope.scope.items ≡ w = c.in_ok-scope.ensures ∙ ap parameters_of c.as_slice-groups.ensures in
+    let scope : c.in_ok-scope.scope ≡ w = c.in_ok-scope.ensures ∙ ap parameters_of c.as_slice-groups.ensures in
+    let kept : c.check_conditions.new.scope ≡ w = c.in_ok-conditions.ensures.kept ∙ scope in
     let conditions : List Part = conditions_parts w m.precondition in
     let constraints : List Part = map Side (constraints_in w m.network) in
     let task : Part = Decomposed (record { variables = w; atom = m.task }) in
@@ -45,13 +46,13 @@ returns c =
     (Finds-list P (ap (λ (g : List VariableGroup). parameter_parts g) c.as_slice-groups.ensures) c.in_ok-own.ensures)
     (Finds-list P (method_is m)
     (Finds-append P conditions (constraints ++ (task ∷ subtasks))
-    (Finds-list P (λ i. conditions_parts ((c.deref-3.ensures.value ∙ scope) i) (c.as_slice.ensures i)) c.in_ok-conditions.ensures)
+    (Finds-list P (λ i. conditions_parts (scope i) (c.as_slice.ensures i)) c.in_ok-conditions.ensures.found)
     (Finds-append P constraints (task ∷ subtasks)
-    (Finds-list P (λ i. map Side (flat_map (sides ((c.deref-4.ensures.value ∙ scope) i)) (c.as_slice-2.ensures i))) c.in_ok-constraints.ensures)
+    (Finds-list P (λ i. map Side (flat_map (sides (kept i)) (c.as_slice-2.ensures i))) c.in_ok-constraints.ensures)
     (Finds-cons P task subtasks
-    (subst (λ (w : List Variable). Finds (P (Decomposed (record { variables = w; atom = m.task }))) c.in_ok-task.task) (c.deref-5.ensures.value ∙ scope) c.in_ok-task.ensures)
+    (subst (λ (w : List Variable). Finds (P (Decomposed (record { variables = w; atom = m.task }))) c.in_ok-task.task) kept c.in_ok-task.ensures)
     (Finds-list P
-    (λ i. map Subtask (map (λ (s : SubtaskText). record { variables = (c.deref-6.ensures.value ∙ scope) i; atom = s.task }) (c.as_slice-3.ensures i)))
+    (λ i. map Subtask (map (λ (s : SubtaskText). record { variables = kept i; atom = s.task }) (c.as_slice-3.ensures i)))
     c.in_ok-subtasks.ensures)
     c.first_of.ensures)
     c.first_of-used.ensures)

@@ -1,6 +1,5 @@
-use Rattle.std.proofs.Common.{[], ap, List, map}
+use Rattle.std.proofs.Common.{[], List, map}
 use Rattle.hddl_tree.specs.declared.term.AtomText.{AtomText}
-use Rattle.hddl_tree.specs.declared.condition.Condition.{Condition}
 use Rattle.hddl_meaning.specs.Uses.{Use, schema_of_states}
 use Rattle.hddl_uses.specs.Contexts.{Fails}
 use Rattle.hddl_uses.specs.Parts.{Part, Atom, conditions_parts}
@@ -19,7 +18,7 @@ returns c =
     Finds-append P (parameter_parts []) (inner_parts (schema_of_states p)) c.in_ok-none.ensures
     (Finds-list P (states_are p)
     (Finds-append P atoms goals
-    (Finds-list P (ap (λ (xs : List AtomText). map Atom (map use_of xs)) c.as_slice.ensures) c.in_ok-atoms.ensures)
-    (Finds-list P (ap (λ (cs : List Condition). conditions_parts [] cs) c.as_slice-2.ensures) c.in_ok-goal.ensures)
+    (Finds-list P (λ i. map Atom (map (λ (a : AtomText). record { variables = c.new-scope.ensures i; atom = a }) (c.as_slice.ensures i))) c.in_ok-atoms.ensures)
+    (Finds-list P (λ i. conditions_parts (c.new-scope.ensures i) (c.as_slice-2.ensures i)) c.in_ok-goal.ensures.found)
     c.first_of.ensures))
     c.first_of-2.ensures

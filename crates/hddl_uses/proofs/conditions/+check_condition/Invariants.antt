@@ -1,4 +1,4 @@
-use Rattle.std.proofs.Common.{take}
+use Rattle.std.proofs.Common.{◌≡◌, take}
 use Rattle.std.specs.List.{flat_map}
 use Rattle.hddl_uses.specs.Contexts.{AnyFails}
 use Rattle.hddl_scope.specs.Findings.{Finds}
@@ -9,4 +9,7 @@ abbrev pub decreases-check_condition : goal.decreases-check_condition
 decreases-check_condition l = goal.size-check_condition l
 
 abbrev pub invariant-loop-part : goal.invariant-loop-part
-invariant-loop-part l = Finds (AnyFails l.context (flat_map (condition_parts l.within.items) (take l.part-index l.part-items))) l.found
+invariant-loop-part l = record {
+  found : Finds (AnyFails l.context (flat_map (condition_parts l.initial.scope) (take l.part-index l.part-items))) l.found;
+  kept : l.scope ≡ l.initial.scope;
+}

@@ -1,4 +1,4 @@
-use Rattle.std.proofs.Common.{take}
+use Rattle.std.proofs.Common.{◌≡◌, take}
 use Rattle.std.specs.List.{flat_map}
 use Rattle.hddl_uses.specs.Contexts.{AnyFails}
 use Rattle.hddl_scope.specs.Findings.{Finds}
@@ -6,4 +6,7 @@ use Rattle.hddl_uses.specs.Conditions.{condition_parts}
 use Rattle.hddl_uses.proofs.conditions.check_conditions.Given as goal
 
 abbrev pub invariant-loop-condition : goal.invariant-loop-condition
-invariant-loop-condition l = Finds (AnyFails l.context (flat_map (condition_parts l.scope) (take l.condition-index l.conditions))) l.found
+invariant-loop-condition l = record {
+  found : Finds (AnyFails l.context (flat_map (condition_parts l.initial.scope) (take l.condition-index l.conditions))) l.found;
+  kept : l.scope ≡ l.initial.scope;
+}

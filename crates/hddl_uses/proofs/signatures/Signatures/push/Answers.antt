@@ -5,7 +5,8 @@ use Rattle.hddl_meaning.specs.Items.{signature}
 use Rattle.hddl_scope.specs.Numbers.{number_at}
 use Rattle.hddl_uses.specs.Tables.{lists_of}
 use Rattle.hddl_scope.proofs.Repeating.{number_at-push}
-use Rattle.hddl_uses.proofs.Tabling.{kept_number, next_number, one_more}
+use Rattle.hddl_scope.proofs.Positions.{kept_number, next_number}
+use Rattle.hddl_uses.proofs.Tabling.{one_more}
 use Rattle.hddl_uses.proofs.signatures.Signatures.push.Goals.{then-is_none+in_ok-add, else-is_none}
 use Rattle.hddl_uses.proofs.signatures.Signatures.push.Goals as goal
 

@@ -2,8 +2,8 @@ use Rattle.std.proofs.Common.{◌++◌, ◌∙◌, ap, false}
 use Rattle.std.specs.List.{flat_map}
 use Rattle.hddl_scope.specs.Scopes.{group_variables}
 use Rattle.hddl_scope.proofs.ScopeLists.{scope_groups}
-use Rattle.hddl_scope.proofs.scope.parameter_scope.Goals as goal
+use Rattle.hddl_scope.proofs.in_force.Scope.of.Goals as goal
 
 pub returns : goal.returns
 returns c =
-    c.in_ok-push_groups.ensures ∙ ap (λ l. l ++ flat_map (group_variables false) c.args.groups.now) c.new-scope.ensures.items ∙ scope_groups false c.args.groups.now
+    c.in_ok-push_groups.ensures.ok ∙ ap (λ l. l ++ flat_map (group_variables false) c.args.groups.now) c.new-scope.ensures ∙ scope_groups false c.args.groups.now

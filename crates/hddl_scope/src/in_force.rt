@@ -1,0 +1,226 @@
+//! The variables in force, found by their texts.
+ghost use Rattle.std.specs.Prelude.{◌≡◌, [], ◌∷◌, ◌++◌, length, take, cond, is_some, Some, None, IfOk, OnErr, OnOk, option_map};
+ghost use Rattle.std.specs.List.{flat_map};
+ghost use Rattle.hddl_meaning.specs.Mentions.{Text};
+ghost use Rattle.hddl_meaning.specs.Names.{is_same_text};
+ghost use Rattle.hddl_meaning.specs.Items.{IsPast, variable_in, variable_mentions};
+ghost use Rattle.hddl_meaning.specs.Uses.{parameters_of, quantified_of};
+ghost use Rattle.hddl_scope.specs.Findings.{Finds};
+ghost use Rattle.hddl_scope.specs.Numbers.{number_at};
+ghost use Rattle.hddl_scope.specs.Repeats.{IsRepeat};
+ghost use Rattle.hddl_scope.specs.Scopes.{group_variables};
+
+use crate::numbers::Numbers;
+use crate::repeated::{later, least};
+use crate::scope::Declared;
+use hddl_tree::VariableGroup;
+use std::alloc::{AllocError, Global};
+use std::marker::Model;
+
+/// A variable in force, with what was known before it.
+#[derive(Drop)]
+struct Entry {
+    variable: Declared,
+    /// How many texts the variables before it have.
+    texts: usize,
+    /// The place of a variable before it whose text stood before, if there is one.
+    repeat: Option<usize>,
+}
+
+/// The variables in force: the parameters of a schema, and then those of each `forall` around. Variables are put in force
+/// and taken back at the end, and the work is that of these variables alone. Contracts see the list of the variables.
+#[derive(Drop)]
+pub struct Scope {
+    entries: Vec<Entry>,
+    /// The position of the first variable of each text.
+    positions: Numbers,
+    /// The place of a variable whose text stood before, if there is one.
+    repeat: Option<usize>,
+}
+
+impl Model for Scope {
+    ghost use Rattle.std.specs.Prelude.{List};
+    ghost use Rattle.hddl_meaning.specs.Uses.{Variable};
+    ghost use Rattle.hddl_scope.specs.InForce.{IsScope, variables_of};
+
+    ghost Value = { List Variable };
+
+    ghost view = { λ scope. variables_of scope.entries.items };
+
+    ghost invariant = { λ scope. IsScope scope.entries.items scope.positions scope.repeat };
+}
+
+/// Gives a number to a text that has none. Where memory is refused, the numbers are as they were.
+fn number_text(
+    alloc: Global,
+    positions: &mut Numbers,
+    text: &[u8],
+    number: usize,
+) -> Result<(), AllocError>
+    ensures numbers { OnOk result ((t : Text) → number_at positions.new t
+        ≡ cond (is_some (number_at positions.old t)) (number_at positions.old t) (cond (is_same_text t text.now) (Some number) None)) }
+    ensures kept { take (length positions.old) positions.new ≡ positions.old }
+    ensures err { OnErr result (positions.new ≡ positions.old) }
+{
+    if positions.get(text).is_none() {
+        let own = Vec::from_slice(alloc, text)?;
+        positions.add(own, number)?;
+    }
+    Ok(())
+}
+
+impl Scope {
+    /// No variables.
+    pub fn new(alloc: Global) -> Scope
+        ensures { result ≡ [] }
+    {
+        Scope {
+            entries: Vec::new(alloc),
+            positions: Numbers::new(alloc),
+            repeat: None,
+        }
+    }
+
+    /// The parameters of a schema.
+    pub fn of(alloc: Global, groups: &[VariableGroup]) -> Result<Scope, AllocError>
+        ensures { IfOk result (λ scope. scope ≡ parameters_of groups.now) }
+    {
+        let mut scope = Scope::new(alloc);
+        scope.push_groups(alloc, groups, false)?;
+        Ok(scope)
+    }
+
+    /// How many variables are in force.
+    pub fn len(&self) -> usize
+        ensures { result ≡ length self.now }
+    {
+        self.entries.len()
+    }
+
+    /// The first variable of a text.
+    pub fn get(&self, text: &[u8]) -> Option<&Declared>
+        ensures { option_map (λ v. v.now) result ≡ variable_in self.now text.now }
+    {
+        match self.positions.get(text) {
+            Some(position) => match self.entries.get(position) {
+                Some(entry) => Some(&entry.variable),
+                None => None,
+            },
+            None => None,
+        }
+    }
+
+    /// The place of a variable whose text stood before, if there is one.
+    pub fn repeat(&self) -> Option<usize>
+        ensures { Finds (IsRepeat (variable_mentions self.now)) result }
+    {
+        self.repeat
+    }
+
+    /// The place of the first variable past a limit, if there are more.
+    pub fn first_past(&self, limit: usize) -> Option<usize>
+        ensures { Finds (IsPast limit (variable_mentions self.now)) result }
+    {
+        match self.entries.get(limit) {
+            Some(entry) => Some(entry.variable.place()),
+            None => None,
+        }
+    }
+
+    /// The place of the first variable of a text.
+    fn place_of(&self, text: &[u8]) -> Option<usize>
+        ensures { result ≡ option_map (λ v. v.typed.mention.place) (variable_in self.now text.now) }
+    {
+        match self.get(text) {
+            Some(variable) => Some(variable.place()),
+            None => None,
+        }
+    }
+
+    /// Puts a variable in force. Where memory is refused, the others are in force as they were.
+    fn push(&mut self, alloc: Global, variable: Declared) -> Result<(), AllocError>
+        ensures ok { OnOk result (self.new ≡ self.old ++ variable ∷ []) }
+        ensures err { OnErr result (self.new ≡ self.old) }
+    {
+        let here = later(self.place_of(variable.text()), variable.place());
+        let texts = self.positions.len();
+        let repeat = self.repeat;
+        let position = self.entries.len();
+        number_text(alloc, &mut self.positions, variable.text(), position)?;
+        let entry = Entry {
+            variable,
+            texts,
+            repeat,
+        };
+        if self.entries.push(entry).is_err() {
+            self.positions.truncate(texts);
+            return Err(AllocError);
+        }
+        self.repeat = least(repeat, here);
+        Ok(())
+    }
+
+    /// Puts the variables of a group in force, or some of them where memory is refused.
+    fn push_group(
+        &mut self,
+        alloc: Global,
+        group: &VariableGroup,
+        is_quantified: bool,
+    ) -> Result<(), AllocError>
+        ensures ok { OnOk result (self.new ≡ self.old ++ group_variables is_quantified group.now) }
+        ensures kept { take (length self.old) self.new ≡ self.old }
+    {
+        for variable in group.variables.as_slice() {
+            let own = Declared::of(alloc, variable, &group.of_type, is_quantified)?;
+            self.push(alloc, own)?;
+        }
+        Ok(())
+    }
+
+    /// Puts the variables of a typed list in force, or some of them where memory is refused.
+    fn push_groups(
+        &mut self,
+        alloc: Global,
+        groups: &[VariableGroup],
+        is_quantified: bool,
+    ) -> Result<(), AllocError>
+        ensures ok { OnOk result (self.new ≡ self.old ++ flat_map (group_variables is_quantified) groups.now) }
+        ensures kept { take (length self.old) self.new ≡ self.old }
+    {
+        for group in groups {
+            self.push_group(alloc, group, is_quantified)?;
+        }
+        Ok(())
+    }
+
+    /// Puts the variables of a `forall` in force. Where memory is refused, none of them is.
+    pub fn push_quantified(
+        &mut self,
+        alloc: Global,
+        groups: &[VariableGroup],
+    ) -> Result<(), AllocError>
+        ensures ok { OnOk result (self.new ≡ self.old ++ quantified_of groups.now) }
+        ensures err { OnErr result (self.new ≡ self.old) }
+    {
+        let around = self.len();
+        let pushed = self.push_groups(alloc, groups, true);
+        if pushed.is_err() {
+            self.truncate(around);
+        }
+        pushed
+    }
+
+    /// Leaves only the first `len` variables in force.
+    pub fn truncate(&mut self, len: usize)
+        ensures { self.new ≡ take len self.old }
+    {
+        let Some(first) = self.entries.get(len) else {
+            return;
+        };
+        let texts = first.texts;
+        let repeat = first.repeat;
+        self.entries.truncate(len);
+        self.positions.truncate(texts);
+        self.repeat = repeat;
+    }
+}

@@ -1,0 +1,14 @@
+use Rattle.std.proofs.Common.{subst}
+use Rattle.hddl_meaning.specs.Items.{variable_mentions}
+use Rattle.hddl_meaning.specs.declared.fault.CheckFault.TheVariants.{Duplicate}
+use Rattle.hddl_scope.specs.Findings.{Finds}
+use Rattle.hddl_scope.specs.Repeats.{IsRepeat}
+use Rattle.hddl_scope.proofs.Finding.{found_at, none_at}
+use Rattle.hddl_uses.proofs.quantifiers.check_repeat.Goals as goal
+
+pub returns-in-Some : goal.returns-in-Some
+returns-in-Some c =
+    found_at Duplicate c.args.context.now.source c.at.result (subst (Finds (IsRepeat (variable_mentions c.args.scope.now))) c.in-Some.is c.repeat.ensures) c.at.ensures
+
+pub returns-in-None : goal.returns-in-None
+returns-in-None c = none_at Duplicate c.args.context.now.source (subst (Finds (IsRepeat (variable_mentions c.args.scope.now))) c.in-None.is c.repeat.ensures)
