@@ -41,6 +41,19 @@ pub record AreNamedLines (naming : Naming) (file : PlanFile) : Type 0 where
   pub actions : (line : ActionLine) → IsIn line file.actions → (g : GroundTask) × (naming.named line.name line.arguments ≡ Some g)
   pub decompositions : (line : DecompositionLine) → IsIn line file.decompositions → (t : GroundTask) × (naming.named line.task line.arguments ≡ Some t)
 
+-- ## Depth
+
+abbrev mutual
+  -- no decomposition stands deeper than so many
+  pub IsWithin : ℕ → PlanTree → Type 0
+  IsWithin depth (action_at g i) = Unit {0}
+  IsWithin zero (decomposition t method plans) = ⊥
+  IsWithin (suc depth) (decomposition t method plans) = AreWithin depth plans
+
+  pub AreWithin : ℕ → PlanTrees → Type 0
+  AreWithin depth no_plans = Unit {0}
+  AreWithin depth (plan p plans) = IsWithin depth p × AreWithin depth plans
+
 -- ## Ways down from the roots
 
 module _ (file : PlanFile) (forest : IsForest file) where
@@ -91,19 +104,32 @@ module _ (file : PlanFile) (forest : IsForest file) where
   -- ## Trees
 
   module _ (naming : Naming) (named : AreNamedLines naming file) where
-    each_tree : (ids : List ℕ) → ((id : ℕ) → IsIn id ids → (p : PlanTree) × ShowsTree naming file id p) → (plans : PlanTrees) × ShowTrees naming file ids plans
-    each_tree [] each = (no_plans, refl)
-    each_tree (id ∷ ids) each =
-        let (p, shows) = each id (inl refl) in
-        let (plans, show) = each_tree ids (λ x i. each x (inr i)) in
-        (plan p plans, (shows, show))
+    -- the lines with these ids are plan trees of no more than this depth
+    record Trees (ids : List ℕ) (depth : ℕ) : Type 0 where
+      plans : PlanTrees
+      show : ShowTrees naming file ids plans
+      within : AreWithin depth plans
 
-    action_tree : (id : ℕ) → IsIn id (action_ids file.actions) → (p : PlanTree) × ShowsTree naming file id p
-    action_tree id i =
+    pub record Tree (id depth : ℕ) : Type 0 where
+      pub tree : PlanTree
+      pub shows : ShowsTree naming file id tree
+      pub within : IsWithin depth tree
+
+    -- a tree for each id gives those of a list
+    each_tree : (ids : List ℕ) (depth : ℕ) → ((id : ℕ) → IsIn id ids → Tree id depth) → Trees ids depth
+    each_tree [] depth each = record { plans = no_plans; show = refl; within = tt }
+    each_tree (id ∷ ids) depth each =
+        let first = each id (inl refl) in
+        let others = each_tree ids depth (λ x i. each x (inr i)) in
+        record { plans = plan first.tree others.plans; show = (first.shows, others.show); within = (first.within, others.within) }
+
+    -- an action line is a tree
+    action_tree : (id depth : ℕ) → IsIn id (action_ids file.actions) → Tree id depth
+    action_tree id depth i =
         let (line, there, is) = action_of_id id file.actions i in
         let (g, names) = named.actions line there in
         let (index, stands) = in_at line file.actions there in
-        (action_at g index, (line, stands, is, names))
+        record { tree = action_at g index; shows = (line, stands, is, names); within = tt }
 
     record Way (way : List ℕ) (left : ℕ) : Type 0 where
       ways : IsWay way
@@ -127,24 +153,26 @@ module _ (file : PlanFile) (forest : IsForest file) where
         let l = w.long in
         omega arith
 
-    tree_of : (left : ℕ) (way : List ℕ) → Way way left → (id : ℕ) → Next id way → (p : PlanTree) × ShowsTree naming file id p
+    -- the line at the end of a way is a tree that is no deeper than the lines that are left
+    tree_of : (left : ℕ) (way : List ℕ) → Way way left → (id : ℕ) → Next id way → Tree id left
     tree_of zero way w id next = elim (in_split id (action_ids file.actions) (decomposition_ids file.decompositions) (next_defined id way next)) [
-      | inl i ↦ action_tree id i
+      | inl i ↦ action_tree id zero i
       | inr i ↦ absurd (at_end way id w next i)
     ]
     tree_of (suc left) way w id next =
         by (in_split id (action_ids file.actions) (decomposition_ids file.decompositions) (next_defined id way next)) (λ v. tree_of left (id ∷ way) v)
       where
-        by : IsIn id (action_ids file.actions) ⊎ IsIn id (decomposition_ids file.decompositions)
-            → (Way (id ∷ way) left → (x : ℕ) → Next x (id ∷ way) → (p : PlanTree) × ShowsTree naming file x p) → (p : PlanTree) × ShowsTree naming file id p
-        by (inl i) deeper = action_tree id i
+        by : IsIn id (action_ids file.actions) ⊎ IsIn id (decomposition_ids file.decompositions) → (Way (id ∷ way) left → (x : ℕ) → Next x (id ∷ way) → Tree x left) → Tree id (suc left)
+        by (inl i) deeper = action_tree id (suc left) i
         by (inr i) deeper =
             let (line, there, is) = decomposition_of_id id file.decompositions i in
             let (t, names) = named.decompositions line there in
-            let (plans, show) = each_tree line.children (λ x j. deeper (longer way left id w next i) x (line, there, is, j)) in
-            (decomposition t line.method plans, (line, there, is, names, refl, show))
+            let below = each_tree line.children left (λ x j. deeper (longer way left id w next i) x (line, there, is, j)) in
+            record { tree = decomposition t line.method below.plans; shows = (line, there, is, names, refl, below.show); within = below.within }
+
+    -- the tree of a root
+    pub root_tree : (id : ℕ) → IsIn id file.roots → Tree id (length file.decompositions)
+    root_tree id i = tree_of (length file.decompositions) [] (record { ways = tt; distinct = tt; within = λ x j. absurd j; long = (omega arith) }) id i
 
     pub forest_planted : (plans : PlanTrees) × ShowTrees naming file file.roots plans
-    forest_planted =
-        each_tree file.roots (λ id i. tree_of (length file.decompositions) []
-        (record { ways = tt; distinct = tt; within = λ x j. absurd j; long = (omega arith) }) id i)
+    forest_planted = let trees = each_tree file.roots (length file.decompositions) root_tree in (trees.plans, trees.show)
