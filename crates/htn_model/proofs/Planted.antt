@@ -22,15 +22,18 @@ no_longer (x ∷ xs) ys d within =
     let parts = length-append s.left s.right in
     omega arith
 
+-- as many ids as lines
 as_many_ids : (lines : List DecompositionLine) → length (decomposition_ids lines) ≡ length lines
 as_many_ids [] = refl
 as_many_ids (l ∷ lines) = ap suc (as_many_ids lines)
 
+-- the action line with an id
 pub action_of_id : (id : ℕ) (lines : List ActionLine) → IsIn id (action_ids lines) → (line : ActionLine) × IsIn line lines × (line.id ≡ id)
 action_of_id id [] i = absurd i
 action_of_id id (l ∷ lines) (inl same) = (l, inl refl, sym same)
 action_of_id id (l ∷ lines) (inr i) = let (line, there, is) = action_of_id id lines i in (line, inr there, is)
 
+-- the decomposition line with an id
 pub decomposition_of_id : (id : ℕ) (lines : List DecompositionLine) → IsIn id (decomposition_ids lines) → (line : DecompositionLine) × IsIn line lines × (line.id ≡ id)
 decomposition_of_id id [] i = absurd i
 decomposition_of_id id (l ∷ lines) (inl same) = (l, inl refl, sym same)
@@ -70,13 +73,16 @@ module _ (file : PlanFile) (forest : IsForest file) where
   past_first [] = []
   past_first (x ∷ xs) = xs
 
+  -- what is past the first is in the list
   in_past_first : (z : ℕ) (xs : List ℕ) → IsIn z (past_first xs) → IsIn z xs
   in_past_first z [] i = absurd i
   in_past_first z (x ∷ xs) i = inr i
 
+  -- no id is listed twice
   listed_distinct : IsWithoutRepeats (listed_ids file)
   listed_distinct = distinct_rearranged (defined_ids file) (listed_ids file) forest.listed_once forest.defined_once
 
+  -- a child stands nowhere above its parent
   not_again : (id above : ℕ) (rest : List ℕ) (line : DecompositionLine) → IsIn line file.decompositions → line.id ≡ above → IsIn id line.children → (IsIn above rest → ⊥)
       → (way : List ℕ) → IsWay way → ((z : ℕ) → IsIn z (past_first way) → IsIn z rest) → IsIn id way → ⊥
   not_again id above rest line there is below new [] ways within i = i
@@ -91,10 +97,12 @@ module _ (file : PlanFile) (forest : IsForest file) where
   not_again id above rest line there is below new (x ∷ way) ways within (inr i) =
       not_again id above rest line there is below new way ways.1 (λ z j. within z (in_past_first z way j)) i
 
+  -- an id at the end of a way is not on it
   next_new : (id : ℕ) (way : List ℕ) → Next id way → IsWay way → IsWithoutRepeats way → IsIn id way → ⊥
   next_new id [] next ways d i = i
   next_new id (above ∷ way) (line, there, is, below) ways d i = not_again id above way line there is below d.0 (above ∷ way) ways (λ z j. j) i
 
+  -- and is defined
   next_defined : (id : ℕ) (way : List ℕ) → Next id way → IsIn id (defined_ids file)
   next_defined id [] next = in_arranged id (defined_ids file) (listed_ids file) forest.listed_once (in_left id file.roots (all_children file.decompositions) next)
   next_defined id (above ∷ way) (line, there, is, below) =

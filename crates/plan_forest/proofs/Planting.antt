@@ -1,9 +1,9 @@
 -- The plan trees of a forest's lines, by the lines' numbers.
-use Rattle.std.proofs.Common.{◌≡◌, ℕ, zero, suc, ◌+◌, ◌-◌, ◌≤◌, ◌<◌, Bool, cond, ltb, List, [], ◌∷◌, length, map, get_or, Some, slice_get, ◌⊎◌, inl, inr, refl, sym, ap, ap₂, ◌∙◌, subst, arith}
-use Rattle.std.proofs.lemmas.Bool.{cases_lt, lt-ltb, le-ltb}
+use Rattle.std.proofs.Common.{◌≡◌, ℕ, zero, suc, ◌+◌, ◌-◌, ◌≤◌, ◌<◌, cond, List, [], ◌∷◌, length, map, get_or, Some, slice_get, inl, inr, refl, sym, ap, ap₂, ◌∙◌, subst, arith}
+use Rattle.std.proofs.lemmas.Bool.{lt-ltb, le-ltb}
 use Rattle.std.proofs.lemmas.Option.{slice_get_within}
 use Rattle.htn_model.specs.Problem.{GroundTask}
-use Rattle.htn_model.specs.PlanFile.{ActionLine, DecompositionLine, PlanFile, Naming, IsIn, IsForest, IsReached, from_root, from_parent, defined_ids, decomposition_ids}
+use Rattle.htn_model.specs.PlanFile.{DecompositionLine, PlanFile, Naming, IsIn, IsForest, IsReached, from_root, from_parent, defined_ids, decomposition_ids}
 use Rattle.htn_model.specs.Fits.{PlanTree, action_at, decomposition, PlanTrees, no_plans, plan}
 use Rattle.htn_model.specs.Shown.{ShowsTree, ShowTrees}
 use Rattle.htn_model.proofs.Ascending.{in_at, at_in}
@@ -12,7 +12,7 @@ use Rattle.htn_model.proofs.Planted.{AreNamedLines, IsWithin, AreWithin, Tree, r
 use Rattle.plan_forest.specs.Forest.{Forest, IsForestOf}
 use Rattle.plan_forest.specs.Numbers.{AreNumbersOf}
 use Rattle.plan_forest.specs.Reached.{children_at}
-use Rattle.plan_forest.specs.Plans.{trees_of, method_at, tree_within, tree_at, AreTasks, AreTrees, ForestsAreTrees}
+use Rattle.plan_forest.specs.Plans.{trees_of, method_at, tree_within, tree_at, AreTasks, ForestsAreTrees}
 use Rattle.plan_forest.proofs.Listed.{action_id_at, children_numbers, line_there, decomposition_id_at, one_number, past_actions}
 
 -- ## Depth

@@ -1,9 +1,9 @@
 -- A walk that is under way has met all roots, and all children of the lines that it has passed.
-use Rattle.std.proofs.Common.{◌≡◌, ◌↔◌, ℕ, zero, suc, ◌+◌, ◌-◌, ◌<◌, ◌≤◌, Bool, true, false, IsTrue, List, [], ◌∷◌, ◌++◌, length, get_or, ◌⊎◌, inl, inr, sym, refl, ap, ◌∙◌, subst, arith}
+use Rattle.std.proofs.Common.{◌≡◌, ◌↔◌, ℕ, zero, suc, ◌+◌, ◌<◌, ◌≤◌, Bool, List, [], ◌∷◌, length, get_or, ◌⊎◌, inl, inr, sym, refl, ap, ◌∙◌, subst, arith}
 use Rattle.std.proofs.lemmas.Bool.{cases_lt}
 use Rattle.std.proofs.lemmas.List.{length-append, get_or_append_left}
-use Rattle.htn_model.specs.PlanFile.{IsIn, IsWithoutRepeats}
-use Rattle.htn_model.proofs.Ascending.{in_left, in_split, in_at}
+use Rattle.htn_model.specs.PlanFile.{IsIn}
+use Rattle.htn_model.proofs.Ascending.{in_left, in_split}
 use Rattle.plan_forest.specs.Reached.{children_at, IsReachedFrom, a_root, a_child, AreMet, AreAdded}
 use Rattle.plan_forest.proofs.Walked.{at_most, at_least, all_there}
 

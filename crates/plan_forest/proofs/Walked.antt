@@ -1,9 +1,9 @@
 -- The walk: marks, and lists of numbers without repeats.
-use Rattle.std.proofs.Common.{◌≡◌, ◌≢◌, ℕ, zero, suc, ◌+◌, ◌-◌, ◌<◌, ◌≤◌, Bool, true, false, cond, ltb, List, [], ◌∷◌, ◌++◌, length, get_or, set, get_or-set_same, get_or-set_other, length-set, ◌⊎◌, inl, inr, sym, refl, ap, ◌∙◌, subst, append-nil, append_assoc, arith}
+use Rattle.std.proofs.Common.{◌≡◌, ◌≢◌, ℕ, zero, suc, ◌-◌, ◌<◌, ◌≤◌, Bool, true, false, cond, ltb, List, [], ◌∷◌, ◌++◌, length, get_or, set, get_or-set_same, get_or-set_other, length-set, ◌⊎◌, inl, inr, sym, refl, ap, ◌∙◌, subst, append-nil, append_assoc, arith}
 use Rattle.std.proofs.lemmas.Bool.{both_ways, cases_eq, cases_lt}
 use Rattle.std.proofs.lemmas.List.{length-append, get_or_past}
 use Rattle.htn_model.specs.PlanFile.{IsIn, IsWithoutRepeats}
-use Rattle.htn_model.proofs.Ascending.{in_left, in_right, in_split, in_at}
+use Rattle.htn_model.proofs.Ascending.{in_left, in_right, in_split}
 use Rattle.htn_model.proofs.Planted.{no_longer}
 use Rattle.htn_model.proofs.Rearranged.{distinct_with}
 use Rattle.std.specs.List.{All}

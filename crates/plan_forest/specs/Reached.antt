@@ -1,5 +1,5 @@
 -- The lines that the root line reaches, by their numbers.
-use Rattle.std.specs.Prelude.{◌≡◌, ◌↔◌, ℕ, ◌-◌, ◌<◌, List, [], ◌++◌, length, get_or, Bool, true, false, cond, ltb}
+use Rattle.std.specs.Prelude.{◌≡◌, ℕ, ◌-◌, ◌<◌, List, [], ◌++◌, length, get_or, Bool, true, false, cond, ltb}
 use Rattle.std.specs.List.{All}
 use Rattle.htn_model.specs.PlanFile.{IsIn, IsWithoutRepeats}
 

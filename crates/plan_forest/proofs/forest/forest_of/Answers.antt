@@ -1,7 +1,7 @@
-use Rattle.std.proofs.Common.{◌≡◌, ◌<◌, ℕ, sym, subst, ap, length, arith}
+use Rattle.std.proofs.Common.{◌<◌, ℕ, sym, subst, ap, length, arith}
 use Rattle.std.specs.List.{All}
 use Rattle.std.proofs.lemmas.Bool.{both_ways}
-use Rattle.htn_model.specs.PlanFile.{IsWithoutRepeats, all_children, listed_ids, defined_ids}
+use Rattle.htn_model.specs.PlanFile.{IsWithoutRepeats, all_children, defined_ids}
 use Rattle.plan_forest.specs.Forest.{lists_of}
 use Rattle.plan_forest.specs.Numbers.{AreNumbersOf, AreNumbersOfChildren, IsUnknown}
 use Rattle.plan_forest.specs.Reached.{IsReachedFrom}

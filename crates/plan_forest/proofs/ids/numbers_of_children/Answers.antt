@@ -1,4 +1,4 @@
-use Rattle.std.proofs.Common.{◌≡◌, ◌<◌, ℕ, List, length, ◌+◌, ◌++◌, ◌∷◌, [], ◌∙◌, ap, get_or, take, sym, subst, MatchOption, None, Some}
+use Rattle.std.proofs.Common.{◌≡◌, ◌<◌, ℕ, List, length, ◌+◌, ◌++◌, ◌∷◌, [], ◌∙◌, ap, get_or, take, sym, subst, MatchOption}
 use Rattle.std.proofs.lemmas.List.{take_more, map-append}
 use Rattle.plan_forest.specs.Forest.{lists_of}
 use Rattle.plan_forest.specs.Numbers.{AreNumbersOf, AreNumbersOfChildren, IsUnknown}

@@ -1,4 +1,4 @@
-use Rattle.std.proofs.Common.{◌≡◌, ◌<◌, ℕ, List, Bool, Vec, ◌∷◌, [], ◌++◌, ◌+◌, ◌∙◌, get_or, take, true, false, set, arith, length, ap, refl, sym, subst}
+use Rattle.std.proofs.Common.{◌≡◌, ◌<◌, ◌∷◌, [], ◌++◌, ◌∙◌, get_or, take, true, false, set, arith, length, ap, sym, subst}
 use Rattle.std.proofs.lemmas.List.{take_more, length-set, get_or_read}
 use Rattle.plan_forest.specs.Reached.{AreAdded, AreMet}
 use Rattle.plan_forest.proofs.Walked.{known_added, new_added, one_met}
