@@ -21,6 +21,7 @@ use Rattle.htn_model.proofs.Laid.{id_below, Forest, forest_laid, lay_all}
 use Rattle.htn_model.proofs.Marked.{compound_line, id_listed, one_to_one, leaf_of, one_leaf, compound_of}
 use Rattle.htn_model.proofs.Executed.{precedes, precedes_irreflexive, precedes_transitive, respects_order, Waits, Executes, executes}
 
+-- the ids of the nodes shown, by their positions
 pub shown_ids : (id_at : Place → ℕ) (place : Place) (i : ℕ) (ns : Nodes)
     → ids_of id_at (shown_from place i ns) ≡ map (λ a. id_at (place ++ a ∷ [])) (subtask_positions i (roots ns))
 shown_ids id_at place i no_nodes = refl
@@ -30,6 +31,7 @@ shown_ids id_at place i (node (compound t number nodes) ns) = ap (λ l. id_at (p
 
 -- ## The decomposition lines of the compound nodes
 
+-- the ids of lines joined
 pub ids_join : (left right : List DecompositionLine) → decomposition_ids (left ++ right) ≡ decomposition_ids left ++ decomposition_ids right
 ids_join [] right = refl
 ids_join (line ∷ left) right = ap (λ l. line.id ∷ l) (ids_join left right)
@@ -38,6 +40,7 @@ module _ (naming : Naming) (trees : Nodes) (id_at : Place → ℕ) where
   abbrev HasLine : List DecompositionLine → Place → Type 0
   HasLine lines p = (line : DecompositionLine) × IsIn line lines × IsDecompositionLine naming trees id_at p line
 
+  -- decomposition lines one for each place are those of the places
   pub lines_of_places : (ps : List Place) (lines : List DecompositionLine) → IsWithoutRepeats ps → IsWithoutRepeats (decomposition_ids lines)
       → ((p : Place) → IsIn p ps → HasLine lines p)
       → ((line : DecompositionLine) → IsIn line lines → (p : Place) × IsIn p ps × (id_at p ≡ line.id))
@@ -89,20 +92,25 @@ module _ (naming : Naming) (problem : Problem) (grounded : IsGrounded problem) (
   abbrev list : List Place
   list = sorted earlier places
 
+  -- each place has a leaf or a step
   stand : AllByRecursion (λ p. IsPrimitive (node_at trees p)) places
   stand = all_map _ _ _ (top IsPrimitive trees) (primitives_from_stand [] 0 trees)
 
+  -- the sorted places are all places
   rearranged : IsRearrangement list places
   rearranged = sorted_rearranged earlier places
 
+  -- and in order
   in_order : Respects earlier list
   in_order = sorted_respects earlier (λ p. IsPrimitive (node_at trees p)) (precedes_irreflexive problem network.order trees trees_laid.slots)
       (precedes_transitive problem network.order trees trees_laid.slots grounded (grounded.initials number network is_initial).closed states (length file.actions) keeps)
       places stand
 
+  -- the roots are the ids of the trees
   listed : IsRearrangementOf file.roots (map (id_below trees_laid.ids) (subtask_positions 0 (roots trees)))
   listed = subst (λ c. IsRearrangementOf file.roots (map (id_below trees_laid.ids) (subtask_positions 0 c))) (sym trees_laid.laid.are_roots) trees_laid.listed
 
+  -- the sorted places wait for the lines
   waits : Waits naming problem file states runs network.order trees trees_laid.slots trees_laid.ids trees_laid.laid.marks keeps
       (leaf_of naming file trees_laid.slots trees_laid.ids trees trees_laid.laid.marks is_forest listed)
       (one_leaf naming file trees_laid.slots trees_laid.ids trees trees_laid.laid.marks is_forest listed) 0 file.actions list
@@ -116,6 +124,7 @@ module _ (naming : Naming) (problem : Problem) (grounded : IsGrounded problem) (
     complete = λ p g e up. in_arranged p list places rearranged (in_primitives trees p (subst IsPrimitive (sym e) tt));
   }
 
+  -- and are carried out with them
   executed : Executes naming problem file states runs network.order trees trees_laid.slots trees_laid.ids trees_laid.laid.marks keeps
       (leaf_of naming file trees_laid.slots trees_laid.ids trees trees_laid.laid.marks is_forest listed)
       (one_leaf naming file trees_laid.slots trees_laid.ids trees trees_laid.laid.marks is_forest listed) 0 file.actions list
@@ -126,6 +135,7 @@ module _ (naming : Naming) (problem : Problem) (grounded : IsGrounded problem) (
   abbrev solution : Solution
   solution = record { number = number; trees = trees; linearisation = list }
 
+  -- that is a solution
   solves : IsSolution problem solution
   solves = record {
     network = network;
@@ -138,6 +148,7 @@ module _ (naming : Naming) (problem : Problem) (grounded : IsGrounded problem) (
     reaches_goal = (states (length file.actions), subst (λ s. run problem trees s list ≡ Some (states (length file.actions))) runs.starts executed.ends, runs.ends);
   }
 
+  -- each compound node has its line
   line_of : (p : Place) → IsIn p (compounds_from [] 0 trees) → HasLine naming trees trees_laid.ids file.decompositions p
   line_of p i = by (node_at trees p) refl (all_in _ p _ (all_map _ _ _ (top IsCompound trees) (compounds_from_stand [] 0 trees)) i)
     where
@@ -161,14 +172,17 @@ module _ (naming : Naming) (problem : Problem) (grounded : IsGrounded problem) (
             },
           )
 
+  -- and each line a compound node
   onto : (line : DecompositionLine) → IsIn line file.decompositions → (p : Place) × IsIn p (compounds_from [] 0 trees) × (trees_laid.ids p ≡ line.id)
   onto line i =
       let (p, t, k, nodes, e, same) = compound_of naming file trees_laid.slots trees_laid.ids trees trees_laid.laid.marks is_forest listed line i in
       (p, in_compounds trees p (subst IsCompound (sym e) tt), same)
 
+  -- a compound node has an id
   has_id : (p : Place) → IsIn p (compounds_from [] 0 trees) → HasId (node_at trees p)
   has_id p i = let (line, there, is) = line_of p i in subst HasId (sym is.stands) tt
 
+  -- the file is its shadow
   shadow : IsShadow naming file solution
   shadow = record {
     id_at = trees_laid.ids;
@@ -180,9 +194,11 @@ module _ (naming : Naming) (problem : Problem) (grounded : IsGrounded problem) (
         line_of onto (λ p q i j. one_to_one naming file trees_laid.slots trees_laid.ids trees trees_laid.laid.marks is_forest listed p q (has_id p i) (has_id q j));
   }
 
+  -- so the file is accepted
   pub accepted : IsAccepted naming problem file
   accepted = record { solution = solution; solves = solves; shadow = shadow }
 
+-- a forest of lines that run and have room is accepted
 pub fitting_accepted : (naming : Naming) (problem : Problem) → IsGrounded problem → (file : PlanFile) (states : ℕ → State) (plans : PlanTrees) → IsForest file
     → LinesRun naming problem file states → ShowTrees naming file file.roots plans → ForestFits naming problem states plans (length file.actions)
     → IsAccepted naming problem file

@@ -9,16 +9,19 @@ use Rattle.htn_model.proofs.Ascending.{all_in}
 use Rattle.htn_model.proofs.Numbered.{At, FromAt, IsCompound, primitives_stand, primitives_from_stand, compounds_stand, compounds_from_stand}
 use Rattle.htn_model.proofs.Rearranged.{distinct_join}
 
+-- what comes after a place
 pub after_place : (place p q : Place) → place ++ p ≡ place ++ q → p ≡ q
 after_place [] p q e = e
 after_place (i ∷ place) p q e = after_place place p q (let tails : place ++ p ≡ place ++ q = cc in tails)
 
+-- places that part at different positions
 first_apart : (place r s : Place) (k i : ℕ) → place ++ k ∷ r ≡ place ++ (suc k + i) ∷ s → ⊥
 first_apart place r s k i e =
     let inner = after_place place (k ∷ r) ((suc k + i) ∷ s) e in
     let heads : k ≡ suc k + i = cc in
     omega arith
 
+-- no place is one below it
 place_apart : (place r : Place) (i : ℕ) → place ≡ place ++ i ∷ r → ⊥
 place_apart place r i e = let long = ap length e ∙ length-append place (i ∷ r) in omega arith
 

@@ -20,16 +20,19 @@ module _ (naming : Naming) (problem : Problem) where
   states_from state (line ∷ lines) zero = state
   states_from state (line ∷ lines) (suc i) = states_from (state_or state (perform_line naming problem state line)) lines i
 
+  -- no line has come
   at_start : (state : State) (lines : List ActionLine) → states_from state lines 0 ≡ state
   unfolding states_from
   at_start state [] = refl
   at_start state (line ∷ lines) = refl
 
+  -- each line performs, up to the last state
   record Passes (state : State) (lines : List ActionLine) (last : State) : Type 0 where
     performs : (i : ℕ) (line : ActionLine) → slice_get lines i ≡ Some line
         → perform_line naming problem (states_from state lines i) line ≡ Some (states_from state lines (suc i))
     ends : states_from state lines (length lines) ≡ last
 
+  -- lines that run pass
   passes : (lines : List ActionLine) (state last : State) → run_lines naming problem state lines ≡ Some last → Passes state lines last
   unfolding states_from
   passes [] state last e = record { performs = λ i line h. absurd cc; ends = (let same : state ≡ last = cc in same) }
@@ -52,6 +55,7 @@ module _ (naming : Naming) (problem : Problem) where
             ends = subst (λ s. states_from s lines (length lines) ≡ last) (sym first) m.ends;
           }
 
+  -- so there are the states between them
   pub lines_run : (file : PlanFile) → Ends naming problem file true → LinesRun naming problem file (states_from problem.initial_state file.actions)
   lines_run file (last, goes, goal) =
       let p = passes file.actions problem.initial_state last goes in
@@ -63,16 +67,19 @@ module _ (naming : Naming) (problem : Problem) where
 
   -- ## Named lines
 
+  -- an action line is a line
   in_actions : (line : ActionLine) (lines : List ActionLine) → IsIn line lines → IsIn (action_line line) (action_lines lines)
   in_actions line [] i = absurd i
   in_actions line (l ∷ lines) (inl same) = inl (ap action_line same)
   in_actions line (l ∷ lines) (inr i) = inr (in_actions line lines i)
 
+  -- a decomposition line is a line
   in_decompositions : (line : DecompositionLine) (lines : List DecompositionLine) → IsIn line lines → IsIn (decomposition_line line) (decomposition_lines lines)
   in_decompositions line [] i = absurd i
   in_decompositions line (l ∷ lines) (inl same) = inl (ap decomposition_line same)
   in_decompositions line (l ∷ lines) (inr i) = inr (in_decompositions line lines i)
 
+  -- lines with instances have names
   pub lines_named : (file : PlanFile) → AllHave naming problem file → AreNamedLines naming file
   lines_named file all = record {
     actions = λ line i.

@@ -20,11 +20,13 @@ use Rattle.htn_model.proofs.Marked.{leaf_line}
 
 -- ## Lines by their places
 
+-- a line below the count
 pub line_at : (lines : List ActionLine) (i : ℕ) → i < length lines → (line : ActionLine) × (slice_get lines i ≡ Some line)
 line_at [] i h = absurd (omega arith)
 line_at (l ∷ lines) zero h = (l, refl)
 line_at (l ∷ lines) (suc i) h = line_at lines i (omega arith)
 
+-- a line stands below the count
 pub line_within : (lines : List ActionLine) (i : ℕ) (line : ActionLine) → slice_get lines i ≡ Some line → i < length lines
 line_within [] i line e = absurd cc
 line_within (l ∷ lines) zero line e = omega arith
@@ -32,17 +34,21 @@ line_within (l ∷ lines) (suc i) line e = let more = line_within lines i line e
 
 -- ## Keys
 
+-- what a test of numbers says
 below_or_not : (x y : ℕ) → ltb x y ≡ true → x < y
 below_or_not x y e = elim (cases_lt x y) [ inl less ↦ less | inr other ↦ absurd (both_ways (ltb x y) (le-ltb x y other) e) ]
 
+-- the first of two tests
 or_left : (a b : Bool) → a ≡ true → (a || b) ≡ true
 or_left true b e = refl
 or_left false b e = absurd cc
 
+-- the second of two tests
 or_right : (a b : Bool) → b ≡ true → (a || b) ≡ true
 or_right true b e = refl
 or_right false b e = e
 
+-- neither of two tests
 neither : (a b : Bool) → (a || b) ≡ false → (a ≡ false) × (b ≡ false)
 neither true b e = absurd cc
 neither false b e = (refl, e)
@@ -55,9 +61,11 @@ module _ (problem : Problem) (order : Order) (trees : Nodes) (slots : Slots) whe
   abbrev pub precedes : Place → Place → Bool
   precedes p q = ltb (key p) (key q) || before problem order trees p q
 
+  -- no place precedes itself
   pub precedes_irreflexive : (p : Place) → precedes p p ≡ false
   precedes_irreflexive p = ap₂ ◌||◌ (le-ltb (key p) (key p) (let e : key p ≤ key p = omega arith in e)) (before_irreflexive problem order trees p)
 
+  -- what a place that precedes not has
   pub not_preceding : (p q : Place) → precedes p q ≡ false → (key q ≤ key p) × (before problem order trees p q ≡ false)
   not_preceding p q e =
       let parts = neither (ltb (key p) (key q)) (before problem order trees p q) e in
@@ -87,6 +95,7 @@ module _ (problem : Problem) (order : Order) (trees : Nodes) (slots : Slots) whe
             or_left (ltb (key p) (key r)) _ (lt-ltb (key p) (key r) (omega arith))
         by (inr x) (inr y) = or_right (ltb (key p) (key r)) _ (before_transitive problem grounded order trees closed p q r x y)
 
+  -- a list sorted so respects the order
   pub respects_order : (ps : List Place) → Respects precedes ps → Respects (before problem order trees) ps
   respects_order [] r = tt
   respects_order (p ∷ ps) r =
@@ -108,6 +117,7 @@ module _ (naming : Naming) (problem : Problem) (file : PlanFile) (states : ℕ �
   abbrev Later : Place → Place → Type 0
   Later p q = precedes problem order trees slots q p ≡ false
 
+  -- the places from here on, with the lines from line i on
   pub record Waits (i : ℕ) (lines : List ActionLine) (qs : List Place) : Type 0 where
     pub are_lines : (k : ℕ) → slice_get lines k ≡ slice_get file.actions (i + k)
     pub up_to : i ≤ n
@@ -117,13 +127,16 @@ module _ (naming : Naming) (problem : Problem) (file : PlanFile) (states : ℕ �
     pub low : AllByRecursion (λ q. i + i ≤ key_of q) qs
     pub complete : (p : Place) (g : GroundTask) → node_at trees p ≡ Some (leaf g) → i ≤ slots p → IsIn p qs
 
+  -- the places show the lines, and run to the last state
   pub record Executes (i : ℕ) (lines : List ActionLine) (qs : List Place) : Type 0 where
     pub shown : AreActionLines naming trees ids qs lines
     pub ends : run problem trees (states i) qs ≡ Some (states n)
 
+  -- a leaf's key
   key_leaf : (p : Place) (g : GroundTask) → node_at trees p ≡ Some (leaf g) → key_of p ≡ suc (slots p + slots p)
   key_leaf p g e = let one : duration (node_at trees p) ≡ 1 = ap duration e in omega arith
 
+  -- a step's key
   key_step : (p : Place) (literals : List Literal) → node_at trees p ≡ Some (step literals) → key_of p ≡ slots p + slots p
   key_step p literals e = let none : duration (node_at trees p) ≡ 0 = ap duration e in omega arith
 
@@ -145,6 +158,7 @@ module _ (naming : Naming) (problem : Problem) (file : PlanFile) (states : ℕ �
     | inr up ↦ (let u = w.up_to in omega arith)
   ]
 
+  -- nothing is left
   ended : (i : ℕ) (lines : List ActionLine) → Waits i lines [] → Executes i lines []
   ended i [] w = record { shown = end; ends = ap (λ k. Some (states k)) (no_lines i [] w) }
   ended i (line ∷ lines) w =
@@ -168,6 +182,7 @@ module _ (naming : Naming) (problem : Problem) (file : PlanFile) (states : ℕ �
     ];
   }
 
+  -- a step in front is in the next gap
   step_slot : (p : Place) (qs : List Place) (i : ℕ) (lines : List ActionLine) (literals : List Literal) → node_at trees p ≡ Some (step literals)
       → Waits i lines (p ∷ qs) → slots p ≡ i
   step_slot p qs i lines literals is w =
@@ -178,6 +193,7 @@ module _ (naming : Naming) (problem : Problem) (file : PlanFile) (states : ℕ �
         | inr past ↦ (let u = w.up_to in let e = keeps.ends p w.stand.0 in omega arith)
       ]
 
+  -- a step in front is carried out
   execute_step : (p : Place) (qs : List Place) (i : ℕ) (lines : List ActionLine) (literals : List Literal) → node_at trees p ≡ Some (step literals)
       → Waits i lines (p ∷ qs) → Executes i lines qs → Executes i lines (p ∷ qs)
   execute_step p qs i lines literals is w more =
@@ -200,6 +216,7 @@ module _ (naming : Naming) (problem : Problem) (file : PlanFile) (states : ℕ �
       let up = next_up p qs i lines w below in
       (omega arith, below)
 
+  -- what comes after a leaf has no smaller slot
   later_low : (p : Place) (qs : List Place) (i : ℕ) (lines : List ActionLine) (g : GroundTask) → node_at trees p ≡ Some (leaf g) → Waits i lines (p ∷ qs)
       → (q : Place) → IsIn q qs → suc i + suc i ≤ key_of q
   later_low p qs i lines g is w q j = by (node_at trees q) refl (all_in (λ r. IsPrimitive (node_at trees r)) q qs w.stand.1 j)
@@ -219,6 +236,7 @@ module _ (naming : Naming) (problem : Problem) (file : PlanFile) (states : ℕ �
       by (Some (step literals)) e h = let k = key_leaf p g is in let l = key_step q literals e in let a = at_p in let u = up in omega arith
       by (Some (compound t number nodes)) e h = absurd h
 
+  -- after a leaf in front the next line comes
   after_leaf : (p : Place) (qs : List Place) (i : ℕ) (line : ActionLine) (lines : List ActionLine) (g : GroundTask) → node_at trees p ≡ Some (leaf g)
       → Waits i (line ∷ lines) (p ∷ qs) → Waits (suc i) lines qs
   after_leaf p qs i line lines g is w =
@@ -236,6 +254,7 @@ module _ (naming : Naming) (problem : Problem) (file : PlanFile) (states : ℕ �
         ];
       }
 
+  -- a leaf in front is carried out with its line
   execute_leaf : (p : Place) (qs : List Place) (i : ℕ) (line : ActionLine) (lines : List ActionLine) (g : GroundTask) → node_at trees p ≡ Some (leaf g)
       → Waits i (line ∷ lines) (p ∷ qs) → Executes (suc i) lines qs → Executes i (line ∷ lines) (p ∷ qs)
   execute_leaf p qs i line lines g is w more =
@@ -252,6 +271,7 @@ module _ (naming : Naming) (problem : Problem) (file : PlanFile) (states : ℕ �
         ends = ap (option_and_then (λ next. run problem trees next qs)) acts ∙ more.ends;
       }
 
+  -- where no line is left there is no leaf
   no_line_left : (p : Place) (qs : List Place) (i : ℕ) (g : GroundTask) → node_at trees p ≡ Some (leaf g) → Waits i [] (p ∷ qs) → ⊥
   no_line_left p qs i g is w =
       let (at, below) = leaf_slot p qs i [] g is w in
@@ -259,6 +279,7 @@ module _ (naming : Naming) (problem : Problem) (file : PlanFile) (states : ℕ �
       let none : None ≡ slice_get file.actions i = w.are_lines 0 ∙ ap (slice_get file.actions) (let e : i + 0 ≡ i = omega arith in e) in
       cc
 
+  -- so all are carried out
   pub executes : (qs : List Place) (i : ℕ) (lines : List ActionLine) → Waits i lines qs → Executes i lines qs
   executes [] i lines w = ended i lines w
   executes (p ∷ qs) i lines w = by (node_at trees p) refl w.stand.0 lines w (executes qs)

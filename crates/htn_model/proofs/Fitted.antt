@@ -17,11 +17,13 @@ use Rattle.htn_model.proofs.Accepted.{shown_ids}
 use Rattle.htn_model.proofs.Timed.{slot_in, line_of_leaf, list_keeps}
 use Rattle.htn_model.proofs.Shaded.{placed_forests_fit}
 
+-- a node and the line that it shades have one task
 pub shaded_root : (naming : Naming) (slots : Slots) (m : Node) (p : PlanTree) → Shades naming slots m p → root m ≡ child_of p
 shaded_root naming slots m (action_at g i) s = ap root s.0
 shaded_root naming slots m (decomposition t method plans) s = ap root s.2
 
 module _ (naming : Naming) (trees : Nodes) (id_at : Place → ℕ) where
+  -- a compound node among the places has a line
   pub compound_has_line : (ps : List Place) (lines : List DecompositionLine) → AreDecompositionLines naming trees id_at ps lines → (p : Place) → IsIn p ps
       → (line : DecompositionLine) × IsIn line lines × IsDecompositionLine naming trees id_at p line
   compound_has_line [] lines all p i = absurd i
@@ -44,6 +46,7 @@ module _ (naming : Naming) (file : PlanFile) (forest : IsForest file) (trees : N
   abbrev Finds : Place → Nodes → Type 0
   Finds place nodes = (a : ℕ) → node_at trees (place ++ a ∷ []) ≡ child_at nodes a
 
+  -- a leaf shades the action line with its id
   shade_action : (g : GroundTask) (i id : ℕ) → ShowsTree naming file id (action_at g i) → (place : Place) (m : Node) → node_at trees place ≡ Some m → HasId (Some m)
       → id_at place ≡ id → Shades naming (below place) m (action_at g i)
   shade_action g i id (line, there, is, named) place (leaf t) e h same =
@@ -68,6 +71,7 @@ module _ (naming : Naming) (file : PlanFile) (forest : IsForest file) (trees : N
       → ((a : ℕ) → IsIn a positions → HasId (child_at nodes a)) → ids ≡ map (λ a. id_at (place ++ a ∷ [])) positions
       → StandAt (roots nodes) positions plans × AllShade naming (below place) nodes positions plans
 
+  -- a compound node shades the line with its id where its children shade theirs
   shade_decomposition : (t : GroundTask) (method : List ℕ) (plans : PlanTrees) → AllShown plans → Shown (decomposition t method plans)
   shade_decomposition t method plans all id (line, there, is, named, is_method, shows) place (leaf g) e h same =
       let (other, stands, is_other, other_named) = leaf_line place g e in
@@ -98,13 +102,16 @@ module _ (naming : Naming) (file : PlanFile) (forest : IsForest file) (trees : N
         shaded.1,
       )
 
+  -- slots below a child
   child_slots : (place : Place) (a : ℕ) → below (place ++ a ∷ []) ≡ (λ q. below place (a ∷ q))
   child_slots place a = λ i q. slots (append_assoc place (a ∷ []) q i)
 
+  -- what is made of nothing
   nothing_mapped : (f : ℕ → ℕ) (xs : List ℕ) → [] ≡ map f xs → xs ≡ []
   nothing_mapped f [] e = refl
   nothing_mapped f (x ∷ xs) e = absurd cc
 
+  -- one plan more
   shade_plan : (p : PlanTree) (plans : PlanTrees) → Shown p → AllShown plans → AllShown (plan p plans)
   shade_plan p plans first others [] shows place nodes finds positions has e = absurd shows
   shade_plan p plans first others (id ∷ ids) shows place nodes finds [] has e = absurd cc
@@ -134,6 +141,7 @@ module _ (naming : Naming) (file : PlanFile) (forest : IsForest file) (trees : N
 
 -- ## An accepted file
 
+-- an accepted file has room
 pub accepted_fits : (naming : Naming) (problem : Problem) → IsGrounded problem → (file : PlanFile) (states : ℕ → State) (plans : PlanTrees) → IsForest file
     → LinesRun naming problem file states → ShowTrees naming file file.roots plans → IsAccepted naming problem file
     → ForestFits naming problem states plans (length file.actions)

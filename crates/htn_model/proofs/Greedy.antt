@@ -14,29 +14,35 @@ use Rattle.htn_model.proofs.Earliest.{IsRanked, no_later_start, no_later_finish}
 
 -- ## The number of positions before a position
 
+-- how many numbers below n pass
 count : (ℕ → Bool) → ℕ → ℕ
 count test zero = 0
 count test (suc n) = cond (test n) 1 0 + count test n
 
+-- one test
 one_le : (a b : Bool) → (a ≡ true → b ≡ true) → cond a 1 0 ≤ cond b 1 0
 one_le true true h = omega arith
 one_le true false h = absurd (both_ways false refl (h refl))
 one_le false true h = omega arith
 one_le false false h = omega arith
 
+-- a wider test passes no fewer
 count_le : (s t : ℕ → Bool) (n : ℕ) → ((k : ℕ) → s k ≡ true → t k ≡ true) → count s n ≤ count t n
 unfolding count
 count_le s t zero h = omega arith
 count_le s t (suc n) h = let here = one_le (s n) (t n) (h n) in let more = count_le s t n h in omega arith
 
+-- a test that fails
 at_none : (b : Bool) → b ≡ false → cond b 1 0 ≤ 0
 at_none true e = absurd cc
 at_none false e = omega arith
 
+-- a test that passes
 at_one : (b : Bool) → b ≡ true → 1 ≤ cond b 1 0
 at_one true e = omega arith
 at_one false e = absurd cc
 
+-- and more where one more passes
 count_less : (s t : ℕ → Bool) (n k : ℕ) → ((j : ℕ) → s j ≡ true → t j ≡ true) → k < n → s k ≡ false → t k ≡ true → count s n < count t n
 unfolding count
 count_less s t zero k h low former latter = absurd (omega arith)
@@ -47,10 +53,12 @@ count_less s t (suc n) k h low former latter = elim (cases_eq k n) [
   | inr other ↦ (let below : k < n = omega arith in let more = count_less s t n k h below former latter in let here = one_le (s n) (t n) (h n) in omega arith)
 ]
 
+-- one test counts one at most
 one_small : (b : Bool) → cond b 1 0 ≤ 1
 one_small true = omega arith
 one_small false = omega arith
 
+-- no more pass than there are
 count_small : (t : ℕ → Bool) (n : ℕ) → count t n ≤ n
 unfolding count
 count_small t zero = omega arith
@@ -60,19 +68,24 @@ module _ (network : Network) (is_network : IsNetwork network) where
   abbrev size : ℕ
   size = length network.children
 
+  -- how many are before a position
   pub rank : ℕ → ℕ
   rank a = count (λ b. is_before network.order b a) size
 
+  -- they are fewer than all and one
   pub rank_small : (a : ℕ) → rank a < suc size
   unfolding rank
   rank_small a = let c = count_small (λ b. is_before network.order b a) size in omega arith
 
+  -- past the end nothing is before another
   past_size : (a b : ℕ) → size ≤ a → is_before network.order a b ≡ false
   past_size a b h = square_past_left size network.order a b is_network.square h
 
+  -- what is before another is below the end
   within_size : (a b : ℕ) → is_before network.order a b ≡ true → a < size
   within_size a b e = elim (cases_lt a size) [ inl low ↦ low | inr past ↦ absurd (both_ways (is_before network.order a b) (past_size a b past) e) ]
 
+  -- what is before another has a smaller rank
   pub is_ranked : IsRanked network.order rank
   unfolding rank
   is_ranked a b e =
@@ -82,6 +95,7 @@ module _ (network : Network) (is_network : IsNetwork network) where
 -- ## Rooms
 
 module _ (naming : Naming) (problem : Problem) (states : ℕ → State) where
+  -- a plan has room from earlier on too
   plan_room_wider : (positions : List ℕ) (plans : PlanTrees) (a x y x' : ℕ) → x' ≤ x → PlanHasRoom naming problem states positions plans a x y
       → PlanHasRoom naming problem states positions plans a x' y
   plan_room_wider positions no_plans a x y x' low h = tt
@@ -91,6 +105,7 @@ module _ (naming : Naming) (problem : Problem) (states : ℕ → State) where
     plan_room_wider positions plans a x y x' low h.1,
   )
 
+  -- plans that fit at their positions have room there
   rooms_of_plans : (positions : List ℕ) (plans : PlanTrees) (start finish : ℕ → ℕ) → AllFit naming problem states positions plans start finish
       → (a : ℕ) → PlanHasRoom naming problem states positions plans a (start a) (finish a)
   rooms_of_plans positions no_plans start finish all a = tt
@@ -100,6 +115,7 @@ module _ (naming : Naming) (problem : Problem) (states : ℕ → State) where
     rooms_of_plans positions plans start finish all.1 a,
   )
 
+  -- and the other way round
   plans_of_rooms : (positions : List ℕ) (plans : PlanTrees) (start finish : ℕ → ℕ) (children : List Child) → StandAt children positions plans
       → ((a : ℕ) → PlanHasRoom naming problem states positions plans a (start a) (finish a)) → AllFit naming problem states positions plans start finish
   plans_of_rooms positions no_plans start finish children stand rooms = tt
@@ -122,9 +138,11 @@ module _ (naming : Naming) (problem : Problem) (states : ℕ → State) (network
   abbrev Spans : ℕ → ℕ → (ℕ → ℕ) → (ℕ → ℕ) → Type 0
   Spans = HaveSpans naming problem states network positions plans
 
+  -- a step fits from earlier on too
   step_wider : (literals : List Literal) (x y x' : ℕ) → x' ≤ x → StepFits states literals x y → StepFits states literals x' y
   step_wider literals x y x' low (gap, from, to, holds) = (gap, omega arith, to, holds)
 
+  -- so has each position
   room_wider : (a x y x' : ℕ) → x' ≤ x → Room a x y → Room a x' y
   room_wider a x y x' low r = record {
     forward = (let f = r.forward in omega arith);
@@ -132,6 +150,7 @@ module _ (naming : Naming) (problem : Problem) (states : ℕ → State) (network
     plan = plan_room_wider naming problem states positions plans a x y x' low r.plan;
   }
 
+  -- spans give each position room
   rooms_of : (g h : ℕ) (start finish : ℕ → ℕ) → Spans g h start finish → (a : ℕ) → Room a (start a) (finish a)
   rooms_of g h start finish s a = record {
     forward = s.spans.forward a;
@@ -139,6 +158,7 @@ module _ (naming : Naming) (problem : Problem) (states : ℕ → State) (network
     plan = rooms_of_plans naming problem states positions plans start finish s.fits a;
   }
 
+  -- greedy spans are spans
   greedy_fit : (g h : ℕ) (start finish : ℕ → ℕ) → IsMatching network.children positions plans → Greedy g start finish → ((a : ℕ) → finish a ≤ h)
       → NetworkFits naming problem states network plans g h
   greedy_fit g h start finish matching greedy to = (
@@ -151,6 +171,7 @@ module _ (naming : Naming) (problem : Problem) (states : ℕ → State) (network
     plans_of_rooms naming problem states positions plans start finish network.children matching.stand (λ a. (greedy.earliest a).room.plan),
   )
 
+  -- no others finish earlier
   greedy_least : (g h : ℕ) (start finish other_start other_finish : ℕ → ℕ) → Greedy g start finish → Spans g h other_start other_finish → (a : ℕ) → finish a ≤ other_finish a
   greedy_least g h start finish other_start other_finish greedy s a =
       no_later_finish Room network.order (rank network is_network) g (suc (length network.children)) start finish (is_ranked network is_network) room_wider
@@ -281,11 +302,13 @@ module _ (naming : Naming) (problem : Problem) (states : ℕ → State) (network
 
   -- ## Positions past the network's
 
+  -- a child stands below the end
   child_within : (children : List Child) (a : ℕ) (c : Child) → slice_get children a ≡ Some c → a < length children
   child_within [] a c e = absurd cc
   child_within (d ∷ children) zero c e = omega arith
   child_within (d ∷ children) (suc a) c e = let more = child_within children a c e in omega arith
 
+  -- past the end there is room for no plan to lack
   plans_past : (xs : List ℕ) (ps : PlanTrees) (a x y : ℕ) → StandAt network.children xs ps → length network.children ≤ a → PlanHasRoom naming problem states xs ps a x y
   plans_past xs no_plans a x y stand past = tt
   plans_past [] (plan p ps) a x y stand past = tt
@@ -294,6 +317,7 @@ module _ (naming : Naming) (problem : Problem) (states : ℕ → State) (network
     plans_past xs ps a x y stand.1 past,
   )
 
+  -- so the earliest finish there is the start
   earliest_past : (a x : ℕ) → IsMatching network.children positions plans → length network.children ≤ a → Earliest a x x
   earliest_past a x matching past = record {
     room = record {
@@ -309,12 +333,14 @@ module _ (naming : Naming) (problem : Problem) (states : ℕ → State) (network
   table_or_past n a x matching tables (inl low) = tables a x
   table_or_past n a x matching tables (inr past) = inl (x, earliest_past a x matching past)
 
+  -- and the tables go on past the end
   all_past : (n a x : ℕ) (matching : IsMatching network.children positions plans) (tables : Tables naming problem states network positions plans n)
       (side : (a < length network.children) ⊎ (length network.children ≤ a)) → length network.children ≤ a
       → (found : (y : ℕ) × Earliest a x y) × (table_or_past n a x matching tables side ≡ inl found)
   all_past n a x matching tables (inl low) past = absurd (omega arith)
   all_past n a x matching tables (inr up) past = ((x, earliest_past a x matching up), refl)
 
+  -- there are greedy spans, or none at all
   greedy_exists : (g n : ℕ) → IsMatching network.children positions plans → Tables naming problem states network positions plans n
       → ((start : ℕ → ℕ) × (finish : ℕ → ℕ) × Greedy g start finish) ⊎ ((h : ℕ) (start finish : ℕ → ℕ) → h ≤ n → Spans g h start finish → ⊥)
   greedy_exists g n matching tables =
@@ -330,6 +356,7 @@ Table A n = ((y : ℕ) × A y × ((k : ℕ) → A k → y ≤ k)) ⊎ ((k : ℕ)
 abbrev IsUp : (ℕ → Type 0) → Type 0
 IsUp A = (y z : ℕ) → y ≤ z → A y → A z
 
+-- of two conditions that stay true the later one tells
 both : (A B : ℕ → Type 0) (n : ℕ) → IsUp A → IsUp B → Table A n → Table B n → Table (λ y. A y × B y) n
 both A B n up_a up_b (inl (x, a, least_a)) (inl (y, b, least_b)) = elim (cases_lt x y) [
   | inl less ↦ inl (y, ((up_a x y (omega arith) a), b), (λ k h. least_b k h.1))
@@ -339,9 +366,11 @@ both A B n up_a up_b (inl found) (inr none) = inr (λ k low h. none k low h.1)
 both A B n up_a up_b (inr none) table = inr (λ k low h. none k low h.0)
 
 module _ (naming : Naming) (problem : Problem) (states : ℕ → State) where
+  -- a step that fits fits up to later gaps
   step_up : (literals : List Literal) (x : ℕ) → IsUp (StepFits states literals x)
   step_up literals x y z low (gap, from, to, holds) = (gap, from, omega arith, holds)
 
+  -- the next gap, where the literals fail in this one
   not_here : (literals : List Literal) (x gap : ℕ) → holds (states x) literals ≡ false → x ≤ gap → holds (states gap) literals ≡ true → suc x ≤ gap
   not_here literals x gap fails from there = elim (cases_lt x gap) [
     | inl less ↦ less
@@ -363,9 +392,11 @@ module _ (naming : Naming) (problem : Problem) (states : ℕ → State) where
   abbrev StepRoom : List Child → ℕ → ℕ → ℕ → Type 0
   StepRoom children a x y = (literals : List Literal) → slice_get children a ≡ Some (precondition literals) → StepFits states literals x y
 
+  -- so has a position room for it
   step_room_up : (children : List Child) (a x : ℕ) → IsUp (StepRoom children a x)
   step_room_up children a x y z low h literals e = step_up literals x y z low (h literals e)
 
+  -- the table of a step
   step_table : (children : List Child) (a x n : ℕ) → Table (StepRoom children a x) n
   step_table children a x n = by (slice_get children a) refl
     where
@@ -390,6 +421,7 @@ module _ (naming : Naming) (problem : Problem) (states : ℕ → State) where
   abbrev PlanRoom : List ℕ → PlanTrees → ℕ → ℕ → ℕ → Type 0
   PlanRoom = PlanHasRoom naming problem states
 
+  -- a plan that has room has it up to later gaps
   plan_room_up : (positions : List ℕ) (plans : PlanTrees) (a x : ℕ) → IsUp (PlanRoom positions plans a x)
   plan_room_up positions no_plans a x y z low h = tt
   plan_room_up [] (plan p plans) a x y z low h = tt
@@ -398,6 +430,7 @@ module _ (naming : Naming) (problem : Problem) (states : ℕ → State) where
     plan_room_up positions plans a x y z low h.1,
   )
 
+  -- a line's table at its own position
   line_table_at : (n a b x : ℕ) (p : PlanTree) → LineTable naming problem states n p → Table (λ y. a ≡ b → Fits naming problem states p x y) n
   line_table_at n a b x p table = by (cases_eq a b) (table x)
     where
@@ -407,6 +440,7 @@ module _ (naming : Naming) (problem : Problem) (states : ℕ → State) where
       by (inl same) (inr none) = inr (λ k low h. none k low (h same))
       by (inr other) table_there = inl (0, (λ e. absurd (other e)), (λ k h. omega arith))
 
+  -- the table of the plans at a position
   plan_table : (positions : List ℕ) (plans : PlanTrees) (a x n : ℕ) → LineTables naming problem states n plans → Table (PlanRoom positions plans a x) n
   plan_table positions no_plans a x n tables = inl (0, tt, (λ k h. omega arith))
   plan_table [] (plan p plans) a x n tables = inl (0, tt, (λ k h. omega arith))
@@ -416,6 +450,7 @@ module _ (naming : Naming) (problem : Problem) (states : ℕ → State) where
       (plan_room_up positions plans a x)
       (line_table_at n a b x p tables.0) (plan_table positions plans a x n tables.1)
 
+  -- the tables of the positions
   tables_of : (network : Network) (positions : List ℕ) (plans : PlanTrees) (n : ℕ) → LineTables naming problem states n plans → Tables naming problem states network positions plans n
   tables_of network positions plans n tables a x =
       by (both (λ y. x ≤ y) (λ y. StepRoom network.children a x y × PlanRoom positions plans a x y) n (λ y z low h. omega arith)
@@ -435,6 +470,7 @@ module _ (naming : Naming) (problem : Problem) (states : ℕ → State) where
       )
       by (inr none) = inr (λ k low r. none k low (r.forward, (r.step, r.plan)))
 
+  -- a network fits exactly where greedy spans do
   fits_greedily : (network : Network) (plans : PlanTrees) (n g h : ℕ) → IsNetwork network → LineTables naming problem states n plans → h ≤ n
       → NetworkFits naming problem states network plans g h → FitsGreedily naming problem states network plans g h
   fits_greedily network plans n g h is_network tables low (positions, matching, start, finish, spans, steps, fits) =
@@ -454,6 +490,7 @@ module _ (naming : Naming) (problem : Problem) (states : ℕ → State) where
       )
       by (inr none) = absurd (none h start finish low (record { spans = spans; steps = steps; fits = fits }))
 
+-- greedy spans decide room in a network
 pub greedy_spans_decide : (naming : Naming) (problem : Problem) → GreedySpansDecide naming problem
 greedy_spans_decide naming problem = record {
   at_positions = λ states network positions plans is_network. record {
@@ -468,11 +505,13 @@ greedy_spans_decide naming problem = record {
   );
 }
 
+-- no line has room backwards
 fits_forward : (naming : Naming) (problem : Problem) (states : ℕ → State) (p : PlanTree) (g h : ℕ) → Fits naming problem states p g h → g ≤ h
 fits_forward naming problem states (action_at t i) g h (from, to) = omega arith
 fits_forward naming problem states (decomposition t method plans) g h (number, network, found, name, room) =
     let spans = room.4 in let low = spans.from 0 in let forward = spans.forward 0 in let high = spans.to 0 in omega arith
 
+-- and the earliest finish of a line
 pub lines_decide : (naming : Naming) (problem : Problem) → IsGrounded problem → LinesDecide naming problem
 lines_decide naming problem grounded = record {
   some = λ states t method plans n g h number network tables low found name greedy others. record {

@@ -19,6 +19,7 @@ IsSubtask (precondition literals) = ⊥
 IsSubtask (action g) = Unit {0}
 IsSubtask (task t) = Unit {0}
 
+-- the child at a position, counted from position i, is no step
 pub record SubtaskAt (i : ℕ) (children : List Child) (a : ℕ) : Type 0 where
   pub offset : ℕ
   pub is : a ≡ i + offset
@@ -26,6 +27,7 @@ pub record SubtaskAt (i : ℕ) (children : List Child) (a : ℕ) : Type 0 where
   pub stands : slice_get children offset ≡ Some child
   pub is_subtask : IsSubtask child
 
+-- a subtask of the later children is one of all
 later_subtask : (i : ℕ) (c : Child) (children : List Child) (a : ℕ) → SubtaskAt (suc i) children a → SubtaskAt i (c ∷ children) a
 later_subtask i c children a s = record {
   offset = suc s.offset;
@@ -35,9 +37,11 @@ later_subtask i c children a s = record {
   is_subtask = s.is_subtask;
 }
 
+-- the first child, if it is no step
 first_subtask : (i : ℕ) (c : Child) (children : List Child) (a : ℕ) → IsSubtask c → a ≡ i → SubtaskAt i (c ∷ children) a
 first_subtask i c children a h e = record { offset = 0; is = omega arith; child = c; stands = refl; is_subtask = h }
 
+-- a position of the subtasks has one
 pub subtask_at : (i : ℕ) (children : List Child) (a : ℕ) → IsIn a (subtask_positions i children) → SubtaskAt i children a
 subtask_at i [] a h = absurd h
 subtask_at i (precondition literals ∷ children) a h = later_subtask i (precondition literals) children a (subtask_at (suc i) children a h)
@@ -46,9 +50,11 @@ subtask_at i (action g ∷ children) a (inr h) = later_subtask i (action g) chil
 subtask_at i (task t ∷ children) a (inl e) = first_subtask i (task t) children a tt e
 subtask_at i (task t ∷ children) a (inr h) = later_subtask i (task t) children a (subtask_at (suc i) children a h)
 
+-- membership along an equation
 moved_in : (a b : ℕ) (xs : List ℕ) → a ≡ b → IsIn a xs → IsIn b xs
 moved_in a b xs e h = subst (λ k. IsIn k xs) e h
 
+-- a child that is no step has its position among those of the subtasks
 pub in_subtasks : (i : ℕ) (children : List Child) (k : ℕ) (c : Child) → slice_get children k ≡ Some c → IsSubtask c → IsIn (i + k) (subtask_positions i children)
 in_subtasks i [] k c e h = absurd cc
 in_subtasks i (precondition literals ∷ children) zero c e h = let same : precondition literals ≡ c = cc in absurd (subst IsSubtask (sym same) h)
@@ -58,9 +64,11 @@ in_subtasks i (action g ∷ children) (suc k) c e h = inr (moved_in (suc i + k) 
 in_subtasks i (task t ∷ children) zero c e h = inl (omega arith)
 in_subtasks i (task t ∷ children) (suc k) c e h = inr (moved_in (suc i + k) (i + suc k) _ (omega arith) (in_subtasks (suc i) children k c e h))
 
+-- an earlier position is not among the later ones
 subtask_new : (i : ℕ) (children : List Child) → IsIn i (subtask_positions (suc i) children) → ⊥
 subtask_new i children h = let s = subtask_at (suc i) children i h in let e = s.is in omega arith
 
+-- no position is there twice
 pub subtasks_distinct : (i : ℕ) (children : List Child) → IsWithoutRepeats (subtask_positions i children)
 subtasks_distinct i [] = tt
 subtasks_distinct i (precondition literals ∷ children) = subtasks_distinct (suc i) children
@@ -69,6 +77,7 @@ subtasks_distinct i (task t ∷ children) = (subtask_new i children, subtasks_di
 
 -- ## Trees with slots and ids
 
+-- a tree with the slots of its leaves and steps and the ids of its nodes
 pub record Laid : Type 0 where
   pub node : Node
   pub slots : Slots
@@ -98,6 +107,7 @@ abbrev mutual
   AllMarks naming file slots ids i (node n ns) =
       Marks naming file (λ q. slots (i ∷ q)) (λ q. ids (i ∷ q)) n × AllMarks naming file slots ids (suc i) ns
 
+-- the id of the node above marks nothing below it
 marks_with : (naming : Naming) (file : PlanFile) (slots : Slots) (ids : Place → ℕ) (id i : ℕ) (nodes : Nodes)
     → AllMarks naming file slots ids i nodes → AllMarks naming file slots (with_id id ids) i nodes
 marks_with naming file slots ids id i no_nodes marks = marks
@@ -111,6 +121,7 @@ AllOf P [] ids (plan p plans) = ⊥
 AllOf P (a ∷ positions) [] (plan p plans) = ⊥
 AllOf P (a ∷ positions) (id ∷ ids) (plan p plans) = P a id p × AllOf P positions ids plans
 
+-- what holds of each of them in turn
 all_of_map : (P Q : ℕ → ℕ → PlanTree → Type 0) (positions ids : List ℕ) (plans : PlanTrees) → ((a id : ℕ) (p : PlanTree) → IsIn a positions → P a id p → Q a id p)
     → AllOf P positions ids plans → AllOf Q positions ids plans
 all_of_map P Q positions ids no_plans f all = all
@@ -123,9 +134,11 @@ record Chosen {Y : Type 0} (P : ℕ → ℕ → PlanTree → Y → Type 0) (base
   each : AllOf (λ a id p. P a id p (at a)) positions ids plans
   others : (a : ℕ) → (IsIn a positions → ⊥) → at a ≡ base a
 
+-- a choice whose test is true
 cond_true : {Y : Type 0} (b : Bool) (x y : Y) → b ≡ true → cond b x y ≡ x
 cond_true b x y e = ap (λ c. cond c x y) e
 
+-- one function of the positions from one value for each
 choose : {Y : Type 0} (P : ℕ → ℕ → PlanTree → Y → Type 0) (base : ℕ → Y) (positions ids : List ℕ) (plans : PlanTrees) → IsWithoutRepeats positions
     → AllOf (λ a id p. (y : Y) × P a id p y) positions ids plans → Chosen P base positions ids plans
 choose P base positions ids no_plans distinct all = record { at = base; each = all; others = λ a h. refl }
@@ -154,6 +167,7 @@ literals_at (action g ∷ children) zero = []
 literals_at (task t ∷ children) zero = []
 literals_at (c ∷ children) (suc a) = literals_at children a
 
+-- the literals of a step at its position
 literals_there : (children : List Child) (a : ℕ) (literals : List Literal) → slice_get children a ≡ Some (precondition literals) → literals_at children a ≡ literals
 literals_there [] a literals e = absurd cc
 literals_there (precondition given ∷ children) zero literals e = cc
@@ -161,6 +175,7 @@ literals_there (action g ∷ children) zero literals e = absurd cc
 literals_there (task t ∷ children) zero literals e = absurd cc
 literals_there (c ∷ children) (suc a) literals e = literals_there children a literals e
 
+-- a gap for each step in which its literals hold
 record Gaps (states : ℕ → State) (children : List Child) (start finish : ℕ → ℕ) : Type 0 where
   gap : ℕ → ℕ
   fits : (a : ℕ) (literals : List Literal) → slice_get children a ≡ Some (precondition literals)
@@ -170,6 +185,7 @@ abbrev at_front : ℕ → (ℕ → ℕ) → ℕ → ℕ
 at_front x value zero = x
 at_front x value (suc i) = value i
 
+-- steps that fit have such gaps
 gaps : (states : ℕ → State) (children : List Child) (start finish : ℕ → ℕ) → StepsFit states children start finish → Gaps states children start finish
 gaps states [] start finish fit = record { gap = λ a. 0; fits = λ a literals e. absurd cc }
 gaps states (c ∷ children) start finish fit = by c refl (gaps states children (λ a. start (suc a)) (λ a. finish (suc a)) (λ a literals e. fit (suc a) literals e))
@@ -217,6 +233,7 @@ nodes_from f i [] = no_nodes
 nodes_from f i (c ∷ children) = node (f i).node (nodes_from f (suc i) children)
 
 module _ (naming : Naming) (problem : Problem) (file : PlanFile) (states : ℕ → State) where
+  -- a tree that stands for the child, sits between the gaps, and has marks
   pub record IsLaid (c : Child) (g h : ℕ) (y : Laid) : Type 0 where
     pub is_root : root y.node ≡ c
     pub tree : IsTree problem y.node
@@ -230,6 +247,7 @@ module _ (naming : Naming) (problem : Problem) (file : PlanFile) (states : ℕ �
     pub sit : AllSit problem states slots i nodes start finish
     pub marks : AllMarks naming file slots ids i nodes
 
+  -- trees for all children, from position i on
   laid_from : (f : ℕ → Laid) (children : List Child) (start finish : ℕ → ℕ) (i : ℕ)
       → ((k : ℕ) (c : Child) → slice_get children k ≡ Some c → IsLaid c (start (i + k)) (finish (i + k)) (f (i + k)))
       → AreLaid children start finish (nodes_from f i children) (slots_of f) (ids_from f) i
@@ -259,6 +277,7 @@ module _ (naming : Naming) (problem : Problem) (file : PlanFile) (states : ℕ �
       (id, p, subst (λ k. slice_get children k ≡ Some (child_of p)) (sym same) stand.0, subst (λ k. Q k id p) (sym same) all.0)
   found_plan Q children (b ∷ positions) (id ∷ ids) (plan p plans) a stand all (inr i) = found_plan Q children positions ids plans a stand.1 all.1 i
 
+  -- the listed ids are those at the positions
   ids_of_all : (f : ℕ → Laid) (start finish : ℕ → ℕ) (positions ids : List ℕ) (plans : PlanTrees)
       → AllOf (λ a id p. LaidAt start finish a id p (f a)) positions ids plans → ids ≡ map (id_below (ids_from f)) positions
   ids_of_all f start finish positions ids no_plans all = all.1 ∙ ap (map (id_below (ids_from f))) (sym all.0)
@@ -266,6 +285,7 @@ module _ (naming : Naming) (problem : Problem) (file : PlanFile) (states : ℕ �
   ids_of_all f start finish (a ∷ positions) [] (plan p plans) all = absurd all
   ids_of_all f start finish (a ∷ positions) (id ∷ ids) (plan p plans) all = ap₂ ◌∷◌ (sym all.0.1) (ids_of_all f start finish positions ids plans all.1)
 
+  -- trees for a network, laid between its spans, whose ids are the listed ones
   pub record Forest (children : List Child) (ids_listed : List ℕ) (start finish : ℕ → ℕ) : Type 0 where
     pub nodes : Nodes
     pub slots : Slots
@@ -273,6 +293,7 @@ module _ (naming : Naming) (problem : Problem) (file : PlanFile) (states : ℕ �
     pub laid : AreLaid children start finish nodes slots ids 0
     pub listed : IsRearrangementOf ids_listed (map (id_below ids) (subtask_positions 0 children))
 
+  -- trees for the plans of a network, and its steps, are trees for the network
   pub forest_laid : (children : List Child) (positions listed : List ℕ) (plans : PlanTrees) (start finish : ℕ → ℕ)
       → IsMatching children positions plans → StepsFit states children start finish
       → AllOf (λ a id p. (y : Laid) × LaidAt start finish a id p y) positions listed plans → Forest children listed start finish

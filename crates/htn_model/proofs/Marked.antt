@@ -14,16 +14,19 @@ use Rattle.htn_model.proofs.Laid.{IsSubtask, subtask_at, in_subtasks, Marks, All
 
 -- ## Lines of a file
 
+-- a decomposition line's id is among theirs
 pub id_listed : (line : DecompositionLine) (lines : List DecompositionLine) → IsIn line lines → IsIn line.id (decomposition_ids lines)
 id_listed line [] i = absurd i
 id_listed line (l ∷ lines) (inl same) = inl (ap (λ x. x.id) same)
 id_listed line (l ∷ lines) (inr i) = inr (id_listed line lines i)
 
+-- an action line's id is among theirs
 pub action_id_listed : (line : ActionLine) (lines : List ActionLine) → IsIn line lines → IsIn line.id (action_ids lines)
 action_id_listed line [] i = absurd i
 action_id_listed line (l ∷ lines) (inl same) = inl (ap (λ x. x.id) same)
 action_id_listed line (l ∷ lines) (inr i) = inr (action_id_listed line lines i)
 
+-- no two decomposition lines have one id
 pub one_line : (x y : DecompositionLine) (lines : List DecompositionLine) → IsWithoutRepeats (decomposition_ids lines) → IsIn x lines → IsIn y lines → x.id ≡ y.id → x ≡ y
 one_line x y [] d i j e = absurd i
 one_line x y (l ∷ lines) d (inl a) (inl b) e = a ∙ sym b
@@ -31,6 +34,7 @@ one_line x y (l ∷ lines) d (inl a) (inr j) e = absurd (d.0 (subst (λ k. IsIn 
 one_line x y (l ∷ lines) d (inr i) (inl b) e = absurd (d.0 (subst (λ k. IsIn k (decomposition_ids lines)) (e ∙ ap (λ z. z.id) b) (id_listed x lines i)))
 one_line x y (l ∷ lines) d (inr i) (inr j) e = one_line x y lines d.1 i j e
 
+-- no two action lines have one id
 pub one_index : (lines : List ActionLine) (i j : ℕ) (x y : ActionLine) → IsWithoutRepeats (action_ids lines) → slice_get lines i ≡ Some x → slice_get lines j ≡ Some y → x.id ≡ y.id → i ≡ j
 one_index [] i j x y d a b e = absurd cc
 one_index (l ∷ lines) zero zero x y d a b e = refl
@@ -40,11 +44,13 @@ one_index (l ∷ lines) (suc i) zero x y d a b e =
     let same : l ≡ y = cc in absurd (d.0 (subst (λ k. IsIn k (action_ids lines)) (e ∙ ap (λ z. z.id) (sym same)) (action_id_listed x lines (at_in x lines i a))))
 one_index (l ∷ lines) (suc i) (suc j) x y d a b e = ap suc (one_index lines i j x y d.1 a b e)
 
+-- a line's child is among all children
 pub child_listed : (x : ℕ) (line : DecompositionLine) (lines : List DecompositionLine) → IsIn line lines → IsIn x line.children → IsIn x (all_children lines)
 child_listed x line [] i j = absurd i
 child_listed x line (l ∷ lines) (inl same) j = in_left x l.children (all_children lines) (subst (λ z. IsIn x z.children) same j)
 child_listed x line (l ∷ lines) (inr i) j = in_right x l.children (all_children lines) (child_listed x line lines i j)
 
+-- no child has two lines that list it
 pub one_parent : (x : ℕ) (k l : DecompositionLine) (lines : List DecompositionLine) → IsWithoutRepeats (all_children lines) → IsIn k lines → IsIn l lines
     → IsIn x k.children → IsIn x l.children → k ≡ l
 one_parent x k l [] d i j a b = absurd i
@@ -55,6 +61,7 @@ one_parent x k l (m ∷ lines) d (inr i) (inl t) a b =
     absurd (distinct_apart x m.children (all_children lines) d (subst (λ z. IsIn x z.children) t b) (child_listed x k lines i a))
 one_parent x k l (m ∷ lines) d (inr i) (inr j) a b = one_parent x k l lines (distinct_right m.children (all_children lines) d) i j a b
 
+-- no line lists a child twice
 children_distinct : (line : DecompositionLine) (lines : List DecompositionLine) → IsWithoutRepeats (all_children lines) → IsIn line lines → IsWithoutRepeats line.children
 children_distinct line [] d i = absurd i
 children_distinct line (l ∷ lines) d (inl same) = subst (λ z. IsWithoutRepeats z.children) (sym same) (distinct_left l.children (all_children lines) d)
@@ -62,38 +69,46 @@ children_distinct line (l ∷ lines) d (inr i) = children_distinct line lines (d
 
 -- a file that is a forest has no id twice
 module _ (file : PlanFile) (forest : IsForest file) where
+  -- no action line has the id of a decomposition line
   pub kinds_apart : (line : ActionLine) (other : DecompositionLine) → IsIn line file.actions → IsIn other file.decompositions → line.id ≡ other.id → ⊥
   kinds_apart line other i j e =
       distinct_apart line.id (action_ids file.actions) (decomposition_ids file.decompositions) forest.defined_once (action_id_listed line file.actions i)
       (subst (λ x. IsIn x (decomposition_ids file.decompositions)) (sym e) (id_listed other file.decompositions j))
 
+  -- the ids of decomposition lines have no repeats
   pub decompositions_distinct : IsWithoutRepeats (decomposition_ids file.decompositions)
   decompositions_distinct = distinct_right (action_ids file.actions) (decomposition_ids file.decompositions) forest.defined_once
 
+  -- nor have those of action lines
   pub actions_distinct : IsWithoutRepeats (action_ids file.actions)
   actions_distinct = distinct_left (action_ids file.actions) (decomposition_ids file.decompositions) forest.defined_once
 
 -- ## Places
 
+-- a way down in two parts
 pub below_append : (n : Option Node) (p q : Place) → node_below n (p ++ q) ≡ node_below (node_below n p) q
 below_append n [] q = refl
 below_append n (i ∷ p) q = below_append (child_at (children_in n) i) p q
 
+-- a child of the node at a place
 pub at_child : (trees : Nodes) (p : Place) (t : GroundTask) (number : ℕ) (nodes : Nodes) (a : ℕ) → node_at trees p ≡ Some (compound t number nodes)
     → node_at trees (p ++ a ∷ []) ≡ child_at nodes a
 at_child trees [] t number nodes a e = absurd cc
 at_child trees (i ∷ p) t number nodes a e = below_append (child_at trees i) p (a ∷ []) ∙ ap (λ n. node_below n (a ∷ [])) e
 
+-- the tree at the position of a child
 root_at : (ns : Nodes) (a : ℕ) (c : Child) → slice_get (roots ns) a ≡ Some c → (m : Node) × (child_at ns a ≡ Some m) × (root m ≡ c)
 root_at no_nodes a c e = absurd cc
 root_at (node n ns) zero c e = (n, refl, let same : root n ≡ c = cc in same)
 root_at (node n ns) (suc a) c e = root_at ns a c e
 
+-- a tree of a subtask has an id
 id_from_root : (m : Node) → IsSubtask (root m) → HasId (Some m)
 id_from_root (leaf g) h = tt
 id_from_root (step literals) h = absurd h
 id_from_root (compound t number nodes) h = tt
 
+-- so has the tree at a subtask's position
 pub has_id_at : (ns : Nodes) (a : ℕ) → IsIn a (subtask_positions 0 (roots ns)) → HasId (child_at ns a)
 has_id_at ns a i =
     let s = subtask_at 0 (roots ns) a i in
@@ -101,16 +116,19 @@ has_id_at ns a i =
     let there = root_at ns a s.child (subst (λ k. slice_get (roots ns) k ≡ Some s.child) (let e : s.offset ≡ a = omega arith in e) s.stands) in
     subst HasId (sym there.1) (id_from_root there.0 (subst IsSubtask (sym there.2) s.is_subtask))
 
+-- what the tree at a position stands for
 pub root_of_child : (ns : Nodes) (a : ℕ) (m : Node) → child_at ns a ≡ Some m → slice_get (roots ns) a ≡ Some (root m)
 root_of_child no_nodes a m e = absurd cc
 root_of_child (node n ns) zero m e = let same : n ≡ m = cc in ap (λ k. Some (root k)) same
 root_of_child (node n ns) (suc a) m e = root_of_child ns a m e
 
+-- a node with an id is no step
 subtask_from_id : (m : Node) → HasId (Some m) → IsSubtask (root m)
 subtask_from_id (leaf g) h = tt
 subtask_from_id (step literals) h = absurd h
 subtask_from_id (compound t number nodes) h = tt
 
+-- so its position is a subtask's
 pub position_of_child : (ns : Nodes) (a : ℕ) → HasId (child_at ns a) → IsIn a (subtask_positions 0 (roots ns))
 position_of_child ns a h = by (child_at ns a) refl h
   where
@@ -119,6 +137,7 @@ position_of_child ns a h = by (child_at ns a) refl h
     by (Some m) e g = subst (λ k. IsIn k (subtask_positions 0 (roots ns))) (let w : 0 + a ≡ a = omega arith in w)
         (in_subtasks 0 (roots ns) a (root m) (root_of_child ns a m e) (subtask_from_id m g))
 
+-- below nothing there is no id
 pub no_id : (p : Place) → HasId (node_below None p) → ⊥
 no_id p h = subst HasId (nothing_below p) h
 
@@ -128,6 +147,7 @@ pub data Parent (trees : Nodes) (p : Place) : Type 0 where
   a_child : (above : Place) (a : ℕ) (t : GroundTask) (number : ℕ) (nodes : Nodes) → p ≡ above ++ a ∷ []
       → node_at trees above ≡ Some (compound t number nodes) → IsIn a (subtask_positions 0 (roots nodes)) → Parent trees p
 
+-- a parent further down
 deeper : (trees : Nodes) (i : ℕ) (p : Place) (t : GroundTask) (number : ℕ) (nodes : Nodes) → child_at trees i ≡ Some (compound t number nodes)
     → Parent nodes p → Parent trees (i ∷ p)
 deeper trees i p t number nodes e (a_root a is listed) = a_child (i ∷ []) a t number nodes (ap (λ q. i ∷ q) is) e listed
@@ -135,6 +155,7 @@ deeper trees i p t number nodes e (a_child [] a u m inner is stands listed) = ab
 deeper trees i p t number nodes e (a_child (j ∷ above) a u m inner is stands listed) =
     a_child (i ∷ j ∷ above) a u m inner (ap (λ q. i ∷ q) is) (ap (λ n. node_below n (j ∷ above)) e ∙ stands) listed
 
+-- a node with an id is a root or a compound node's child
 pub parent_of : (p : Place) (trees : Nodes) → HasId (node_at trees p) → Parent trees p
 parent_of [] trees h = absurd h
 parent_of (i ∷ []) trees h = a_root i refl (position_of_child trees i h)
@@ -149,6 +170,7 @@ parent_of (i ∷ j ∷ p) trees h = by (child_at trees i) refl h (λ nodes. pare
 -- ## The marks of a place
 
 module _ (naming : Naming) (file : PlanFile) where
+  -- the marks of the tree at a position, counted from i
   marks_at : (slots : Slots) (ids : Place → ℕ) (i : ℕ) (ns : Nodes) (k : ℕ) (m : Node) → AllMarks naming file slots ids i ns → child_at ns k ≡ Some m
       → Marks naming file (λ q. slots ((i + k) ∷ q)) (λ q. ids ((i + k) ∷ q)) m
   marks_at slots ids i no_nodes k m all e = absurd cc
@@ -159,12 +181,14 @@ module _ (naming : Naming) (file : PlanFile) where
       let w : suc i + k ≡ i + suc k = omega arith in
       subst (λ j. Marks naming file (λ q. slots (j ∷ q)) (λ q. ids (j ∷ q)) m) w (marks_at slots ids (suc i) ns k m all.1 e)
 
+  -- the marks of a child
   marks_child : (slots : Slots) (ids : Place → ℕ) (ns : Nodes) (k : ℕ) (m : Node) → AllMarks naming file slots ids 0 ns → child_at ns k ≡ Some m
       → Marks naming file (λ q. slots (k ∷ q)) (λ q. ids (k ∷ q)) m
   marks_child slots ids ns k m all e =
       let w : 0 + k ≡ k = omega arith in
       subst (λ j. Marks naming file (λ q. slots (j ∷ q)) (λ q. ids (j ∷ q)) m) w (marks_at slots ids 0 ns k m all e)
 
+  -- the marks of a node further down
   mutual_below : (p : Place) (slots : Slots) (ids : Place → ℕ) (n m : Node) → Marks naming file slots ids n → node_below (Some n) p ≡ Some m
       → Marks naming file (λ q. slots (p ++ q)) (λ q. ids (p ++ q)) m
   mutual_below [] slots ids n m marks e = let same : n ≡ m = cc in subst (Marks naming file slots ids) same marks

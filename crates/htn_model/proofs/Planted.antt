@@ -22,15 +22,18 @@ no_longer (x ∷ xs) ys d within =
     let parts = length-append s.left s.right in
     omega arith
 
+-- as many ids as lines
 as_many_ids : (lines : List DecompositionLine) → length (decomposition_ids lines) ≡ length lines
 as_many_ids [] = refl
 as_many_ids (l ∷ lines) = ap suc (as_many_ids lines)
 
+-- the action line with an id
 pub action_of_id : (id : ℕ) (lines : List ActionLine) → IsIn id (action_ids lines) → (line : ActionLine) × IsIn line lines × (line.id ≡ id)
 action_of_id id [] i = absurd i
 action_of_id id (l ∷ lines) (inl same) = (l, inl refl, sym same)
 action_of_id id (l ∷ lines) (inr i) = let (line, there, is) = action_of_id id lines i in (line, inr there, is)
 
+-- the decomposition line with an id
 pub decomposition_of_id : (id : ℕ) (lines : List DecompositionLine) → IsIn id (decomposition_ids lines) → (line : DecompositionLine) × IsIn line lines × (line.id ≡ id)
 decomposition_of_id id [] i = absurd i
 decomposition_of_id id (l ∷ lines) (inl same) = (l, inl refl, sym same)
@@ -40,6 +43,19 @@ decomposition_of_id id (l ∷ lines) (inr i) = let (line, there, is) = decomposi
 pub record AreNamedLines (naming : Naming) (file : PlanFile) : Type 0 where
   pub actions : (line : ActionLine) → IsIn line file.actions → (g : GroundTask) × (naming.named line.name line.arguments ≡ Some g)
   pub decompositions : (line : DecompositionLine) → IsIn line file.decompositions → (t : GroundTask) × (naming.named line.task line.arguments ≡ Some t)
+
+-- ## Depth
+
+abbrev mutual
+  -- no decomposition stands deeper than so many
+  pub IsWithin : ℕ → PlanTree → Type 0
+  IsWithin depth (action_at g i) = Unit {0}
+  IsWithin zero (decomposition t method plans) = ⊥
+  IsWithin (suc depth) (decomposition t method plans) = AreWithin depth plans
+
+  pub AreWithin : ℕ → PlanTrees → Type 0
+  AreWithin depth no_plans = Unit {0}
+  AreWithin depth (plan p plans) = IsWithin depth p × AreWithin depth plans
 
 -- ## Ways down from the roots
 
@@ -57,13 +73,16 @@ module _ (file : PlanFile) (forest : IsForest file) where
   past_first [] = []
   past_first (x ∷ xs) = xs
 
+  -- what is past the first is in the list
   in_past_first : (z : ℕ) (xs : List ℕ) → IsIn z (past_first xs) → IsIn z xs
   in_past_first z [] i = absurd i
   in_past_first z (x ∷ xs) i = inr i
 
+  -- no id is listed twice
   listed_distinct : IsWithoutRepeats (listed_ids file)
   listed_distinct = distinct_rearranged (defined_ids file) (listed_ids file) forest.listed_once forest.defined_once
 
+  -- a child stands nowhere above its parent
   not_again : (id above : ℕ) (rest : List ℕ) (line : DecompositionLine) → IsIn line file.decompositions → line.id ≡ above → IsIn id line.children → (IsIn above rest → ⊥)
       → (way : List ℕ) → IsWay way → ((z : ℕ) → IsIn z (past_first way) → IsIn z rest) → IsIn id way → ⊥
   not_again id above rest line there is below new [] ways within i = i
@@ -78,10 +97,12 @@ module _ (file : PlanFile) (forest : IsForest file) where
   not_again id above rest line there is below new (x ∷ way) ways within (inr i) =
       not_again id above rest line there is below new way ways.1 (λ z j. within z (in_past_first z way j)) i
 
+  -- an id at the end of a way is not on it
   next_new : (id : ℕ) (way : List ℕ) → Next id way → IsWay way → IsWithoutRepeats way → IsIn id way → ⊥
   next_new id [] next ways d i = i
   next_new id (above ∷ way) (line, there, is, below) ways d i = not_again id above way line there is below d.0 (above ∷ way) ways (λ z j. j) i
 
+  -- and is defined
   next_defined : (id : ℕ) (way : List ℕ) → Next id way → IsIn id (defined_ids file)
   next_defined id [] next = in_arranged id (defined_ids file) (listed_ids file) forest.listed_once (in_left id file.roots (all_children file.decompositions) next)
   next_defined id (above ∷ way) (line, there, is, below) =
@@ -91,19 +112,32 @@ module _ (file : PlanFile) (forest : IsForest file) where
   -- ## Trees
 
   module _ (naming : Naming) (named : AreNamedLines naming file) where
-    each_tree : (ids : List ℕ) → ((id : ℕ) → IsIn id ids → (p : PlanTree) × ShowsTree naming file id p) → (plans : PlanTrees) × ShowTrees naming file ids plans
-    each_tree [] each = (no_plans, refl)
-    each_tree (id ∷ ids) each =
-        let (p, shows) = each id (inl refl) in
-        let (plans, show) = each_tree ids (λ x i. each x (inr i)) in
-        (plan p plans, (shows, show))
+    -- the lines with these ids are plan trees of no more than this depth
+    record Trees (ids : List ℕ) (depth : ℕ) : Type 0 where
+      plans : PlanTrees
+      show : ShowTrees naming file ids plans
+      within : AreWithin depth plans
 
-    action_tree : (id : ℕ) → IsIn id (action_ids file.actions) → (p : PlanTree) × ShowsTree naming file id p
-    action_tree id i =
+    pub record Tree (id depth : ℕ) : Type 0 where
+      pub tree : PlanTree
+      pub shows : ShowsTree naming file id tree
+      pub within : IsWithin depth tree
+
+    -- a tree for each id gives those of a list
+    each_tree : (ids : List ℕ) (depth : ℕ) → ((id : ℕ) → IsIn id ids → Tree id depth) → Trees ids depth
+    each_tree [] depth each = record { plans = no_plans; show = refl; within = tt }
+    each_tree (id ∷ ids) depth each =
+        let first = each id (inl refl) in
+        let others = each_tree ids depth (λ x i. each x (inr i)) in
+        record { plans = plan first.tree others.plans; show = (first.shows, others.show); within = (first.within, others.within) }
+
+    -- an action line is a tree
+    action_tree : (id depth : ℕ) → IsIn id (action_ids file.actions) → Tree id depth
+    action_tree id depth i =
         let (line, there, is) = action_of_id id file.actions i in
         let (g, names) = named.actions line there in
         let (index, stands) = in_at line file.actions there in
-        (action_at g index, (line, stands, is, names))
+        record { tree = action_at g index; shows = (line, stands, is, names); within = tt }
 
     record Way (way : List ℕ) (left : ℕ) : Type 0 where
       ways : IsWay way
@@ -127,24 +161,26 @@ module _ (file : PlanFile) (forest : IsForest file) where
         let l = w.long in
         omega arith
 
-    tree_of : (left : ℕ) (way : List ℕ) → Way way left → (id : ℕ) → Next id way → (p : PlanTree) × ShowsTree naming file id p
+    -- the line at the end of a way is a tree that is no deeper than the lines that are left
+    tree_of : (left : ℕ) (way : List ℕ) → Way way left → (id : ℕ) → Next id way → Tree id left
     tree_of zero way w id next = elim (in_split id (action_ids file.actions) (decomposition_ids file.decompositions) (next_defined id way next)) [
-      | inl i ↦ action_tree id i
+      | inl i ↦ action_tree id zero i
       | inr i ↦ absurd (at_end way id w next i)
     ]
     tree_of (suc left) way w id next =
         by (in_split id (action_ids file.actions) (decomposition_ids file.decompositions) (next_defined id way next)) (λ v. tree_of left (id ∷ way) v)
       where
-        by : IsIn id (action_ids file.actions) ⊎ IsIn id (decomposition_ids file.decompositions)
-            → (Way (id ∷ way) left → (x : ℕ) → Next x (id ∷ way) → (p : PlanTree) × ShowsTree naming file x p) → (p : PlanTree) × ShowsTree naming file id p
-        by (inl i) deeper = action_tree id i
+        by : IsIn id (action_ids file.actions) ⊎ IsIn id (decomposition_ids file.decompositions) → (Way (id ∷ way) left → (x : ℕ) → Next x (id ∷ way) → Tree x left) → Tree id (suc left)
+        by (inl i) deeper = action_tree id (suc left) i
         by (inr i) deeper =
             let (line, there, is) = decomposition_of_id id file.decompositions i in
             let (t, names) = named.decompositions line there in
-            let (plans, show) = each_tree line.children (λ x j. deeper (longer way left id w next i) x (line, there, is, j)) in
-            (decomposition t line.method plans, (line, there, is, names, refl, show))
+            let below = each_tree line.children left (λ x j. deeper (longer way left id w next i) x (line, there, is, j)) in
+            record { tree = decomposition t line.method below.plans; shows = (line, there, is, names, refl, below.show); within = below.within }
+
+    -- the tree of a root
+    pub root_tree : (id : ℕ) → IsIn id file.roots → Tree id (length file.decompositions)
+    root_tree id i = tree_of (length file.decompositions) [] (record { ways = tt; distinct = tt; within = λ x j. absurd j; long = (omega arith) }) id i
 
     pub forest_planted : (plans : PlanTrees) × ShowTrees naming file file.roots plans
-    forest_planted =
-        each_tree file.roots (λ id i. tree_of (length file.decompositions) []
-        (record { ways = tt; distinct = tt; within = λ x j. absurd j; long = (omega arith) }) id i)
+    forest_planted = let trees = each_tree file.roots (length file.decompositions) root_tree in (trees.plans, trees.show)

@@ -13,6 +13,7 @@ module _ (less : Place → Place → Bool) where
   sorted [] = []
   sorted (p ∷ ps) = insert p (sorted ps)
 
+  -- insertion rearranges
   insert_rearranged : (p : Place) (qs ps : List Place) → IsRearrangement qs ps → IsRearrangement (insert p qs) (p ∷ ps)
   insert_rearranged p [] ps r = ([], ps, refl, r)
   insert_rearranged p (q ∷ qs) ps (left, right, e, r) = by (less p q) (insert_rearranged p qs (left ++ right) r)
@@ -21,10 +22,12 @@ module _ (less : Place → Place → Bool) where
       by true more = ([], ps, refl, (left, right, e, r))
       by false more = (p ∷ left, right, ap (λ l. p ∷ l) e, more)
 
+  -- so does sorting
   pub sorted_rearranged : (ps : List Place) → IsRearrangement (sorted ps) ps
   sorted_rearranged [] = refl
   sorted_rearranged (p ∷ ps) = insert_rearranged p (sorted ps) ps (sorted_rearranged ps)
 
+  -- what holds of all holds after insertion
   insert_all : (P : Place → Type 0) (p : Place) (qs : List Place) → P p → AllByRecursion P qs → AllByRecursion P (insert p qs)
   insert_all P p [] h all = (h, tt)
   insert_all P p (q ∷ qs) h all = by (less p q) (insert_all P p qs h all.1)
@@ -33,6 +36,7 @@ module _ (less : Place → Place → Bool) where
       by true more = (h, all)
       by false more = (all.0, more)
 
+  -- and after sorting
   pub sorted_all : (P : Place → Type 0) (ps : List Place) → AllByRecursion P ps → AllByRecursion P (sorted ps)
   sorted_all P [] all = tt
   sorted_all P (p ∷ ps) all = insert_all P p (sorted ps) all.0 (sorted_all P ps all.1)

@@ -29,6 +29,7 @@ module _ (trees : Nodes) where
     here : p ≡ q → slot_in i (q ∷ qs) p ≡ i → Met i q qs p
     later : IsIn p qs → slot_in i (q ∷ qs) p ≡ slot_in (duration (node_at trees q) + i) qs p → Met i q qs p
 
+  -- a place of the list is its first or a later one
   pub met : (i : ℕ) (q : Place) (qs : List Place) (p : Place) → IsIn p (q ∷ qs) → Met i q qs p
   met i q qs p h = by (is_same_place p q) refl h
     where
@@ -37,6 +38,7 @@ module _ (trees : Nodes) where
       by false e (inl same) = absurd (both_ways (is_same_place p q) e (subst (λ r. is_same_place p r ≡ true) same (same_place_itself p)))
       by false e (inr h) = later h (ap (λ b. cond b i (slot_in (duration (node_at trees q) + i) qs p)) e)
 
+  -- no slot is before the first
   pub slot_from : (i : ℕ) (qs : List Place) (p : Place) → i ≤ slot_in i qs p
   slot_from i [] p = omega arith
   slot_from i (q ∷ qs) p = by (is_same_place p q) (slot_from (duration (node_at trees q) + i) qs p)
@@ -45,6 +47,7 @@ module _ (trees : Nodes) where
       by true h = omega arith
       by false h = omega arith
 
+  -- a leaf or a step ends among the leaves
   pub slot_ends : (i : ℕ) (qs : List Place) (p : Place) → IsIn p qs → duration (node_at trees p) + slot_in i qs p ≤ i + leaves qs
   slot_ends i [] p h = absurd h
   slot_ends i (q ∷ qs) p h = by (met i q qs p h) (slot_ends (duration (node_at trees q) + i) qs p)
@@ -55,6 +58,7 @@ module _ (trees : Nodes) where
       by (here same at) more = let e : duration (node_at trees p) ≡ duration (node_at trees q) = ap (λ r. duration (node_at trees r)) same in omega arith
       by (later i at) more = let m = more i in omega arith
 
+  -- slots along a list keep the order that it respects
   pub slots_keep : (precedes : Place → Place → Bool) → ((p : Place) → precedes p p ≡ false) → (i : ℕ) (qs : List Place) (p q : Place) → Respects precedes qs
       → IsIn p qs → IsIn q qs → precedes p q ≡ true → duration (node_at trees p) + slot_in i qs p ≤ slot_in i qs q
   slots_keep precedes irreflexive i [] p q r hp hq e = absurd hp
@@ -72,12 +76,14 @@ module _ (trees : Nodes) where
           absurd (both_ways (precedes p q) (subst (λ y. precedes p y ≡ false) (sym sq) (all_in (λ y. precedes y x ≡ false) p qs r.0 ip)) e)
       by (later ip at_p) (later iq at_q) more = let m = more ip iq in omega arith
 
+  -- a step takes no time
   step_lasts : (n : Option Node) → IsStep n → duration n ≡ 0
   step_lasts None h = absurd h
   step_lasts (Some (leaf g)) h = absurd h
   step_lasts (Some (step literals)) h = refl
   step_lasts (Some (compound t number nodes)) h = absurd h
 
+  -- there are as many leaves as lines
   pub as_many : (naming : Naming) (id_at : Place → ℕ) (qs : List Place) (lines : List ActionLine) → AreActionLines naming trees id_at qs lines → leaves qs ≡ length lines
   as_many naming id_at qs lines end = refl
   as_many naming id_at qs lines (action_line p ps g line others is id named more) =
@@ -92,12 +98,15 @@ module _ (naming : Naming) (problem : Problem) (file : PlanFile) (states : ℕ �
   abbrev From : ℕ → List ActionLine → Type 0
   From i lines = (k : ℕ) → slice_get lines k ≡ slice_get file.actions (i + k)
 
+  -- the first of the lines from i on
   first_line : (i : ℕ) (line : ActionLine) (lines : List ActionLine) → From i (line ∷ lines) → slice_get file.actions i ≡ Some line
   first_line i line lines from = ap (slice_get file.actions) (let e : i ≡ i + 0 = omega arith in e) ∙ sym (from 0)
 
+  -- the lines after it
   other_lines : (i : ℕ) (line : ActionLine) (lines : List ActionLine) → From i (line ∷ lines) → From (suc i) lines
   other_lines i line lines from k = from (suc k) ∙ ap (slice_get file.actions) (let e : i + suc k ≡ suc i + k = omega arith in e)
 
+  -- a leaf's line comes at its slot
   acts : (i : ℕ) (p : Place) (g : GroundTask) (line : ActionLine) (lines : List ActionLine) → From i (line ∷ lines) → node_at trees p ≡ Some (leaf g)
       → naming.named line.name line.arguments ≡ Some g → perform_at problem (states i) (node_at trees p) ≡ Some (states (suc i))
   acts i p g line lines from is named =
@@ -111,9 +120,11 @@ module _ (naming : Naming) (problem : Problem) (file : PlanFile) (states : ℕ �
     pub is : line.id ≡ id_at p
     pub named : naming.named line.name line.arguments ≡ Some g
 
+  -- a line along an equation of slots
   moved_line : (i j : ℕ) (p : Place) (g : GroundTask) → i ≡ j → LineOf i p g → LineOf j p g
   moved_line i j p g e = subst (λ k. LineOf k p g) e
 
+  -- a leaf's line is the one at its slot
   pub line_of_leaf : (qs : List Place) (lines : List ActionLine) → AreActionLines naming trees id_at qs lines → (i : ℕ) → From i lines
       → (p : Place) (g : GroundTask) → IsIn p qs → node_at trees p ≡ Some (leaf g) → LineOf (slot_in trees i qs p) p g
   line_of_leaf qs lines end i from p g h e = absurd h
@@ -160,9 +171,11 @@ module _ (naming : Naming) (problem : Problem) (file : PlanFile) (states : ℕ �
               let none : None ≡ Some last = ap (λ b. option_and_then (λ next. run problem trees next qs) (cond b (Some (states i)) None)) (sym f) ∙ g in absurd cc
       by (Some (compound t number nodes)) e h = absurd h
 
+  -- literals along an equation of gaps
   moved_state : (i j : ℕ) (literals : List Literal) → i ≡ j → holds (states i) literals ≡ true → holds (states j) literals ≡ true
   moved_state i j literals e = subst (λ k. holds (states k) literals ≡ true) e
 
+  -- the literals of a step hold in its gap
   pub steps_hold : (qs : List Place) (lines : List ActionLine) → AreActionLines naming trees id_at qs lines → (i : ℕ) → From i lines → (last : State)
       → run problem trees (states i) qs ≡ Some last
       → (p : Place) (literals : List Literal) → IsIn p qs → node_at trees p ≡ Some (step literals) → holds (states (slot_in trees i qs p)) literals ≡ true

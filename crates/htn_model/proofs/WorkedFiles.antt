@@ -164,6 +164,7 @@ shown_by method = (
 
 -- ## Valid: the first instance's tool is never at hand, the second one's is
 
+-- the fact is made
 made : Ends names problem (file_of 1 2 work) true
 made = ends_in (file_of 1 2 work) _ true refl refl
 
@@ -180,18 +181,21 @@ finishes (suc zero) = 1
 finishes (suc (suc zero)) = 3
 finishes (suc (suc (suc a))) = 0
 
+-- each child starts before it finishes
 forward : (a : ℕ) → starts a ≤ finishes a
 forward zero = omega arith
 forward (suc zero) = omega arith
 forward (suc (suc zero)) = omega arith
 forward (suc (suc (suc a))) = omega arith
 
+-- and finishes within the plan
 within : (a : ℕ) → finishes a ≤ 3
 within zero = omega arith
 within (suc zero) = omega arith
 within (suc (suc zero)) = omega arith
 within (suc (suc (suc a))) = omega arith
 
+-- in their order
 ordered : (a b : ℕ) → is_before three_in_order a b ≡ true → finishes a ≤ starts b
 ordered zero b h = omega arith
 ordered (suc zero) zero h = absurd cc
@@ -204,6 +208,7 @@ ordered (suc (suc zero)) (suc (suc zero)) h = absurd cc
 ordered (suc (suc zero)) (suc (suc (suc b))) h = absurd cc
 ordered (suc (suc (suc a))) b h = absurd cc
 
+-- the roots have no order
 none_before : (a b : ℕ) → is_before two_unordered a b ≡ true → ⊥
 none_before zero zero h = cc
 none_before zero (suc zero) h = cc
@@ -250,6 +255,7 @@ work_fits states first = (
   ),
 )
 
+-- the roots have no step
 no_steps : (states : States) (start finish : ℕ → ℕ) → StepsFit states (task (named 0) ∷ action (named 3) ∷ []) start finish
 no_steps states start finish zero literals h = absurd cc
 no_steps states start finish (suc zero) literals h = absurd cc
@@ -272,6 +278,7 @@ errand_fits states first = (
   ),
 )
 
+-- so the file is valid
 worked : IsVerdict names problem (file_of 1 2 work) valid
 worked =
     let run = lines_run names problem (file_of 1 2 work) made in
@@ -280,6 +287,7 @@ worked =
 
 -- ## No arrangement: to use the fact before it is made
 
+-- the lines run as before
 reversed_made : Ends names problem (file_of 1 2 reverse_work) true
 reversed_made = ends_in (file_of 1 2 reverse_work) _ true refl refl
 
@@ -289,6 +297,7 @@ use_first zero h = refl
 use_first (suc zero) h = let e : named 1 ≡ named 2 = cc in let n = ap (λ g. g.name) e in omega arith
 use_first (suc (suc a)) h = absurd cc
 
+-- and what makes it at the second
 make_second : (a : ℕ) → slice_get backwards.children a ≡ Some (action (named 1)) → a ≡ 1
 make_second zero h = let e : named 2 ≡ named 1 = cc in let n = ap (λ g. g.name) e in omega arith
 make_second (suc zero) h = refl
@@ -306,6 +315,7 @@ backwards_never states g h (a ∷ b ∷ more, matching, start, finish, spans, st
     let made : start 1 ≤ 0 = subst (λ x. start x ≤ 0) second fit.1.0.0 in
     omega arith
 
+-- so the errand has no room
 reversed_never : (states : States) (g h : ℕ) → Fits names problem states (decomposition (named 0) reverse_work below) g h → ⊥
 reversed_never states g h (zero, network, is, named_so, room) = absurd cc
 reversed_never states g h (suc zero, network, is, named_so, room) = absurd cc
@@ -315,11 +325,13 @@ reversed_never states g h (suc (suc (suc zero)), network, is, named_so, room) =
     backwards_never states g h (subst (λ n. HasRoom states n below (λ positions start finish. AllFit names problem states positions below start finish) g h) (sym same) room)
 reversed_never states g h (suc (suc (suc (suc number))), network, is, named_so, room) = absurd cc
 
+-- nor have the roots
 no_room : (states : States) → ForestFits names problem states (plans_by reverse_work) 3 → ⊥
 no_room states (number, network, is, ([], matching, start, finish, spans, steps, fit)) = fit
 no_room states (number, network, is, (a ∷ [], matching, start, finish, spans, steps, fit)) = fit.1
 no_room states (number, network, is, (a ∷ b ∷ more, matching, start, finish, spans, steps, fit)) = reversed_never states (start b) (finish b) fit.1.0
 
+-- so there is no arrangement
 reversed : IsVerdict names problem (file_of 1 2 reverse_work) no_arrangement
 reversed =
     let run = lines_run names problem (file_of 1 2 reverse_work) reversed_made in
@@ -328,6 +340,7 @@ reversed =
 
 -- ## The goal fails: nobody makes the fact
 
+-- its lines are a forest
 rested_forest : IsForest rested
 rested_forest = record {
   defined_once = ((λ h. elim h [ inl e ↦ omega arith | inr n ↦ n ]), ((λ h. h), tt));
@@ -340,6 +353,7 @@ rested_forest = record {
     by id (inr (inl e)) = from_root id (inl e)
     by id (inr (inr n)) = absurd n
 
+-- with instances
 rested_have : AllHave names problem rested
 rested_have = (
   (named 3, _, refl, refl),
@@ -363,6 +377,7 @@ rested_have = (
 
 -- ## Not executable: line 0 uses what line 2 makes
 
+-- its lines have instances
 late_have : AllHave names problem (file_of 2 1 work)
 late_have = (
   (named 2, _, refl, refl),
@@ -390,6 +405,7 @@ late_have = (
   ),
 )
 
+-- but line 0 comes too early
 late : IsVerdict names problem (file_of 2 1 work) (not_executable 0)
 late = (
   forest_of 2 1 work,
@@ -408,6 +424,7 @@ late = (
 
 -- ## No instance: rest has no subtasks, and an action alone isn't the initial network
 
+-- an id is no rearrangement of none
 none_arranged : (id : ℕ) (ids : List ℕ) (file : PlanFile) (arranged : List ℕ) → AreNamed names file arranged [] → IsRearrangementOf (id ∷ ids) arranged → ⊥
 none_arranged id ids file [] h (left, right, e, more) = not_nothing left id right e
 none_arranged id ids file (a ∷ arranged) h r = not_none a arranged h
@@ -415,6 +432,7 @@ none_arranged id ids file (a ∷ arranged) h r = not_none a arranged h
     not_none : (a : ℕ) (arranged : List ℕ) → AreNamed names file (a ∷ arranged) [] → ⊥
     not_none a arranged h = h
 
+-- rest has no instance with two subtasks
 rest_has_none : HasInstance names problem (file_of 1 2 rest) (decomposition_line (errand_line 3 rest (2 ∷ 0 ∷ []))) → ⊥
 rest_has_none (t, number, network, named_so, is, method, more) =
     let same : named 0 ≡ t = cc in by number (subst (λ u. slice_get (problem.methods_of u) number ≡ Some network) (sym same) is) method more
@@ -428,6 +446,7 @@ rest_has_none (t, number, network, named_so, is, method, more) =
     by (suc (suc zero)) is method more = absurd cc
     by (suc (suc (suc number))) is method more = absurd cc
 
+-- so line 3 is the first faulty one
 resting : IsVerdict names problem (file_of 1 2 rest) (no_instance (Some 3))
 resting = (
   forest_of 1 2 rest,
@@ -442,6 +461,7 @@ resting = (
   },
 )
 
+-- one root is a forest
 unlike_forest : IsForest unlike_initial
 unlike_forest = record { defined_once = ((λ h. h), tt); listed_once = ([], [], refl, refl); reached = by }
   where
@@ -449,6 +469,7 @@ unlike_forest = record { defined_once = ((λ h. h), tt); listed_once = ([], [], 
     by id (inl e) = from_root id (inl e)
     by id (inr n) = absurd n
 
+-- rearrangements have one length
 longer : {X : Type 0} (xs ys : List X) → IsRearrangementOf xs ys → length xs ≡ length ys
 longer [] ys e = ap length (sym e)
 longer (x ∷ xs) ys (left, right, e, more) =
@@ -458,11 +479,13 @@ longer (x ∷ xs) ys (left, right, e, more) =
     let b = length-append left right in
     omega arith
 
+-- as many ids as tasks
 as_many_named : (file : PlanFile) (ids : List ℕ) (tasks : List GroundTask) → AreNamed names file ids tasks → length ids ≡ length tasks
 as_many_named file [] tasks h = ap length (sym h)
 as_many_named file (id ∷ ids) [] h = absurd h
 as_many_named file (id ∷ ids) (t ∷ tasks) h = ap suc (as_many_named file ids tasks h.1)
 
+-- one task is not the two of the initial network
 unlike_none : HasInstance names problem unlike_initial (root_line (0 ∷ [])) → ⊥
 unlike_none (zero, network, is, (arranged, rearranged, tasks)) =
     let children : (task (named 0) ∷ action (named 3) ∷ []) ≡ network.children = cc in
@@ -471,6 +494,7 @@ unlike_none (zero, network, is, (arranged, rearranged, tasks)) =
     omega arith
 unlike_none (suc number, network, is, more) = absurd cc
 
+-- so the root line is the first faulty one
 unlike : IsVerdict names problem unlike_initial (no_instance None)
 unlike = (
   unlike_forest,
@@ -487,6 +511,7 @@ unlike = (
 
 -- ## No forest
 
+-- nothing that is reached is in the circle
 outside_circle : (id : ℕ) → IsReached beside_circle id → id ≡ 9 → ⊥
 outside_circle id (from_root _ (inl e)) nine = omega arith
 outside_circle id (from_root _ (inr (inl e))) nine = omega arith
@@ -503,15 +528,18 @@ outside_circle id (from_parent _ line stands above below) nine = by stands (outs
     by (inr (inl e)) not_nine below = not_nine (ap (λ l. l.id) e)
     by (inr (inr n)) not_nine below = n
 
+-- so the circle is no part of a forest
 circle_unreached : IsVerdict names problem beside_circle structure
 circle_unreached forest = outside_circle 9 (forest.reached 9 (inr (inr (inr (inr (inl refl)))))) refl
 
+-- five listed ids are not four
 twice_listed : IsVerdict names problem listed_twice structure
 twice_listed forest = unequal 4 5 refl refl (longer (0 ∷ 1 ∷ 2 ∷ 3 ∷ []) (1 ∷ 3 ∷ 1 ∷ 2 ∷ 0 ∷ []) forest.listed_once)
   where
     unequal : (a b : ℕ) → a ≡ 4 → b ≡ 5 → a ≡ b → ⊥
     unequal a b four five e = omega arith
 
+-- all verdicts
 pub files_have_verdicts : FilesHaveVerdicts
 files_have_verdicts = record {
   arranged = worked;

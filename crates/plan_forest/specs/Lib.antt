@@ -1,0 +1,4 @@
+pub mod Numbers
+pub mod Reached
+pub mod Forest
+pub mod Plans
