@@ -1,8 +1,9 @@
 //! Instances: which there are, with their numbers, children and orders.
 
-use crate::pairs::{DEAD, EQUALITIES, NEED, Pair, ROAD, TOUCH, TOUCH_NONE, task_of};
+use crate::pairs::{DEAD, EQUALITIES, NEED, Pair, ROAD, SPARE, TOUCH, TOUCH_NONE, task_of};
 use htn_ground::{
-    Child, GroundTask, Instance, ObjectList, action_of, initials, live_methods_of, methods_of,
+    Child, GroundTask, Instance, ObjectList, action_of, distinct_initials,
+    distinct_live_methods_of, initials, live_methods_of, methods_of,
 };
 use htn_order::Order;
 use htn_state::{Action, Literal, State};
@@ -231,5 +232,29 @@ fn actions_have_instances(rt: HostRuntime) -> Result<(), Fail> {
         let action = action_of_road(rt.alloc(), name, objects)?;
         assert_eq!(rt; action.as_str(), text);
     }
+    Ok(())
+}
+
+const SPARE_LINES: &str = "0: Some(0)[0, 1]
+1: Some(1)[0, 0] action 1[0]
+2: Some(1)[0, 1] action 1[1]
+";
+
+#[test]
+fn equal_networks_are_listed_once(rt: HostRuntime) -> Result<(), Fail> {
+    let task = task_of(rt.alloc(), SPARE)?;
+    let goal = GroundTask::new(0, ObjectList::of(rt.alloc(), &[])?);
+    let found = distinct_live_methods_of(rt.alloc(), &task, &goal)?;
+    assert_eq!(rt; lines(rt.alloc(), found.as_slice())?.as_str(), SPARE_LINES);
+    Ok(())
+}
+
+#[test]
+fn initial_networks_that_differ_are_listed(rt: HostRuntime) -> Result<(), Fail> {
+    let task = task_of(rt.alloc(), TOUCH)?;
+    let found = distinct_initials(rt.alloc(), &task)?;
+    let all = initials(rt.alloc(), &task)?;
+    let found = lines(rt.alloc(), found.as_slice())?;
+    assert_eq!(rt; found.as_str(), lines(rt.alloc(), all.as_slice())?.as_str());
     Ok(())
 }

@@ -150,6 +150,15 @@ pub const EQUALITIES: Pair = Pair {
     problem: "(define (problem x) (:domain d) (:htn :subtasks (t a b)))",
 };
 
+/// A task whose first method has two parameters that its network does not show, and whose second has one.
+pub const SPARE: Pair = Pair {
+    domain: "(define (domain d) (:types thing) (:task t)
+  (:method m-none :parameters (?x ?y - thing) :task (t) :precondition (not (= ?x ?y)))
+  (:method m-touch :parameters (?x ?y - thing) :task (t) :subtasks (touch ?y))
+  (:action touch :parameters (?x - thing)))",
+    problem: "(define (problem x) (:domain d) (:objects o1 o2 - thing) (:htn :subtasks (t)))",
+};
+
 const ONE_TASK: &str = "(define (problem x) (:domain d) (:htn :tasks (t)))";
 
 const TOUCHING: &str =
