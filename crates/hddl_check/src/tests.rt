@@ -385,6 +385,9 @@ fn deep_quantifiers(rt: HostRuntime) -> Result<(), Fail> {
     let none = nested(rt.alloc(), "?aa")?;
     assert_eq!(rt; fault(rt.alloc(), &outer, problem), None);
     assert_eq!(rt; fault(rt.alloc(), &inner, problem), None);
-    assert_eq!(rt; fault(rt.alloc(), &none, problem), Some(CheckFault::UnknownName(in_domain(406))));
+    assert_eq!(rt;
+        fault(rt.alloc(), &none, problem),
+        Some(CheckFault::UnknownName(in_domain(406)))
+    );
     Ok(())
 }

@@ -41,8 +41,8 @@ impl Declared {
         is_quantified: bool,
     ) -> Result<Declared, AllocError>
         ensures { IfOk result (λ v. v ≡ record {
-            typed = record { mention = variable_mention variable.now; of_type = option_map mention_of of_type.now };
-            is_quantified = is_quantified;
+          typed = record { mention = variable_mention variable.now; of_type = option_map mention_of of_type.now };
+          is_quantified = is_quantified;
         }) }
     {
         let mention = Mention::of_variable(alloc, variable)?;
