@@ -1,5 +1,5 @@
 -- What the body of a `forall` gives.
-use Rattle.std.proofs.Common.{◌≡◌, ◌∙◌, ◌++◌, ◌<◌, ◌≤◌, ◌∷◌, ◌||◌, Bool, Global, List, Vec, [], ap, arith, drop, false, get_or, length, refl, rules, suc, sym, true, zero, ℕ}
+use Rattle.std.proofs.Common.{◌≡◌, ◌∙◌, ◌++◌, ◌<◌, ◌≤◌, ◌∷◌, ◌||◌, Global, List, Vec, [], ap, arith, drop, false, get_or, length, refl, rules, suc, sym, true, zero, ℕ}
 use Rattle.std.specs.List.{flat_map, list_any}
 use Rattle.std.proofs.lemmas.List.{drop_all}
 use Rattle.htn_model.specs.Schema as model

@@ -1,6 +1,6 @@
 -- Completions whose networks others have.
-use Rattle.std.proofs.Common.{◌≡◌, ◌∙◌, ◌+◌, ◌++◌, ◌-◌, ◌<◌, ◌≤◌, ◌||◌, ◌∷◌, Bool, List, [], add-one, ap, append-nil, append_assoc, arith, cond, drop, drop-cons, false, get_or, leb, length, length-append, length-drop, map, refl, subst, suc, sym, take, true, zero, ℕ}
-use Rattle.std.specs.List.{All, Contains, filter, flat_map, list_any}
+use Rattle.std.proofs.Common.{◌≡◌, ◌∙◌, ◌+◌, ◌++◌, ◌-◌, ◌<◌, ◌≤◌, ◌||◌, ◌∷◌, Bool, List, [], ap, append_assoc, arith, cond, drop, false, get_or, leb, length, length-append, length-drop, map, refl, subst, suc, sym, take, true, zero, ℕ}
+use Rattle.std.specs.List.{All, Contains, filter, flat_map}
 use Rattle.std.proofs.Math.Seq.{take-add}
 use Rattle.std.proofs.lemmas.Bool.Decides.{nat_tests}
 use Rattle.std.proofs.lemmas.List.{get_or-drop, get_or-take, length-take, take_all}
@@ -14,7 +14,7 @@ use Rattle.htn_model.specs.State.{State}
 use Rattle.htn_ground.specs.declared.fixed.FixedLiteral.{FixedLiteral}
 use Rattle.htn_ground.specs.declared.relation.Relation.{Relation}
 use Rattle.htn_ground.specs.Distinct.{gathered, same_network}
-use Rattle.htn_ground.specs.Search.{completions, is_ruled_out, is_ruled_out_so_far, relation_singles, relations_hold, some_starts_at}
+use Rattle.htn_ground.specs.Search.{completions, is_ruled_out_so_far, relation_singles, relations_hold, some_starts_at}
 use Rattle.htn_ground.specs.Shown.{AreHiddenFrom, Ignores}
 use Rattle.htn_ground.proofs.Alike.{all_alike, by_none}
 use Rattle.htn_ground.proofs.Counting.{dead_more}

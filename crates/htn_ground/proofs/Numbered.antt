@@ -16,7 +16,7 @@ use Rattle.htn_model.specs.Instances.{child_of, ground_atom, ground_task, has_st
 use Rattle.htn_model.specs.Exhaustion.{is_dead, is_dead_child, is_dead_literal}
 use Rattle.htn_model.specs.Grounding.{is_changed, problem_of}
 use Rattle.htn_ground.specs.declared.fixed.FixedLiteral.{FixedLiteral}
-use Rattle.htn_ground.specs.Counted.{fitted, fitting}
+use Rattle.htn_ground.specs.Counted.{fitted}
 use Rattle.htn_ground.specs.Fixed.{IsFixed, schema_of}
 use Rattle.htn_ground.specs.Methods.{instances_for, live_instances, numbered_instances}
 use Rattle.htn_ground.specs.Search.{AreLiteralsOf, fixed_holds, is_bound, is_ruled_out, live_from}

@@ -1,9 +1,9 @@
 -- Where an item stands in lists that are made of lists.
-use Rattle.std.proofs.Common.{◌≡◌, ◌∙◌, ◌+◌, ◌++◌, ◌-◌, ◌<◌, ◌≤◌, ◌∷◌, ◌⊎◌, Bool, List, None, Option, Some, [], ap, append_assoc, arith, cond, drop, false, get_or, inl, inr, length, map, refl, slice_get, subst, suc, sym, take, true, zero, ℕ}
+use Rattle.std.proofs.Common.{◌≡◌, ◌∙◌, ◌+◌, ◌++◌, ◌<◌, ◌≤◌, ◌∷◌, ◌⊎◌, Bool, List, None, Option, Some, [], ap, append_assoc, arith, cond, drop, false, get_or, inl, inr, length, map, refl, slice_get, subst, suc, sym, take, true, zero, ℕ}
 use Rattle.std.specs.List.{Contains, enumerate_from, filter, flat_map}
 use Rattle.std.proofs.lemmas.List.Concat.{flat_map-append}
 use Rattle.htn_model.specs.Instance.{Instance}
-use Rattle.htn_model.specs.Instances.{assignments, instances_of_method, method_instance, methods_of}
+use Rattle.htn_model.specs.Instances.{instances_of_method, method_instance, methods_of}
 use Rattle.htn_model.specs.Problem.{GroundTask}
 use Rattle.htn_model.specs.Task.{MethodSchema, Task}
 use Rattle.htn_ground.specs.Counted.{IsNumberIn, fitting}

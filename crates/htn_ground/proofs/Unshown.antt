@@ -1,10 +1,10 @@
 -- A parameter that is not shown does not change the network.
 use Rattle.std.proofs.Common.{◌≡◌, ◌∙◌, ◌++◌, ◌<◌, ◌≤◌, ◌∷◌, ◌||◌, Bool, List, [], ap, append_assoc, cond, eqb, false, get_or, length, ltb, map, not, refl, suc, sym, true, true≢false, zero, ℕ}
-use Rattle.std.specs.List.{All, filter, flat_map, list_any}
+use Rattle.std.specs.List.{All, flat_map, list_any}
 use Rattle.std.proofs.lemmas.Bool.Decides.{nat_tests}
 use Rattle.std.proofs.Common.{arith}
 use Rattle.htn_model.specs.Literal.{Literal, atom, equality}
-use Rattle.htn_model.specs.Problem.{Child, precondition}
+use Rattle.htn_model.specs.Problem.{precondition}
 use Rattle.htn_model.specs.Schema.{AtomSchema, EqualitySchema, Formula, Formulas, NetworkSchema, TaskSchema, Term, equation, for_all, formula, literal, no_formulas, object, parameter}
 use Rattle.htn_model.specs.Task.{MethodSchema, Task}
 use Rattle.htn_model.specs.Instances.{assignments, child_of, domains_of, ground_atom, ground_equality, ground_task, has_step, initial_instance, literals_in, literals_in_all, literals_of, method_instance, network_of, order_with_step, state_formulas, value_of}

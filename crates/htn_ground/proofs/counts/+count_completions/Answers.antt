@@ -5,7 +5,7 @@ use Rattle.htn_ground.specs.Counted.{fitting}
 use Rattle.htn_ground.specs.Search.{bound_relations_hold, completions, relation_singles, some_starts_at}
 use Rattle.htn_ground.proofs.Alike.{counted_last, counted_once, run_none}
 use Rattle.htn_ground.proofs.Completions.{completions_none, completions_leaf, completions_step}
-use Rattle.htn_ground.proofs.Fitting.{fits, fitting_more}
+use Rattle.htn_ground.proofs.Fitting.{fits}
 use Rattle.htn_ground.proofs.counts.+count_completions.Goals as goal
 
 pub returns-then-not-bound_relations_hold_of-clause-count :

@@ -1,4 +1,4 @@
-use Rattle.std.proofs.Common.{◌≡◌, ◌∙◌, Bool, List, [], ap, length, map, subst, sym, ℕ}
+use Rattle.std.proofs.Common.{◌≡◌, ◌∙◌, Bool, List, [], ap, length, map, subst, sym}
 use Rattle.htn_model.specs.Instances.{Conditions, initial_conditions, initial_instance, instances}
 use Rattle.htn_model.specs.Task.{InitialSchema}
 use Rattle.htn_ground.specs.Distinct.{any_network, distinct, gathered}

@@ -1,4 +1,4 @@
-use Rattle.std.proofs.Common.{◌≡◌, ◌∙◌, Bool, IfNone, IfSome, List, None, Option, [], ap, length, subst, sym, ℕ}
+use Rattle.std.proofs.Common.{◌≡◌, ◌∙◌, Bool, IfNone, IfSome, List, Option, [], ap, length, subst, sym, ℕ}
 use Rattle.htn_model.specs.Instances.{Conditions, instances, method_instance}
 use Rattle.htn_ground.specs.Distinct.{gathered, is_live}
 use Rattle.htn_ground.specs.Methods.{instances_for}

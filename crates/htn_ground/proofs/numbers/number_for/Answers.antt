@@ -1,4 +1,4 @@
-use Rattle.std.proofs.Common.{◌≡◌, IfNone, IfSome, List, None, Option, [], arith, subst, sym, ℕ}
+use Rattle.std.proofs.Common.{◌≡◌, IfNone, IfSome, List, Option, [], arith, subst, sym, ℕ}
 use Rattle.std.specs.List.{Contains}
 use Rattle.htn_model.specs.Instances.{Conditions, instances}
 use Rattle.htn_ground.specs.Counted.{IsNumberIn}

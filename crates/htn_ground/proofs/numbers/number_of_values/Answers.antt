@@ -8,7 +8,7 @@ use Rattle.htn_model.specs.Task.{objects_of}
 use Rattle.htn_model.specs.Instances.{domains_of, instances}
 use Rattle.htn_ground.specs.declared.relation.Relation.{Relation}
 use Rattle.htn_ground.specs.Counted.{IsNumberIn}
-use Rattle.htn_ground.specs.Search.{AreRelationsOf, all_relations, all_relations_of, matches, narrowed, singles_of}
+use Rattle.htn_ground.specs.Search.{AreRelationsOf, all_relations, matches, narrowed, singles_of}
 use Rattle.htn_ground.proofs.Classified.{length-narrowed, relations_bound}
 use Rattle.htn_ground.proofs.Ranked.{instance_parts}
 use Rattle.htn_ground.proofs.numbers.number_of_values.Goals as goal
