@@ -4,6 +4,8 @@ pub mod Assigned
 pub mod Places
 pub mod Search
 pub mod Candidates
+pub mod Counted
 pub mod Fixed
 pub mod Methods
+pub mod Distinct
 pub mod Trees
