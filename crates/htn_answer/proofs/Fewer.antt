@@ -43,9 +43,9 @@ no_later_cons m n v w most later =
     elim (cases_lt m n) [
       | inl less ↦ inr (inl less)
       | inr least ↦ (let e : m ≡ n = omega arith in elim later [
-          | inl same ↦ inl (ap (λ k. k ∷ v) e ∙ ap (λ l. n ∷ l) same)
-          | inr before ↦ inr (inr (e, before))
-        ])
+        | inl same ↦ inl (ap (λ k. k ∷ v) e ∙ ap (λ l. n ∷ l) same)
+        | inr before ↦ inr (inr (e, before))
+      ])
     ]
 
 module _ {C : Type 0} (Step Other : C → ℕ → C → Type 0) (each : (c d : C) (n : ℕ) → Step c n d → Other c n d) where
@@ -95,7 +95,7 @@ module _ {C : Type 0} (m few : WordMachine C) (initial_of : ℕ → ℕ) (number
             inr (
               ap (number_of c) equal.0,
               subst (λ o. IsLexicographicallyBefore (along o v) (along (few.step c s) w)) (sym p.1)
-              (subst (λ o. IsLexicographicallyBefore (along (Some p.0) v) (along o w)) (sym (q.1 ∙ ap Some to)) rest)
+                  (subst (λ o. IsLexicographicallyBefore (along (Some p.0) v) (along o w)) (sym (q.1 ∙ ap Some to)) rest),
             ))
       ]
 
@@ -139,7 +139,7 @@ module _ {C : Type 0} (m few : WordMachine C) (initial_of : ℕ → ℕ) (number
             inr (
               ap initial_of equal.0,
               subst (λ o. IsLexicographicallyBefore (along o v) (along (slice_get few.initials s) w)) (sym p.1)
-              (subst (λ o. IsLexicographicallyBefore (along (Some p.0) v) (along o w)) (sym (q.1 ∙ ap Some to)) rest)
+                  (subst (λ o. IsLexicographicallyBefore (along (Some p.0) v) (along o w)) (sym (q.1 ∙ ap Some to)) rest),
             ))
       ]
 
@@ -197,7 +197,7 @@ module _ {C : Type 0} (m few : WordMachine C) (initial_of : ℕ → ℕ) (number
                 ]))
           ]
 
-      least_told : (w : List ℕ) → IsLeastFinishing few bound w → IsLeastFinishing m bound (told w)
+      pub least_told : (w : List ℕ) → IsLeastFinishing few bound w → IsLeastFinishing m bound (told w)
       least_told w least = record {
         finishes = told_finishes w least.finishes;
         within = subst (λ n. n ≤ bound) (steps_told (told w) w (told_finishes w least.finishes) least.finishes (sym (told_length w least.finishes.0 least.finishes.1))) least.within;
