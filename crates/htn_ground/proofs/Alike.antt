@@ -131,7 +131,7 @@ and_second : (a b : Bool) → (a && b) ≡ true → b ≡ true
 and_second true b e = e
 and_second false b e = cc
 
-all_alike : (relations : List Relation) (values rest : List ℕ) (o p : ℕ) → some_starts_at relations (length values) ≡ false
+pub all_alike : (relations : List Relation) (values rest : List ℕ) (o p : ℕ) → some_starts_at relations (length values) ≡ false
     → relation_singles relations values (length values) o ≡ true → relation_singles relations values (length values) p ≡ true
     → relations_hold relations (whole values o rest) ≡ relations_hold relations (whole values p rest)
 all_alike [] values rest o p starts so sp = refl
@@ -244,7 +244,7 @@ module _ (domains : List (List ℕ)) (relations : List Relation) (values : List 
       ∙ ap (λ (l : List (List ℕ)). length (filter (λ rest. relations_hold relations (whole values p rest)) l)) (same_rests o p)
       ∙ sym (length-filter-map (relations_hold relations) (λ rest. whole values p rest) (rests p))
 
-  by_none : (o : ℕ) → allows o ≡ false → by o ≡ []
+  pub by_none : (o : ℕ) → allows o ≡ false → by o ≡ []
   by_none o so = filter_none (relations_hold relations) (values ++ o ∷ []) (λ rest. all_fail relations values rest o starts so) (rests o)
 
   pub run_alike : (p : ℕ) → allows p ≡ true → (run : List ℕ) → length (flat_map by run) ≡ length (filter allows run) * length (by p)

@@ -1,12 +1,14 @@
 -- What the body of a `forall` gives.
-use Rattle.std.proofs.Common.{◌≡◌, ◌++◌, ◌∷◌, Global, List, Vec, [], ap, refl, rules, ℕ}
-use Rattle.std.specs.List.{flat_map}
+use Rattle.std.proofs.Common.{◌≡◌, ◌∙◌, ◌++◌, ◌<◌, ◌≤◌, ◌∷◌, ◌||◌, Bool, Global, List, Vec, [], ap, arith, drop, false, get_or, length, refl, rules, suc, sym, true, zero, ℕ}
+use Rattle.std.specs.List.{flat_map, list_any}
+use Rattle.std.proofs.lemmas.List.{drop_all}
 use Rattle.htn_model.specs.Schema as model
 use Rattle.htn_model.specs.Schema.{Term}
 use Rattle.htn_model.specs.Task.{Task}
 use Rattle.htn_model.specs.Instances.{formula_places, formulas_places, literals_in, literals_in_all}
 use Rattle.htn_task.specs.declared.formula.Formula.{Formula, ForAll, the_lemmas}
 use Rattle.htn_task.specs.Formulas.{formula_of, formulas_view}
+use Rattle.htn_ground.specs.Shown.{stands_in, stands_in_any}
 
 pub view-ForAll : (types : Vec ℕ Global) (body : Vec Formula Global) → formula_of (ForAll types body) ≡ model.for_all types.items (model.formulas_of (formulas_view body.items))
 view-ForAll types body = search (rules, the_lemmas)
@@ -24,3 +26,19 @@ pub literals-bodies : (t : Task) (values : List ℕ) (fs : List model.Formula) (
     → flat_map (λ more. literals_in_all t (values ++ more) (model.formulas_of fs)) choices ≡ flat_map (λ more. flat_map (literals_in t (values ++ more)) fs) choices
 literals-bodies t values fs [] = refl
 literals-bodies t values fs (choice ∷ choices) = λ i. literals-body t (values ++ choice) fs i ++ literals-bodies t values fs choices i
+
+-- ## Parameters in a formula
+
+pub stands-body : (place : ℕ) (fs : List model.Formula) → stands_in_any place (model.formulas_of fs) ≡ list_any (stands_in place) fs
+stands-body place [] = refl
+stands-body place (f ∷ fs) = ap (λ b. stands_in place f || b) (stands-body place fs)
+
+-- a parameter that stands in a formula stands in the list from there on
+pub stands_here : (place : ℕ) (items : List Formula) (i : ℕ) (f : Formula) → i < length items → f ≡ get_or items i f → true ≡ stands_in place (formula_of f)
+    → true ≡ list_any (stands_in place) (formulas_view (drop i items))
+stands_here place [] i f below is stands = absurd (omega arith)
+stands_here place (y ∷ items) zero f below is stands = ap (λ b. b || list_any (stands_in place) (formulas_view items)) (stands ∙ ap (λ g. stands_in place (formula_of g)) is)
+stands_here place (y ∷ items) (suc i) f below is stands = stands_here place items i f (omega arith) is stands
+
+pub stands_nowhere : (place : ℕ) (items : List Formula) (i : ℕ) → length items ≤ i → false ≡ list_any (stands_in place) (formulas_view (drop i items))
+stands_nowhere place items i past = ap (λ l. list_any (stands_in place) (formulas_view l)) (sym (drop_all i items past))

@@ -57,7 +57,7 @@ ltb_true : (m n : ℕ) → n ≤ m → ltb m n ≡ false
 ltb_true m n h = grind (arith, nat_tests)
 
 -- where all parameters have values, the relations that are read are all
-all_bound : (relations : List Relation) (values : List ℕ) → All (λ r. relation_depth r ≤ length values) relations → bound_relations_hold relations values ≡ relations_hold relations values
+pub all_bound : (relations : List Relation) (values : List ℕ) → All (λ r. relation_depth r ≤ length values) relations → bound_relations_hold relations values ≡ relations_hold relations values
 all_bound [] values of = refl
 all_bound (r ∷ relations) values of =
     (λ i. (ltb_true (length values) (relation_depth r) (of 0 r (omega arith)) i || relation_holds r values) && all_bound relations values (All-tail (λ r. relation_depth r ≤ length values) r relations of) i)

@@ -71,7 +71,7 @@ module _ (state : State) where
       ap (λ (arguments : List ℕ). literal_holds state (atom l.is_positive (record { predicate = l.predicate; arguments = arguments }))) (same_arguments values rest (terms_of l.arguments.items) bound)
 
   -- a literal that is false already rules out all completions
-  dead_more : (literals : List FixedLiteral) (values rest : List ℕ) → is_ruled_out_so_far state literals values ≡ true → is_ruled_out state literals (values ++ rest) ≡ true
+  pub dead_more : (literals : List FixedLiteral) (values rest : List ℕ) → is_ruled_out_so_far state literals values ≡ true → is_ruled_out state literals (values ++ rest) ≡ true
   dead_more [] values rest dead = dead
   dead_more (l ∷ literals) values rest dead =
       elim (is_bound (length values) l && not (fixed_holds state values l)) as (λ b. (is_bound (length values) l && not (fixed_holds state values l)) ≡ b → (b || is_ruled_out_so_far state literals values) ≡ true → (not (fixed_holds state (values ++ rest) l) || is_ruled_out state literals (values ++ rest)) ≡ true) [

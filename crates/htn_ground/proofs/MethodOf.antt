@@ -18,7 +18,7 @@ flat_map_join : {X Y : Type 0} (f : X → List Y) (xs ys : List X) → flat_map 
 flat_map_join f [] ys = refl
 flat_map_join f (x ∷ xs) ys = ap (λ zs. f x ++ zs) (flat_map_join f xs ys) ∙ sym (append_assoc (f x) (flat_map f xs) (flat_map f ys))
 
-take_drop : {X : Type 0} (n : ℕ) (xs : List X) → take n xs ++ drop n xs ≡ xs
+pub take_drop : {X : Type 0} (n : ℕ) (xs : List X) → take n xs ++ drop n xs ≡ xs
 take_drop zero xs = refl
 take_drop (suc n) [] = refl
 take_drop (suc n) (x ∷ xs) = ap (λ zs. x ∷ zs) (take_drop n xs)

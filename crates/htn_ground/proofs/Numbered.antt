@@ -1,7 +1,7 @@
 -- Instances with their numbers, method by method.
-use Rattle.std.proofs.Common.{◌≡◌, ◌+◌, ◌<◌, ◌∙◌, ◌++◌, ◌∷◌, ◌&&◌, ◌||◌, Bool, List, [], ap, append-nil, arith, cond, false, get_or, length, length-append, length-take-le, map, not, refl, subst, suc, sym, take, true, zero, ℕ}
+use Rattle.std.proofs.Common.{◌≡◌, ◌+◌, ◌<◌, ◌∙◌, ◌++◌, ◌∷◌, ◌&&◌, ◌||◌, Bool, List, [], ap, append-nil, arith, cond, false, get_or, length, length-append, length-take-le, map, not, refl, Option, Some, append_assoc, subst, suc, sym, take, true, zero, ℕ}
 use Rattle.std.specs.List.{All, enumerate_from, flat_map, list_all, list_any}
-use Rattle.std.proofs.lemmas.List.{length-map, take_more}
+use Rattle.std.proofs.lemmas.List.{get_or-map, length-map, map-append, take_more}
 use Rattle.std.proofs.lemmas.List.Concat.{flat_map-append}
 use Rattle.std.proofs.lemmas.List.Elements.{All-cons, All-contains, All-get_or, All-head, All-nil, All-tail, filter-append}
 use Rattle.std.proofs.lemmas.List.Folds.{list_any-append}
@@ -16,9 +16,11 @@ use Rattle.htn_model.specs.Instances.{child_of, ground_atom, ground_task, has_st
 use Rattle.htn_model.specs.Exhaustion.{is_dead, is_dead_child, is_dead_literal}
 use Rattle.htn_model.specs.Grounding.{is_changed, problem_of}
 use Rattle.htn_ground.specs.declared.fixed.FixedLiteral.{FixedLiteral}
+use Rattle.htn_ground.specs.Counted.{fitted, fitting}
 use Rattle.htn_ground.specs.Fixed.{IsFixed, schema_of}
 use Rattle.htn_ground.specs.Methods.{instances_for, live_instances, numbered_instances}
 use Rattle.htn_ground.specs.Search.{AreLiteralsOf, fixed_holds, is_bound, is_ruled_out, live_from}
+use Rattle.htn_ground.proofs.Fitting.{fitting_some}
 use Rattle.htn_ground.proofs.Pinned.{among_term}
 
 -- ## Numbers
@@ -30,7 +32,7 @@ enumerate-append n (x ∷ xs) ys =
     ap (λ l. (n, x) ∷ l) (enumerate-append (n + 1) xs ys ∙ ap (λ m. enumerate_from (n + 1) xs ++ enumerate_from m ys) e)
 
 -- all values, where no literal is asked
-pub all_live : {Y : Type 0} (state : State) (f : List ℕ → Y) (n : ℕ) (vs : List (List ℕ)) → map (λ (p : ℕ × List ℕ). f p.1) (live_from state [] n vs) ≡ map f vs
+pub all_live : {Y : Type 0} (state : State) (f : List ℕ → Y) (n : ℕ) (vs : List (List ℕ)) → map (λ (p : Option ℕ × List ℕ). f p.1) (map fitted (live_from state [] n vs)) ≡ map f vs
 all_live state f n [] = refl
 all_live state f n (v ∷ vs) = ap (λ l. f v ∷ l) (all_live state f (n + 1) vs)
 
@@ -76,6 +78,53 @@ live_more t all more n long =
     ap (live_instances t) (enumerate-append 0 all more)
     ∙ live-append t (enumerate_from 0 all) (enumerate_from (0 + length all) more)
     ∙ ap (λ k. live_instances t (enumerate_from 0 all) ++ live_instances t (enumerate_from k more)) (let e : 0 + length all ≡ n = omega arith in e)
+
+-- ## A loop over numbered values
+
+-- the next of them
+next_fitted : (items : List (Option ℕ × List ℕ)) (xs : List (ℕ × List ℕ)) (i : ℕ) (p : Option ℕ × List ℕ) (d : ℕ × List ℕ) → i < length items → p ≡ get_or items i p → items ≡ map fitted xs
+    → (i < length xs) × (p ≡ fitted (get_or xs i d))
+next_fitted items xs i p d below is are =
+    let short : i < length xs = omega (arith, below, ap length are, length-map xs fitted) in
+    (short, is ∙ ap (λ l. get_or l i p) are ∙ get_or-map fitted xs i d p short)
+
+module _ (t : Task) (number : ℕ) (m : MethodSchema) where
+  abbrev here : ℕ × List ℕ → ℕ × Instance
+  here p = (p.0, method_instance t number m p.1)
+
+  -- the live ones of one more
+  live_next : (xs : List (ℕ × List ℕ)) (i : ℕ) (d : ℕ × List ℕ) → i < length xs
+      → live_instances t (numbered_instances t number m (take (i + 1) xs)) ≡ live_instances t (numbered_instances t number m (take i xs)) ++ live_instances t (here (get_or xs i d) ∷ [])
+  live_next xs i d short =
+      ap (λ l. live_instances t (numbered_instances t number m l)) (take_more xs i d short)
+      ∙ ap (live_instances t) (map-append here (take i xs) (get_or xs i d ∷ []))
+      ∙ live-append t (numbered_instances t number m (take i xs)) (here (get_or xs i d) ∷ [])
+
+  -- a dead one is passed over
+  pub dead_passed : (items : List (Option ℕ × List ℕ)) (xs : List (ℕ × List ℕ)) (i : ℕ) (p : Option ℕ × List ℕ) (start done : List (ℕ × Instance))
+      → i < length items → p ≡ get_or items i p → items ≡ map fitted xs → is_dead (problem_of t) (method_instance t number m p.1).network ≡ true
+      → done ≡ start ++ live_instances t (numbered_instances t number m (take i xs)) → done ≡ start ++ live_instances t (numbered_instances t number m (take (i + 1) xs))
+  dead_passed items xs i p start done below is are dead so_far =
+      let d : ℕ × List ℕ = (0, []) in
+      let next = next_fitted items xs i p d below is are in
+      let one : live_instances t (here (get_or xs i d) ∷ []) ≡ [] =
+      ap (λ b. cond (not b) (here (get_or xs i d) ∷ []) []) (ap (λ (q : Option ℕ × List ℕ). is_dead (problem_of t) (method_instance t number m q.1).network) (sym next.1) ∙ dead) in
+      so_far ∙ ap (λ l. start ++ l) (sym (append-nil _) ∙ ap (λ l. live_instances t (numbered_instances t number m (take i xs)) ++ l) (sym one) ∙ sym (live_next xs i d next.0))
+
+  -- one that is not is kept, with its number
+  pub live_kept : (items : List (Option ℕ × List ℕ)) (xs : List (ℕ × List ℕ)) (i : ℕ) (p : Option ℕ × List ℕ) (rank : ℕ) (start done new : List (ℕ × Instance))
+      → i < length items → p ≡ get_or items i p → items ≡ map fitted xs → is_dead (problem_of t) (method_instance t number m p.1).network ≡ false → Some rank ≡ p.0
+      → done ≡ start ++ live_instances t (numbered_instances t number m (take i xs)) → new ≡ done ++ (rank, method_instance t number m p.1) ∷ []
+      → new ≡ start ++ live_instances t (numbered_instances t number m (take (i + 1) xs))
+  live_kept items xs i p rank start done new below is are live fits so_far pushed =
+      let d : ℕ × List ℕ = (0, []) in
+      let next = next_fitted items xs i p d below is are in
+      let ranked : rank ≡ (get_or xs i d).0 = fitting_some rank (get_or xs i d).0 (fits ∙ ap (λ (q : Option ℕ × List ℕ). q.0) next.1) in
+      let same : (rank, method_instance t number m p.1) ≡ here (get_or xs i d) = (λ k. (ranked k, method_instance t number m (next.1 k).1)) in
+      let one : live_instances t (here (get_or xs i d) ∷ []) ≡ here (get_or xs i d) ∷ [] =
+      ap (λ b. cond (not b) (here (get_or xs i d) ∷ []) []) (ap (λ (q : Option ℕ × List ℕ). is_dead (problem_of t) (method_instance t number m q.1).network) (sym next.1) ∙ live) in
+      pushed ∙ (λ k. so_far k ++ same k ∷ []) ∙ append_assoc start _ _
+      ∙ ap (λ l. start ++ l) (ap (λ l. live_instances t (numbered_instances t number m (take i xs)) ++ l) (sym one) ∙ sym (live_next xs i d next.0))
 
 -- ## What a fixed literal rules out is dead
 

@@ -8,4 +8,5 @@ pub mod Counted
 pub mod Fixed
 pub mod Methods
 pub mod Distinct
+pub mod Shown
 pub mod Trees

@@ -3,6 +3,7 @@ ghost use Rattle.std.specs.Prelude.{◌≡◌, ◌≤◌, ◌<◌, ◌+◌, ◌*
 ghost use Rattle.std.specs.List.{All, filter, flat_map, list_any};
 ghost use Rattle.std.specs.List.Sorted.{IsStrictlySortedBy};
 ghost use Rattle.std.specs.Ordering.{nat_cmp};
+ghost use Rattle.htn_ground.specs.Counted.{fitting};
 ghost use Rattle.htn_ground.specs.Search.{AreRelationsOf, bound_relations_hold, completions, is_equality, product, relation_single, relation_singles, some_starts_at};
 
 use crate::object_list::ObjectList;
@@ -27,35 +28,38 @@ pub(crate) fn count_assignments(domains: &[ObjectList]) -> Option<u64>
     Some(count)
 }
 
-/// The sum of two numbers. No list has room for so many items that it does not fit.
-pub(crate) fn sum(a: u64, b: u64) -> Result<u64, AllocError>
-    ensures { IfOk result (λ n. n ≡ a + b) }
+/// The sum of two numbers, of which either may not fit.
+pub(crate) fn sum(a: Option<u64>, b: Option<u64>) -> Option<u64>
+    ensures { (m n : ℕ) → a ≡ fitting m → b ≡ fitting n → result ≡ fitting (m + n) }
 {
-    match a.checked_add(b) {
-        Some(n) => Ok(n),
-        None => Err(AllocError),
+    match (a, b) {
+        (Some(a), Some(b)) => a.checked_add(b),
+        _ => None,
     }
 }
 
-/// The product of two numbers. No list has room for so many items that it does not fit.
-fn product_of(a: u64, b: u64) -> Result<u64, AllocError>
-    ensures { IfOk result (λ n. n ≡ a * b) }
+/// The product of two numbers, of which the second may not fit.
+fn product_of(a: u64, b: Option<u64>) -> Option<u64>
+    ensures { (n : ℕ) → b ≡ fitting n → result ≡ fitting (a * n) }
 {
-    match a.checked_mul(b) {
-        Some(n) => Ok(n),
-        None => Err(AllocError),
+    if a == 0 {
+        return Some(0);
+    }
+    match b {
+        Some(b) => a.checked_mul(b),
+        None => None,
     }
 }
 
 /// Whether some relation has its first parameter at this place.
-fn some_starts_at(relations: &[Relation], place: usize) -> bool
+pub(crate) fn some_starts_at(relations: &[Relation], place: usize) -> bool
     ensures { result ≡ some_starts_at relations.now place }
 {
     relations.iter().any(|relation| relation.start() == place)
 }
 
 /// Whether all relations allow an object at a place, where their other parameters have values.
-fn all_allow(relations: &[Relation], values: &[u16], place: usize, object: u16) -> bool
+pub(crate) fn all_allow(relations: &[Relation], values: &[u16], place: usize, object: u16) -> bool
     ensures { result ≡ relation_singles relations.now values.now place object }
 {
     for relation in relations {
@@ -140,83 +144,83 @@ fn first_allowed(
     None
 }
 
-/// The number of the completions of `values`. Objects of a parameter are gone through only where a
-/// relation to a later parameter starts; at any other, those that are allowed count alike.
+/// The number of the completions of `values`, if it fits. Objects of a parameter are gone through only
+/// where a relation to a later parameter starts; at any other, those that are allowed count alike.
 pub(crate) fn count_completions(
     domains: &[ObjectList],
     relations: &[Relation],
     values: &mut ObjectList,
-) -> Result<u64, AllocError>
+) -> Result<Option<u64>, AllocError>
     requires small { length values.old ≤ length domains.now }
     requires relations { AreRelationsOf relations.now (length domains.now) }
     requires ascending { All (IsStrictlySortedBy nat_cmp) domains.now }
-    ensures count { IfOk result (λ n. n ≡ length (completions domains.now relations.now values.old)) }
+    ensures count { IfOk result (λ n. n ≡ fitting (length (completions domains.now relations.now values.old))) }
     ensures values { OnOk result (values.new ≡ values.old) }
 {
     if !bound_relations_hold_of(relations, values.as_slice()) {
-        return Ok(0);
+        return Ok(Some(0));
     }
     let depth = values.len();
     if depth == domains.len() {
-        return Ok(1);
+        return Ok(Some(1));
     }
     let objects = domains[depth].as_slice();
     if !some_starts_at(relations, depth) {
         let Some(object) = first_allowed(relations, values.as_slice(), depth, objects) else {
-            return Ok(0);
+            return Ok(Some(0));
         };
         let allowed = count_allowed(relations, values.as_slice(), depth, objects);
         if depth + 1 == domains.len() {
-            return Ok(allowed);
+            return Ok(Some(allowed));
         }
         values.push(object)?;
         let each = count_completions(domains, relations, values)?;
         values.pop();
-        let count = product_of(allowed, each)?;
+        let count = product_of(allowed, each);
         return Ok(count);
     }
-    let mut count: u64 = 0;
+    let mut count = Some(0);
     for object in objects {
         values.push(*object)?;
         let more = count_completions(domains, relations, values)?;
         values.pop();
-        count = sum(count, more)?;
+        count = sum(count, more);
     }
     Ok(count)
 }
 
-/// The number of the completions of `values` by one of some objects at the next parameter.
+/// The number of the completions of `values` by one of some objects at the next parameter, if it fits.
 pub(crate) fn count_run(
     domains: &[ObjectList],
     relations: &[Relation],
     values: &mut ObjectList,
     run: &[u16],
-) -> Result<u64, AllocError>
+) -> Result<Option<u64>, AllocError>
     requires small { length values.old < length domains.now }
     requires relations { AreRelationsOf relations.now (length domains.now) }
     requires ascending { All (IsStrictlySortedBy nat_cmp) domains.now }
     requires run { IsStrictlySortedBy nat_cmp run.now }
-    ensures count { IfOk result (λ n. n ≡ length (flat_map (λ object. completions domains.now relations.now (values.old ++ object ∷ [])) run.now)) }
+    ensures count { IfOk result (λ n. n ≡ fitting (length (flat_map (λ object. completions domains.now relations.now (values.old ++ object ∷ [])) run.now))) }
     ensures values { OnOk result (values.new ≡ values.old) }
 {
     let depth = values.len();
     if !some_starts_at(relations, depth) {
         let Some(object) = first_allowed(relations, values.as_slice(), depth, run) else {
-            return Ok(0);
+            return Ok(Some(0));
         };
         let allowed = count_allowed(relations, values.as_slice(), depth, run);
         values.push(object)?;
         let each = count_completions(domains, relations, values)?;
         values.pop();
-        let count = product_of(allowed, each)?;
+        let count = product_of(allowed, each);
         return Ok(count);
     }
-    let mut count: u64 = 0;
+    let mut count = Some(0);
     for object in run {
         values.push(*object)?;
         let more = count_completions(domains, relations, values)?;
         values.pop();
-        count = sum(count, more)?;
+        count = sum(count, more);
     }
     Ok(count)
 }

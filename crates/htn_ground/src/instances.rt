@@ -1,18 +1,24 @@
 //! The values of a schema's instances.
-ghost use Rattle.std.specs.Prelude.{◌≡◌, ◌+◌, IfOk, length};
+ghost use Rattle.std.specs.Prelude.{◌≡◌, ◌+◌, Bool, IfOk, List, length, map, ℕ};
 ghost use Rattle.std.specs.List.{All, filter, list_all};
 ghost use Rattle.std.specs.List.Sorted.{IsStrictlySortedBy};
 ghost use Rattle.std.specs.Ordering.{nat_cmp};
 ghost use Rattle.std.specs.Option.{option_to_list};
+ghost use Rattle.htn_model.specs.Instance.{Instance};
 ghost use Rattle.htn_model.specs.Instances as model;
+ghost use Rattle.htn_model.specs.Problem.{Network};
 ghost use Rattle.htn_model.specs.Task.{has_type};
 ghost use Rattle.htn_task.specs.Views.{term_of};
+ghost use Rattle.htn_ground.specs.Counted.{fitted, fitting};
+ghost use Rattle.htn_ground.specs.Distinct.{gathered};
 ghost use Rattle.htn_ground.specs.Places.{place_of, places_of};
 ghost use Rattle.htn_ground.specs.Search as search;
 ghost use Rattle.htn_ground.specs.Search.{AreBound, AreLiteralsOf, live_from};
+ghost use Rattle.htn_ground.specs.Shown.{Ignores};
 
 use crate::conditions::{Conditions, Place};
 use crate::counts::count_completions;
+use crate::distinct::distinct_assignments;
 use crate::fixed::FixedLiteral;
 use crate::literals::value_of;
 use crate::object_list::ObjectList;
@@ -174,7 +180,7 @@ fn narrow(
 }
 
 /// For each parameter the objects of its type that the conditions on one parameter allow.
-fn narrow_all(
+pub(crate) fn narrow_all(
     alloc: Global,
     task: &Task,
     conditions: &Conditions,
@@ -190,7 +196,7 @@ fn narrow_all(
 }
 
 /// The equalities between two parameters.
-fn relations_between(
+pub(crate) fn relations_between(
     alloc: Global,
     equalities: &[EqualitySchema],
 ) -> Result<Vec<Relation>, AllocError>
@@ -210,18 +216,18 @@ fn relations_between(
 }
 
 /// The values of a schema's instances that no literal rules out, in lexicographic order, each with
-/// its number among all the instances, from `first` on; and the number after the last.
+/// its number among all the instances, from `first` on, if that fits; and the number after the last.
 pub(crate) fn live_values(
     alloc: Global,
     task: &Task,
     conditions: &Conditions,
     literals: &[FixedLiteral],
-    first: u64,
-) -> Result<(Vec<(u64, ObjectList)>, u64), AllocError>
+    first: Option<u64>,
+) -> Result<(Vec<(Option<u64>, ObjectList)>, Option<u64>), AllocError>
     requires bound { AreBound conditions.now }
     requires literals { AreLiteralsOf literals.now (length conditions.now.parameters) }
-    ensures found { IfOk result (λ r. r.0.items ≡ live_from task.now.initial_atoms literals.now first (model.instances task.now conditions.now)) }
-    ensures next { IfOk result (λ r. r.1 ≡ first + length (model.instances task.now conditions.now)) }
+    ensures found { IfOk result (λ r. (n : ℕ) → first ≡ fitting n → r.0.items ≡ map fitted (live_from task.now.initial_atoms literals.now n (model.instances task.now conditions.now))) }
+    ensures next { IfOk result (λ r. (n : ℕ) → first ≡ fitting n → r.1 ≡ fitting (n + length (model.instances task.now conditions.now))) }
 {
     if !constants_hold(task, conditions) {
         return Ok((Vec::new(alloc), first));
@@ -239,17 +245,41 @@ pub(crate) fn live_values(
     Ok(found)
 }
 
-/// How many instances a schema has under these conditions.
+/// Values of a schema's instances, in lexicographic order: of those with one network at least the first,
+/// unless a literal rules it out. It says of each parameter whether networks show it.
+pub(crate) fn distinct_values(
+    alloc: Global,
+    task: &Task,
+    conditions: &Conditions,
+    literals: &[FixedLiteral],
+    shown: &[bool],
+) -> Result<Vec<ObjectList>, AllocError>
+    requires bound { AreBound conditions.now }
+    requires long { length shown.now ≡ length conditions.now.parameters }
+    ensures { IfOk result (λ found. (passes : Network → Bool) (make : List ℕ → Instance) → Ignores task.now.initial_atoms literals.now shown.now passes make → (kept : List Instance)
+        → gathered passes make kept found.items ≡ gathered passes make kept (model.instances task.now conditions.now)) }
+{
+    if !constants_hold(task, conditions) {
+        return Ok(Vec::new(alloc));
+    }
+    let lists = narrow_all(alloc, task, conditions)?;
+    let relations = relations_between(alloc, conditions.equalities())?;
+    let state = task.initial_atoms();
+    let found = distinct_assignments(alloc, &lists, &relations, literals, state, shown)?;
+    Ok(found)
+}
+
+/// How many instances a schema has under these conditions, if that fits.
 pub(crate) fn count_values(
     alloc: Global,
     task: &Task,
     conditions: &Conditions,
-) -> Result<u64, AllocError>
+) -> Result<Option<u64>, AllocError>
     requires { AreBound conditions.now }
-    ensures { IfOk result (λ n. n ≡ length (model.instances task.now conditions.now)) }
+    ensures { IfOk result (λ n. n ≡ fitting (length (model.instances task.now conditions.now))) }
 {
     if !constants_hold(task, conditions) {
-        return Ok(0);
+        return Ok(Some(0));
     }
     let lists = narrow_all(alloc, task, conditions)?;
     let relations = relations_between(alloc, conditions.equalities())?;

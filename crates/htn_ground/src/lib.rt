@@ -1,11 +1,14 @@
 //! The instances of a planning task's schemas, in their order and with their numbers.
 #![tactic(auto)]
 
+mod by_network;
 mod candidates;
 mod child;
 mod conditions;
 mod counts;
 mod dead;
+mod distinct;
+mod distinct_methods;
 mod fixed;
 mod ground_task;
 mod instance;
@@ -14,14 +17,20 @@ mod literals;
 mod methods;
 mod network;
 mod node;
+mod numbers;
 mod object_list;
 mod relation;
 mod search;
+mod shown;
 
 pub use child::{Child, ChildList};
+pub use distinct_methods::{
+    distinct_initials, distinct_live_methods_of, third_instance_is_dropped,
+};
 pub use ground_task::GroundTask;
 pub use instance::Instance;
 pub use literals::goal_literals;
 pub use methods::{action_of, initials, live_methods_of, method_of, methods_of};
 pub use node::{Node, Solution, compound};
+pub use numbers::{initial_number_of, number_of};
 pub use object_list::ObjectList;

@@ -1,8 +1,9 @@
 //! The instances of a task's methods, of its initial network and of its actions.
-ghost use Rattle.std.specs.Prelude.{◌≡◌, ◌+◌, ◌++◌, [], IfNone, IfOk, IfSome, OnOk, length, map};
+ghost use Rattle.std.specs.Prelude.{◌≡◌, ◌+◌, ◌++◌, [], List, ℕ, IfNone, IfOk, IfSome, OnOk, length, map};
 ghost use Rattle.std.specs.List.{enumerate_from};
 ghost use Rattle.htn_model.specs.Instances as model;
 ghost use Rattle.htn_model.specs.Task.{IsMethodSchema};
+ghost use Rattle.htn_ground.specs.Counted.{fitted, fitting};
 ghost use Rattle.htn_ground.specs.Methods.{fits_task, instances_for, live_instances, method_of, numbered_instances};
 ghost use Rattle.htn_ground.specs.Search.{AreBound, AreLiteralsOf, live_from};
 
@@ -23,7 +24,7 @@ use std::alloc::{AllocError, Global};
 
 /// The number of what stands at a place of a list. Where it doesn't fit, so long a list could not be
 /// held either.
-fn number_at(place: usize) -> Result<u16, AllocError>
+pub(crate) fn number_at(place: usize) -> Result<u16, AllocError>
     ensures { IfOk result (λ n. n ≡ place) }
 {
     match u16::try_from(place) {
@@ -41,7 +42,7 @@ fn fits_task(schema: &TaskSchema, goal: &GroundTask) -> bool
 
 /// The conditions on the values of a method's instances for a ground task; none where the method is for
 /// another task.
-fn conditions_for(
+pub(crate) fn conditions_for(
     alloc: Global,
     task: &Task,
     goal: &GroundTask,
@@ -62,19 +63,19 @@ fn conditions_for(
 }
 
 /// The values of a method's instances for a ground task that no literal rules out, each with its
-/// number among all of them, from `first` on; and the number after the last.
+/// number among all of them, from `first` on, if that fits; and the number after the last.
 fn values_for(
     alloc: Global,
     task: &Task,
     goal: &GroundTask,
     method: &MethodSchema,
     literals: &[FixedLiteral],
-    first: u64,
-) -> Result<(Vec<(u64, ObjectList)>, u64), AllocError>
+    first: Option<u64>,
+) -> Result<(Vec<(Option<u64>, ObjectList)>, Option<u64>), AllocError>
     requires typed { IsMethodSchema task.now method.now }
     requires literals { AreLiteralsOf literals.now (length method.now.parameters) }
-    ensures found { IfOk result (λ r. r.0.items ≡ live_from task.now.initial_atoms literals.now first (instances_for task.now goal.now method.now)) }
-    ensures next { IfOk result (λ r. r.1 ≡ first + length (instances_for task.now goal.now method.now)) }
+    ensures found { IfOk result (λ r. (n : ℕ) → first ≡ fitting n → r.0.items ≡ map fitted (live_from task.now.initial_atoms literals.now n (instances_for task.now goal.now method.now))) }
+    ensures next { IfOk result (λ r. (n : ℕ) → first ≡ fitting n → r.1 ≡ fitting (n + length (instances_for task.now goal.now method.now))) }
 {
     let Some(conditions) = conditions_for(alloc, task, goal, method)? else {
         return Ok((Vec::new(alloc), first));
@@ -83,25 +84,25 @@ fn values_for(
     Ok(found)
 }
 
-/// How many instances of a method there are for a ground task.
-fn count_for(
+/// How many instances of a method there are for a ground task, if that fits.
+pub(crate) fn count_for(
     alloc: Global,
     task: &Task,
     goal: &GroundTask,
     method: &MethodSchema,
-) -> Result<u64, AllocError>
+) -> Result<Option<u64>, AllocError>
     requires { IsMethodSchema task.now method.now }
-    ensures { IfOk result (λ n. n ≡ length (instances_for task.now goal.now method.now)) }
+    ensures { IfOk result (λ n. n ≡ fitting (length (instances_for task.now goal.now method.now))) }
 {
     let Some(conditions) = conditions_for(alloc, task, goal, method)? else {
-        return Ok(0);
+        return Ok(Some(0));
     };
     let count = count_values(alloc, task, &conditions)?;
     Ok(count)
 }
 
 /// The instance of a method at values.
-fn method_instance(
+pub(crate) fn method_instance(
     alloc: Global,
     task: &Task,
     number: u16,
@@ -127,7 +128,7 @@ fn push_instances(
     task: &Task,
     number: u16,
     method: &MethodSchema,
-    values: Vec<(u64, ObjectList)>,
+    values: Vec<(Option<u64>, ObjectList)>,
     found: &mut Vec<Instance>,
 ) -> Result<(), AllocError>
     ensures { OnOk result (found.new.items ≡ found.old.items ++ map (λ p. model.method_instance task.now number method.now p.1) values.items) }
@@ -151,7 +152,7 @@ pub fn methods_of(
     let mut found = Vec::new(alloc);
     for (place, method) in task.methods().iter().enumerate() {
         let number = number_at(place)?;
-        let (values, _) = values_for(alloc, task, goal, method, &[], 0)?;
+        let (values, _) = values_for(alloc, task, goal, method, &[], Some(0))?;
         push_instances(alloc, task, number, method, values, &mut found)?;
     }
     Ok(found)
@@ -159,7 +160,8 @@ pub fn methods_of(
 
 /// The method of the instance with this number, among those of a ground task's methods; none where so
 /// many there aren't. The instances are counted, by products of lists where the equalities allow it, and
-/// neither made nor gone through.
+/// neither made nor gone through; a count that does not fit is greater than every number. An error means
+/// that memory was refused.
 pub fn method_of(
     alloc: Global,
     task: &Task,
@@ -171,7 +173,10 @@ pub fn method_of(
     let mut first: u64 = 0;
     for (place, method) in task.methods().iter().enumerate() {
         let method_number = number_at(place)?;
-        let count = count_for(alloc, task, goal, method)?;
+        let counted = count_for(alloc, task, goal, method)?;
+        let Some(count) = counted else {
+            return Ok(Some(method_number));
+        };
         if number - first < count {
             return Ok(Some(method_number));
         }
@@ -180,29 +185,35 @@ pub fn method_of(
     Ok(None)
 }
 
-/// Appends those instances of a method at numbered values that are not dead, with their numbers.
+/// Appends those instances of a method at numbered values that are not dead, with their numbers. An
+/// error is memory that was refused, or the number of such an instance that does not fit.
 fn push_live_instances(
     alloc: Global,
     task: &Task,
     number: u16,
     method: &MethodSchema,
-    values: Vec<(u64, ObjectList)>,
+    values: Vec<(Option<u64>, ObjectList)>,
     found: &mut Vec<(u64, Instance)>,
 ) -> Result<(), AllocError>
-    ensures { OnOk result (found.new.items ≡ found.old.items ++ live_instances task.now (numbered_instances task.now number method.now values.items)) }
+    ensures { OnOk result ((xs : List (ℕ × List ℕ)) → values.items ≡ map fitted xs → found.new.items ≡ found.old.items ++ live_instances task.now (numbered_instances task.now number method.now xs)) }
 {
     for (rank, choice) in &values {
         let instance = method_instance(alloc, task, number, method, choice.clone()?)?;
-        if !is_dead(task, &instance) {
-            found.push((*rank, instance))?;
+        if is_dead(task, &instance) {
+            continue;
         }
+        let Some(known) = *rank else {
+            return Err(AllocError);
+        };
+        found.push((known, instance))?;
     }
     Ok(())
 }
 
 /// The instances of a ground task's methods that are not dead, each with its number among all of
 /// them. An instance is dead if its precondition step has a literal that is false at first and whose
-/// predicate no effect names, or a false equality.
+/// predicate no effect names, or a false equality. An error means that memory was refused, or that the
+/// number of an instance that is not dead does not fit; those of dead ones need not.
 pub fn live_methods_of(
     alloc: Global,
     task: &Task,
@@ -211,7 +222,7 @@ pub fn live_methods_of(
     ensures { IfOk result (λ v. v.items ≡ live_instances task.now (enumerate_from 0 (model.methods_of task.now goal.now))) }
 {
     let mut found = Vec::new(alloc);
-    let mut first = 0;
+    let mut first = Some(0);
     for (place, method) in task.methods().iter().enumerate() {
         let number = number_at(place)?;
         let literals = fixed_literals(alloc, task, method.precondition())?;
@@ -223,7 +234,11 @@ pub fn live_methods_of(
 }
 
 /// The instance of the initial network at values.
-fn initial_instance(alloc: Global, task: &Task, values: ObjectList) -> Result<Instance, AllocError>
+pub(crate) fn initial_instance(
+    alloc: Global,
+    task: &Task,
+    values: ObjectList,
+) -> Result<Instance, AllocError>
     ensures { IfOk result (λ i. i ≡ model.initial_instance task.now values) }
 {
     let empty = FormulaList::of(Vec::new(alloc));
@@ -239,7 +254,7 @@ pub fn initials(alloc: Global, task: &Task) -> Result<Vec<Instance>, AllocError>
     ensures { IfOk result (λ v. v.items ≡ model.initials task.now) }
 {
     let conditions = initial_conditions(alloc, task, task.initial_network())?;
-    let (values, _) = live_values(alloc, task, &conditions, &[], 0)?;
+    let (values, _) = live_values(alloc, task, &conditions, &[], Some(0))?;
     let mut found = Vec::new(alloc);
     for (_, choice) in &values {
         found.push(initial_instance(alloc, task, choice.clone()?)?)?;

@@ -1,4 +1,4 @@
-use Rattle.std.proofs.Common.{◌≡◌, ◌∙◌, List, ap, map, subst, sym, ℕ}
+use Rattle.std.proofs.Common.{◌≡◌, ◌∙◌, List, Option, ap, map, refl, subst, sym, ℕ}
 use Rattle.std.proofs.lemmas.List.{take_all}
 use Rattle.htn_model.specs.Task.{InitialSchema}
 use Rattle.htn_model.specs.Instances.{Conditions, initial_conditions, initial_instance, instances}
@@ -20,7 +20,7 @@ returns c =
     let are : c.in_ok-conditions.conditions ≡ initial_conditions t t.initial_network =
     c.in_ok-conditions.ensures ∙ ap (λ (s : InitialSchema). initial_conditions t s) c.initial_network.ensures.value in
     c.loop-choice.invariant
-    ∙ ap (λ (l : List (ℕ × List ℕ)). map (λ (p : ℕ × List ℕ). initial_instance t p.1) l)
-    (take_all c.loop-choice.choice-index c.deref-choice-items.result.now c.loop-choice-test.false ∙ c.deref-choice-items.ensures.value ∙ c.in_ok-values.ensures.found)
+    ∙ ap (λ (l : List (Option ℕ × List ℕ)). map (λ (p : Option ℕ × List ℕ). initial_instance t p.1) l)
+    (take_all c.loop-choice.choice-index c.deref-choice-items.result.now c.loop-choice-test.false ∙ c.deref-choice-items.ensures.value ∙ c.in_ok-values.ensures.found 0 refl)
     ∙ all_live t.initial_atoms (initial_instance t) 0 (instances t c.in_ok-conditions.conditions)
     ∙ ap (λ (s : Conditions). map (initial_instance t) (instances t s)) are

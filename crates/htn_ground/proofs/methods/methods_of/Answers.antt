@@ -1,4 +1,4 @@
-use Rattle.std.proofs.Common.{◌≡◌, ◌++◌, ◌∙◌, List, ap, map, sym, ℕ}
+use Rattle.std.proofs.Common.{◌≡◌, ◌++◌, ◌∙◌, List, Option, ap, map, refl, sym, ℕ}
 use Rattle.htn_model.specs.Instance.{Instance}
 use Rattle.htn_model.specs.Instances.{instances_of_method, method_instance}
 use Rattle.htn_model.specs.Task.{MethodSchema}
@@ -14,8 +14,8 @@ loop-place-preserved c =
     let i = c.loop-place.place in
     let number = c.in_ok-number.number in
     let piece : ℕ × MethodSchema → List Instance = λ (p : ℕ × MethodSchema). instances_of_method t g p.0 p.1 in
-    let made : map (λ (p : ℕ × List ℕ). method_instance t number m p.1) c.in_ok-values.values.items ≡ piece (i, m) =
-    ap (λ (l : List (ℕ × List ℕ)). map (λ (p : ℕ × List ℕ). method_instance t number m p.1) l) c.in_ok-values.ensures.found
+    let made : map (λ (p : Option ℕ × List ℕ). method_instance t number m p.1) c.in_ok-values.values.items ≡ piece (i, m) =
+    ap (λ (l : List (Option ℕ × List ℕ)). map (λ (p : Option ℕ × List ℕ). method_instance t number m p.1) l) (c.in_ok-values.ensures.found 0 refl)
     ∙ all_live t.initial_atoms (method_instance t number m) 0 (instances_for t g m)
     ∙ ap (λ (k : ℕ). instances_of_method t g k m) c.in_ok-number.ensures in
     c.in_ok-push_instances.ensures

@@ -1,5 +1,6 @@
-use Rattle.std.proofs.Common.{◌≡◌, ◌++◌, ◌∷◌, [], length, take, ◌-◌, ◌+◌, ◌≤◌}
+use Rattle.std.proofs.Common.{◌≡◌, ◌++◌, ◌∷◌, [], length, map, take, ◌-◌, ◌+◌, ◌≤◌, ℕ}
 use Rattle.std.specs.List.{flat_map}
+use Rattle.htn_ground.specs.Counted.{fitted, fitting}
 use Rattle.htn_ground.specs.Search.{completions}
 use Rattle.htn_ground.specs.Search.{live_from}
 use Rattle.htn_ground.proofs.search.+complete_live.Given as goal
@@ -15,5 +16,7 @@ abbrev pub invariant-loop-place : goal.invariant-loop-place
 invariant-loop-place l =
     (l.place ≤ length l.objects)
     × (l.values ≡ l.initial.values)
-    × (l.found.items ≡ l.initial.found.items ++ live_from l.state l.literals l.initial.number (flat_map (λ object. completions l.domains l.relations (l.initial.values ++ object ∷ [])) (take l.place l.objects)))
-    × (l.number ≡ l.initial.number + length (flat_map (λ object. completions l.domains l.relations (l.initial.values ++ object ∷ [])) (take l.place l.objects)))
+    × ((first : ℕ) → l.initial.number ≡ fitting first
+    → l.found.items ≡ l.initial.found.items ++ map fitted (live_from l.state l.literals first (flat_map (λ object. completions l.domains l.relations (l.initial.values ++ object ∷ [])) (take l.place l.objects))))
+    × ((first : ℕ) → l.initial.number ≡ fitting first
+    → l.number ≡ fitting (first + length (flat_map (λ object. completions l.domains l.relations (l.initial.values ++ object ∷ [])) (take l.place l.objects))))
