@@ -19,7 +19,7 @@ module _ (problem : Problem) (bound : ℕ) where
   counted [] finish = absurd finish
   counted (i ∷ ns) finish = refl
 
-  least_word : (w : List ℕ) → IsLeastFinishing (machine_of problem) bound w → IsLeastWord problem bound (Some w)
+  pub least_word : (w : List ℕ) → IsLeastFinishing (machine_of problem) bound w → IsLeastWord problem bound (Some w)
   least_word w least =
       let finish = finishes_from problem w least.finishes in
       let long = counted w finish in

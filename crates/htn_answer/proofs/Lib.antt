@@ -1,3 +1,4 @@
 pub mod Words
 pub mod Lawful
 pub mod Answers
+pub mod Fewer

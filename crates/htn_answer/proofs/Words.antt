@@ -63,7 +63,7 @@ module _ (problem : Problem) where
   pub done_from : (c : Config) → is_done problem c ≡ true → IsDoneIn problem c
   done_from c done = let parts = and_parts _ _ done in (empty_from c.open_nodes parts.0, parts.1)
 
-  done_back : (c : Config) → IsDoneIn problem c → is_done problem c ≡ true
+  pub done_back : (c : Config) → IsDoneIn problem c → is_done problem c ≡ true
   done_back c done = both_true (is_empty c.open_nodes) (holds c.state problem.goal) (ap is_empty done.0) done.1
 
   pub leads_from : (ns : List ℕ) (c to : Config) → Leads (IsStep (machine_of problem)) c ns to → is_done problem to ≡ true → FinishesFrom problem ns c

@@ -3,10 +3,11 @@
 #![tactic(auto)]
 
 ghost use Rattle.htn_answer.specs.Answered.{IsAnswered, IsExact};
+ghost use Rattle.htn_answer.specs.Fewer.{FinishesLive, HasEnough, IsToldBy};
 ghost use Rattle.htn_answer.specs.Machine.{IsOwn, machine_of};
 ghost use Rattle.htn_model.specs.Problem.{IsGrounded, Problem};
 ghost use Rattle.word_machine.specs.Answer.{IsAnswer};
-ghost use Rattle.word_machine.specs.Machine.{IsLawful};
+ghost use Rattle.word_machine.specs.Machine.{IsLawful, WordMachine};
 ghost use Rattle.word_machine.specs.declared.found.Found.{Found};
 ghost use Rattle.std.specs.Prelude.{ℕ};
 
@@ -22,4 +23,12 @@ pub fn machine_is_lawful()
 pub fn found_answers()
     ensures answered { (problem : Problem) (bound : ℕ) (found : Found) → IsGrounded problem → IsAnswer (machine_of problem) bound found → IsAnswered problem bound found }
     ensures exact { (problem : Problem) (bound : ℕ) (found : Found) → IsGrounded problem → IsAnswer (machine_of problem) bound found → IsExact problem bound found }
+{}
+
+/// Of numbers that lead to equal configurations only the first can be on the least finishing word. So a machine that
+/// has all others but those that are dead, in their order and counted anew, answers as the whole machine does: with the
+/// least word, told by the whole machine's numbers, with none or with unsolvable.
+pub fn fewer_numbers_suffice<C>()
+    ensures { (m few : WordMachine C) (initial_of : ℕ → ℕ) (number_of : C → ℕ → ℕ) → FinishesLive m → HasEnough m few initial_of number_of
+        → (bound : ℕ) (found tells : Found) → IsAnswer few bound found → IsToldBy m few initial_of number_of found tells → IsAnswer m bound tells }
 {}

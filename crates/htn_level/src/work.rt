@@ -1,5 +1,5 @@
 //! What a level asks of a search problem, and of a gate.
-ghost use Rattle.std.specs.Prelude.{◌≡◌, ℕ, List, ◌++◌, IfOk, IfSome, IfNone};
+ghost use Rattle.std.specs.Prelude.{◌≡◌, ℕ, List, ◌++◌, IfOk, IfSome, IfNone, OnErr};
 
 use std::alloc::AllocError;
 
@@ -21,7 +21,7 @@ pub trait Expand: Sync {
     ghost finishes: { Self → ℕ → Self.Finish → Type 0 };
 
     /// How the configuration at this rank leads to a done successor, if it has one. If it has none, its successors are
-    /// added to those that are there.
+    /// added to those that are there. Where memory is refused, those that were there still stand there, at the front.
     fn expand(
         &self,
         rank: usize,
@@ -29,7 +29,8 @@ pub trait Expand: Sync {
     ) -> Result<Option<Self::Finish>, AllocError>
         requires { can_expand self.now rank }
         ensures whole { IfOk result (λ done. IfNone done ((more : List Self.Successor) × (successors.new.items ≡ successors.old.items ++ more) × has_successors self.now rank more)) }
-        ensures done { IfOk result (λ done. IfSome done (finishes self.now rank)) };
+        ensures done { IfOk result (λ done. IfSome done (finishes self.now rank)) }
+        ensures refused { OnErr result ((more : List Self.Successor) × (successors.new.items ≡ successors.old.items ++ more)) };
 }
 
 /// Each piece that a worker takes goes through the gate once, before the look at the least place and before its

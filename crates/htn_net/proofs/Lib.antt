@@ -1,8 +1,13 @@
 pub mod Cached
 pub mod Chosen
+pub mod Counts
+pub mod Distinct
 pub mod First
+pub mod Listed
 pub mod Numbers
 pub mod Offered
+pub mod Once
+pub mod OnceInstances
 pub mod Performed
 pub mod Spliced
 pub mod Whole

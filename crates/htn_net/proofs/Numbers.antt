@@ -29,7 +29,7 @@ is_live_at problem c n = is_live_choice problem (choose problem c n)
 
 -- ## Numbers that pass a test
 
-range_rises : (a n : ℕ) → IsStrictlyIncreasing (range_with_len a n)
+pub range_rises : (a n : ℕ) → IsStrictlyIncreasing (range_with_len a n)
 range_rises a n k inside =
     let long = length-range_with_len a n in
     let here = get_or-range_with_len a n k 0 (omega arith) in

@@ -1,8 +1,8 @@
 -- The choices of a compound task's instances, as they stand in the cache.
 use Rattle.std.proofs.Common.{◌≡◌, ℕ, zero, suc, ◌+◌, ◌<◌, Bool, true, false, cond, List, [], ◌∷◌, filter, map, length, get_or, slice_get, Some, None, not, All, option_and_then, refl, sym, ap, ◌∙◌, subst, arith}
-use Rattle.std.specs.List.{enumerate_from}
-use Rattle.std.proofs.lemmas.List.{length-map, get_or-map}
-use Rattle.std.proofs.lemmas.List.FromFn.{get_or-enumerate_from, length-enumerate_from}
+use Rattle.std.specs.List.{enumerate_from, range_with_len}
+use Rattle.std.proofs.lemmas.List.{length-map}
+use Rattle.std.proofs.lemmas.List.FromFn.{length-map-range_with_len, get_or-map-range_with_len}
 use Rattle.std.proofs.lemmas.Option.{slice_get-get_or}
 use Rattle.std.proofs.lemmas.Simd.{map-map}
 use Rattle.htn_model.specs.Choice.{child_of, first_free_compound}
@@ -14,9 +14,11 @@ use Rattle.htn_model.specs.Machine.{Config, choose}
 use Rattle.htn_model.specs.Problem.{GroundTask, is_before, task}
 use Rattle.htn_model.specs.Task.{Task}
 use Rattle.word_machine.specs.Machine.{IsLiveNumbers}
-use Rattle.htn_answer.specs.Machine.{machine_of}
+use Rattle.htn_answer.proofs.Words.{slice_get-map_back}
 use Rattle.htn_net.specs.Cache.{cached}
+use Rattle.htn_ground.specs.Distinct.{distinct, live_methods as ground_methods}
 use Rattle.htn_net.specs.Choices.{IsChoice, IsOffered, AreDecompositions, decomposed_choices, decompositions}
+use Rattle.htn_net.specs.Listed.{listed_methods, listing_machine}
 use Rattle.htn_net.specs.declared.choice.Change.TheVariants as chosen
 use Rattle.htn_net.specs.declared.choice.Choice.{Choice}
 use Rattle.htn_net.specs.Live.{live_methods}
@@ -24,7 +26,8 @@ use Rattle.htn_net.specs.declared.cache.LiveCache.{LiveCache}
 use Rattle.htn_net.specs.declared.choice.LiveChange.TheVariants.{Decomposed}
 use Rattle.htn_net.specs.declared.choice.LiveChoice.{LiveChoice}
 use Rattle.std.proofs.lemmas.List.Elements.{All-map}
-use Rattle.htn_net.proofs.Numbers.{all_kept, choose_instance, instance_numbers, live_numbers_are}
+use Rattle.htn_net.proofs.Listed.{instance_listed, listed_instances, ranks_live}
+use Rattle.htn_net.proofs.Numbers.{all_kept, choose_instance}
 
 -- what stands among numbered elements stands in the list at its number
 pub numbered_at : {X : Type 0} (q : ℕ × X → Bool) (a : ℕ) (xs : List X) (k : ℕ) (p : ℕ × X) → slice_get (filter q (enumerate_from a xs)) k ≡ Some p
@@ -46,13 +49,12 @@ numbered_at {X} q a (x ∷ xs) k p h = by (q (a, x)) k (λ l e. numbered_at q (a
     by true (suc l) further e = later l (further l) e
     by false l further e = later l (further l) e
 
--- the numbers of numbered choices
-firsts : {X : Type 0} (a : ℕ) (xs : List (ℕ × X)) → map (λ (p : ℕ × (ℕ × X)). p.1.0) (enumerate_from a xs) ≡ map (λ (p : ℕ × X). p.0) xs
-firsts a [] = refl
-firsts a (x ∷ xs) = ap (λ l. x.0 ∷ l) (firsts (a + 1) xs)
+map_same : (xs : List ℕ) → map (λ (x : ℕ). x) xs ≡ xs
+map_same [] = refl
+map_same (x ∷ xs) = ap (λ l. x ∷ l) (map_same xs)
 
-nothing : ℕ × Instance
-nothing = (0, record { method = None; values = []; network = record { children = []; order = [] } })
+no_instance : Instance
+no_instance = record { method = None; values = []; network = record { children = []; order = [] } }
 
 module _ (t : Task) (c : Config) (i : ℕ) (g : GroundTask) (first : first_free_compound c.open_nodes (is_before c.order) ≡ Some i) (stands : child_of c.open_nodes i ≡ task g) where
   -- numbered instances are chosen by their numbers
@@ -81,39 +83,35 @@ pub numbers_of : (i : ℕ) (found : List (ℕ × Instance)) → map (λ (x : Cho
 numbers_of i found = map-map (λ (x : Choice). x.number) (λ (p : ℕ × Instance). record { number = p.0; position = i; change = chosen.Decomposed p.1 }) found
 
 module _ (t : Task) (cache : LiveCache) (c : Config) (i : ℕ) (g : GroundTask) (first : first_free_compound c.open_nodes (is_before c.order) ≡ Some i) (stands : child_of c.open_nodes i ≡ task g)
-    (ready : cached cache g ≡ Some (live_methods t g)) (choices : List LiveChoice) (are : AreDecompositions cache g i choices) where
-  right : are.found ≡ live_methods t g
-  right = let a = are.stands in let b = ready in (let e : Some are.found ≡ Some (live_methods t g) = sym are.stands ∙ ready in cc)
+    (ready : cached cache g ≡ Some (distinct (ground_methods t g))) (choices : List LiveChoice) (are : AreDecompositions cache g i choices) where
+  right : are.found ≡ map (λ (p : ℕ × Instance). p.1) (listed_methods t g)
+  right = let e : Some are.found ≡ Some (distinct (ground_methods t g)) = sym are.stands ∙ ready in let f : are.found ≡ distinct (ground_methods t g) = cc in f ∙ sym (listed_instances t g)
 
-  abbrev choice : ℕ × (ℕ × Instance) → LiveChoice
-  choice p = record { number = p.1.0; position = i; change = Decomposed are.entry p.0 }
+  abbrev choice : ℕ → LiveChoice
+  choice place = record { rank = place; position = i; change = Decomposed are.entry place }
 
-  offered_at : (k : ℕ) (p : ℕ × Instance) → slice_get are.found k ≡ Some p → IsOffered (problem_of t) cache c (choice (k, p))
-  offered_at k p at =
-      let numbered = numbered_at (λ (x : ℕ × Instance). not (is_dead (problem_of t) x.1.network)) 0 (methods_of t g) k p (ap (λ l. slice_get l k) (sym right) ∙ at) in
-      let same = numbered.1 in
-      let number : numbered.0 ≡ p.0 = omega arith in (
-        p.1,
+  offered_at : (k : ℕ) (x : Instance) → slice_get are.found k ≡ Some x → IsOffered t cache c (choice k)
+  offered_at k x at =
+      let listed = slice_get-map_back (λ (p : ℕ × Instance). p.1) (listed_methods t g) k x (ap (λ l. slice_get l k) (sym right) ∙ at) in (
+        x,
         ap (option_and_then (λ l. slice_get l k)) are.at ∙ at,
-        choose_instance t c i g first stands p.0 p.1 (ap (slice_get (methods_of t g)) (sym number) ∙ numbered.2),
+        instance_listed t c i g first stands k listed.0 listed.1 ∙ ap (λ (y : Instance). Some (record { position = i; network = y.network; state = c.state })) listed.2,
       )
 
-  pub decompositions_offered : All (IsOffered (problem_of t) cache c) choices
-  decompositions_offered = subst (λ (l : List LiveChoice). All (IsOffered (problem_of t) cache c) l) (sym are.each) each
+  pub decompositions_offered : All (IsOffered t cache c) choices
+  decompositions_offered = subst (λ (l : List LiveChoice). All (IsOffered t cache c) l) (sym are.each) each
     where
-      each : All (IsOffered (problem_of t) cache c) (decompositions i are.entry are.found)
+      each : All (IsOffered t cache c) (decompositions i are.entry (length are.found))
       each k d inside =
-          let long : length (decompositions i are.entry are.found) ≡ length are.found = length-map (enumerate_from 0 are.found) choice ∙ length-enumerate_from 0 are.found in
+          let long : length (decompositions i are.entry (length are.found)) ≡ length are.found = length-map-range_with_len choice 0 (length are.found) in
           let low : k < length are.found = omega arith in
-          let all = enumerate_from 0 are.found in
-          let counted : k < length all = omega (arith, length-enumerate_from 0 are.found) in
-          let p = get_or are.found k nothing in
-          let seen : get_or all k (0, nothing) ≡ (k, p) = get_or-enumerate_from 0 are.found k (0, nothing) low ∙ ap (λ (n : ℕ). (n, p)) (let e : 0 + k ≡ k = omega arith in e) in
-          subst (IsOffered (problem_of t) cache c) (sym (get_or-map choice all k (0, nothing) d counted ∙ ap choice seen)) (offered_at k p (slice_get-get_or are.found k nothing low))
+          let x = get_or are.found k no_instance in
+          subst (IsOffered t cache c) (sym (get_or-map-range_with_len choice 0 (length are.found) k k d low (let e : 0 + k ≡ k = omega arith in e)))
+          (offered_at k x (slice_get-get_or are.found k no_instance low))
 
-  pub decompositions_numbers : IsLiveNumbers (machine_of (problem_of t)) c (map (λ (x : LiveChoice). x.number) choices)
-  decompositions_numbers =
-      subst (IsLiveNumbers (machine_of (problem_of t)) c)
-      (sym (ap (map (λ (x : LiveChoice). x.number)) are.each ∙ map-map (λ (x : LiveChoice). x.number) choice (enumerate_from 0 are.found) ∙ firsts 0 are.found
-      ∙ ap (map (λ (p : ℕ × Instance). p.0)) right ∙ instance_numbers t c i g first stands))
-      (live_numbers_are (problem_of t) c)
+  pub decompositions_ranks : IsLiveNumbers (listing_machine t) c (map (λ (x : LiveChoice). x.rank) choices)
+  decompositions_ranks =
+      subst (IsLiveNumbers (listing_machine t) c)
+      (sym (ap (map (λ (x : LiveChoice). x.rank)) are.each ∙ map-map (λ (x : LiveChoice). x.rank) choice (range_with_len 0 (length are.found)) ∙ map_same (range_with_len 0 (length are.found))
+      ∙ ap (range_with_len 0) (ap length right ∙ length-map (listed_methods t g) (λ (p : ℕ × Instance). p.1))))
+      (ranks_live t c i g first stands)

@@ -1,27 +1,25 @@
 //! The instances that a search keeps.
-ghost use Rattle.std.specs.Prelude.{◌≡◌, IfOk, OnErr, OnOk, IsSome, Some};
-ghost use Rattle.std.specs.Option.{option_map};
-ghost use Rattle.indexmap.specs.IndexMap.{IsUnchanged};
+ghost use Rattle.std.specs.Prelude.{◌≡◌, IfOk, OnOk, IsSome, Some};
 ghost use Rattle.htn_model.specs.Task as model;
 ghost use Rattle.htn_net.specs.Choices.{decompositions};
 
 use crate::choice::{LiveChange, LiveChoice};
-use htn_ground::{GroundTask, Instance, live_methods_of};
+use htn_ground::{GroundTask, Instance, distinct_live_methods_of};
 use htn_task::Task;
 use indexmap::IndexMap;
 use std::alloc::{AllocError, Global};
 
-/// For compound tasks that a search has met free, their instances that are not dead, each with its
-/// number among all instances of the task.
+/// For compound tasks that a search has met free, their instances that are not dead, without those
+/// whose network an earlier one has.
 #[derive(Drop)]
 pub struct LiveCache {
-    instances: IndexMap<GroundTask, Vec<(u64, Instance)>>,
+    instances: IndexMap<GroundTask, Vec<Instance>>,
 }
 
 impl LiveCache {
     ghost use Rattle.htn_net.specs.Cache.{cached, instance_at, IsSound, Keeps};
     ghost use Rattle.htn_net.specs.Choices.{AreDecompositions};
-    ghost use Rattle.htn_net.specs.Live.{live_methods};
+    ghost use Rattle.htn_ground.specs.Distinct.{distinct, live_methods};
 
     /// A cache with nothing in it.
     pub(crate) fn new(alloc: Global) -> LiveCache
@@ -32,8 +30,8 @@ impl LiveCache {
         }
     }
 
-    /// Puts the instances of a ground task into the cache, unless they are there. Where memory is
-    /// refused it stays as it was.
+    /// Puts the instances of a ground task into the cache, unless they are there. It keeps what it
+    /// has, also where memory is refused.
     pub(crate) fn prepare(
         &mut self,
         alloc: Global,
@@ -41,15 +39,14 @@ impl LiveCache {
         goal: &GroundTask,
     ) -> Result<(), AllocError>
         requires { IsSound task.now self.old }
-        ensures sound { OnOk result (IsSound task.now self.new) }
-        ensures ready { OnOk result (cached self.new goal.now ≡ Some (live_methods task.now goal.now)) }
-        ensures kept { OnOk result (Keeps self.old self.new) }
-        ensures err { OnErr result (IsUnchanged self.old.instances self.new.instances) }
+        ensures sound { IsSound task.now self.new }
+        ensures ready { OnOk result (cached self.new goal.now ≡ Some (distinct (live_methods task.now goal.now))) }
+        ensures kept { Keeps self.old self.new }
     {
         if self.instances.contains_key(goal) {
             return Ok(());
         }
-        let found = live_methods_of(alloc, task, goal)?;
+        let found = distinct_live_methods_of(alloc, task, goal)?;
         let key = goal.clone()?;
         self.instances.insert(key, found)?;
         Ok(())
@@ -66,33 +63,33 @@ impl LiveCache {
         ensures { IfOk result (λ choices. AreDecompositions self.now goal.now position choices.items) }
     {
         let (entry, _, found) = self.instances.get_full(goal).unwrap();
-        let choices = decompositions(alloc, position, entry, found)?;
+        let choices = decompositions(alloc, position, entry, found.len())?;
         Ok(choices)
     }
 
     /// The instance at a place of an entry.
     pub(crate) fn instance_at(&self, entry: usize, place: usize) -> &Instance
         requires { IsSome (instance_at self.now entry place) }
-        ensures { option_map (λ p. p.1) (instance_at self.now entry place) ≡ Some result.now }
+        ensures { instance_at self.now entry place ≡ Some result.now }
     {
         let (_, found) = self.instances.get_index(entry).unwrap();
-        &found[place].1
+        &found[place]
     }
 }
 
-/// A choice for each instance of an entry of the cache.
+/// A choice for each of so many instances of an entry of the cache.
 fn decompositions(
     alloc: Global,
     position: usize,
     entry: usize,
-    found: &[(u64, Instance)],
+    count: usize,
 ) -> Result<Vec<LiveChoice>, AllocError>
-    ensures { IfOk result (λ choices. choices.items ≡ decompositions position entry found.now) }
+    ensures { IfOk result (λ choices. choices.items ≡ decompositions position entry count) }
 {
-    let mut choices = Vec::with_capacity(alloc, found.len())?;
-    for (place, (number, _)) in found.iter().enumerate() {
+    let mut choices = Vec::with_capacity(alloc, count)?;
+    for place in 0..count {
         choices.push(LiveChoice {
-            number: *number,
+            rank: place as u64,
             position,
             change: LiveChange::Decomposed(entry, place),
         })?;

@@ -29,6 +29,15 @@ pub struct Choice {
     pub change: Change,
 }
 
+impl Choice {
+    /// Its number. It takes no memory.
+    pub fn number(&self) -> u64
+        ensures { result ≡ self.now.number }
+    {
+        self.number
+    }
+}
+
 /// What becomes of the node that a number chooses in a search, which keeps the instances in its cache.
 #[derive(Drop)]
 pub enum LiveChange {
@@ -38,10 +47,12 @@ pub enum LiveChange {
     Performed(Arc<State>),
 }
 
-/// What a number of a configuration stands for in a search.
+/// What a rank of a configuration stands for in a search, which lists of the instances that are not
+/// dead each network once.
 #[derive(Drop)]
 pub struct LiveChoice {
-    pub(crate) number: u64,
+    /// The place of the instance among those that are listed; or the number of a free node.
+    pub(crate) rank: u64,
     pub(crate) position: usize,
     pub(crate) change: LiveChange,
 }
@@ -69,10 +80,10 @@ impl Performance {
     }
 
     pub(crate) fn into_live_choice(self) -> LiveChoice
-        ensures { result ≡ record { number = self.number; position = self.position; change = live.Performed self.state } }
+        ensures { result ≡ record { rank = self.number; position = self.position; change = live.Performed self.state } }
     {
         LiveChoice {
-            number: self.number,
+            rank: self.number,
             position: self.position,
             change: LiveChange::Performed(self.state),
         }

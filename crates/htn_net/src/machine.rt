@@ -10,14 +10,15 @@ use crate::cache::LiveCache;
 use crate::choice::{LiveChange, LiveChoice};
 use crate::config::Config;
 use crate::perform::performances;
-use crate::start::starts;
+use crate::start::distinct_starts;
 use htn_ground::goal_literals;
 use htn_state::LiteralList;
 use htn_task::Task;
 use std::alloc::{AllocError, Global};
 use word_machine::Machine;
 
-/// The word machine of a task: from a configuration a number leads to the next one.
+/// The word machine of a task as a search takes it: from a configuration a rank leads to the next
+/// one. Of instances with equal networks only the first is listed, and so no number is counted.
 #[derive(Drop)]
 pub struct WordMachine<'a> {
     pub task: &'a Task,
@@ -47,8 +48,8 @@ impl<'a> WordMachine<'a> {
     /// The free steps and actions whose literals hold.
     fn performed_choices(&self, from: &Config) -> Result<Vec<LiveChoice>, AllocError>
         requires { first_free_compound from.now.open_nodes (is_before from.now.order) ≡ None }
-        ensures offered { IfOk result (λ choices. (cache : LiveCache) → All (IsOffered (problem_of self.now.task.now) cache from.now) choices.items) }
-        ensures numbers { IfOk result (λ choices. map (λ x. x.number) choices.items ≡ live_numbers (problem_of self.now.task.now) from.now) }
+        ensures offered { IfOk result (λ choices. (cache : LiveCache) → All (IsOffered self.now.task.now cache from.now) choices.items) }
+        ensures ranks { IfOk result (λ choices. map (λ x. x.rank) choices.items ≡ live_numbers (problem_of self.now.task.now) from.now) }
     {
         let found = performances(self.alloc, self.task, from)?;
         let choices: Vec<LiveChoice> = found
@@ -61,10 +62,11 @@ impl<'a> WordMachine<'a> {
 
 impl<'a> Machine for WordMachine<'a> {
     ghost use Rattle.htn_model.specs.Equality.{config_eq-decides};
-    ghost use Rattle.htn_answer.specs.Machine.{IsOwn, machine_of};
+    ghost use Rattle.htn_answer.specs.Machine.{IsOwn};
     ghost use Rattle.htn_net.specs.Cache.{IsSound};
     ghost use Rattle.htn_net.specs.Choices.{IsOffered, IsReady};
-    ghost use Rattle.htn_net.specs.Laws.{lawful};
+    ghost use Rattle.htn_net.specs.Laws.{listing_lawful};
+    ghost use Rattle.htn_net.specs.Listed.{listing_machine};
 
     type Configuration = Config;
 
@@ -72,7 +74,7 @@ impl<'a> Machine for WordMachine<'a> {
 
     type Cache = LiveCache;
 
-    ghost words = { λ m. machine_of (problem_of m.task.now) };
+    ghost words = { λ m. listing_machine m.task.now };
 
     ghost belongs = { λ m c. IsOwn (problem_of m.task.now) c };
 
@@ -80,16 +82,16 @@ impl<'a> Machine for WordMachine<'a> {
 
     ghost is_ready = { λ m cache c. IsReady m.task.now cache c };
 
-    ghost number = { λ x. x.number };
+    ghost number = { λ x. x.rank };
 
-    ghost offers = { λ m cache c x. IsOffered (problem_of m.task.now) cache c x };
+    ghost offers = { λ m cache c x. IsOffered m.task.now cache c x };
 
     ghost same = { λ c d e. (config_eq-decides c d).0 e };
 
-    ghost lawful = { λ m. lawful (problem_of m.task.now) m.grounded };
+    ghost lawful = { λ m. listing_lawful m.task.now m.grounded };
 
     fn initials(&self) -> Result<Vec<Config>, AllocError> {
-        starts(self.alloc, self.task)
+        distinct_starts(self.alloc, self.task)
     }
 
     fn new_cache(&self) -> Result<LiveCache, AllocError> {
@@ -116,9 +118,9 @@ impl<'a> Machine for WordMachine<'a> {
     }
 
     fn number(choice: &LiveChoice) -> u64
-        ensures { result ≡ choice.now.number }
+        ensures { result ≡ choice.now.rank }
     {
-        choice.number
+        choice.rank
     }
 
     fn step(

@@ -8,11 +8,14 @@ ghost use Rattle.htn_model.specs.Instances as model;
 ghost use Rattle.htn_model.specs.Machine as machine;
 ghost use Rattle.htn_model.specs.Problem.{is_before};
 ghost use Rattle.htn_net.specs.Choices.{IsChoice, choice_of};
+ghost use Rattle.htn_net.specs.Listed.{choose_listed, number_at};
 
 use crate::choice::{Change, Choice};
 use crate::config::Config;
 use crate::perform::perform;
-use htn_ground::{GroundTask, Instance, live_methods_of, methods_of};
+use htn_ground::{
+    GroundTask, Instance, distinct_live_methods_of, live_methods_of, methods_of, number_of,
+};
 use htn_task::Task;
 use std::alloc::{AllocError, Global};
 
@@ -90,6 +93,38 @@ impl Config {
         };
         let Some(instance) = instance_of(alloc, task, goal, number)? else {
             return Ok(None);
+        };
+        Ok(Some(Choice {
+            number,
+            position,
+            change: Change::Decomposed(instance),
+        }))
+    }
+
+    /// What a rank chooses in a search, which lists of the instances that are not dead each network
+    /// once, with its number; none where it is not one that is listed. A number that doesn't fit 64
+    /// bits is refused as memory is.
+    pub fn choose_listed(
+        &self,
+        alloc: Global,
+        task: &Task,
+        rank: u64,
+    ) -> Result<Option<Choice>, AllocError>
+        ensures choice { IfOk result (λ o. option_map (λ x. choice_of self.now x) o ≡ choose_listed task.now self.now rank) }
+        ensures number { IfOk result (λ o. IfSome o (λ x. number_at task.now self.now rank ≡ Some x.number)) }
+    {
+        let _initial = task.initial_atoms();
+        let Some((position, goal)) = self.first_free_task() else {
+            return choose_free(alloc, task, self, rank);
+        };
+        let mut listed = distinct_live_methods_of(alloc, task, goal)?;
+        let place = rank as usize;
+        if place >= listed.len() {
+            return Ok(None);
+        }
+        let instance = listed.swap_remove(place);
+        let Some(number) = number_of(alloc, task, goal, &instance)? else {
+            return Err(AllocError);
         };
         Ok(Some(Choice {
             number,

@@ -40,13 +40,14 @@ pub trait Machine: Sync {
     fn new_cache(&self) -> Result<Self::Cache, AllocError>
         ensures { IfOk result (owns self.now) };
 
-    /// Puts into the cache what the choices at this configuration need. It keeps what it has.
+    /// Puts into the cache what the choices at this configuration need. It keeps what it has, also where memory is
+    /// refused: the cache can be used on.
     fn prepare(&self, cache: &mut Self::Cache, at: &Self::Configuration) -> Result<(), AllocError>
         requires known { belongs self.now at.now }
         requires own { owns self.now cache.old }
-        ensures owned { OnOk result (owns self.now cache.new) }
+        ensures owned { owns self.now cache.new }
         ensures ready { OnOk result (is_ready self.now cache.new at.now) }
-        ensures kept { OnOk result ((c : Self.Configuration) → is_ready self.now cache.old c → is_ready self.now cache.new c) };
+        ensures kept { (c : Self.Configuration) → is_ready self.now cache.old c → is_ready self.now cache.new c };
 
     /// The choices whose numbers are not dead, ascending.
     fn live_choices(

@@ -1,5 +1,7 @@
 use Rattle.std.proofs.Common.{◌≡◌, ◌++◌, [], ◌∷◌, ◌+◌, ◌*◌, ◌<◌, ◌≤◌, ℕ, true≢false, sym, ap, ◌∙◌, arith, length, append_assoc, subst, map, take, get_or, List, slice_get, Some}
 use Rattle.std.specs.List.{AllZip}
+use Rattle.std.specs.Prelude.{Result, Ok, Err}
+use Rattle.std.specs.Result.{OnErr}
 use Rattle.std.proofs.lemmas.List.{take_all, take_more}
 use Rattle.std.proofs.lemmas.Nat.{mul-le}
 use Rattle.std.proofs.lemmas.Option.{slice_get-get_or, slice_get_within, same_Some}
@@ -105,3 +107,14 @@ returns-clause-whole g c =
             (subst (λ l. AllZip (λ k s. IsSuccessor (IsLiveStep m) (IsDone m) c.args.rank from (g.M.Machine.number k) s) l kept.0) (take_all c.loop-choice.choice-index listed c.loop-choice-test.false) kept.2),
       ),
     )
+
+-- what holds, holds where there is an error
+on_err : {T E P : Type 0} (r : Result T E) → P → OnErr r P
+on_err (Ok v) p = tt
+on_err (Err e) p = p
+
+pub returns-in_err-configuration-clause-refused : goal.returns-in_err-configuration-clause-refused
+returns-in_err-configuration-clause-refused g c = on_err c.from_residual-in_err-configuration.result (c.loop-choice.invariant.0, c.loop-choice.invariant.1)
+
+pub returns-in_err-push-clause-refused : goal.returns-in_err-push-clause-refused
+returns-in_err-push-clause-refused g c = on_err c.from_residual-in_err-push.result (c.loop-choice.invariant.0, c.in_err-push.ensures.items ∙ c.loop-choice.invariant.1)

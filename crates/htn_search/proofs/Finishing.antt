@@ -1,0 +1,38 @@
+-- Whether a word finishes, found out number by number.
+use Rattle.std.proofs.Common.{◌≡◌, ℕ, ◌<◌, List, [], ◌∷◌, length, get_or, Some, None, Contains, slice_get, option_map, true, sym, ap, ◌∙◌, subst}
+use Rattle.std.proofs.lemmas.Option.{none-some, same_Some, slice_get-get_or, slice_get-map}
+use Rattle.htn_model.specs.Grounding.{problem_of}
+use Rattle.htn_model.specs.Instance.{Instance}
+use Rattle.htn_model.specs.Instances.{initials}
+use Rattle.htn_model.specs.Levels.{is_done}
+use Rattle.htn_model.specs.Machine.{Config, choose, result_of, start, step_by, FinishesFrom, Finishes}
+use Rattle.htn_model.specs.Problem.{Problem}
+use Rattle.htn_model.specs.Task.{Task}
+use Rattle.htn_answer.proofs.Words.{done_from, done_back}
+
+module _ (problem : Problem) (c : Config) (n : ℕ) (rest : List ℕ) where
+  pub one_onward : (next : Config) → step_by problem c n ≡ Some next → FinishesFrom problem (n ∷ rest) c → FinishesFrom problem rest next
+  one_onward next step h = subst (FinishesFrom problem rest) (same_Some h.0 next (sym h.1 ∙ step)) h.2
+
+  pub one_back : (next : Config) → step_by problem c n ≡ Some next → FinishesFrom problem rest next → FinishesFrom problem (n ∷ rest) c
+  one_back next step h = (next, step, h)
+
+  -- a number that chooses nothing
+  pub stuck : choose problem c n ≡ None → FinishesFrom problem (n ∷ rest) c → ⊥
+  stuck none h = none-some h.0 (sym (ap (option_map (result_of c)) none) ∙ h.1)
+
+module _ (t : Task) (place : ℕ) (items : List Instance) (x : Instance) (all : items ≡ initials t) (inside : place < length items) (is : x ≡ get_or items place x) where
+  pub stands_there : slice_get (problem_of t).initials place ≡ Some x.network
+  stands_there =
+      slice_get-map (λ (i : Instance). i.network) (initials t) place
+      ∙ ap (option_map (λ (i : Instance). i.network)) (ap (λ l. slice_get l place) (sym all) ∙ slice_get-get_or items place x inside ∙ ap Some (sym is))
+
+  pub is_initial : Contains (initials t) x
+  is_initial = subst (λ l. Contains l x) all (place, inside, sym is)
+
+  module _ (numbers : List ℕ) where
+    pub finishes_back : FinishesFrom (problem_of t) numbers (start (problem_of t) x.network) → Finishes (problem_of t) (place ∷ numbers)
+    finishes_back h = (x.network, stands_there, h)
+
+    pub finishes_onward : Finishes (problem_of t) (place ∷ numbers) → FinishesFrom (problem_of t) numbers (start (problem_of t) x.network)
+    finishes_onward h = subst (λ n. FinishesFrom (problem_of t) numbers (start (problem_of t) n)) (same_Some h.0 x.network (sym h.1 ∙ stands_there)) h.2

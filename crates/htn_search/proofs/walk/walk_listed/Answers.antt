@@ -1,0 +1,111 @@
+use Rattle.std.proofs.Common.{◌≡◌, ◌+◌, ◌∷◌, ◌++◌, [], get_or, drop, sym, refl, ap, ap₂, ◌∙◌, subst, append_assoc, append-nil}
+use Rattle.std.proofs.lemmas.List.{drop_more, drop_all, map-append}
+use Rattle.htn_model.specs.Grounding.{problem_of}
+use Rattle.htn_model.specs.Machine.{FinishesFrom, start}
+use Rattle.htn_model.proofs.Grounded.{tasks_are_grounded}
+use Rattle.htn_net.specs.Listed.{number_of}
+use Rattle.htn_search.specs.declared.trail.Move.{Move}
+use Rattle.htn_search.specs.Places.{places_view}
+use Rattle.htn_search.specs.Told.{FinishesListed, numbers_of_moves, told}
+use Rattle.htn_search.specs.Walk.{recorded}
+use Rattle.htn_search.proofs.Told.{finishes_told, next_chooses, one_told}
+use Rattle.htn_search.proofs.Way.{IsUnderWay, way_begins, walk_on}
+use Rattle.htn_search.proofs.Solved.{solved}
+use Rattle.htn_search.proofs.walk.walk_listed.Goals as goal
+
+pub loop-rank-init : goal.loop-rank-init
+loop-rank-init c =
+    let t = c.args.task.now in
+    let ranks = c.args.ranks.now in
+    let network = c.args.initial.now.network in
+    let walk = c.in_ok-walk.walk in
+    let begins = c.in_ok-walk.ensures in
+    record {
+      way = way_begins (problem_of t) (told t walk.config ranks) network walk begins
+          (subst (λ x. FinishesFrom (problem_of t) (told t x ranks) (start (problem_of t) network)) (sym begins.config) (finishes_told t ranks (start (problem_of t) network) c.requires.finishes));
+      leads = subst (λ x. FinishesListed t x ranks) (sym begins.config) c.requires.finishes;
+      numbers = ap (λ l. numbers_of_moves l ++ told t walk.config ranks) begins.trail;
+    }
+
+pub follow_listed-requires-clause-chosen : goal.follow_listed-requires-clause-chosen
+follow_listed-requires-clause-chosen c =
+    let t = c.args.task.now in
+    let ranks = c.args.ranks.now in
+    let i = c.loop-rank.rank-index in
+    let left : drop i ranks ≡ get_or ranks i 0 ∷ drop (i + 1) ranks = drop_more ranks i 0 c.loop-rank-test.true in
+    next_chooses t c.loop-rank.walk.config (get_or ranks i 0) (drop (i + 1) ranks) (subst (FinishesListed t c.loop-rank.walk.config) left c.loop-rank.invariant.leads)
+
+pub loop-rank-preserved : goal.loop-rank-preserved
+loop-rank-preserved c =
+    let t = c.args.task.now in
+    let problem = problem_of t in
+    let ranks = c.args.ranks.now in
+    let first = c.in_ok-walk.walk.config in
+    let word = told t first ranks in
+    let roots = places_view c.in_ok-walk.walk.places.items in
+    let old = c.loop-rank.walk in
+    let new = c.follow_listed.new.self in
+    let i = c.loop-rank.rank-index in
+    let rank = get_or ranks i 0 in
+    let later = drop (i + 1) ranks in
+    let left : drop i ranks ≡ rank ∷ later = drop_more ranks i 0 c.loop-rank-test.true in
+    let leads = subst (FinishesListed t old.config) left c.loop-rank.invariant.leads in
+    let one = c.in_ok-follow_listed.ensures in
+    let number = number_of t old.config rank in
+    let on = one_told t old.config rank later one.choice new.config leads one.chooses one.config in
+    let rest = told t new.config later in
+    let split : told t old.config (drop i ranks) ≡ number ∷ rest = ap (told t old.config) left ∙ on.0 in
+    let way : IsUnderWay problem word first roots (number ∷ rest) old.config old.trail.items (places_view old.places.items) (places_view old.visits.items) =
+    subst (λ l. IsUnderWay problem word first roots l old.config old.trail.items (places_view old.places.items) (places_view old.visits.items)) split c.loop-rank.invariant.way in
+    record {
+      way = subst (λ x. IsUnderWay problem word first roots rest x new.trail.items (places_view new.places.items) (places_view new.visits.items)) (sym one.config)
+          (walk_on problem old.config number one.choice one.chooses one.last one.is_move rest word first roots
+          old.trail.items new.trail.items (places_view old.places.items) (places_view new.places.items) (places_view old.visits.items) (places_view new.visits.items)
+          way one.trail one.places one.visits);
+      leads = on.1;
+      numbers =
+          ap (λ l. numbers_of_moves l ++ rest) one.trail
+          ∙ ap (λ l. l ++ rest) (map-append (λ (m : Move). m.number) old.trail.items (one.last ∷ []))
+          ∙ append_assoc (numbers_of_moves old.trail.items) (one.last.number ∷ []) rest
+          ∙ ap (λ n. numbers_of_moves old.trail.items ++ n ∷ rest) one.is_move.chosen_by
+          ∙ ap (λ l. numbers_of_moves old.trail.items ++ l) (sym split)
+          ∙ c.loop-rank.invariant.numbers;
+    }
+
+pub returns-clause-numbers : goal.returns-clause-numbers
+returns-clause-numbers c =
+    let t = c.args.task.now in
+    let ranks = c.args.ranks.now in
+    let old = c.loop-rank.walk in
+    let none : drop c.loop-rank.rank-index ranks ≡ [] = drop_all c.loop-rank.rank-index ranks c.loop-rank-test.false in
+    sym (append-nil (numbers_of_moves old.trail.items)) ∙ ap (λ l. numbers_of_moves old.trail.items ++ told t old.config l) (sym none)
+    ∙ c.loop-rank.invariant.numbers ∙ ap (λ x. told t x ranks) c.in_ok-walk.ensures.config
+
+pub returns-clause-within : goal.returns-clause-within
+returns-clause-within c =
+    let t = c.args.task.now in
+    let ranks = c.args.ranks.now in
+    let first = c.in_ok-walk.walk.config in
+    let roots = places_view c.in_ok-walk.walk.places.items in
+    let old = c.loop-rank.walk in
+    let none : drop c.loop-rank.rank-index ranks ≡ [] = drop_all c.loop-rank.rank-index ranks c.loop-rank-test.false in
+    (subst (λ l. IsUnderWay (problem_of t) (told t first ranks) first roots (told t old.config l) old.config old.trail.items (places_view old.places.items) (places_view old.visits.items)) none c.loop-rank.invariant.way).within
+
+pub returns-clause-solved : goal.returns-clause-solved
+returns-clause-solved c =
+    let t = c.args.task.now in
+    let problem = problem_of t in
+    let ranks = c.args.ranks.now in
+    let network = c.args.initial.now.network in
+    let first = c.in_ok-walk.walk.config in
+    let roots = places_view c.in_ok-walk.walk.places.items in
+    let old = c.loop-rank.walk in
+    let none : drop c.loop-rank.rank-index ranks ≡ [] = drop_all c.loop-rank.rank-index ranks c.loop-rank-test.false in
+    let numbers = told t (start problem network) ranks in
+    let way : IsUnderWay problem numbers first roots [] old.config old.trail.items (places_view old.places.items) (places_view old.visits.items) =
+    subst (λ w. IsUnderWay problem w first roots [] old.config old.trail.items (places_view old.places.items) (places_view old.visits.items)) (ap (λ x. told t x ranks) c.in_ok-walk.ensures.config)
+    (subst (λ l. IsUnderWay problem (told t first ranks) first roots (told t old.config l) old.config old.trail.items (places_view old.places.items) (places_view old.visits.items)) none c.loop-rank.invariant.way) in
+    λ number is.
+    solved problem (tasks_are_grounded t c.objects-typed.ensures.typed) number numbers (network, is, finishes_told t ranks (start problem network) c.requires.finishes) network is first roots
+    c.in_ok-walk.ensures.config c.in_ok-walk.ensures.places
+    old.config old.trail.items (places_view old.places.items) (places_view old.visits.items) way (recorded number old) refl refl refl
