@@ -12,6 +12,11 @@ is_help_word word = pointwise nat_eq word (codes "help") || starts_with nat_eq w
 abbrev pub asks_for_help : {Z : Type 0} → List (String Z) → Bool
 asks_for_help words = list_any (λ word. is_help_word (string_bytes word)) words
 
+-- a refusal that the words are the reason of
+abbrev pub IsOfWords : Refusal → Type 0
+IsOfWords OutOfMemory = ⊥
+IsOfWords _ = ⊤
+
 -- a refusal with the text of help
 abbrev pub ShowsHelp : Refusal → Type 0
 ShowsHelp (Help error) = ⊤

@@ -1,2 +1,4 @@
+pub mod CommandLine
+pub mod Examples
 pub mod Help
 pub mod Request

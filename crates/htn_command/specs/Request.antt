@@ -1,8 +1,47 @@
--- What a request keeps.
+-- What the words of a command line ask for.
+use Rattle.std.specs.Prelude.{◌≡◌, List, [], Option, Some, codes}
+use Rattle.clap.specs.Walk.{Row, Text, first_of, one_of}
 use Rattle.word_machine.specs.Bounds.{AreInRange}
+use Rattle.htn_command.specs.CommandLine.{IsNumber, faults, read_by}
 use Rattle.htn_command.specs.declared.request.Request.{Request}
 use Rattle.htn_command.specs.declared.request.Request.TheVariants.{Plan}
 
--- the bounds are in range
-abbrev pub IsInRange : Request → Type 0
-IsInRange (Plan domain problem bounds) = AreInRange bounds.nodes bounds.workers bounds.piece
+-- the command of a request
+abbrev pub command_of : Request → Text
+command_of (Plan domain problem bounds) = codes "plan"
+
+-- what stands under the names of the command
+abbrev pub IsGiven : List Row → Request → Type 0
+IsGiven rows (Plan domain problem bounds) =
+    (first_of (codes "DOMAIN") rows ≡ Some domain.now)
+    × (first_of (codes "PROBLEM") rows ≡ Some problem.now)
+    × IsNumber (one_of (codes "nodes") rows) bounds.nodes
+    × IsNumber (one_of (codes "workers") rows) bounds.workers
+    × IsNumber (one_of (codes "piece") rows) bounds.piece
+    × AreInRange bounds.nodes bounds.workers bounds.piece
+
+-- a command with what it was given is this request
+abbrev pub IsOf : Option (Text × List Row) → Request → Type 0
+IsOf found request = (rows : List Row) × (found ≡ Some (command_of request, rows)) × IsGiven rows request
+
+abbrev pub IsOfNothing : Option (Text × List Row) → Type 0
+IsOfNothing found = (request : Request) → IsOf found request → ⊥
+
+-- the words have no fault, and this is what they ask for
+pub record IsAskedBy (words : List Text) (request : Request) : Type 0 where
+  pub sound : faults words ≡ []
+  pub given : IsOf (read_by words) request
+
+-- no request is asked for
+abbrev pub AskNothing : List Text → Type 0
+AskNothing words = (request : Request) → IsAskedBy words request → ⊥
+
+-- the same command, over the same files, within the same bounds
+abbrev pub AreAlike : Request → Request → Type 0
+AreAlike (Plan domain problem bounds) (Plan other second limits) =
+    (domain.now ≡ other.now) × (problem.now ≡ second.now)
+    × (bounds.nodes ≡ limits.nodes) × (bounds.workers ≡ limits.workers) × (bounds.piece ≡ limits.piece)
+
+-- words ask for one request at most
+abbrev pub RequestsAreUnique : Type 0
+RequestsAreUnique = (words : List Text) (request other : Request) → IsAskedBy words request → IsAskedBy words other → AreAlike request other

@@ -1,10 +1,12 @@
 //! The command line of `htnplan`: what its words ask for.
 #![tactic(auto)]
 
+mod laws;
 mod refusal;
 mod request;
 #[cfg(test)]
 mod tests;
 
+pub use laws::{requests_are_unique, worked_lines_hold};
 pub use refusal::Refusal;
 pub use request::{Request, parse};

@@ -1,5 +1,6 @@
 //! Command lines that ask for no run.
-ghost use Rattle.std.specs.Prelude.{◌≡◌, true};
+ghost use Rattle.std.specs.Prelude.{◌≡◌, ◌≢◌, true};
+ghost use Rattle.clap.specs.Words.{kind_of};
 ghost use Rattle.htn_command.specs.Help as spec;
 
 use clap::Error;
@@ -36,12 +37,14 @@ fn ask_for_help(words: &[String]) -> bool
 impl Refusal {
     /// What an error of `clap` over these words is.
     pub(crate) fn of(error: Error, words: &[String]) -> Refusal
-        ensures { spec.ShowsHelp result → spec.asks_for_help words.now ≡ true }
+        ensures refused { spec.IsOfWords result → kind_of error ≢ ErrorKind.OutOfMemory }
+        ensures help { spec.ShowsHelp result → kind_of error ≡ ErrorKind.DisplayHelp }
+        ensures asked { spec.ShowsHelp result → spec.asks_for_help words.now ≡ true }
     {
         if error.kind() == ErrorKind::OutOfMemory {
             return Refusal::OutOfMemory;
         }
-        if !error.use_stderr() && ask_for_help(words) {
+        if error.kind() == ErrorKind::DisplayHelp && ask_for_help(words) {
             return Refusal::Help(error);
         }
         Refusal::Words(error)

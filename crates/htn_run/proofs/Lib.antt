@@ -3,3 +3,4 @@ mod Saying
 mod Names
 mod OneAnswer
 mod Exists
+mod Stopping

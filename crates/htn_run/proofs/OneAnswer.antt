@@ -68,7 +68,7 @@ answers_are_unique domain problem bound outcome other text second (t, is, says) 
 
 pub faulty_have_no_answer : FaultyHaveNoAnswer
 faulty_have_no_answer domain problem bounds (fault.Domain f) bound outcome text of refuses (t, is, says) = refuses.0 is.domain_tree is.domain_spelled
-faulty_have_no_answer domain problem bounds (fault.Problem f) bound outcome text of (d, spelled, unspelled, at) (t, is, says) = unspelled is.problem_tree is.problem_spelled
+faulty_have_no_answer domain problem bounds (fault.Problem f) bound outcome text of (d, spelled, faulty) (t, is, says) = faulty.0 is.problem_tree is.problem_spelled
 faulty_have_no_answer domain problem bounds (fault.Check f) bound outcome text of (d, p, spelled, spelled_too, fails) (t, is, says) =
     is.fits f
     (subst (λ x. FailsAt is.domain_tree x f) (problem_laws.one problem p is.problem_tree spelled_too is.problem_spelled)

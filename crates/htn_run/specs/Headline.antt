@@ -1,6 +1,8 @@
 -- What a run answers for a domain's text, a problem's text and a bound, and what it writes.
-use Rattle.std.specs.Prelude.{◌≡◌, ℕ, ◌<◌, List, Option, Some, None, codes, ⊤}
+use Rattle.std.specs.Prelude.{◌≡◌, ◌≢◌, ℕ, ◌<◌, List, Option, Some, None, codes, ⊤}
 use Rattle.hddl_words.specs.Words.{Word}
+use Rattle.hddl_words.specs.declared.fault.TextFault.{TextFault}
+use Rattle.hddl_words.specs.declared.fault.TextFault.TheVariants as spelling
 use Rattle.hddl_tree.specs.declared.domain.DomainText.{DomainText}
 use Rattle.hddl_tree.specs.declared.problem.ProblemText.{ProblemText}
 use Rattle.hddl_text.specs.Grammar.{DerivesDomain, DerivesProblem}
@@ -46,11 +48,14 @@ Answers domain problem bound outcome text = (task : Task) × IsTaskOfTexts domai
 abbrev pub IsUnspelled : {Tree : Type 0} → (List Word → Tree → Type 0) → List ℕ → Type 0
 IsUnspelled {Tree = Tree} Derives text = (tree : Tree) → Spells Derives text tree → ⊥
 
+-- no tree is spelled, and this fault stands in the text; want of memory is none
+abbrev pub IsFaulty : {Tree : Type 0} → (List Word → Tree → Type 0) → List ℕ → TextFault → Type 0
+IsFaulty Derives text f = IsUnspelled Derives text × (f ≢ spelling.OutOfMemory) × FaultAt Derives text f
+
 -- why there is no answer: the domain is read first, then the problem, and then the pair is checked
 abbrev pub Refuses : List ℕ → List ℕ → Bounds → RunFault → Type 0
-Refuses domain problem bounds (fault.Domain f) = IsUnspelled DerivesDomain domain × FaultAt DerivesDomain domain f
-Refuses domain problem bounds (fault.Problem f) =
-    (d : DomainText) × Spells DerivesDomain domain d × IsUnspelled DerivesProblem problem × FaultAt DerivesProblem problem f
+Refuses domain problem bounds (fault.Domain f) = IsFaulty DerivesDomain domain f
+Refuses domain problem bounds (fault.Problem f) = (d : DomainText) × Spells DerivesDomain domain d × IsFaulty DerivesProblem problem f
 Refuses domain problem bounds (fault.Check f) =
     (d : DomainText) × (p : ProblemText) × Spells DerivesDomain domain d × Spells DerivesProblem problem p × FailsAt d p f
 Refuses domain problem bounds fault.OutOfMemory = ⊤

@@ -1,9 +1,9 @@
--- How the run of a command line ends without an answer: its status, and what it leaves of the output.
-use Rattle.std.specs.Prelude.{◌≡◌, ◌≢◌, ℕ, Bool, true, List, Option}
-use Rattle.std.specs.Io.KnownBytes.{Appends}
-use Rattle.htn_run.specs.Headline.{Answers}
-use Rattle.htn_run.specs.declared.outcome.Outcome.{Outcome}
-use Rattle.htn_run.specs.declared.outcome.Outcome.TheVariants.{Found}
+-- How the run of a request stops without an answer: its status, and what it leaves of the output.
+use Rattle.std.specs.Prelude.{◌≡◌, ℕ, Bool, true, List, Option}
+use Rattle.htn_command.specs.declared.request.Request.{Request}
+use Rattle.plan_text.specs.Out.{TakesBeginning}
+use Rattle.htn_run.specs.Files.{File, MayFail}
+use Rattle.htn_run.specs.Requests.{IsCutShort, LacksFile, Refuses}
 use Rattle.htn_run.specs.declared.outcome.RunFault.{RunFault}
 use Rattle.htn_run.specs.declared.outcome.RunFault.TheVariants.{Output, OutOfMemory, NoThread}
 use Rattle.htn_run.specs.declared.stop.Stop.{Stop}
@@ -19,24 +19,22 @@ abbrev pub status_of : Stop → ℕ
 status_of (Unreadable text) = 5
 status_of (Run fault) = status_of_fault fault
 
--- a fault of the output has made it fail, and any other leaves it as it was
-abbrev pub FaultLeaves : {O : Type 0} → (O → Bool) → O → O → RunFault → Type 0
-FaultLeaves has_failed old new Output = has_failed new ≡ true
-FaultLeaves has_failed old new _ = new ≡ old
+-- why a file was not read
+abbrev pub IsUnread : File → Stop → Type 0
+IsUnread file (Unreadable text) = MayFail file
+IsUnread file (Run fault) = fault ≡ OutOfMemory
 
-abbrev pub Leaves : {O : Type 0} → (O → Bool) → O → O → Stop → Type 0
-Leaves has_failed old new (Unreadable text) = new ≡ old
-Leaves has_failed old new (Run fault) = FaultLeaves has_failed old new fault
+-- the output failed after a beginning of some text, or memory was refused and it is as it was
+abbrev pub CutsShort : {O : Type 0} → (O → Option (List ℕ)) → (O → Bool) → O → O → RunFault → Type 0
+CutsShort contents has_failed old new Output = ((text : List ℕ) × TakesBeginning (contents old) (contents new) text) × (has_failed new ≡ true)
+CutsShort contents has_failed old new fault = (fault ≡ OutOfMemory) × (new ≡ old)
 
--- the text of an answer for some two texts was added to the output
-pub record AddsAnswer (outcome : Outcome) (old new : Option (List ℕ)) : Type 0 where
-  pub domain : List ℕ
-  pub problem : List ℕ
-  pub bound : ℕ
-  pub text : List ℕ
-  pub answers : Answers domain problem bound outcome text
-  pub added : Appends old new text
+abbrev pub StopsByFault : {O : Type 0} → (O → Option (List ℕ)) → (O → Bool) → (List ℕ → File) → Request → O → O → RunFault → Type 0
+StopsByFault contents has_failed files request old new Output = IsCutShort files (contents old) (contents new) request × (has_failed new ≡ true)
+StopsByFault contents has_failed files request old new OutOfMemory = new ≡ old
+StopsByFault contents has_failed files request old new fault = Refuses files request fault × (new ≡ old)
 
--- the same of an answer that is no plan
-abbrev pub AddsNoPlan : Option (List ℕ) → Option (List ℕ) → Type 0
-AddsNoPlan old new = (outcome : Outcome) × (outcome ≢ Found) × AddsAnswer outcome old new
+-- how the run of a request stops, and what it leaves
+abbrev pub Stops : {O : Type 0} → (O → Option (List ℕ)) → (O → Bool) → (List ℕ → File) → Request → O → O → Stop → Type 0
+Stops contents has_failed files request old new (Unreadable text) = LacksFile files request × (new ≡ old)
+Stops contents has_failed files request old new (Run fault) = StopsByFault contents has_failed files request old new fault

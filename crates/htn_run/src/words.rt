@@ -1,7 +1,10 @@
 //! The run of a command line.
-ghost use Rattle.std.specs.Prelude.{◌≡◌, ◌≢◌, ◌≤◌, ◌⊎◌, true, IfOk, IfErr, OnOk};
-ghost use Rattle.htn_command.specs.Help.{asks_for_help};
-ghost use Rattle.htn_run.specs.Stops.{AddsAnswer, AddsNoPlan, FaultLeaves, Leaves};
+ghost use Rattle.std.specs.Prelude.{◌≡◌, ◌≤◌, ◌⊎◌, ℕ, List, true, IfOk, IfErr, OnOk};
+ghost use Rattle.std.specs.Io.KnownBytes.{Appends};
+ghost use Rattle.htn_run.specs.Ends.{HasFault, IsCutShort, LacksFile, NothingIsAsked, PrintsNoPlan, PrintsPlan};
+ghost use Rattle.htn_run.specs.Files.{MayGive};
+ghost use Rattle.htn_run.specs.Requests.{AddsAnswer};
+ghost use Rattle.htn_run.specs.Stops.{CutsShort, IsUnread, Stops};
 
 use crate::line::Line;
 use crate::outcome::{Outcome, RunFault};
@@ -11,7 +14,7 @@ use crate::stop::Stop;
 use clap::Error;
 use htn_command::{Refusal, Request, parse};
 use htn_plan::{Out, put_all};
-use htn_search::NoGate;
+use htn_search::{Bounds, NoGate};
 use std::alloc::Global;
 use std::fmt::Write;
 use std::sync::Wait;
@@ -29,7 +32,7 @@ use std::thread::Threads;
 /// | 5 | a file can't be read, or the output can't be written | one line |
 ///
 /// The files are read in the order of the words. Nothing is written to `out` before the answer is known. A write to
-/// `err` that fails changes no status. What the words mean is shown by tests.
+/// `err` that fails changes no status. What the files hold is tied to the answer as far as the source tells it.
 pub fn run_words<S: Source, O: Out, E: Out, R: Threads + Wait + Sync>(
     rt: &R,
     alloc: Global,
@@ -39,16 +42,21 @@ pub fn run_words<S: Source, O: Out, E: Out, R: Threads + Wait + Sync>(
     err: &mut E,
 ) -> u8
     ensures status { result ≤ 5 }
+    ensures found { result ≡ 0 → PrintsPlan words.now (S.files files.old) (O.contents out.old) (O.contents out.new) }
+    ensures none { result ≡ 1 → PrintsNoPlan words.now (S.files files.old) (O.contents out.old) (O.contents out.new) }
     ensures works { result ≤ 1 → O.has_failed out.new ≡ O.has_failed out.old }
-    ensures found { result ≡ 0 → AddsAnswer Outcome.Found (O.contents out.old) (O.contents out.new) ⊎ (asks_for_help words.now ≡ true) }
-    ensures none { result ≡ 1 → AddsNoPlan (O.contents out.old) (O.contents out.new) }
+    ensures quiet { result ≤ 1 → err.new ≡ err.old }
+    ensures refused { result ≡ 2 → NothingIsAsked words.now }
+    ensures faulty { result ≡ 3 → HasFault words.now (S.files files.old) }
     ensures kept { 2 ≤ result → result ≤ 4 → out.new ≡ out.old }
-    ensures failed { result ≡ 5 → (out.new ≡ out.old) ⊎ (O.has_failed out.new ≡ true) }
+    ensures failed { result ≡ 5 → (LacksFile words.now (S.files files.old) × (out.new ≡ out.old))
+        ⊎ (IsCutShort words.now (S.files files.old) (O.contents out.old) (O.contents out.new) × (O.has_failed out.new ≡ true)) }
 {
     match parse(alloc, words) {
         Ok(request) => match run_request(rt, alloc, request, files, out) {
             Ok(Outcome::Found) => 0,
-            Ok(Outcome::NoPlan | Outcome::Unsolvable) => 1,
+            Ok(Outcome::NoPlan) => 1,
+            Ok(Outcome::Unsolvable) => 1,
             Err(stop) => stop.tell(err),
         },
         Err(Refusal::Help(help)) => match write_help(alloc, &help, out) {
@@ -64,8 +72,9 @@ pub fn run_words<S: Source, O: Out, E: Out, R: Threads + Wait + Sync>(
 }
 
 fn write_help<O: Out>(alloc: Global, help: &Error, out: &mut O) -> Result<(), RunFault>
+    ensures added { OnOk result ((text : List ℕ) × Appends (O.contents out.old) (O.contents out.new) text) }
     ensures works { OnOk result (O.has_failed out.new ≡ O.has_failed out.old) }
-    ensures stopped { IfErr result (FaultLeaves O.has_failed out.old out.new) }
+    ensures stopped { IfErr result (CutsShort O.contents O.has_failed out.old out.new) }
 {
     let text = help.to_string(alloc)?;
     put_all(out, text.as_bytes())?;
@@ -79,29 +88,44 @@ fn run_request<S: Source, O: Out, R: Threads + Wait + Sync>(
     files: &mut S,
     out: &mut O,
 ) -> Result<Outcome, Stop>
-    ensures answered { IfOk result (λ outcome. AddsAnswer outcome (O.contents out.old) (O.contents out.new)) }
+    ensures answered { IfOk result (λ outcome. AddsAnswer (S.files files.old) (O.contents out.old) (O.contents out.new) outcome request.entry) }
     ensures works { OnOk result (O.has_failed out.new ≡ O.has_failed out.old) }
-    ensures stopped { IfErr result (Leaves O.has_failed out.old out.new) }
+    ensures stopped { IfErr result (Stops O.contents O.has_failed (S.files files.old) request.entry out.old out.new) }
 {
     match request {
         Request::Plan {
             domain,
             problem,
             bounds,
-        } => {
-            let domain = read_file(alloc, files, "domain", domain)?;
-            let problem = read_file(alloc, files, "problem", problem)?;
-            Ok(run_plan(
-                rt,
-                alloc,
-                domain.as_slice(),
-                problem.as_slice(),
-                bounds,
-                &NoGate,
-                out,
-            )?)
-        }
+        } => run_files(rt, alloc, domain, problem, bounds, files, out),
     }
+}
+
+// The run of a request for a plan.
+fn run_files<S: Source, O: Out, R: Threads + Wait + Sync>(
+    rt: &R,
+    alloc: Global,
+    domain: &str,
+    problem: &str,
+    bounds: Bounds,
+    files: &mut S,
+    out: &mut O,
+) -> Result<Outcome, Stop>
+    ensures answered { IfOk result (λ outcome. AddsAnswer (S.files files.old) (O.contents out.old) (O.contents out.new) outcome (Request.Plan domain.entry problem.entry bounds)) }
+    ensures works { OnOk result (O.has_failed out.new ≡ O.has_failed out.old) }
+    ensures stopped { IfErr result (Stops O.contents O.has_failed (S.files files.old) (Request.Plan domain.entry problem.entry bounds) out.old out.new) }
+{
+    let domain = read_file(alloc, files, "domain", domain)?;
+    let problem = read_file(alloc, files, "problem", problem)?;
+    Ok(run_plan(
+        rt,
+        alloc,
+        domain.as_slice(),
+        problem.as_slice(),
+        bounds,
+        &NoGate,
+        out,
+    )?)
 }
 
 // A file's bytes; `text` says on the standard error which one can't be read.
@@ -111,7 +135,9 @@ fn read_file<S: Source>(
     text: &'static str,
     name: &str,
 ) -> Result<Vec<u8>, Stop>
-    ensures { IfErr result (λ stop. stop ≢ Stop.Run RunFault.Output) }
+    ensures bytes { IfOk result (λ bytes. MayGive (S.files files.old name.now) bytes.items) }
+    ensures unread { IfErr result (IsUnread (S.files files.old name.now)) }
+    ensures kept { (other : List ℕ) → S.files files.new other ≡ S.files files.old other }
 {
     match files.read(alloc, name) {
         Ok(bytes) => Ok(bytes),

@@ -1,0 +1,4 @@
+mod Building
+mod Lines
+mod Matches
+mod Unique

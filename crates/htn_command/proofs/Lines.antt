@@ -1,0 +1,19 @@
+-- Command lines, read by the definitions.
+use Rattle.std.proofs.Common.{refl}
+use Rattle.clap.proofs.OnLiterals.{clap_on_literals}
+use Rattle.htn_command.specs.CommandLine.{faults, htnplan, read_by}
+use Rattle.htn_command.specs.Examples.{ExamplesHold}
+
+pub examples_hold : ExamplesHold
+unfolding clap_on_literals faults htnplan read_by
+examples_hold = record {
+  domain = refl;
+  problem = refl;
+  default_nodes = refl;
+  nodes = refl;
+  workers = refl;
+  sound = (refl, refl);
+  no_worker = refl;
+  no_problem = refl;
+  help = refl;
+}

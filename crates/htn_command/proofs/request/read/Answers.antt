@@ -1,0 +1,26 @@
+use Rattle.std.proofs.Common.{rules, sym, subst}
+use Rattle.std.proofs.lemmas.Result.{err_from_is_err_and}
+use Rattle.htn_command.specs.Request.{IsOf}
+use Rattle.htn_command.proofs.Matches.{faulty_ask_nothing, help_is_due, parse_is_sound, parse_reads}
+use Rattle.htn_command.proofs.request.read.Goals as goal
+
+pub returns-in_err-matches-clause-refused : goal.returns-in_err-matches-clause-refused
+returns-in_err-matches-clause-refused c =
+    let p = err_from_is_err_and c.from_residual-in_err-matches.result c.from_residual-in_err-matches.ensures.1 in
+    rw (p.1, p.2) (faulty_ask_nothing _ _ c.in_err-matches.field-0.0 c.in_ok-command.ensures c.in_err-matches.ensures.kinds)
+
+pub returns-in_err-matches-clause-help : goal.returns-in_err-matches-clause-help
+returns-in_err-matches-clause-help c =
+    let p = err_from_is_err_and c.from_residual-in_err-matches.result c.from_residual-in_err-matches.ensures.1 in
+    rw (p.1, p.2) (help_is_due _ _ c.in_err-matches.field-0.0 c.in_ok-command.ensures c.in_err-matches.ensures.kinds)
+
+pub returns-in-Some-clause-asked : goal.returns-in-Some-clause-asked
+returns-in-Some-clause-asked c = record {
+  sound = parse_is_sound _ _ c.in_ok-command.ensures c.in_ok-matches.ensures.kinds;
+  given = subst (λ found. IsOf found c.in-Some.request) (sym (parse_reads _ _ _ c.in_ok-command.ensures c.in_ok-matches.ensures.matches)) c.in-Some.ensures.some;
+}
+
+pub returns-clause-refused : goal.returns-clause-refused
+returns-clause-refused c enough request asked =
+    let found = parse_reads _ _ _ c.in_ok-command.ensures c.in_ok-matches.ensures.matches in
+    c.in-None.ensures.none (search rules) request (subst (λ found. IsOf found request) found asked.given)

@@ -1,0 +1,9 @@
+-- The status of a process that runs nothing, or doesn't end as its run did.
+use Rattle.std.specs.Prelude.{ℕ}
+use Rattle.htn_run.specs.declared.process.ProcessFault.{ProcessFault}
+use Rattle.htn_run.specs.declared.process.ProcessFault.TheVariants.{NotText, OutOfMemory, Output}
+
+abbrev pub status_of : ProcessFault → ℕ
+status_of NotText = 2
+status_of OutOfMemory = 4
+status_of Output = 5
