@@ -1,6 +1,5 @@
 mod Refusing
 mod Saying
-mod Names
 mod OneAnswer
 mod Exists
 mod Stopping

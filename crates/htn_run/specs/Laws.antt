@@ -6,7 +6,6 @@ use Rattle.hddl_text.specs.Grammar.{DerivesDomain, DerivesProblem}
 use Rattle.hddl_text.specs.Spelling.{Spells}
 use Rattle.hddl_meaning.specs.Items.{IsWellTypedPair}
 use Rattle.htn_model.specs.Task.{Task}
-use Rattle.htn_plan.specs.Naming.{HasDistinctNames}
 use Rattle.word_machine.specs.declared.bounds.Bounds.{Bounds}
 use Rattle.htn_run.specs.declared.outcome.Outcome.{Outcome}
 use Rattle.htn_run.specs.declared.outcome.RunFault.{RunFault}
@@ -47,7 +46,3 @@ abbrev pub FaultyHaveNoAnswer : Type 0
 FaultyHaveNoAnswer =
     (domain problem : List ℕ) (bounds : Bounds) (f : RunFault) (bound : ℕ) (outcome : Outcome) (text : List ℕ)
     → IsOfTexts f → Refuses domain problem bounds f → Answers domain problem bound outcome text → ⊥
-
--- no two tasks or actions of a pair that fits together have one name, and no two objects
-abbrev pub NamesDiffer : Type 0
-NamesDiffer = (domain problem : List ℕ) (task : Task) → IsTaskOfTexts domain problem task → HasDistinctNames task

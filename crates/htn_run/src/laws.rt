@@ -1,5 +1,5 @@
 //! What follows from the definition of an answer. Each function here is a law, with an empty body.
-ghost use Rattle.htn_run.specs.Laws.{AnswersAreUnique, AnswersExist, FaultyHaveNoAnswer, NamesDiffer, TextsHaveATask, TextsHaveOneTask};
+ghost use Rattle.htn_run.specs.Laws.{AnswersAreUnique, AnswersExist, FaultyHaveNoAnswer, TextsHaveATask, TextsHaveOneTask};
 
 /// The two texts and the bound determine the answer: no two outcomes answer them, and no two texts. Texts have one task
 /// at most.
@@ -17,10 +17,4 @@ pub fn answers_exist()
 /// A domain and a problem that are refused for a fault of theirs have no answer, for any bound.
 pub fn faulty_texts_have_no_answer()
     ensures none { FaultyHaveNoAnswer }
-{}
-
-/// No two tasks or actions of a domain and a problem that fit together have one name, and no two objects. So the plan
-/// file of a solution is a shadow of it.
-pub fn names_differ()
-    ensures differ { NamesDiffer }
 {}

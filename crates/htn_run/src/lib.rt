@@ -15,7 +15,7 @@ mod words;
 
 pub use htn_plan::{Out, Sink};
 pub use htn_search::{Bounds, Gate, NoGate};
-pub use laws::{answers_are_unique, answers_exist, faulty_texts_have_no_answer, names_differ};
+pub use laws::{answers_are_unique, answers_exist, faulty_texts_have_no_answer};
 pub use outcome::{Outcome, RunFault};
 pub use process::{ProcessFault, flush, words_of};
 pub use run::{run_plan, run_task};
