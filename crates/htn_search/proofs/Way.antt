@@ -2,10 +2,10 @@
 use Rattle.std.proofs.Common.{◌≡◌, ℕ, zero, suc, ◌+◌, ◌<◌, ◌≤◌, List, [], ◌∷◌, ◌++◌, length, take, drop, get_or, false, true≢false, Some, inl, inr, sym, refl, ap, ap₂, ◌∙◌, subst, append_assoc, arith}
 use Rattle.std.proofs.lemmas.List.{length-map}
 use Rattle.std.proofs.lemmas.Option.{same_Some}
-use Rattle.htn_model.specs.Problem.{Child, precondition, action, task, is_compound, Problem}
+use Rattle.htn_model.specs.Problem.{Child, precondition, action, task, is_compound, Network, Problem}
 use Rattle.htn_model.specs.Tree.{Node, Place, root}
 use Rattle.htn_model.specs.Choice.{splice, child_of}
-use Rattle.htn_model.specs.Machine.{Config, Choice, choose, result_of, step_by, FinishesFrom}
+use Rattle.htn_model.specs.Machine.{Config, Choice, choose, result_of, start, step_by, FinishesFrom}
 use Rattle.htn_model.proofs.Splices.{length_splice}
 use Rattle.htn_model.proofs.Steps.{chosen, step_choice}
 use Rattle.htn_model.proofs.Onward.{visited}
@@ -15,7 +15,9 @@ use Rattle.htn_model.proofs.Rebuild as theory
 use Rattle.htn_ground.specs.Views.{child_view}
 use Rattle.htn_search.specs.declared.trail.Move.{Move}
 use Rattle.htn_search.specs.Trail.{node_over, before_move, before_moves, AreWithin, IsMove}
-use Rattle.htn_search.specs.Places.{child_places, own_place}
+use Rattle.htn_search.specs.Places.{child_places, own_place, places_view}
+use Rattle.htn_search.specs.Walk.{IsStart}
+use Rattle.htn_search.specs.declared.walk.Walk.{Walk}
 use Rattle.htn_search.proofs.Moves.{before_last, within_push}
 
 -- ## The same words
@@ -138,6 +140,15 @@ way_start problem word first roots trail visits h placed t v = record {
   trees = ap (λ l. before_moves l (rebuild problem word first)) t;
   carried_out = ap (λ l. l ++ route problem word first roots) v;
 }
+
+-- a walk that begins is under way
+pub way_begins : (problem : Problem) (word : List ℕ) (network : Network) (walk : Walk) → IsStart problem network walk → FinishesFrom problem word (start problem network)
+    → IsUnderWay problem word walk.config (places_view walk.places.items) word walk.config walk.trail.items (places_view walk.places.items) (places_view walk.visits.items)
+way_begins problem word network walk begins finishes =
+    way_start problem word walk.config (places_view walk.places.items) walk.trail.items (places_view walk.visits.items)
+    (subst (FinishesFrom problem word) (sym begins.config) finishes)
+    (ap length begins.places ∙ length-child_places [] 0 (length network.children) ∙ sym (ap (λ x. length x.open_nodes) begins.config))
+    begins.trail begins.visits
 
 -- what a choice leaves where a step or an action is carried out
 pub childless : (problem : Problem) (c : Config) (number : ℕ) (choice : Choice) → choose problem c number ≡ Some choice

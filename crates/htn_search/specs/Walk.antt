@@ -1,9 +1,9 @@
 -- A walk along a word.
 use Rattle.std.specs.Prelude.{◌≡◌, ℕ, [], ◌∷◌, ◌++◌, get_or, length, Some}
-use Rattle.htn_model.specs.Problem.{Problem}
+use Rattle.htn_model.specs.Problem.{Network, Problem}
 use Rattle.htn_model.specs.Tree.{Solution, nodes_of}
 use Rattle.htn_model.specs.Choice.{splice, child_of}
-use Rattle.htn_model.specs.Machine.{Choice, choose, result_of}
+use Rattle.htn_model.specs.Machine.{Choice, choose, result_of, start}
 use Rattle.htn_search.specs.declared.trail.Move.{Move}
 use Rattle.htn_search.specs.declared.walk.Walk.{Walk}
 use Rattle.htn_search.specs.Trail.{IsMove, before_moves}
@@ -21,6 +21,13 @@ pub record IsOneOn (problem : Problem) (number : ℕ) (old new : Walk) : Type 0 
       ≡ splice choice.position (child_places (get_or (places_view old.places.items) choice.position []) 0 (length choice.network.children)) (places_view old.places.items)
   pub visits : places_view new.visits.items
       ≡ places_view old.visits.items ++ own_place (child_of old.config.open_nodes choice.position) (get_or (places_view old.places.items) choice.position [])
+
+-- the walk at the start with an initial network: its children are open, and nothing is recorded yet
+pub record IsStart (problem : Problem) (network : Network) (walk : Walk) : Type 0 where
+  pub config : walk.config ≡ start problem network
+  pub places : places_view walk.places.items ≡ child_places [] 0 (length network.children)
+  pub trail : walk.trail.items ≡ []
+  pub visits : places_view walk.visits.items ≡ []
 
 -- the solution that a walk has recorded, from an initial network of this number
 abbrev pub recorded : ℕ → Walk → Solution

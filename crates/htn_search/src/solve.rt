@@ -3,20 +3,40 @@ ghost use Rattle.std.specs.Prelude.{◌≡◌, ◌<◌, ◌↔◌, IfErr, IfOk, 
 ghost use Rattle.htn_answer.specs.Answered.{IsAnswered, IsExact};
 ghost use Rattle.htn_model.specs.Grounding.{problem_of};
 ghost use Rattle.htn_model.specs.Machine.{Finishes};
+ghost use Rattle.htn_net.specs.Listed.{listing_machine};
 ghost use Rattle.htn_search.specs.Answer.{Answers};
+ghost use Rattle.word_machine.specs.Answer.{IsAnswer};
 ghost use Rattle.word_machine.specs.declared.found.SearchFault.TheVariants.{NoThread};
 
 use crate::answer::Answer;
-use crate::solution::rebuild;
-use htn_net::WordMachine;
+use crate::solution::{rebuild_listed, word_of_ranks};
+use htn_ground::{goal_literals, initials};
+use htn_net::{Config, WordMachine};
 use htn_task::Task;
 use std::alloc::{AllocError, Global};
 use std::sync::Wait;
 use std::thread::Threads;
 use word_machine::{Bounds, Found, Gate, SearchFault};
 
+/// The least finishing word of ranks of a task, or that there is none.
+fn find_ranks<G: Gate, R: Threads + Wait + Sync>(
+    rt: &R,
+    alloc: Global,
+    task: &Task,
+    bounds: Bounds,
+    gate: &G,
+) -> Result<Found, SearchFault>
+    ensures answer { IfOk result (IsAnswer (listing_machine task.now) bounds.nodes) }
+    ensures no_thread { IfErr result (λ e. e ≡ NoThread → 1 < bounds.workers) }
+{
+    let machine = WordMachine::new(alloc, task)?;
+    let found = word_machine::find_word(rt, alloc, &machine, bounds, gate)?;
+    Ok(found)
+}
+
 /// The least finishing word of a task, by its steps and then by its numbers; or that no solution is
-/// within the bound, or none at all. `SearchFault::NoThread` never comes with one worker.
+/// within the bound, or none at all. `SearchFault::NoThread` never comes with one worker. A number of
+/// the word that doesn't fit 64 bits is refused as memory is.
 pub fn find_word<G: Gate, R: Threads + Wait + Sync>(
     rt: &R,
     alloc: Global,
@@ -28,13 +48,17 @@ pub fn find_word<G: Gate, R: Threads + Wait + Sync>(
     ensures exact { IfOk result (IsExact (problem_of task.now) bounds.nodes) }
     ensures no_thread { IfErr result (λ e. e ≡ NoThread → 1 < bounds.workers) }
 {
-    let machine = WordMachine::new(alloc, task)?;
-    let found = word_machine::find_word(rt, alloc, &machine, bounds, gate)?;
-    Ok(found)
+    let _typed = task.objects();
+    match find_ranks(rt, alloc, task, bounds, gate)? {
+        Found::Word(ranks) => Ok(Found::Word(word_of_ranks(alloc, task, &ranks)?)),
+        Found::None => Ok(Found::None),
+        Found::Unsolvable => Ok(Found::Unsolvable),
+    }
 }
 
 /// The solution of fewest nodes and then of least code; or that none is within the bound, or none
-/// at all. `SearchFault::NoThread` never comes with one worker.
+/// at all. `SearchFault::NoThread` never comes with one worker. A number of the solution that doesn't
+/// fit 64 bits is refused as memory is.
 pub fn search<G: Gate, R: Threads + Wait + Sync>(
     rt: &R,
     alloc: Global,
@@ -46,8 +70,8 @@ pub fn search<G: Gate, R: Threads + Wait + Sync>(
     ensures no_thread { IfErr result (λ e. e ≡ NoThread → 1 < bounds.workers) }
 {
     let _typed = task.objects();
-    match find_word(rt, alloc, task, bounds, gate)? {
-        Found::Word(word) => Ok(Answer::Plan(rebuild(alloc, task, &word)?)),
+    match find_ranks(rt, alloc, task, bounds, gate)? {
+        Found::Word(ranks) => Ok(Answer::Plan(rebuild_listed(alloc, task, &ranks)?)),
         Found::None => Ok(Answer::None),
         Found::Unsolvable => Ok(Answer::Unsolvable),
     }
@@ -58,7 +82,23 @@ pub fn search<G: Gate, R: Threads + Wait + Sync>(
 pub fn finishes(alloc: Global, task: &Task, word: &[u64]) -> Result<bool, AllocError>
     ensures { IfOk result (λ finishes. IsTrue finishes ↔ Finishes (problem_of task.now) word.now) }
 {
-    let machine = WordMachine::new(alloc, task)?;
-    let finishes = word_machine::finishes(&machine, word)?;
-    Ok(finishes)
+    let _typed = task.objects();
+    let Some((initial, numbers)) = word.split_first() else {
+        return Ok(false);
+    };
+    let instances = initials(alloc, task)?;
+    let place = *initial as usize;
+    if place >= instances.len() {
+        return Ok(false);
+    }
+    let mut config = Config::start(alloc, task, &instances[place])?;
+    for number in numbers {
+        let Some(choice) = config.choose(alloc, task, *number)? else {
+            return Ok(false);
+        };
+        let next = config.step(alloc, task, &choice)?;
+        config = next;
+    }
+    let goal = goal_literals(alloc, task)?;
+    Ok(config.is_done(&goal))
 }

@@ -6,11 +6,13 @@ ghost use Rattle.htn_model.specs.Grounding.{problem_of};
 ghost use Rattle.htn_model.specs.Instances.{initials};
 ghost use Rattle.htn_model.specs.Machine.{choose, start, FinishesFrom};
 ghost use Rattle.htn_model.specs.Problem.{is_compound};
-ghost use Rattle.htn_net.specs.Choices.{network_of};
+ghost use Rattle.htn_net.specs.Choices.{IsChoice, network_of};
+ghost use Rattle.htn_net.specs.Listed.{choose_listed, number_of};
 ghost use Rattle.htn_search.specs.Places.{child_places, own_place, places_view};
 ghost use Rattle.htn_search.specs.Rebuilt.{IsSolutionOf};
 ghost use Rattle.htn_search.specs.Trail.{AreWithin};
-ghost use Rattle.htn_search.specs.Walk.{IsOneOn, recorded};
+ghost use Rattle.htn_search.specs.Told.{FinishesListed, numbers_of_moves, told};
+ghost use Rattle.htn_search.specs.Walk.{IsOneOn, IsStart, recorded};
 
 use crate::places::{child_places, open_children};
 use crate::trail::Move;
@@ -88,6 +90,33 @@ fn node_at(config: &Config, position: usize) -> Result<Child, AllocError>
 }
 
 impl Walk {
+    /// One choice on.
+    fn take(&mut self, alloc: Global, task: &Task, choice: &Choice) -> Result<(), AllocError>
+        requires chosen { IsChoice (problem_of task.now) self.old.config choice.now }
+        requires placed { length self.old.places.items ≡ length self.old.config.open_nodes }
+        ensures { OnOk result (IsOneOn (problem_of task.now) choice.now.number self.old self.new) }
+    {
+        let node = node_at(&self.config, choice.position)?;
+        let children = children_len(choice);
+        leave(
+            alloc,
+            &mut self.places,
+            &mut self.visits,
+            &node,
+            choice.position,
+            children,
+        )?;
+        let next = self.config.step(alloc, task, choice)?;
+        self.trail.push(Move {
+            position: choice.position,
+            node,
+            number: choice.number(),
+            children,
+        })?;
+        self.config = next;
+        Ok(())
+    }
+
     /// One number on.
     fn follow(&mut self, alloc: Global, task: &Task, number: u64) -> Result<(), AllocError>
         requires chosen { IsSome (choose (problem_of task.now) self.old.config number) }
@@ -97,26 +126,33 @@ impl Walk {
         let Some(choice) = self.config.choose(alloc, task, number)? else {
             unreachable!()
         };
-        let node = node_at(&self.config, choice.position)?;
-        let children = children_len(&choice);
-        leave(
-            alloc,
-            &mut self.places,
-            &mut self.visits,
-            &node,
-            choice.position,
-            children,
-        )?;
-        let next = self.config.step(alloc, task, &choice)?;
-        self.trail.push(Move {
-            position: choice.position,
-            node,
-            number,
-            children,
-        })?;
-        self.config = next;
-        Ok(())
+        self.take(alloc, task, &choice)
     }
+
+    /// One rank on.
+    fn follow_listed(&mut self, alloc: Global, task: &Task, rank: u64) -> Result<(), AllocError>
+        requires chosen { IsSome (choose_listed task.now self.old.config rank) }
+        requires placed { length self.old.places.items ≡ length self.old.config.open_nodes }
+        ensures { OnOk result (IsOneOn (problem_of task.now) (number_of task.now self.old.config rank) self.old self.new) }
+    {
+        let Some(choice) = self.config.choose_listed(alloc, task, rank)? else {
+            unreachable!()
+        };
+        self.take(alloc, task, &choice)
+    }
+}
+
+/// The walk at the start with an instance of the initial network.
+fn start_walk(alloc: Global, task: &Task, initial: &Instance) -> Result<Walk, AllocError>
+    requires { Contains (initials task.now) initial.now }
+    ensures { IfOk result (IsStart (problem_of task.now) initial.now.network) }
+{
+    Ok(Walk {
+        config: Config::start(alloc, task, initial)?,
+        places: child_places(alloc, Vec::new(alloc), initial.children().len())?,
+        trail: Vec::new(alloc),
+        visits: Vec::new(alloc),
+    })
 }
 
 /// The walk along all numbers of a finishing word, from an initial network on: it has recorded the
@@ -134,14 +170,32 @@ pub(crate) fn walk_along(
         → IsSolutionOf (problem_of task.now) (number ∷ numbers.now) (recorded number walk)) }
 {
     let _typed = task.objects();
-    let mut walk = Walk {
-        config: Config::start(alloc, task, initial)?,
-        places: child_places(alloc, Vec::new(alloc), initial.children().len())?,
-        trail: Vec::new(alloc),
-        visits: Vec::new(alloc),
-    };
+    let mut walk = start_walk(alloc, task, initial)?;
     for number in numbers {
         walk.follow(alloc, task, *number)?;
+    }
+    Ok(walk)
+}
+
+/// The walk along all ranks of a word of the search that finishes, from an initial network on: it has
+/// recorded the word's numbers and its solution.
+pub(crate) fn walk_listed(
+    alloc: Global,
+    task: &Task,
+    initial: &Instance,
+    ranks: &[u64],
+) -> Result<Walk, AllocError>
+    requires initial { Contains (initials task.now) initial.now }
+    requires finishes { FinishesListed task.now (start (problem_of task.now) initial.now.network) ranks.now }
+    ensures within { IfOk result (λ walk. AreWithin walk.trail.items []) }
+    ensures numbers { IfOk result (λ walk. numbers_of_moves walk.trail.items ≡ told task.now (start (problem_of task.now) initial.now.network) ranks.now) }
+    ensures solved { IfOk result (λ walk. (number : ℕ) → slice_get (problem_of task.now).initials number ≡ Some initial.now.network
+        → IsSolutionOf (problem_of task.now) (number ∷ told task.now (start (problem_of task.now) initial.now.network) ranks.now) (recorded number walk)) }
+{
+    let _typed = task.objects();
+    let mut walk = start_walk(alloc, task, initial)?;
+    for rank in ranks {
+        walk.follow_listed(alloc, task, *rank)?;
     }
     Ok(walk)
 }

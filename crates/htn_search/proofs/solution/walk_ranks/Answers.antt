@@ -1,4 +1,4 @@
-use Rattle.std.proofs.Common.{◌≡◌, ◌∷◌, Some, slice_get, option_map, sym, ap, ap₂, ◌∙◌, subst}
+use Rattle.std.proofs.Common.{◌≡◌, ◌<◌, ◌∷◌, Some, slice_get, option_map, sym, ap, ap₂, ◌∙◌, subst}
 use Rattle.htn_ground.specs.Counted.{IsNumberIn}
 use Rattle.std.proofs.lemmas.Option.{slice_get_within, slice_get-map, get_or_from_slice_get}
 use Rattle.htn_model.specs.Grounding.{problem_of}
@@ -59,4 +59,5 @@ returns-clause-solved c =
 pub index-initial-requires : goal.index-initial-requires
 index-initial-requires c =
     let t = c.args.task.now in
-    rank_within t c.in-Some.rank.now c.in-Some.ranks.now c.in_ok-listed.listed.items (subst (IsFinishing (listing_machine t)) c.in-Some.ensures.cases.0 c.requires) c.in_ok-listed.ensures
+    subst (λ n. c.in-Some.rank.now < n) (sym c.in_ok-listed.listed.ok.0)
+    (rank_within t c.in-Some.rank.now c.in-Some.ranks.now c.in_ok-listed.listed.items (subst (IsFinishing (listing_machine t)) c.in-Some.ensures.cases.0 c.requires) c.in_ok-listed.ensures)

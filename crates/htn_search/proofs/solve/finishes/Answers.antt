@@ -1,17 +1,72 @@
-use Rattle.std.proofs.Common.{sym, subst}
-use Rattle.htn_answer.proofs.Words.{finishes_from, finishes_back}
+use Rattle.std.proofs.Common.{◌≡◌, ◌+◌, ◌<◌, ◌&&◌, [], ◌∷◌, length, get_or, drop, option_map, true, true≢false, sym, ap, ◌∙◌, subst, arith}
+use Rattle.std.proofs.lemmas.List.{drop_more, drop_all}
+use Rattle.std.proofs.lemmas.Option.{MatchOption-at_some}
+use Rattle.htn_model.specs.Choice.{is_empty}
 use Rattle.htn_model.specs.Grounding.{problem_of}
-use Rattle.htn_model.specs.Machine.{Finishes}
-use Rattle.htn_search.proofs.Shared.{task_sync, kept}
+use Rattle.htn_model.specs.Levels.{is_done}
+use Rattle.htn_model.specs.Literal.{holds}
+use Rattle.htn_model.specs.Machine.{choose, Finishes, FinishesFrom, start, step_by}
+use Rattle.htn_answer.proofs.Words.{done_from, done_back}
+use Rattle.htn_net.specs.Choices.{choice_of}
+use Rattle.htn_search.proofs.Finishing.{one_onward, one_back, stuck, is_initial, finishes_back, finishes_onward}
 use Rattle.htn_search.proofs.solve.finishes.Goals as goal
 
-pub finishes-requires-sync-M : goal.finishes-requires-sync-M
-finishes-requires-sync-M c κs = search (task_sync, kept) depth 60 fits 20000
+pub start-requires : goal.start-requires
+start-requires c =
+    let inside : c.in-Some.initial.now < length c.in_ok-instances.instances.items = omega (arith, c.if-place-len.false, c.len.ensures) in
+    is_initial c.args.task.now c.in-Some.initial.now c.in_ok-instances.instances.items c.index.result.now c.in_ok-instances.ensures inside c.index.ensures
+
+pub loop-number-init : goal.loop-number-init
+loop-number-init c = record { onward = λ h. h; back = λ h. h }
+
+pub step-requires : goal.step-requires
+step-requires c =
+    let at = c.loop-number.config in
+    ap (choose (problem_of c.args.task.now) at) (MatchOption-at_some _ _ _ c.in-Some-2.is c.in_ok-choice.ensures.number)
+    ∙ sym c.in_ok-choice.ensures.choice ∙ ap (option_map (choice_of at)) c.in-Some-2.is
+
+pub loop-number-preserved : goal.loop-number-preserved
+loop-number-preserved c =
+    let problem = problem_of c.args.task.now in
+    let numbers = c.in-Some.numbers.now in
+    let at = c.loop-number.config in
+    let i = c.loop-number.number-index in
+    let n = get_or numbers i 0 in
+    let left : drop i numbers ≡ n ∷ drop (i + 1) numbers = drop_more numbers i 0 c.loop-number-test.true in
+    let step = ap (step_by problem at) (sym (MatchOption-at_some _ _ _ c.in-Some-2.is c.in_ok-choice.ensures.number)) ∙ c.in_ok-next.ensures in
+    record {
+      onward = λ h. one_onward problem at n (drop (i + 1) numbers) c.in_ok-next.next step (subst (λ l. FinishesFrom problem l at) left (c.loop-number.invariant.onward h));
+      back = λ h. c.loop-number.invariant.back (subst (λ l. FinishesFrom problem l at) (sym left) (one_back problem at n (drop (i + 1) numbers) c.in_ok-next.next step h));
+    }
+
+pub returns-in_default-2 : goal.returns-in_default-2
+returns-in_default-2 c =
+    let t = c.args.task.now in
+    let problem = problem_of t in
+    let numbers = c.in-Some.numbers.now in
+    let at = c.loop-number.config in
+    let i = c.loop-number.number-index in
+    let n = get_or numbers i 0 in
+    let left : drop i numbers ≡ n ∷ drop (i + 1) numbers = drop_more numbers i 0 c.loop-number-test.true in
+    let inside : c.in-Some.initial.now < length c.in_ok-instances.instances.items = omega (arith, c.if-place-len.false, c.len.ensures) in (
+      (λ t. absurd (true≢false (sym t))),
+      (λ h. absurd (stuck problem at n (drop (i + 1) numbers) (sym c.in_ok-choice.ensures.choice ∙ ap (option_map (choice_of at)) c.in_default-2.is)
+          (subst (λ l. FinishesFrom problem l at) left (c.loop-number.invariant.onward (subst (FinishesFrom problem numbers) (sym c.in_ok-config.ensures)
+          (finishes_onward t c.in-Some.initial.now c.in_ok-instances.instances.items c.index.result.now c.in_ok-instances.ensures inside c.index.ensures numbers (subst (Finishes problem) c.in-Some.ensures.cases.0 h))))))),
+    )
 
 pub returns : goal.returns
 returns c =
-    let own = c.in_ok-machine.machine.task.now in
-    let word = c.args.word.now in (
-      (λ t. subst (λ x. Finishes (problem_of x) word) c.in_ok-machine.ensures (finishes_from (problem_of own) word (c.in_ok-finishes.ensures.0 t))),
-      (λ h. c.in_ok-finishes.ensures.1 (finishes_back (problem_of own) word (subst (λ x. Finishes (problem_of x) word) (sym c.in_ok-machine.ensures) h))),
+    let t = c.args.task.now in
+    let problem = problem_of t in
+    let numbers = c.in-Some.numbers.now in
+    let at = c.loop-number.config in
+    let none : drop c.loop-number.number-index numbers ≡ [] = drop_all c.loop-number.number-index numbers c.loop-number-test.false in
+    let inside : c.in-Some.initial.now < length c.in_ok-instances.instances.items = omega (arith, c.if-place-len.false, c.len.ensures) in
+    let done : c.is_done.result ≡ is_done problem at = c.is_done.ensures ∙ ap (λ g. is_empty at.open_nodes && holds at.state g) c.in_ok-goal.ensures in (
+      (λ t. subst (Finishes problem) (sym c.in-Some.ensures.cases.0)
+          (finishes_back c.args.task.now c.in-Some.initial.now c.in_ok-instances.instances.items c.index.result.now c.in_ok-instances.ensures inside c.index.ensures numbers
+          (subst (FinishesFrom problem numbers) c.in_ok-config.ensures (c.loop-number.invariant.back (subst (λ l. FinishesFrom problem l at) (sym none) (done_from problem at (sym done ∙ t))))))),
+      (λ h. done ∙ done_back problem at (subst (λ l. FinishesFrom problem l at) none (c.loop-number.invariant.onward (subst (FinishesFrom problem numbers) (sym c.in_ok-config.ensures)
+          (finishes_onward c.args.task.now c.in-Some.initial.now c.in_ok-instances.instances.items c.index.result.now c.in_ok-instances.ensures inside c.index.ensures numbers (subst (Finishes problem) c.in-Some.ensures.cases.0 h)))))),
     )

@@ -1,16 +1,46 @@
-use Rattle.std.proofs.Common.{subst}
-use Rattle.htn_answer.specs.Answered.{IsAnswered}
+use Rattle.std.proofs.Common.{sym, subst}
 use Rattle.htn_ground.specs.Trees.{solution_of}
 use Rattle.htn_model.specs.Grounding.{problem_of}
-use Rattle.htn_model.specs.Code.{IsCode}
 use Rattle.htn_model.proofs.Grounded.{tasks_are_grounded}
-use Rattle.htn_search.proofs.Answering.{plan_answers}
+use Rattle.word_machine.specs.Answer.{IsAnswer, IsLeastFinishing}
+use Rattle.word_machine.specs.Machine.{IsFinishing}
+use Rattle.htn_net.specs.Listed.{listing_machine}
+use Rattle.htn_search.specs.Rebuilt.{IsSolutionOf}
+use Rattle.htn_search.specs.Told.{told_word}
+use Rattle.word_machine.specs.declared.found.Found.TheVariants.{None, Unsolvable}
+use Rattle.htn_answer.proofs.Answers.{answered}
+use Rattle.htn_search.proofs.Answering.{plan_answers, none_answers, unsolvable_answers}
+use Rattle.htn_search.proofs.Told.{told_answer, told_solution}
 use Rattle.htn_search.proofs.solve.search.Goals as goal
 
-pub returns-in_ok-rebuild-in-Word-clause-answer : goal.returns-in_ok-rebuild-in-Word-clause-answer
-returns-in_ok-rebuild-in-Word-clause-answer g c =
-    let problem = problem_of c.args.task.now in
-    let plan = c.in_ok-rebuild-in-Word.field-0 in
-    let own = subst (IsAnswered problem c.args.bounds.nodes) c.in-Word.is c.in_ok-word.ensures.answered in
-    plan_answers problem c.args.bounds.nodes (tasks_are_grounded c.args.task.now c.objects-typed.ensures.typed) plan
-    (own.1 (solution_of plan) c.in_ok-rebuild-in-Word.ensures.solves (subst (IsCode problem (solution_of plan)) c.deref.ensures.value c.in_ok-rebuild-in-Word.ensures.code))
+pub returns-in_ok-rebuild_listed-in-Word-clause-answer : goal.returns-in_ok-rebuild_listed-in-Word-clause-answer
+returns-in_ok-rebuild_listed-in-Word-clause-answer g c =
+    let t = c.args.task.now in
+    let grounded = tasks_are_grounded t c.objects-typed.ensures.typed in
+    let plan = c.in_ok-rebuild_listed-in-Word.field-0 in
+    let least = subst (IsAnswer (listing_machine t) c.args.bounds.nodes) c.in-Word.is c.in_ok-ranks.ensures.answer in
+    plan_answers (problem_of t) c.args.bounds.nodes grounded plan
+    (told_solution t grounded c.args.bounds.nodes c.in-Word.ranks.items (solution_of plan) least
+    (subst (λ w. IsSolutionOf (problem_of t) (told_word t w) (solution_of plan)) c.deref.ensures.value c.in_ok-rebuild_listed-in-Word.ensures))
+
+pub returns-in-None-clause-answer : goal.returns-in-None-clause-answer
+returns-in-None-clause-answer g c =
+    let t = c.args.task.now in
+    let grounded = tasks_are_grounded t c.objects-typed.ensures.typed in
+    let own = answered (problem_of t) c.args.bounds.nodes None grounded
+    (told_answer t grounded c.args.bounds.nodes None None (subst (IsAnswer (listing_machine t) c.args.bounds.nodes) c.in-None.is c.in_ok-ranks.ensures.answer) tt) in
+    none_answers (problem_of t) c.args.bounds.nodes own.0 own.1
+
+pub returns-in-Unsolvable-clause-answer : goal.returns-in-Unsolvable-clause-answer
+returns-in-Unsolvable-clause-answer g c =
+    let t = c.args.task.now in
+    let grounded = tasks_are_grounded t c.objects-typed.ensures.typed in
+    let own = answered (problem_of t) c.args.bounds.nodes Unsolvable grounded
+    (told_answer t grounded c.args.bounds.nodes Unsolvable Unsolvable (subst (IsAnswer (listing_machine t) c.args.bounds.nodes) c.in-Unsolvable.is c.in_ok-ranks.ensures.answer) tt) in
+    unsolvable_answers (problem_of t) c.args.bounds.nodes own.0 own.1
+
+pub rebuild_listed-requires : goal.rebuild_listed-requires
+rebuild_listed-requires g c =
+    let t = c.args.task.now in
+    let least : IsLeastFinishing (listing_machine t) c.args.bounds.nodes c.in-Word.ranks.items = subst (IsAnswer (listing_machine t) c.args.bounds.nodes) c.in-Word.is c.in_ok-ranks.ensures.answer in
+    subst (IsFinishing (listing_machine t)) (sym c.deref.ensures.value) least.finishes

@@ -1,30 +1,24 @@
-use Rattle.std.proofs.Common.{◌≡◌, ◌+◌, ◌∷◌, [], length, get_or, drop, sym, refl, ap, ap₂, ◌∙◌, subst}
+use Rattle.std.proofs.Common.{◌≡◌, ◌+◌, ◌∷◌, [], length, get_or, drop, sym, refl, ap, ◌∙◌, subst}
 use Rattle.std.proofs.lemmas.List.{drop_more, drop_all}
 use Rattle.htn_model.specs.Grounding.{problem_of}
 use Rattle.htn_model.specs.Machine.{FinishesFrom}
 use Rattle.htn_model.proofs.Grounded.{tasks_are_grounded}
-use Rattle.htn_search.specs.Places.{child_places, places_view}
+use Rattle.htn_search.specs.Places.{places_view}
 use Rattle.htn_search.specs.Walk.{recorded}
-use Rattle.htn_search.proofs.Way.{IsUnderWay, way_start, walk_on, length-child_places}
+use Rattle.htn_search.proofs.Way.{IsUnderWay, way_begins, walk_on}
 use Rattle.htn_search.proofs.Solved.{solved}
 use Rattle.htn_search.proofs.walk.walk_along.Goals as goal
 
 pub loop-number-init : goal.loop-number-init
 loop-number-init c =
-    let problem = problem_of c.args.task.now in
-    let children = c.args.initial.now.network.children in
-    let count : c.len.result ≡ length children = c.len.ensures ∙ ap length c.children.ensures in
-    way_start problem c.args.numbers.now c.in_ok-start.field-0 (places_view c.in_ok-child_places.field-0.items) c.new-2.result.items (places_view c.new-3.result.items)
-    (subst (FinishesFrom problem c.args.numbers.now) (sym c.in_ok-start.ensures) c.requires.finishes)
-    (ap length c.in_ok-child_places.ensures ∙ length-child_places c.new.result.items 0 c.len.result ∙ count ∙ sym (ap (λ x. length x.open_nodes) c.in_ok-start.ensures))
-    c.new-2.ensures.items (ap places_view c.new-3.ensures.items)
+    way_begins (problem_of c.args.task.now) c.args.numbers.now c.args.initial.now.network c.in_ok-walk.walk c.in_ok-walk.ensures c.requires.finishes
 
 pub loop-number-preserved : goal.loop-number-preserved
 loop-number-preserved c =
     let problem = problem_of c.args.task.now in
     let numbers = c.args.numbers.now in
-    let first = c.in_ok-start.field-0 in
-    let roots = places_view c.in_ok-child_places.field-0.items in
+    let first = c.in_ok-walk.walk.config in
+    let roots = places_view c.in_ok-walk.walk.places.items in
     let old = c.loop-number.walk in
     let new = c.follow.new.self in
     let i = c.loop-number.number-index in
@@ -42,14 +36,13 @@ returns-clause-solved c =
     let problem = problem_of c.args.task.now in
     let numbers = c.args.numbers.now in
     let network = c.args.initial.now.network in
-    let first = c.in_ok-start.field-0 in
-    let roots = places_view c.in_ok-child_places.field-0.items in
+    let first = c.in_ok-walk.walk.config in
+    let roots = places_view c.in_ok-walk.walk.places.items in
     let old = c.loop-number.walk in
     let none : drop c.loop-number.number-index numbers ≡ [] = drop_all c.loop-number.number-index numbers c.loop-number-test.false in
-    let count : c.len.result ≡ length network.children = c.len.ensures ∙ ap length c.children.ensures in
     λ number is.
     solved problem (tasks_are_grounded c.args.task.now c.objects-typed.ensures.typed) number numbers (network, is, c.requires.finishes) network is first roots
-    c.in_ok-start.ensures (c.in_ok-child_places.ensures ∙ ap₂ (λ p n. child_places p 0 n) c.new.ensures.items count)
+    c.in_ok-walk.ensures.config c.in_ok-walk.ensures.places
     old.config old.trail.items (places_view old.places.items) (places_view old.visits.items)
     (subst (λ l. IsUnderWay problem numbers first roots l old.config old.trail.items (places_view old.places.items) (places_view old.visits.items)) none c.loop-number.invariant)
     (recorded number old) refl refl refl
