@@ -1,7 +1,7 @@
 -- Variables in force: one more of them, and some taken back.
-use Rattle.std.proofs.Common.{◌≡◌, ◌⊎◌, ℕ, zero, suc, ◌<◌, ◌≤◌, ◌+◌, min, Bool, true, false, cond, max, List, [], ◌∷◌, ◌++◌, map, Option, Some, None, IfSome, option_map, slice_get, refl, sym, ap, subst, ◌∙◌, inl, inr, arith, take, length, true≢false, length-append}
+use Rattle.std.proofs.Common.{◌≡◌, ◌⊎◌, ℕ, zero, suc, ◌<◌, ◌≤◌, ◌+◌, min, Bool, true, false, cond, max, List, [], ◌∷◌, ◌++◌, Option, Some, None, option_map, slice_get, refl, sym, ap, subst, ◌∙◌, inl, inr, arith, take, length, true≢false, length-append}
 use Rattle.std.proofs.lemmas.List.{map-append, length-take, length-map}
-use Rattle.std.proofs.lemmas.Option.{slice_get_within, slice_get-map}
+use Rattle.std.proofs.lemmas.Option.{slice_get_within}
 use Rattle.hddl_meaning.specs.Mentions.{Mention, Text, IsIn}
 use Rattle.hddl_meaning.specs.Names.{is_same_text}
 use Rattle.hddl_meaning.specs.Uses.{Variable}

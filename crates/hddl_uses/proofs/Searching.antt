@@ -1,5 +1,5 @@
 -- Names and variables that are among others.
-use Rattle.std.proofs.Common.{◌≡◌, ◌||◌, ◌↔◌, Bool, true, false, cond, List, [], ◌∷◌, map, Option, Some, None, is_some, option_map, refl, sym, ap, subst, ◌∙◌, inl, inr, true≢false}
+use Rattle.std.proofs.Common.{◌≡◌, ◌||◌, ◌↔◌, Bool, true, false, cond, List, [], ◌∷◌, map, Option, Some, None, is_some, option_map, refl, sym, subst, ◌∙◌, inl, inr, true≢false}
 use Rattle.std.specs.List.{list_any, position}
 use Rattle.hddl_meaning.specs.Mentions.{Text, IsIn}
 use Rattle.hddl_meaning.specs.Names.{is_same_text}

@@ -1,5 +1,5 @@
 -- Tables of declarations: how they grow, and what they find.
-use Rattle.std.proofs.Common.{◌≡◌, ℕ, ◌+◌, ◌<◌, ◌≤◌, min, Bool, true, false, cond, List, [], ◌∷◌, ◌++◌, length, map, take, drop, get_or, slice_get, Vec, Option, Some, None, is_some, true≢false, option_map, refl, sym, ap, subst, ◌∙◌, arith, append_assoc, nat_lt}
+use Rattle.std.proofs.Common.{◌≡◌, ℕ, ◌+◌, ◌<◌, ◌≤◌, min, Bool, true, cond, List, [], ◌∷◌, ◌++◌, length, map, take, drop, get_or, slice_get, Vec, Some, None, option_map, sym, ap, subst, ◌∙◌, arith, append_assoc}
 use Rattle.std.specs.List.{list_any, position, position_or_len}
 use Rattle.std.proofs.lemmas.Bool.Decides.{Decides-ltb}
 use Rattle.std.proofs.lemmas.List.{take_more, take-append-drop, length-take, length-map, map-append, get_or-take}
@@ -13,7 +13,7 @@ use Rattle.hddl_meaning.specs.Uses.{Variable}
 use Rattle.hddl_meaning.specs.Items.{Signature}
 use Rattle.hddl_meaning.proofs.Listed.{texts_decide, in_map, found}
 use Rattle.hddl_meaning.proofs.Numbers.{any_mapped, first_within}
-use Rattle.hddl_scope.specs.Numbers.{Entries, number_at}
+use Rattle.hddl_scope.specs.Numbers.{number_at}
 use Rattle.hddl_uses.specs.Tables.{HasPlaces, IsAmong, IsTableOf, as_parameter, has_name, lists_of}
 use Rattle.hddl_uses.specs.declared.signatures.Signatures.{Signatures}
 use Rattle.hddl_scope.proofs.Positions.{first_is, next_number, numbers_more}

@@ -1,7 +1,6 @@
-use Rattle.std.proofs.Common.{◌≡◌, ◌∙◌, ◌++◌, ◌∷◌, [], None, Some, ap, cond, is_some, length, not, subst, sym}
+use Rattle.std.proofs.Common.{◌≡◌, ◌∙◌, ◌++◌, ◌∷◌, [], ap, cond, length, not, subst, sym}
 use Rattle.std.proofs.lemmas.List.{map-append}
 use Rattle.hddl_meaning.specs.Mentions.{Text}
-use Rattle.hddl_meaning.specs.Names.{is_same_text}
 use Rattle.hddl_scope.specs.Numbers.{number_at}
 use Rattle.hddl_scope.specs.Repeats.{repeat_of}
 use Rattle.hddl_scope.specs.InForce.{IsScope, variables_of}
