@@ -1,0 +1,15 @@
+pub mod Placed
+pub mod Searched
+pub mod Lessened
+pub mod Noted
+pub mod Started
+pub mod Onto
+pub mod Joined
+pub mod Unrolled
+pub mod Missing
+pub mod Stacked
+pub mod Tried
+pub mod Ranked
+pub mod Subtasks
+pub mod Answered
+pub mod Suited

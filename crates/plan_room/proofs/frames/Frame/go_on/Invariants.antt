@@ -1,0 +1,14 @@
+use Rattle.std.proofs.Common.{◌≡◌, ◌-◌, length}
+use Rattle.plan_room.specs.Frames.{IsFrame}
+use Rattle.plan_room.specs.Seats.{children_of}
+use Rattle.plan_room.proofs.frames.Frame.go_on.Given as goal
+
+abbrev pub invariant-loop-self : goal.invariant-loop-self
+invariant-loop-self g l = record {
+  frame : IsFrame (g.L.PlanLines.lines l.lines) l.self;
+  question : l.self.question ≡ l.initial.self.question;
+  children : l.children ≡ children_of (g.L.PlanLines.lines l.lines) l.self.question.line;
+}
+
+abbrev pub decreases-loop-self : goal.decreases-loop-self
+decreases-loop-self g l = length l.self.networks.items - l.self.tried

@@ -1,0 +1,8 @@
+use Rattle.plan_room.proofs.Started.{IsStartFrom}
+use Rattle.plan_room.proofs.matching.start_of.Given as goal
+
+abbrev pub invariant-loop-place : goal.invariant-loop-place
+invariant-loop-place g l = IsStartFrom (g.C.Choices.seating l.choices) l.trial.finishes.items l.trial.depth l.position l.place l.start
+
+abbrev pub decreases-loop-place : goal.decreases-loop-place
+decreases-loop-place g l = l.place

@@ -1,0 +1,10 @@
+pub mod Placing
+pub mod Matching
+pub mod Trials
+pub mod Questions
+pub mod Lines
+pub mod Seats
+pub mod Memo
+pub mod Ranks
+pub mod Frames
+pub mod Steps

@@ -1,0 +1,14 @@
+//! Whether the lines of a plan file have room below one another, from gap to gap of its action lines.
+#![tactic(auto)]
+
+mod below;
+mod fits;
+mod frames;
+mod lines;
+mod matching;
+mod memo;
+mod rooms;
+mod sequence;
+
+pub use fits::forest_fits;
+pub use lines::PlanLines;

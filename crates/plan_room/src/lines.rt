@@ -1,0 +1,50 @@
+//! The lines of a plan file, as the one who read it gives them.
+ghost use Rattle.std.specs.Prelude.{◌≡◌, ◌≤◌, ◌<◌, IfOk};
+
+use htn_ground::{GroundTask, Instance};
+use htn_state::LiteralList;
+use std::alloc::AllocError;
+
+/// The lines of a plan file by their numbers: action lines in their order, and then the others; and
+/// the run of the action lines. Gap i is just before action line i.
+pub trait PlanLines {
+    ghost use Rattle.plan_room.specs.Lines.{AreCandidates, IsDecompositionLine, IsInitial, IsNetworkOf, IsNextGap, Lines, networks_of, task_of};
+
+    // What the lines are.
+    ghost lines: { Self → Lines };
+
+    /// How many action lines there are.
+    fn actions(&self) -> usize
+        ensures { result ≡ (lines self.now).actions };
+
+    /// How many lines there are.
+    fn count(&self) -> usize
+        ensures { result ≡ (lines self.now).count };
+
+    /// The task of a line.
+    fn task(&self, line: usize) -> &GroundTask
+        requires { line < (lines self.now).count }
+        ensures { result.now ≡ task_of ((lines self.now).plan_of line) };
+
+    /// The children of a decomposition line, as listed.
+    fn children(&self, line: usize) -> &[usize]
+        requires { IsDecompositionLine (lines self.now) line }
+        ensures { result.now ≡ (lines self.now).children line };
+
+    /// The roots, as listed.
+    fn roots(&self) -> &[usize]
+        ensures { result.now ≡ (lines self.now).roots };
+
+    /// The instances of a decomposition line that may fit. They are made at each call.
+    fn instances(&self, line: usize) -> Result<Vec<Instance>, AllocError>
+        requires { IsDecompositionLine (lines self.now) line }
+        ensures { IfOk result (λ v. AreCandidates (lines self.now) (IsNetworkOf (lines self.now) line) ((lines self.now).children line) (networks_of v.items)) };
+
+    /// The initial networks that may fit.
+    fn initials(&self) -> Result<Vec<Instance>, AllocError>
+        ensures { IfOk result (λ v. AreCandidates (lines self.now) (IsInitial (lines self.now)) (lines self.now).roots (networks_of v.items)) };
+
+    /// The first gap from `from` on in which all literals hold, if there is one up to the last gap.
+    fn next_gap(&self, literals: &LiteralList, from: usize) -> Option<usize>
+        ensures { IsNextGap (lines self.now).states (lines self.now).actions literals.now from result };
+}
