@@ -15,15 +15,15 @@ use std::marker::Model;
 
 /// An argument with the type of its place.
 #[derive(Clone, Copy)]
-pub(crate) struct Place {
-    pub(crate) term: Term,
-    pub(crate) type_number: u16,
+pub struct Place {
+    pub term: Term,
+    pub type_number: u16,
 }
 
 /// What a schema asks of the values of its parameters: their types, equalities, and the types of
 /// the places in which parameters and objects stand.
 #[derive(Drop)]
-pub(crate) struct Conditions {
+pub struct Conditions {
     parameters: Vec<u16>,
     equalities: Vec<EqualitySchema>,
     places: Vec<Place>,
@@ -42,19 +42,19 @@ impl Model for Conditions {
 
 impl Conditions {
     /// The types of the parameters.
-    pub(crate) fn parameters(&self) -> &[u16]
+    pub fn parameters(&self) -> &[u16]
         ensures { result.now ≡ self.now.parameters }
     {
         &self.parameters
     }
 
-    pub(crate) fn equalities(&self) -> &[EqualitySchema]
+    pub fn equalities(&self) -> &[EqualitySchema]
         ensures { result.now ≡ self.now.equalities }
     {
         &self.equalities
     }
 
-    pub(crate) fn places(&self) -> &[Place]
+    pub fn places(&self) -> &[Place]
         ensures { places_of result.now ≡ self.now.places }
     {
         &self.places
@@ -254,7 +254,7 @@ fn method_places(
 }
 
 /// What a method asks of its parameters.
-pub(crate) fn method_conditions(
+pub fn method_conditions(
     alloc: Global,
     task: &Task,
     method: &MethodSchema,
@@ -321,7 +321,7 @@ fn initial_places(
 }
 
 /// What the initial network asks of its parameters.
-pub(crate) fn initial_conditions(
+pub fn initial_conditions(
     alloc: Global,
     task: &Task,
     initial: &InitialSchema,

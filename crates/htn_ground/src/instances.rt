@@ -343,7 +343,7 @@ fn have_types(task: &Task, types: &[u16], values: &[u16]) -> bool
 }
 
 /// Whether these are the values of an instance.
-pub(crate) fn is_instance(task: &Task, conditions: &Conditions, values: &[u16]) -> bool
+pub fn is_instance(task: &Task, conditions: &Conditions, values: &[u16]) -> bool
     ensures { result ≡ model.is_instance task.now conditions.now values.now }
 {
     have_types(task, conditions.parameters(), values) && meets(task, conditions, values)

@@ -24,11 +24,13 @@ mod search;
 mod shown;
 
 pub use child::{Child, ChildList};
+pub use conditions::{Conditions, Place, initial_conditions, method_conditions};
 pub use distinct_methods::{
     distinct_initials, distinct_live_methods_of, third_instance_is_dropped,
 };
 pub use ground_task::GroundTask;
 pub use instance::Instance;
+pub use instances::is_instance;
 pub use literals::goal_literals;
 pub use methods::{action_of, initials, live_methods_of, method_of, methods_of};
 pub use node::{Node, Solution, compound};

@@ -1,0 +1,4 @@
+pub mod Given
+pub mod Left
+pub mod Allowed
+pub mod Lines

@@ -1,0 +1,13 @@
+//! The lines of plan files: the tasks that their words name, and the instances that their children
+//! show.
+#![tactic(auto)]
+
+mod children;
+mod completion;
+mod given;
+mod instances;
+mod names;
+mod search;
+
+pub use instances::{has_initial, has_instance};
+pub use names::{Names, task_named};
