@@ -3,4 +3,4 @@
 
 mod laws;
 
-pub use laws::instances_by_tasks;
+pub use laws::{instances_by_tasks, runs_are_of_lines};
