@@ -39,6 +39,13 @@ parent_line id (l ∷ lines) i = by (in_split id l.children (all_children lines)
 some_is : {X : Type 0} (o : Option X) (x y : X) → o ≡ Some x → o ≡ Some y → x ≡ y
 some_is o x y e h = cc
 
+-- as many ids as lines
+pub line_count : (file : PlanFile) → length (defined_ids file) ≡ length file.actions + length file.decompositions
+line_count file =
+    let a = as_many_action_ids file.actions in let d = as_many_decomposition_ids file.decompositions in
+    let l = length-append (action_ids file.actions) (decomposition_ids file.decompositions) in
+    omega arith
+
 module _ (file : PlanFile) (once : IsWithoutRepeats (defined_ids file)) (roots : List ℕ) (children : List (List ℕ)) (are_roots : AreNumbersOf (defined_ids file) roots file.roots)
     (are_children : AreNumbersOfChildren (defined_ids file) children file.decompositions) where
   abbrev ids : List ℕ
@@ -46,12 +53,6 @@ module _ (file : PlanFile) (once : IsWithoutRepeats (defined_ids file)) (roots :
 
   abbrev actions : ℕ
   actions = length file.actions
-
-  pub count_is : length (defined_ids file) ≡ length file.actions + length file.decompositions
-  count_is =
-      let a = as_many_action_ids file.actions in let d = as_many_decomposition_ids file.decompositions in
-      let l = length-append (action_ids file.actions) (decomposition_ids file.decompositions) in
-      omega arith
 
   past : (j : ℕ) → children_at actions children (actions + j) ≡ get_or children j []
   past j =
@@ -88,7 +89,7 @@ module _ (file : PlanFile) (once : IsWithoutRepeats (defined_ids file)) (roots :
           let none : children_at actions children parent ≡ [] = ap (λ b. cond b [] (get_or children (parent - actions) [])) (lt-ltb parent actions low) in
           absurd (subst (IsIn l) none i)
       by (inr high) has =
-          let all = count_is in
+          let all = line_count file in
           let within = slice_get_within ids parent has.id has.is in
           let (line, at) = line_there file.decompositions (parent - actions) (omega arith) in
           let whole : actions + (parent - actions) ≡ parent = omega arith in

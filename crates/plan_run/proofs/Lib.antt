@@ -1,0 +1,5 @@
+pub mod Truths
+pub mod Touched
+pub mod Setting
+pub mod Going
+pub mod Running

@@ -1,0 +1,248 @@
+//! The gaps at which atoms turn true or false.
+ghost use Rattle.std.specs.Prelude.{◌≡◌, ◌<◌, ◌≤◌, ◌+◌, ◌∷◌, ◌++◌, ◌^◌, ◌↔◌, [], IfOk, IsTrue, List, OnOk, ℕ, length};
+ghost use Rattle.std.specs.Bool.{beq};
+ghost use Rattle.std.specs.List.{position_or_len};
+ghost use Rattle.htn_model.specs.Atom as model;
+ghost use Rattle.htn_state.specs.Views.{literal_of, literals_of};
+ghost use Rattle.plan_run.specs.Turns as spec;
+ghost use Rattle.plan_run.specs.Turns.{AreTurned, IsApplied, IsHistory, IsNextGap, IsOnward, IsRising, IsTurnedOver, IsWithin, Splits, is_true_in, literal_truth, literals_truth, truth, turns_of};
+
+use htn_state::{Action, Atom, Literal, State};
+use indexmap::IndexSet;
+use std::alloc::{AllocError, Global};
+use std::marker::Model;
+
+/// What has come of the atoms of an initial state, gap by gap.
+#[derive(Drop)]
+pub struct Turns<'a> {
+    initial: &'a State,
+    /// The last gap so far.
+    last: usize,
+    /// The atoms that effects have touched.
+    atoms: IndexSet<Atom>,
+    /// For each of these the gaps at which it turned true or false, ascending.
+    turns: Vec<Vec<usize>>,
+}
+
+impl<'a> Model for Turns<'a> {
+    ghost use Rattle.std.specs.Prelude.{map};
+    ghost use Rattle.plan_run.specs.Turns as model;
+
+    ghost Value = { model.History };
+
+    ghost coded = { model.history_code };
+
+    ghost view = { λ t. record { initial = t.initial.now; last = t.last; atoms = t.atoms.keys; turns = map (λ v. v.items) t.turns.items } };
+}
+
+/// How many of the gaps, which ascend, are up to this one.
+fn count_passed(turns: &[usize], gap: usize) -> usize
+    requires { (last : ℕ) × IsRising last turns.now }
+    ensures { Splits turns.now gap result }
+{
+    match turns.binary_search(&gap) {
+        Ok(place) => place + 1,
+        Err(place) => place,
+    }
+}
+
+/// What is so at first or not, after that many turns.
+fn is_turned(first: bool, turns: usize) -> bool
+    ensures { result ≡ spec.is_turned first turns }
+{
+    if turns % 2 == 0 { first } else { !first }
+}
+
+/// The first gap from one on in which something is as wanted that turns in these gaps, ascending.
+fn next_wanted(first: bool, turns: &[usize], wanted: bool, from: usize) -> Option<usize>
+    requires { (last : ℕ) × IsRising last turns.now }
+    ensures next { IsNextGap (λ k. beq (is_true_in first turns.now k) wanted) from result }
+    ensures within { (last : ℕ) → IsRising last turns.now → IsWithin last from result }
+{
+    let passed = count_passed(turns, from);
+    if is_turned(first, passed) == wanted {
+        return Some(from);
+    }
+    if passed < turns.len() {
+        return Some(turns[passed]);
+    }
+    None
+}
+
+/// Whether the last of the gaps is this one.
+fn is_last(turns: &[usize], gap: usize) -> bool
+    ensures { IsTrue result ↔ ((front : List ℕ) × (turns.now ≡ front ++ gap ∷ [])) }
+{
+    match turns.last() {
+        Some(last) => *last == gap,
+        None => false,
+    }
+}
+
+/// Turns something over in a gap that is none before those in which it turned.
+fn turn_over(turns: &mut Vec<usize>, gap: usize) -> Result<(), AllocError>
+    requires { IsRising gap turns.old.items }
+    ensures { OnOk result (IsTurnedOver turns.old.items turns.new.items gap) }
+{
+    if is_last(turns, gap) {
+        let _ = turns.pop();
+        return Ok(());
+    }
+    turns.push(gap)?;
+    Ok(())
+}
+
+impl<'a> Turns<'a> {
+    /// Nothing has turned in the gap before all lines.
+    pub(crate) fn new(alloc: Global, initial: &'a State) -> Turns<'a>
+        ensures { result ≡ record { initial = initial.now; last = 0; atoms = []; turns = [] } }
+    {
+        Turns {
+            initial,
+            last: 0,
+            atoms: IndexSet::new(alloc),
+            turns: Vec::new(alloc),
+        }
+    }
+
+    /// The place of an atom among those that were touched, where it is put if it isn't there.
+    fn touch(&mut self, alloc: Global, atom: &Atom) -> Result<usize, AllocError>
+        requires { IsHistory self.old }
+        ensures history { OnOk result (IsHistory self.new) }
+        ensures initial { self.new.initial ≡ self.old.initial }
+        ensures last { self.new.last ≡ self.old.last }
+        ensures same { OnOk result ((b : model.Atom) → turns_of self.new b ≡ turns_of self.old b) }
+        ensures place { IfOk result (λ place. place ≡ position_or_len (model.atom_eq atom.now) self.new.atoms) }
+        ensures within { IfOk result (λ place. place < length self.new.turns) }
+    {
+        if let Some(place) = self.atoms.get_index_of(atom) {
+            return Ok(place);
+        }
+        let place = self.turns.len();
+        let _ = self.atoms.insert(atom.clone()?)?;
+        self.turns.push(Vec::new(alloc))?;
+        Ok(place)
+    }
+
+    /// Makes an atom true or false in the last gap.
+    fn set(&mut self, alloc: Global, atom: &Atom, value: bool) -> Result<(), AllocError>
+        requires { IsHistory self.old }
+        ensures history { OnOk result (IsHistory self.new) }
+        ensures turned { OnOk result (AreTurned self.old self.new (atom.now ∷ []) value) }
+    {
+        let place = self.touch(alloc, atom)?;
+        let first = self.initial.contains(atom);
+        if is_turned(first, self.turns[place].len()) != value {
+            turn_over(&mut self.turns[place], self.last)?;
+        }
+        Ok(())
+    }
+
+    /// Makes atoms true or false in the last gap.
+    fn set_all(&mut self, alloc: Global, atoms: &[Atom], value: bool) -> Result<(), AllocError>
+        requires { IsHistory self.old }
+        ensures history { OnOk result (IsHistory self.new) }
+        ensures turned { OnOk result (AreTurned self.old self.new atoms.now value) }
+    {
+        for atom in atoms {
+            self.set(alloc, atom, value)?;
+        }
+        Ok(())
+    }
+
+    /// Goes on to the next gap, after an action.
+    pub(crate) fn apply(&mut self, alloc: Global, action: &Action) -> Result<(), AllocError>
+        requires history { IsHistory self.old }
+        requires room { self.old.last + 1 < 2 ^ 64 }
+        ensures history { OnOk result (IsHistory self.new) }
+        ensures applied { OnOk result (IsApplied self.old self.new action.now) }
+    {
+        self.last += 1;
+        self.set_all(alloc, action.deletes.atoms(), false)?;
+        self.set_all(alloc, action.adds.atoms(), true)?;
+        Ok(())
+    }
+
+    /// The gaps at which an atom turned.
+    fn turns_of(&self, atom: &Atom) -> &[usize]
+        requires { IsHistory self.now }
+        ensures { result.now ≡ turns_of self.now atom.now }
+    {
+        match self.atoms.get_index_of(atom) {
+            Some(place) => self.turns[place].as_slice(),
+            None => &[],
+        }
+    }
+
+    /// The first gap from one on in which an atom is true or false, as wanted.
+    fn next_with(&self, atom: &Atom, wanted: bool, from: usize) -> Option<usize>
+        requires { IsHistory self.now }
+        ensures next { IsNextGap (λ k. beq (truth self.now atom.now k) wanted) from result }
+        ensures within { IsWithin self.now.last from result }
+    {
+        next_wanted(
+            self.initial.contains(atom),
+            self.turns_of(atom),
+            wanted,
+            from,
+        )
+    }
+
+    /// The first gap from one on in which a literal holds.
+    fn next_holding(&self, literal: &Literal, from: usize) -> Option<usize>
+        requires { IsHistory self.now }
+        ensures next { IsNextGap (literal_truth self.now (literal_of literal.now)) from result }
+        ensures within { IsWithin self.now.last from result }
+    {
+        match literal {
+            Literal::Positive(atom) => self.next_with(atom, true, from),
+            Literal::Negative(atom) => self.next_with(atom, false, from),
+            Literal::Same(x, y) if x == y => Some(from),
+            Literal::Different(x, y) if x != y => Some(from),
+            _ => None,
+        }
+    }
+
+    /// One round through literals, each of which moves the gap on to the first in which it holds.
+    fn onward(&self, literals: &[Literal], from: usize) -> Option<usize>
+        requires { IsHistory self.now }
+        ensures next { IsOnward (literals_truth self.now (literals_of literals.now)) from result }
+        ensures within { IsWithin self.now.last from result }
+    {
+        let mut gap = from;
+        for literal in literals {
+            let Some(next) = self.next_holding(literal, gap) else {
+                return None;
+            };
+            gap = next;
+        }
+        Some(gap)
+    }
+
+    /// The first gap from one on in which all literals hold. Past the last gap all stays as it is there.
+    pub fn next_gap(&self, literals: &[Literal], from: usize) -> Option<usize>
+        requires { IsHistory self.now }
+        ensures next { IsNextGap (literals_truth self.now (literals_of literals.now)) from result }
+        ensures within { IsWithin self.now.last from result }
+    {
+        let mut gap = from;
+        while let Some(next) = self.onward(literals, gap) {
+            if next == gap {
+                return Some(gap);
+            }
+            gap = next;
+        }
+        None
+    }
+
+    /// Whether all literals hold in a gap.
+    pub fn holds(&self, literals: &[Literal], gap: usize) -> bool
+        requires { IsHistory self.now }
+        ensures { result ≡ literals_truth self.now (literals_of literals.now) gap }
+    {
+        match self.next_gap(literals, gap) {
+            Some(next) => next == gap,
+            None => false,
+        }
+    }
+}

@@ -1,0 +1,8 @@
+//! The run of a plan's actions, and the gaps between them in which literals hold.
+#![tactic(auto)]
+
+mod course;
+mod history;
+
+pub use course::{Outcome, run};
+pub use history::Turns;
