@@ -1,11 +1,11 @@
 -- A machine with only some of another's numbers answers as the other does.
-use Rattle.std.proofs.Common.{◌≡◌, ℕ, suc, ◌+◌, ◌<◌, ◌≤◌, ◌⊎◌, false, true≢false, List, [], ◌∷◌, length, Option, Some, refl, sym, ap, subst, ◌∙◌, inl, inr, arith, slice_get}
+use Rattle.std.proofs.Common.{◌≡◌, ℕ, suc, ◌+◌, ◌<◌, ◌≤◌, ◌⊎◌, true≢false, List, [], ◌∷◌, length, Option, Some, refl, sym, ap, subst, ◌∙◌, inl, inr, arith, slice_get}
 use Rattle.std.proofs.lemmas.Bool.{cases_lt}
 use Rattle.std.proofs.lemmas.Option.{same_Some}
 use Rattle.word_machine.specs.declared.found.Found.{Found}
 use Rattle.word_machine.specs.declared.found.Found.TheVariants.{Word, None as NoWord, Unsolvable}
-use Rattle.word_machine.specs.Words.{IsLexicographicallyBefore, Precedes, Leads, Reaches, Finishes, step_count}
-use Rattle.word_machine.specs.Machine.{WordMachine, IsStep, IsLiveStep, IsDone, IsFinishing, IsMet}
+use Rattle.word_machine.specs.Words.{IsLexicographicallyBefore, Precedes, Leads, Reaches, step_count}
+use Rattle.word_machine.specs.Machine.{WordMachine, IsStep, IsLiveStep, IsFinishing, IsMet}
 use Rattle.word_machine.specs.Answer.{IsLeastFinishing, NoneFinishes, NeverFinishes, IsAnswer}
 use Rattle.word_machine.proofs.Order.{lexicographic_trans, lexicographic_irrefl}
 use Rattle.htn_answer.specs.Fewer.{FinishesLive, HasEnough, numbers_from, numbers_of, IsToldBy}

@@ -1,17 +1,17 @@
 -- What a search lists is enough: it answers by ranks as the machine answers by numbers.
-use Rattle.std.proofs.Common.{◌≡◌, ℕ, zero, suc, ◌+◌, ◌<◌, ◌≤◌, ◌⊎◌, Bool, true, false, true≢false, not, cond, List, [], ◌∷◌, map, filter, length, get_or, slice_get, Option, Some, None, Contains, refl, sym, ap, subst, ◌∙◌, inl, inr, arith, option_map, option_and_then, unwrap_or}
+use Rattle.std.proofs.Common.{◌≡◌, ℕ, zero, suc, ◌+◌, ◌<◌, ◌≤◌, ◌⊎◌, Bool, true, false, true≢false, not, cond, List, [], ◌∷◌, map, filter, length, get_or, slice_get, Option, Some, None, refl, sym, ap, subst, ◌∙◌, inl, inr, arith, option_map, option_and_then, unwrap_or}
 use Rattle.std.specs.List.{enumerate_from, range_with_len}
 use Rattle.std.proofs.lemmas.List.FromFn.{get_or-range_with_len, length-range_with_len}
 use Rattle.std.proofs.lemmas.Bool.{cases_Bool}
-use Rattle.std.proofs.lemmas.Option.{none-some, same_Some, slice_get-map, slice_get-get_or, slice_get_within, get_or_from_slice_get}
+use Rattle.std.proofs.lemmas.Option.{none-some, same_Some, slice_get-map, slice_get-get_or, slice_get_within}
 use Rattle.htn_model.specs.Choice.{child_of, first_free_compound}
 use Rattle.htn_model.specs.Equality.{network_eq-decides}
 use Rattle.htn_model.specs.Exhaustion.{is_dead}
 use Rattle.htn_model.specs.Grounding.{problem_of}
 use Rattle.htn_model.specs.Instance.{Instance}
 use Rattle.htn_model.specs.Instances.{initials, methods_of}
-use Rattle.htn_model.specs.Machine.{Config, Choice, no_network, choose, result_of, start, step_by}
-use Rattle.htn_model.specs.Problem.{Child, precondition, action, task, GroundTask, Network, is_before}
+use Rattle.htn_model.specs.Machine.{Config, Choice, no_network, choose, result_of, start}
+use Rattle.htn_model.specs.Problem.{Child, precondition, action, task, GroundTask, is_before}
 use Rattle.htn_model.specs.Task.{Task}
 use Rattle.htn_model.proofs.Steps.{Decomposes, Executes, chosen, step_choice}
 use Rattle.htn_ground.specs.Distinct as ground
@@ -22,7 +22,7 @@ use Rattle.htn_answer.specs.Fewer.{HasEnough}
 use Rattle.htn_answer.proofs.Words.{slice_get-map_back}
 use Rattle.htn_net.specs.Listed.{listed_methods, listed_initials, listed_for, number_by, number_at, choose_listed, listing_machine, number_of, initial_of}
 use Rattle.htn_net.specs.Live.{live_methods, live_numbers}
-use Rattle.htn_net.proofs.Distinct.{Rises, IsKept, kept_first, seconds_kept, rises_at, rises_numbered, rises_filter}
+use Rattle.htn_net.proofs.Distinct.{IsKept, kept_first, seconds_kept, rises_at, rises_numbered, rises_filter}
 use Rattle.htn_net.proofs.Numbers.{choose_instance, live_numbers_are, range_rises}
 use Rattle.htn_net.proofs.Once.{In, In-at, at-In}
 

@@ -1,10 +1,9 @@
 -- No instance stands twice among a ground task's methods, or among the initial ones.
-use Rattle.std.proofs.Common.{◌≡◌, ℕ, zero, suc, ◌+◌, ◌<◌, ◌≤◌, ◌⊎◌, List, [], ◌∷◌, map, filter, length, get_or, slice_get, Some, None, All, refl, sym, ap, subst, ◌∙◌, inl, inr, arith}
-use Rattle.std.specs.List.{flat_map, enumerate_from}
+use Rattle.std.proofs.Common.{◌≡◌, ℕ, suc, ◌<◌, ◌≤◌, List, [], ◌∷◌, map, filter, length, get_or, slice_get, Some, refl, sym, ap, subst, ◌∙◌, inl, inr, arith}
 use Rattle.std.specs.List.Sorted.{IsStrictlyIncreasing, IsStrictlySortedBy}
 use Rattle.std.proofs.lemmas.List.Kept.{AllPairs-from_increasing}
 use Rattle.std.specs.Ordering.{nat_cmp}
-use Rattle.std.proofs.lemmas.Option.{none-some, same_Some, slice_get_cases, slice_get_within, get_or_from_slice_get}
+use Rattle.std.proofs.lemmas.Option.{same_Some, slice_get_cases, slice_get_within, get_or_from_slice_get}
 use Rattle.std.proofs.lemmas.List.{get_or_past, get_or-map, length-map}
 use Rattle.std.proofs.lemmas.Map.Keys.{IsStrictlyIncreasing-from_sorted}
 use Rattle.htn_model.specs.Instances.{Conditions}
@@ -12,7 +11,7 @@ use Rattle.htn_model.specs.Instance.{Instance}
 use Rattle.htn_model.specs.Instances.{assignments, domains_of, instances, method_conditions, method_instance, instances_of_method, initial_conditions, initial_instance, meets, methods_of, initials, ground_task}
 use Rattle.htn_model.specs.Problem.{GroundTask, ground_task_eq}
 use Rattle.htn_model.specs.Task.{Task, MethodSchema, ObjectType, IsObjectType, IsWellTyped, objects_of}
-use Rattle.htn_net.proofs.Once.{In, at-In, Once, In-map, Once-map, Once-filter, Once-flat_map, Once-numbered}
+use Rattle.htn_net.proofs.Once.{at-In, Once, In-map, Once-map, Once-filter, Once-flat_map, Once-numbered}
 
 -- of two places of a list that rises the first has the lower number
 rises_to : (xs : List ℕ) → IsStrictlyIncreasing xs → (i j x y : ℕ) → i < j → slice_get xs i ≡ Some x → slice_get xs j ≡ Some y → x < y

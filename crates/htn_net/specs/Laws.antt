@@ -1,6 +1,6 @@
 -- The word machine of a task by ranks is lawful.
-use Rattle.std.specs.Prelude.{◌≡◌, ℕ, ◌<◌, List, [], ◌∷◌, zero, suc, map, length, get_or, Option, Some, None, All, slice_get, true, false, refl, option_map, option_and_then}
-use Rattle.std.proofs.Common.{sym, ap, subst, ◌∙◌, true≢false, arith}
+use Rattle.std.specs.Prelude.{◌≡◌, ℕ, ◌<◌, List, [], map, length, Option, Some, None, All, refl, option_map, option_and_then}
+use Rattle.std.proofs.Common.{sym, subst, true≢false, arith}
 use Rattle.std.proofs.lemmas.List.{get_or-map, length-map}
 use Rattle.std.proofs.lemmas.Option.{none-some}
 use Rattle.htn_model.specs.Grounding.{problem_of}
@@ -9,9 +9,9 @@ use Rattle.htn_model.specs.Instance.{Instance}
 use Rattle.htn_model.specs.Problem.{IsGrounded}
 use Rattle.htn_model.specs.Task.{Task}
 use Rattle.word_machine.specs.Machine.{IsLawful, IsStep}
-use Rattle.htn_answer.specs.Machine.{IsOwn, machine_of}
+use Rattle.htn_answer.specs.Machine.{IsOwn}
 use Rattle.htn_answer.proofs.Lawful as laws
-use Rattle.htn_net.specs.Listed.{choose_listed, listed_initials, listing_machine, number_at}
+use Rattle.htn_net.specs.Listed.{listed_initials, listing_machine, number_at}
 
 module _ (t : Task) where
   -- a rank leads where a number does

@@ -1,5 +1,5 @@
 -- What a search lists: of the instances that are not dead, and of the initial networks, each network once. A rank is a place among those that are listed.
-use Rattle.std.specs.Prelude.{◌≡◌, ℕ, Bool, false, List, [], map, length, Option, Some, None, unwrap_or, slice_get, option_map, option_and_then}
+use Rattle.std.specs.Prelude.{ℕ, false, List, [], map, length, Option, Some, None, unwrap_or, slice_get, option_map, option_and_then}
 use Rattle.std.specs.List.{enumerate_from}
 use Rattle.indexmap.specs.IndexSet.{insert_all}
 use Rattle.htn_model.specs.Choice.{first_free_compound, child_of}

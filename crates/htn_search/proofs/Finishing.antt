@@ -1,14 +1,12 @@
 -- Whether a word finishes, found out number by number.
-use Rattle.std.proofs.Common.{◌≡◌, ℕ, ◌<◌, List, [], ◌∷◌, length, get_or, Some, None, Contains, slice_get, option_map, true, sym, ap, ◌∙◌, subst}
+use Rattle.std.proofs.Common.{◌≡◌, ℕ, ◌<◌, List, ◌∷◌, length, get_or, Some, None, Contains, slice_get, option_map, sym, ap, ◌∙◌, subst}
 use Rattle.std.proofs.lemmas.Option.{none-some, same_Some, slice_get-get_or, slice_get-map}
 use Rattle.htn_model.specs.Grounding.{problem_of}
 use Rattle.htn_model.specs.Instance.{Instance}
 use Rattle.htn_model.specs.Instances.{initials}
-use Rattle.htn_model.specs.Levels.{is_done}
 use Rattle.htn_model.specs.Machine.{Config, choose, result_of, start, step_by, FinishesFrom, Finishes}
 use Rattle.htn_model.specs.Problem.{Problem}
 use Rattle.htn_model.specs.Task.{Task}
-use Rattle.htn_answer.proofs.Words.{done_from, done_back}
 
 module _ (problem : Problem) (c : Config) (n : ℕ) (rest : List ℕ) where
   pub one_onward : (next : Config) → step_by problem c n ≡ Some next → FinishesFrom problem (n ∷ rest) c → FinishesFrom problem rest next

@@ -1,5 +1,5 @@
 -- Words of ranks that finish, and their numbers.
-use Rattle.std.proofs.Common.{◌≡◌, ℕ, ◌+◌, ◌<◌, true, get_or, List, [], ◌∷◌, map, length, Option, Some, None, IsSome, is_some, slice_get, refl, sym, ap, ◌∙◌, subst, arith, cond, nat_lt, ◌^◌, option_map, unwrap_or}
+use Rattle.std.proofs.Common.{◌≡◌, ℕ, ◌<◌, true, get_or, List, [], ◌∷◌, length, Option, Some, None, IsSome, slice_get, refl, sym, ap, ◌∙◌, subst, option_map, unwrap_or}
 use Rattle.std.proofs.lemmas.Option.{none-some, same_Some, slice_get-map, slice_get_within, get_or_from_slice_get}
 use Rattle.htn_model.specs.Grounding.{problem_of}
 use Rattle.htn_model.specs.Instance.{Instance}
@@ -12,7 +12,7 @@ use Rattle.htn_model.specs.Tree.{Solution}
 use Rattle.htn_model.specs.Answer.{IsAnswer as IsAnswerFor}
 use Rattle.htn_model.proofs.Answers.{least_word_answers}
 use Rattle.htn_ground.specs.Distinct.{distinct}
-use Rattle.word_machine.specs.Words.{Leads, Reaches}
+use Rattle.word_machine.specs.Words.{Leads}
 use Rattle.word_machine.specs.Machine.{IsStep, IsFinishing}
 use Rattle.word_machine.specs.Answer.{IsAnswer, IsLeastFinishing}
 use Rattle.word_machine.specs.declared.found.Found.{Found}

@@ -1,5 +1,5 @@
 -- Words of ranks, by which a search goes, as words of numbers.
-use Rattle.std.specs.Prelude.{◌≡◌, ℕ, true, List, [], ◌∷◌, Some, map}
+use Rattle.std.specs.Prelude.{◌≡◌, ℕ, true, List, Some, map}
 use Rattle.htn_model.specs.Grounding.{problem_of}
 use Rattle.htn_model.specs.Levels.{is_done}
 use Rattle.htn_model.specs.Machine.{Config}

@@ -3,7 +3,7 @@ use Rattle.std.proofs.lemmas.Simd.{map-map}
 use Rattle.htn_model.specs.Instance.{Instance}
 use Rattle.htn_model.specs.Instances.{initials}
 use Rattle.htn_model.specs.Grounding.{problem_of}
-use Rattle.htn_model.specs.Machine.{Config, start}
+use Rattle.htn_model.specs.Machine.{start}
 use Rattle.htn_net.proofs.Whole.{initials_whole}
 use Rattle.htn_net.proofs.start.starts.Goals as goal
 

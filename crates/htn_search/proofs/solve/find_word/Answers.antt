@@ -1,11 +1,10 @@
-use Rattle.std.proofs.Common.{◌≡◌, ◌∙◌, sym, ap, subst}
+use Rattle.std.proofs.Common.{◌∙◌, sym, ap, subst}
 use Rattle.htn_answer.proofs.Answers.{answered, exact}
 use Rattle.htn_model.specs.Grounding.{problem_of}
 use Rattle.htn_model.proofs.Grounded.{tasks_are_grounded}
 use Rattle.word_machine.specs.Answer.{IsAnswer, IsLeastFinishing}
 use Rattle.word_machine.specs.Machine.{IsFinishing}
 use Rattle.word_machine.specs.declared.found.Found.TheVariants.{Word, None, Unsolvable}
-use Rattle.htn_answer.specs.Machine.{machine_of}
 use Rattle.htn_net.specs.Listed.{listing_machine}
 use Rattle.htn_search.specs.Told.{told_word}
 use Rattle.htn_search.proofs.Told.{told_answer}

@@ -1,11 +1,11 @@
-use Rattle.std.proofs.Common.{◌≡◌, ◌+◌, ◌<◌, ◌&&◌, [], ◌∷◌, length, get_or, drop, option_map, true, true≢false, sym, ap, ◌∙◌, subst, arith}
+use Rattle.std.proofs.Common.{◌≡◌, ◌+◌, ◌<◌, ◌&&◌, [], ◌∷◌, length, get_or, drop, option_map, true≢false, sym, ap, ◌∙◌, subst, arith}
 use Rattle.std.proofs.lemmas.List.{drop_more, drop_all}
 use Rattle.std.proofs.lemmas.Option.{MatchOption-at_some}
 use Rattle.htn_model.specs.Choice.{is_empty}
 use Rattle.htn_model.specs.Grounding.{problem_of}
 use Rattle.htn_model.specs.Levels.{is_done}
 use Rattle.htn_model.specs.Literal.{holds}
-use Rattle.htn_model.specs.Machine.{choose, Finishes, FinishesFrom, start, step_by}
+use Rattle.htn_model.specs.Machine.{choose, Finishes, FinishesFrom, step_by}
 use Rattle.htn_answer.proofs.Words.{done_from, done_back}
 use Rattle.htn_net.specs.Choices.{choice_of}
 use Rattle.htn_search.proofs.Finishing.{one_onward, one_back, stuck, is_initial, finishes_back, finishes_onward}

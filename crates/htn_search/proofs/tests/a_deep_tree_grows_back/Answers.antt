@@ -1,6 +1,5 @@
-use Rattle.std.proofs.Common.{◌≡◌, ◌≤◌, List, [], length, sym, refl, subst, arith, length-drop}
-use Rattle.htn_model.specs.Tree.{Node}
-use Rattle.htn_search.specs.Trail.{AreWithin, before_move}
+use Rattle.std.proofs.Common.{[], sym, refl, subst, arith, length-drop}
+use Rattle.htn_search.specs.Trail.{AreWithin}
 use Rattle.htn_search.proofs.Moves.{within_push}
 use Rattle.htn_search.proofs.tests.a_deep_tree_grows_back.Goals as goal
 

@@ -1,7 +1,6 @@
-use Rattle.std.proofs.Common.{◌≡◌, ◌+◌, ◌∷◌, [], length, get_or, drop, sym, refl, ap, ◌∙◌, subst}
+use Rattle.std.proofs.Common.{◌≡◌, ◌+◌, ◌∷◌, [], get_or, drop, sym, refl, subst}
 use Rattle.std.proofs.lemmas.List.{drop_more, drop_all}
 use Rattle.htn_model.specs.Grounding.{problem_of}
-use Rattle.htn_model.specs.Machine.{FinishesFrom}
 use Rattle.htn_model.proofs.Grounded.{tasks_are_grounded}
 use Rattle.htn_search.specs.Places.{places_view}
 use Rattle.htn_search.specs.Walk.{recorded}

@@ -1,6 +1,5 @@
-use Rattle.std.proofs.Common.{◌≡◌, ◌<◌, ◌++◌, [], Some, get_or, refl, sym, ap, ◌∙◌, subst}
+use Rattle.std.proofs.Common.{◌<◌, ◌++◌, [], get_or, refl, sym, ap, ◌∙◌, subst}
 use Rattle.htn_model.specs.Grounding.{problem_of}
-use Rattle.htn_model.specs.Machine.{choose}
 use Rattle.htn_model.specs.Problem.{is_compound}
 use Rattle.htn_net.specs.Choices.{choice_of}
 use Rattle.htn_model.specs.Choice.{splice}
