@@ -11,6 +11,8 @@ mod gates;
 #[cfg(test)]
 mod pairs;
 #[cfg(test)]
+mod process;
+#[cfg(test)]
 mod refusals;
 #[cfg(test)]
 mod words;

@@ -18,6 +18,10 @@ struct Shelf {
 }
 
 impl Source for Shelf {
+    ghost use Rattle.htn_run.specs.Files.{Untold};
+
+    ghost files = { λ _ _. Untold };
+
     fn read(&mut self, alloc: Global, name: &str) -> Result<Vec<u8>, ReadFault> {
         if self.asked.push_str(name).is_err() {
             return Err(ReadFault::OutOfMemory);

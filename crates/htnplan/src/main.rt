@@ -1,21 +1,22 @@
 //! The program `htnplan`.
 #![tactic(auto)]
 
-use htn_run::{Disk, Sink, run_words};
-use std::io::{BufWriter, Write};
+use htn_run::{Disk, ProcessFault, Sink, flush, run_words, words_of};
+use std::io::BufWriter;
 use std::process::ExitCode;
-use std::{env, io};
 
-fn main(rt: HostRuntime) -> io::Result<ExitCode> {
+fn main(rt: HostRuntime) -> ExitCode {
     let alloc = rt.alloc();
-    let words: Vec<String> = env::args(&rt)?.collect(alloc)?;
-    let mut files = Disk { files: &rt };
-    let mut out = Sink::new(BufWriter::new(alloc, rt.stdout())?);
     let mut err = Sink::new(rt.stderr());
+    let words = match words_of(alloc, &rt) {
+        Ok(words) => words,
+        Err(fault) => return ExitCode::from(fault.tell(&mut err)),
+    };
+    let Ok(writer) = BufWriter::new(alloc, rt.stdout()) else {
+        return ExitCode::from(ProcessFault::OutOfMemory.tell(&mut err));
+    };
+    let mut files = Disk { files: &rt };
+    let mut out = Sink::new(writer);
     let status = run_words(&rt, alloc, words.as_slice(), &mut files, &mut out, &mut err);
-    let mut writer = out.into_inner();
-    if writer.flush().is_err() {
-        return Ok(ExitCode::from(5));
-    }
-    Ok(ExitCode::from(status))
+    ExitCode::from(flush(status, out, &mut err))
 }
