@@ -17,6 +17,7 @@ action_there [] i h = absurd (omega arith)
 action_there (l ∷ lines) zero h = (l, refl)
 action_there (l ∷ lines) (suc i) h = action_there lines i (omega arith)
 
+-- one option holds one id
 same_id : (o : Option ℕ) (x y : ℕ) → o ≡ Some x → o ≡ Some y → x ≡ y
 same_id o x y e h = cc
 
@@ -53,6 +54,7 @@ module _ (naming : Naming) (file : PlanFile) (once : IsWithoutRepeats (defined_i
           subst (λ k. Names naming file k t) (same_id (slice_get ids n) line.id id (subst (λ k. slice_get ids k ≡ Some line.id) whole here) at)
           (a_task line t (at_in line file.decompositions (n - length file.actions) stands) (are.decompositions (n - length file.actions) line stands ∙ ap named_at whole ∙ named))
 
+  -- the same for several lines
   pub all_by_number : (numbers listed : List ℕ) (tasks : List GroundTask) → AreNumbersOf ids numbers listed → AreNamed naming file listed tasks → HaveTasks named_at numbers tasks
   all_by_number [] [] tasks are_numbers named = ap (map Some) (sym named)
   all_by_number [] (id ∷ listed) tasks are_numbers named = absurd cc
@@ -63,6 +65,7 @@ module _ (naming : Naming) (file : PlanFile) (once : IsWithoutRepeats (defined_i
       let tail : AreNumbersOf ids numbers listed = cc in
       ap₂ ◌∷◌ (by_number n id t head named.0) (all_by_number numbers listed tasks tail named.1)
 
+  -- and back
   pub all_by_id : (numbers listed : List ℕ) (tasks : List GroundTask) → AreNumbersOf ids numbers listed → HaveTasks named_at numbers tasks → AreNamed naming file listed tasks
   all_by_id [] [] [] are_numbers have = refl
   all_by_id [] [] (t ∷ tasks) are_numbers have = absurd cc

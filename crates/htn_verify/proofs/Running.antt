@@ -22,6 +22,7 @@ module _ (naming : Naming) (problem : Problem) where
   same_line : (state : State) (line : ActionLine) (t : GroundTask) → naming.named line.name line.arguments ≡ Some t → perform_line naming problem state line ≡ perform_action state (problem.action_of t)
   same_line state line t named = ap (λ o. perform_action state (option_and_then problem.action_of o)) named
 
+  -- lines run as their tasks do
   same_run : (lines : List ActionLine) (tasks : List GroundTask) → AreTasksOf naming lines tasks → (state : State) → run_lines naming problem state lines ≡ run_tasks problem state tasks
   same_run [] tasks are state = sym (ap (run_tasks problem state) are)
   same_run (line ∷ lines) [] are state = absurd are
@@ -33,12 +34,14 @@ module _ (naming : Naming) (problem : Problem) where
       by None more = refl
       by (Some next) more = more next
 
+  -- the tasks of the first lines
   first_tasks : (k : ℕ) (lines : List ActionLine) (tasks : List GroundTask) → AreTasksOf naming lines tasks → AreTasksOf naming (take k lines) (take k tasks)
   first_tasks zero lines tasks are = refl
   first_tasks (suc k) [] tasks are = ap (take (suc k)) are
   first_tasks (suc k) (line ∷ lines) [] are = absurd are
   first_tasks (suc k) (line ∷ lines) (t ∷ tasks) are = (are.0, first_tasks k lines tasks are.1)
 
+  -- a line's task
   task_of_line : (lines : List ActionLine) (tasks : List GroundTask) → AreTasksOf naming lines tasks → (i : ℕ) (line : ActionLine) (t : GroundTask)
       → slice_get lines i ≡ Some line → slice_get tasks i ≡ Some t → naming.named line.name line.arguments ≡ Some t
   task_of_line [] tasks are i line t h g = absurd cc
@@ -47,6 +50,7 @@ module _ (naming : Naming) (problem : Problem) where
       let same : l ≡ line = cc in let task : u ≡ t = cc in subst (λ x. naming.named x.name x.arguments ≡ Some t) same (are.0 ∙ ap Some task)
   task_of_line (l ∷ lines) (u ∷ tasks) are (suc i) line t h g = task_of_line lines tasks are.1 i line t h g
 
+  -- as many tasks as lines
   as_many : (lines : List ActionLine) (tasks : List GroundTask) → AreTasksOf naming lines tasks → length tasks ≡ length lines
   as_many [] tasks are = ap length are
   as_many (line ∷ lines) [] are = absurd are
@@ -62,9 +66,11 @@ module _ (naming : Naming) (problem : Problem) where
       ap (option_and_then (λ next. run_lines naming problem next (take k lines))) (performs 0 line refl)
       ∙ runs_to lines (λ i. states (suc i)) (λ i l at. performs (suc i) l at) k (omega arith)
 
+  -- one option holds one state
   same_state : (s t : State) → Some s ≡ Some t → s ≡ t
   same_state s t e = cc
 
+  -- what a run of tasks tells of lines
   pub runs_are_of_lines : RunsAreOfLines naming problem
   runs_are_of_lines = record {
     fails = λ file tasks are i failing line at. record {

@@ -17,6 +17,7 @@ module _ (naming : Naming) (file : PlanFile) where
       let (before, after, is, first, others) = named_split left right tasks named.1 in
       (t ∷ before, after, ap (λ ts. t ∷ ts) is, (named.0, first), others)
 
+  -- and joined
   named_join : (left right : List ℕ) (before after : List GroundTask) → AreNamed naming file left before → AreNamed naming file right after → AreNamed naming file (left ++ right) (before ++ after)
   named_join [] right before after first others = subst (λ ts. AreNamed naming file right (ts ++ after)) (sym first) others
   named_join (id ∷ left) right [] after first others = absurd first
@@ -60,6 +61,7 @@ module _ (naming : Naming) (file : PlanFile) where
         subst (AreNamed naming file (left ++ id ∷ right)) (sym e) (named_join left (id ∷ right) before (t ∷ after) first (names.0, others)),
       )
 
+-- lines have instances as their tasks show them
 pub instances_by_tasks : (naming : Naming) (problem : Problem) → InstancesByTasks naming problem
 instances_by_tasks naming problem = record {
   action = λ file named_at are i line stands. (

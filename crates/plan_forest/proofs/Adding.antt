@@ -14,6 +14,7 @@ use Rattle.plan_forest.specs.Numbers.{AreNew}
 pub found_in : (x : ℕ) (xs : List ℕ) → list_any (nat_eq x) xs ≡ true → IsIn x xs
 found_in x xs h = let (y, i, e) = any_some (nat_eq x) xs h in subst (λ z. IsIn z xs) (sym (eqb-true x y e)) i
 
+-- and is not where it finds none
 pub not_found : (x : ℕ) (xs : List ℕ) → list_any (nat_eq x) xs ≡ false → IsIn x xs → ⊥
 not_found x xs h i = let f = any_in (nat_eq x) x xs i (eq-eqb x x refl) in absurd cc
 
@@ -74,6 +75,7 @@ pub singles : (xs : List ℕ) → flat_map (λ x. x ∷ []) xs ≡ xs
 singles [] = refl
 singles (x ∷ xs) = ap (λ ys. x ∷ ys) (singles xs)
 
+-- what stands below the end is among them
 pub get_in : (xs : List ℕ) (i d : ℕ) → i < length xs → IsIn (get_or xs i d) xs
 get_in [] i d h = absurd (omega arith)
 get_in (x ∷ xs) zero d h = inl refl

@@ -20,9 +20,11 @@ forest_lists_once file forest = distinct_rearranged (defined_ids file) (listed_i
 pub forest_knows : (file : PlanFile) (listed : List ℕ) → IsForest file → ((id : ℕ) → IsIn id listed → IsIn id (listed_ids file)) → IsUnknown (defined_ids file) listed → ⊥
 forest_knows file listed forest within (id, there, unknown) = unknown (in_arranged id (defined_ids file) (listed_ids file) forest.listed_once (within id there))
 
+-- roots are listed
 pub root_is_listed : (file : PlanFile) (id : ℕ) → IsIn id file.roots → IsIn id (listed_ids file)
 root_is_listed file id i = in_left id file.roots (all_children file.decompositions) i
 
+-- and so are children
 pub child_is_listed : (file : PlanFile) (id : ℕ) → IsIn id (all_children file.decompositions) → IsIn id (listed_ids file)
 child_is_listed file id i = in_right id file.roots (all_children file.decompositions) i
 
@@ -36,6 +38,7 @@ parent_line id (l ∷ lines) i = by (in_split id l.children (all_children lines)
     by (inl j) more = (l, inl refl, j)
     by (inr j) more = let (line, there, below) = more j in (line, inr there, below)
 
+-- one option holds one value
 some_is : {X : Type 0} (o : Option X) (x y : X) → o ≡ Some x → o ≡ Some y → x ≡ y
 some_is o x y e h = cc
 
@@ -54,12 +57,14 @@ module _ (file : PlanFile) (once : IsWithoutRepeats (defined_ids file)) (roots :
   abbrev actions : ℕ
   actions = length file.actions
 
+  -- the children of a decomposition line
   past : (j : ℕ) → children_at actions children (actions + j) ≡ get_or children j []
   past j =
       let high : actions ≤ actions + j = omega arith in
       let off : actions + j - actions ≡ j = omega arith in
       ap (λ b. cond b [] (get_or children (actions + j - actions) [])) (le-ltb (actions + j) actions high) ∙ ap (λ k. get_or children k []) off
 
+  -- a decomposition line's number
   number_of_line : (j : ℕ) (line : DecompositionLine) → slice_get file.decompositions j ≡ Some line → slice_get ids (actions + j) ≡ Some line.id
   number_of_line j line h = past_actions file.actions (decomposition_ids file.decompositions) j ∙ decomposition_id_at file.decompositions j line h
 
@@ -74,6 +79,7 @@ module _ (file : PlanFile) (once : IsWithoutRepeats (defined_ids file)) (roots :
       a_child (actions + j) l (to_number line.id above (actions + j) (number_of_line j line at))
       (subst (IsIn l) (sym (past j)) (subst (λ k. IsIn k (get_or children j [])) (one_number ids once m l id is h) there))
 
+  -- the line has an id that is reached
   record HasReachedId (l : ℕ) : Type 0 where
     id : ℕ
     is : slice_get ids l ≡ Some id
@@ -104,11 +110,13 @@ module _ (file : PlanFile) (once : IsWithoutRepeats (defined_ids file)) (roots :
   abbrev pub AllReached : Type 0
   AllReached = (l : ℕ) → l < length (defined_ids file) → IsReachedFrom (length file.actions) roots children l
 
+  -- an id stands at each place below the count
   id_there : (xs : List ℕ) (l : ℕ) → l < length xs → (id : ℕ) × (slice_get xs l ≡ Some id)
   id_there [] l h = absurd (omega arith)
   id_there (x ∷ xs) zero h = (x, refl)
   id_there (x ∷ xs) (suc l) h = id_there xs l (omega arith)
 
+  -- the numbers of a forest are reached
   pub forest_reaches : IsForest file → AllReached
   forest_reaches forest l h =
       let (id, is) = id_there ids l h in

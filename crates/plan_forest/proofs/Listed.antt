@@ -44,6 +44,7 @@ one_number (x ∷ ids) once (suc a) (suc b) id e h = ap suc (one_number ids once
 
 -- ## Children
 
+-- as many lists as lines
 pub as_many_lists : (ids : List ℕ) (lists : List (List ℕ)) (lines : List DecompositionLine) → AreNumbersOfChildren ids lists lines → length lists ≡ length lines
 as_many_lists ids [] lines are = ap length (sym are)
 as_many_lists ids (numbers ∷ lists) [] are = absurd are
@@ -66,11 +67,13 @@ one_list_more ids (ns ∷ lists) (l ∷ lines) numbers line are here = (are.0, o
 
 -- ## Ids of lines
 
+-- an action line's id stands at its place
 pub action_id_at : (lines : List ActionLine) (more : List ℕ) (i : ℕ) (line : ActionLine) → slice_get lines i ≡ Some line → slice_get (action_ids lines ++ more) i ≡ Some line.id
 action_id_at [] more i line h = absurd cc
 action_id_at (l ∷ lines) more zero line h = let same : l ≡ line = cc in ap (λ x. Some x.id) same
 action_id_at (l ∷ lines) more (suc i) line h = action_id_at lines more i line h
 
+-- a decomposition line's id stands at its place
 pub decomposition_id_at : (lines : List DecompositionLine) (j : ℕ) (line : DecompositionLine) → slice_get lines j ≡ Some line → slice_get (decomposition_ids lines) j ≡ Some line.id
 decomposition_id_at [] j line h = absurd cc
 decomposition_id_at (l ∷ lines) zero line h = let same : l ≡ line = cc in ap (λ x. Some x.id) same
@@ -83,10 +86,12 @@ past_actions (l ∷ lines) more j =
     let e : length (l ∷ lines) + j ≡ suc (length lines + j) = omega arith in
     ap (slice_get (action_ids (l ∷ lines) ++ more)) e ∙ past_actions lines more j
 
+-- as many ids as action lines
 pub as_many_action_ids : (lines : List ActionLine) → length (action_ids lines) ≡ length lines
 as_many_action_ids [] = refl
 as_many_action_ids (l ∷ lines) = ap suc (as_many_action_ids lines)
 
+-- as many ids as decomposition lines
 pub as_many_decomposition_ids : (lines : List DecompositionLine) → length (decomposition_ids lines) ≡ length lines
 as_many_decomposition_ids [] = refl
 as_many_decomposition_ids (l ∷ lines) = ap suc (as_many_decomposition_ids lines)
@@ -99,6 +104,7 @@ found_at id n ids e =
     let (low, same, first) = position-Some (nat_eq id) ids n 0 (sym e) in
     slice_get-get_or ids n 0 low ∙ ap Some (sym (eqb-true id (get_or ids n 0) same))
 
+-- one listed id more
 pub one_number_more : (ids numbers listed : List ℕ) (n id : ℕ) → AreNumbersOf ids numbers listed → slice_get ids n ≡ Some id → AreNumbersOf ids (numbers ++ n ∷ []) (listed ++ id ∷ [])
 one_number_more ids numbers listed n id are e =
     map-append (slice_get ids) numbers (n ∷ []) ∙ ap₂ (λ xs x. xs ++ x ∷ []) are e ∙ sym (map-append Some listed (id ∷ []))
@@ -117,6 +123,7 @@ unknown_child ids children lines i d h e (id, there, unknown) = (id, child_liste
 pub numbers_within : (ids numbers listed : List ℕ) → AreNumbersOf ids numbers listed → All (λ n. n < length ids) numbers
 numbers_within ids numbers listed are k d h = let (id, there, is) = of_number ids numbers listed are (get_or numbers k d) (get_in numbers k d h) in slice_get_within ids (get_or numbers k d) id is
 
+-- and so have all children
 pub lists_within : (ids : List ℕ) (lists : List (List ℕ)) (lines : List DecompositionLine) → AreNumbersOfChildren ids lists lines → All (All (λ n. n < length ids)) lists
 lists_within ids [] lines are k d h = absurd (omega arith)
 lists_within ids (numbers ∷ lists) [] are k d h = absurd are

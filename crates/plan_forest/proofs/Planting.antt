@@ -41,6 +41,7 @@ module _ (naming : Naming) (file : PlanFile) (forest : Forest) (task_at : ℕ �
   abbrev most : ℕ
   most = length file.decompositions
 
+  -- the lines name tasks
   are_named : AreNamedLines naming file
   are_named = record {
     actions = λ line i. (let (k, at) = in_at line file.actions i in (task_at k, named.actions k line at));
@@ -76,6 +77,7 @@ module _ (naming : Naming) (file : PlanFile) (forest : Forest) (task_at : ℕ �
 
   -- ## By numbers
 
+  -- a line's method at its place
   method_is : (lines : List DecompositionLine) (j : ℕ) (line : DecompositionLine) → slice_get lines j ≡ Some line → get_or (map (λ l. l.method) lines) j [] ≡ line.method
   method_is [] j line h = absurd cc
   method_is (l ∷ lines) zero line h = let same : l ≡ line = cc in ap (λ x. x.method) same
@@ -84,15 +86,18 @@ module _ (naming : Naming) (file : PlanFile) (forest : Forest) (task_at : ℕ �
   abbrev built : ℕ → ℕ → PlanTree
   built depth = tree_within depth task_at file forest
 
+  -- the tree of an action line
   built_action : (depth i : ℕ) → i < actions → built depth i ≡ action_at (task_at i) i
   built_action zero i h = refl
   built_action (suc depth) i h =
       ap (λ b. cond b (action_at (task_at i) i) (decomposition (task_at i) (method_at file i) (trees_of (built depth) (children_at actions forest.children i)))) (lt-ltb i actions h)
 
+  -- the tree of a decomposition line
   built_decomposition : (depth i : ℕ) → actions ≤ i → built (suc depth) i ≡ decomposition (task_at i) (method_at file i) (trees_of (built depth) (children_at actions forest.children i))
   built_decomposition depth i h =
       ap (λ b. cond b (action_at (task_at i) i) (decomposition (task_at i) (method_at file i) (trees_of (built depth) (children_at actions forest.children i)))) (le-ltb i actions h)
 
+  -- the numbers of a line's children
   children_are : (j : ℕ) (line : DecompositionLine) → slice_get file.decompositions j ≡ Some line → AreNumbersOf ids (children_at actions forest.children (actions + j)) line.children
   children_are j line at =
       let high : actions ≤ actions + j = omega arith in
@@ -101,6 +106,7 @@ module _ (naming : Naming) (file : PlanFile) (forest : Forest) (task_at : ℕ �
       ap (λ b. cond b [] (get_or forest.children (actions + j - actions) [])) (le-ltb (actions + j) actions high) ∙ ap (λ k. get_or forest.children k []) off in
       subst (λ xs. AreNumbersOf ids xs line.children) (sym same) (children_numbers ids forest.children file.decompositions is.children j line at)
 
+  -- one option holds one task
   some_task : (t u : GroundTask) → Some t ≡ Some u → t ≡ u
   some_task t u e = cc
 
@@ -144,6 +150,7 @@ module _ (naming : Naming) (file : PlanFile) (forest : Forest) (task_at : ℕ �
       let t = reached_tree id (is_forest.reached id (at_in id ids i at)) in
       (t, same_tree t.tree most i id t.within at t.shows)
 
+  -- listed lines show the trees of their numbers
   show_all : (numbers listed : List ℕ) → AreNumbersOf ids numbers listed → ShowTrees naming file listed (trees_of (tree_at task_at file forest) numbers)
   show_all [] [] are = refl
   show_all [] (id ∷ listed) are = absurd cc

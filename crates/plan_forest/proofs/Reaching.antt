@@ -11,6 +11,7 @@ module _ (actions : ℕ) (roots : List ℕ) (children : List (List ℕ)) where
   abbrev Reached : ℕ → Type 0
   Reached = IsReachedFrom actions roots children
 
+  -- the walk has passed so many of the lines that it has met
   pub record IsWalk (met : List Bool) (lines : List ℕ) (next : ℕ) : Type 0 where
     pub are_met : AreMet met lines
     pub reached : (x : ℕ) → IsIn x lines → IsReachedFrom actions roots children x

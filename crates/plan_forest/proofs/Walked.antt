@@ -37,9 +37,11 @@ one_met met lines x are low unmarked = record {
 
 -- ## Lines that are added
 
+-- no line more
 pub none_added : (lines : List ℕ) → AreAdded lines lines []
 none_added lines = record { added = []; is = sym (append-nil lines); some = λ x i. i; all = λ x i. absurd i }
 
+-- a line that is new
 pub new_added : (old new more : List ℕ) (x : ℕ) → AreAdded old new more → AreAdded old (new ++ x ∷ []) (more ++ x ∷ [])
 new_added old new more x are = record {
   added = are.added ++ x ∷ [];
@@ -48,6 +50,7 @@ new_added old new more x are = record {
   all = λ y i. elim (in_split y more (x ∷ []) i) [ inl l ↦ in_left y new (x ∷ []) (are.all y l) | inr r ↦ in_right y new (x ∷ []) r ];
 }
 
+-- a line that was met
 pub known_added : (old new more : List ℕ) (x : ℕ) → AreAdded old new more → IsIn x new → AreAdded old new (more ++ x ∷ [])
 known_added old new more x are known = record {
   added = are.added;
@@ -63,26 +66,31 @@ known_added old new more x are known = record {
 
 -- ## As many lines as there are
 
+-- the numbers below one
 below : ℕ → List ℕ
 below zero = []
 below (suc n) = n ∷ below n
 
+-- each number below it is there
 in_below : (x n : ℕ) → x < n → IsIn x (below n)
 unfolding below
 in_below x zero h = absurd (omega arith)
 in_below x (suc n) h = elim (cases_eq x n) [ inl same ↦ inl same | inr other ↦ inr (in_below x n (omega arith)) ]
 
+-- and no other
 low_below : (x n : ℕ) → IsIn x (below n) → x < n
 unfolding below
 low_below x zero i = absurd i
 low_below x (suc n) (inl same) = omega arith
 low_below x (suc n) (inr i) = let h = low_below x n i in omega arith
 
+-- none twice
 below_once : (n : ℕ) → IsWithoutRepeats (below n)
 unfolding below
 below_once zero = tt
 below_once (suc n) = ((λ i. let h = low_below n n i in omega arith), below_once n)
 
+-- as many as it says
 as_many_below : (n : ℕ) → length (below n) ≡ n
 unfolding below
 as_many_below zero = refl

@@ -11,14 +11,17 @@ use Rattle.plan_run.specs.Turns.{IsNextGap, IsWithin, IsOnward, History, truth, 
 
 -- ## Tests that say the same
 
+-- tests that are alike have one next gap
 pub next_alike : (f g : ℕ → Bool) (from : ℕ) (r : Option ℕ) → ((k : ℕ) → f k ≡ g k) → IsNextGap f from r → IsNextGap g from r
 next_alike f g from None same next = λ k h. sym (same k) ∙ next k h
 next_alike f g from (Some gap) same next = (next.0, sym (same gap) ∙ next.1, (λ k h l. sym (same k) ∙ next.2 k h l))
 
+-- a truth that is to be true
 pub beq_true : (b : Bool) → beq b true ≡ b
 beq_true true = refl
 beq_true false = refl
 
+-- a truth that is to be false
 pub beq_false : (b : Bool) → beq b false ≡ not b
 beq_false true = refl
 beq_false false = refl
@@ -29,6 +32,7 @@ always test from so = (omega arith, so from, (λ k h l. absurd (omega arith)))
 
 -- ## One round
 
+-- a literal more
 all_join : (test : Literal → Bool) (ls : List Literal) (l : Literal) → list_all test (ls ++ l ∷ []) ≡ (list_all test ls && test l)
 all_join test [] l = with_true (test l)
   where
@@ -41,9 +45,11 @@ all_join test (m ∷ ls) l = ap (λ b. test m && b) (all_join test ls l) ∙ reg
     regroup true b c = refl
     regroup false b c = refl
 
+-- the first of two tests fails
 pub false_left : (a b : Bool) → a ≡ false → (a && b) ≡ false
 false_left a b h = ap (λ x. x && b) h
 
+-- the second of two tests fails
 pub false_right : (a b : Bool) → b ≡ false → (a && b) ≡ false
 false_right true b h = h
 false_right false b h = refl
@@ -55,9 +61,11 @@ pub record HaveMoved (h : History) (literals : List Literal) (from gap : ℕ) : 
   pub hold : gap ≡ from → literals_truth h literals from ≡ true
   pub within : from < gap → gap ≤ h.last
 
+-- no literal has come yet
 pub none_moved : (h : History) (from : ℕ) → HaveMoved h [] from from
 none_moved h from = record { low = omega arith; skipped = λ k m l. absurd (omega arith); hold = λ e. refl; within = λ l. absurd (omega arith) }
 
+-- one literal moves the gap on
 pub one_moved : (h : History) (literals : List Literal) (l : Literal) (from gap next : ℕ) → HaveMoved h literals from gap → IsNextGap (literal_truth h l) gap (Some next)
     → IsWithin h.last gap (Some next) → HaveMoved h (literals ++ l ∷ []) from next
 one_moved h literals l from gap next moved (low, holds_next, none) within = record {
@@ -100,10 +108,12 @@ none_left h before rest l from gap moved none k m = joined (λ x. literal_truth 
 pub found : (test : ℕ → Bool) (from gap : ℕ) → from ≤ gap → ((k : ℕ) → from ≤ k → k < gap → test k ≡ false) → IsOnward test gap (Some gap) → IsNextGap test from (Some gap)
 found test from gap low skipped onward = (low, onward.2 refl, skipped)
 
+-- the next round skips no gap in which all hold
 pub skipped_more : (test : ℕ → Bool) (from gap next : ℕ) → ((k : ℕ) → from ≤ k → k < gap → test k ≡ false) → IsOnward test gap (Some next)
     → (k : ℕ) → from ≤ k → k < next → test k ≡ false
 skipped_more test from gap next skipped onward k m l = elim (cases_lt k gap) [ inl less ↦ skipped k m less | inr more ↦ onward.1 k more l ]
 
+-- nor does the last one
 pub skipped_all : (test : ℕ → Bool) (from gap : ℕ) → ((k : ℕ) → from ≤ k → k < gap → test k ≡ false) → IsOnward test gap None → IsNextGap test from None
 skipped_all test from gap skipped onward k m = elim (cases_lt k gap) [ inl less ↦ skipped k m less | inr more ↦ onward k more ]
 
@@ -123,6 +133,7 @@ same_literal h state gap same (atom false a) = ap not (same a)
 same_literal h state gap same (equality true x y) = refl
 same_literal h state gap same (equality false x y) = refl
 
+-- so do conjunctions
 pub same_literals : (h : History) (state : State) (gap : ℕ) → ((a : Atom) → contains state a ≡ truth h a gap) → (ls : List Literal) → holds state ls ≡ literals_truth h ls gap
 same_literals h state gap same [] = refl
 same_literals h state gap same (l ∷ ls) = ap₂ ◌&&◌ (same_literal h state gap same l) (same_literals h state gap same ls)

@@ -30,6 +30,7 @@ run_push problem state last (t ∷ tasks) g e = by (perform_action state (proble
     by None e more = absurd cc
     by (Some next) e more = more next e
 
+-- of no tasks none are taken
 nothing_taken : (k : ℕ) (tasks : List GroundTask) → tasks ≡ [] → take k tasks ≡ []
 nothing_taken zero tasks none = refl
 nothing_taken (suc k) tasks none = ap (take (suc k)) none
@@ -48,11 +49,13 @@ module _ (problem : Problem) (tasks : List GroundTask) (g : GroundTask) (old : H
   abbrev Each : History → ℕ → Type 0
   Each new k = (state : State) × (run_tasks problem problem.initial_state (take k (tasks ++ g ∷ [])) ≡ Some state) × ((a : Atom) → contains state a ≡ truth new a k)
 
+  -- the state after all tasks so far
   pub record Last : Type 0 where
     pub state : State
     pub reaches : run_tasks problem problem.initial_state tasks ≡ Some state
     pub same : (a : Atom) → contains state a ≡ truth old a (length tasks)
 
+  -- there is one
   pub last_one : Last
   last_one =
       let (state, reaches, same) = run.each (length tasks) (omega arith) in
@@ -73,9 +76,11 @@ module _ (problem : Problem) (tasks : List GroundTask) (g : GroundTask) (old : H
     fails = none;
   }
 
+  -- what is no action can't be done
   pub no_action : problem.action_of g ≡ None → perform_action last_one.state (problem.action_of g) ≡ None
   no_action none = ap (perform_action last_one.state) none
 
+  -- an action whose literals don't hold can't be done
   pub not_ready : (action : Action) → problem.action_of g ≡ Some action → literals_truth old action.precondition (length tasks) ≡ false
       → perform_action last_one.state (problem.action_of g) ≡ None
   not_ready action is wrong =

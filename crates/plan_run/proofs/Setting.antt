@@ -13,6 +13,7 @@ use Rattle.plan_run.specs.Turns.{is_true_in, is_turned, IsRising, IsTurnedOver, 
 use Rattle.plan_run.proofs.Truths.{split_truth, all_passed}
 use Rattle.plan_run.proofs.Touched.{same_atom, set_here, set_there, set_history}
 
+-- two atoms are the same or not
 same_or_not : (a b : Atom) → (a ≡ b) ⊎ (a ≡ b → ⊥)
 same_or_not a b = by (atom_eq a b) refl
   where
@@ -20,6 +21,7 @@ same_or_not a b = by (atom_eq a b) refl
     by true h = inl (same_atom a b h)
     by false h = inr (λ same. both_ways _ h ((atom_eq-decides a b).1 same))
 
+-- what is not a value is so when it is turned over
 not_value : (a b : Bool) → (a ≡ b → ⊥) → not a ≡ b
 not_value true true n = absurd (n refl)
 not_value true false n = refl
@@ -40,6 +42,7 @@ module _ (old mid : History) (a : Atom) (value : Bool) (touched : IsTouched old 
   abbrev place : ℕ
   place = position_or_len (atom_eq a) mid.atoms
 
+  -- touching changes no truth
   same_truth : (b : Atom) (k : ℕ) → truth mid b k ≡ truth old b k
   same_truth b k = ap₂ (λ s ts. is_true_in (contains s b) ts k) touched.initial (touched.same b)
 
@@ -96,6 +99,7 @@ module _ (old mid : History) (a : Atom) (value : Bool) (touched : IsTouched old 
 
 -- ## Several atoms
 
+-- no atom
 pub none_turned : (h : History) (value : Bool) → AreTurned h h [] value
 none_turned h value = record {
   past = record { initial = refl; last = refl; before = λ b k l. refl };
@@ -134,6 +138,7 @@ pub record IsNextOf (old next : History) : Type 0 where
   pub atoms : next.atoms ≡ old.atoms
   pub turns : next.turns ≡ old.turns
 
+-- which keeps all turns
 pub next_history : (old next : History) → IsHistory old → IsNextOf old next → IsHistory next
 next_history old next is n = record {
   as_many = ap length n.turns ∙ is.as_many ∙ sym (ap length n.atoms);
@@ -141,18 +146,22 @@ next_history old next is n = record {
       subst (IsRising next.last) (sym (ap (λ ls. get_or ls i []) n.turns)) (record { rising = r.rising; low = λ j l. (let h = r.low j l in omega arith) });
 }
 
+-- the turns of each atom
 next_turns : (old next : History) → IsNextOf old next → (b : Atom) → turns_of next b ≡ turns_of old b
 next_turns old next n b = ap₂ (λ ls xs. get_or ls (position_or_len (atom_eq b) xs) []) n.turns n.atoms
 
+-- and its truth
 next_truth : (old next : History) → IsNextOf old next → (b : Atom) (k : ℕ) → truth next b k ≡ truth old b k
 next_truth old next n b k = ap₂ (λ s ts. is_true_in (contains s b) ts k) n.initial (next_turns old next n b)
 
+-- past the last gap truth stays
 settled : (old next : History) → IsHistory old → IsNextOf old next → (b : Atom) → truth next b next.last ≡ truth old b old.last
 settled old next is n b =
     next_truth old next n b next.last
     ∙ split_truth (contains old.initial b) (turns_of old b) next.last (length (turns_of old b)) (all_passed old.last (turns_of old b) next.last (is.rising _) (let e = n.last in omega arith))
     ∙ sym (split_truth (contains old.initial b) (turns_of old b) old.last (length (turns_of old b)) (all_passed old.last (turns_of old b) old.last (is.rising _) (omega arith)))
 
+-- a true atom is among those of the state
 in_state : (s : State) (b : Atom) → contains s b ≡ true → IsIn b (atoms_of s)
 in_state s b h =
     let (i, low, is) = (set_of-Contains (atoms_of s) b).0 (ap (λ t. contains t b) (set_of-atoms_of s) ∙ h) in
@@ -163,6 +172,7 @@ in_state s b h =
     at_index (x ∷ xs) zero b l e = inl (sym e)
     at_index (x ∷ xs) (suc i) b l e = inr (at_index xs i b (omega arith) e)
 
+-- a false one is not
 not_in_state : (s : State) (b : Atom) → contains s b ≡ false → IsIn b (atoms_of s) → ⊥
 not_in_state s b h i =
     let (k, low, is) = index_of (atoms_of s) i in

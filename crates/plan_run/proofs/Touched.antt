@@ -14,11 +14,13 @@ use Rattle.plan_run.specs.Turns.{History, IsHistory, IsRising}
 pub same_atom : (a b : Atom) → atom_eq a b ≡ true → a ≡ b
 same_atom a b h = (atom_eq-decides a b).0 h
 
+-- an atom is the same as itself
 pub atom_itself : (a : Atom) → atom_eq a a ≡ true
 atom_itself a = (atom_eq-decides a a).1 refl
 
 -- ## Places
 
+-- two cases of a test
 when : {P : Type 0} (b : Bool) → (b ≡ true → P) → (b ≡ false → P) → P
 when true yes_case no_case = yes_case refl
 when false yes_case no_case = no_case refl
@@ -45,6 +47,7 @@ one_empty [] (suc i) = refl
 one_empty (ts ∷ lists) zero = refl
 one_empty (ts ∷ lists) (suc i) = one_empty lists i
 
+-- past the end there are no turns
 past : (lists : List (List ℕ)) (i j : ℕ) → length lists ≤ i → length lists ≤ j → get_or lists i [] ≡ get_or lists j []
 past lists i j h l = get_or_past lists i [] h ∙ sym (get_or_past lists j [] l)
 

@@ -18,14 +18,17 @@ split_truth first (t ∷ turns) gap (suc passed) s =
     ∙ split_truth (not first) turns gap passed
     (record { low = λ i h. s.low (suc i) (omega arith); high = λ i h l. s.high (suc i) (omega arith) (omega arith); within = (let w = s.within in omega arith) })
 
+-- twice turned over
 not_not : (b : Bool) → not (not b) ≡ b
 not_not true = refl
 not_not false = refl
 
+-- one turn more
 pub turned_more : (first : Bool) (n : ℕ) → is_turned first (suc n) ≡ not (is_turned first n)
 turned_more first zero = refl
 turned_more first (suc n) = turned_more (not first) n
 
+-- an even number of turns
 turned_twice : (first : Bool) (q : ℕ) → is_turned first (q + q) ≡ first
 turned_twice first zero = refl
 turned_twice first (suc q) =
@@ -43,18 +46,21 @@ turned_by first n = by (n % 2) (n / 2) (omega arith) (omega arith)
 
 -- ## The next gap
 
+-- equal truths
 is_beq : (a b : Bool) → a ≡ b → beq a b ≡ true
 is_beq true true e = refl
 is_beq true false e = absurd cc
 is_beq false true e = absurd cc
 is_beq false false e = refl
 
+-- different truths
 not_beq : (a b : Bool) → (a ≡ b → ⊥) → beq a b ≡ false
 not_beq true true n = absurd (n refl)
 not_beq true false n = refl
 not_beq false true n = refl
 not_beq false false n = absurd (n refl)
 
+-- different truths, one of them turned over
 turned_beq : (a b : Bool) → (a ≡ b → ⊥) → beq (not a) b ≡ true
 turned_beq true true n = absurd (n refl)
 turned_beq true false n = refl
@@ -126,6 +132,7 @@ pub before_turn : (first : Bool) (turns : List ℕ) (gap k : ℕ) → k < gap �
 before_turn first [] gap k h = ap (λ b. cond b first (not first)) (lt-ltb k gap h)
 before_turn first (t ∷ turns) gap k h = ap (cond (ltb k t) first) (before_turn (not first) turns gap k h)
 
+-- gaps without the last one rise
 front_rising : (turns : List ℕ) (gap last : ℕ) → IsRising last (turns ++ gap ∷ []) → IsRising last turns
 front_rising turns gap last rising =
     let long = length-append turns (gap ∷ []) in
@@ -203,6 +210,7 @@ all_before turns gap rising other i h = by (length turns) refl
 
 -- ## What a search finds
 
+-- a gap that is found is passed
 pub found_passed : (last : ℕ) (turns : List ℕ) (gap place : ℕ) → IsRising last turns → (place < length turns) × (get_or turns place 0 ≡ gap) → Splits turns gap (place + 1)
 found_passed last turns gap place rising (low, is) = record {
   low = λ i h. elim (cases_lt i place) [
@@ -213,10 +221,12 @@ found_passed last turns gap place rising (low, is) = record {
   within = omega arith;
 }
 
+-- a gap that is missing has its place between the others
 pub missing_passed : (turns : List ℕ) (gap place : ℕ)
     → (place ≤ length turns) × ((k : ℕ) → k < place → get_or turns k 0 < gap) × ((k : ℕ) → place ≤ k → k < length turns → gap < get_or turns k 0) → Splits turns gap place
 missing_passed turns gap place (within, low, high) = record { low = λ i h. (let l = low i h in omega arith); high = high; within = within }
 
+-- gaps that rise never fall
 pub rising_up : (last : ℕ) (turns : List ℕ) → IsRising last turns → (i j : ℕ) → i ≤ j → j < length turns → get_or turns i 0 ≤ get_or turns j 0
 rising_up last turns rising i j h l = elim (cases_lt i j) [
   | inl less ↦ (let r = rising.rising i j less l in omega arith)
@@ -225,12 +235,14 @@ rising_up last turns rising i j h l = elim (cases_lt i j) [
 
 -- ## Tests of truth
 
+-- a test of equal truths
 pub beq_same : (a b : Bool) → beq a b ≡ true → a ≡ b
 beq_same true true h = refl
 beq_same true false h = absurd cc
 beq_same false true h = absurd cc
 beq_same false false h = refl
 
+-- and of different ones
 pub beq_other : (a b : Bool) → beq a b ≡ false → a ≡ b → ⊥
 beq_other a b h same = both_ways _ h (is_beq a b same)
 
@@ -240,6 +252,7 @@ pub next_turn : (first : Bool) (turns : List ℕ) (wanted : Bool) (from passed l
 next_turn first turns wanted from passed last rising s other low =
     subst (IsNextGap (λ k. beq (is_true_in first turns k) wanted) from) (slice_get-get_or turns passed 0 low) (next_there first turns wanted from passed last rising s other)
 
+-- and where there is none
 pub no_turn : (first : Bool) (turns : List ℕ) (wanted : Bool) (from passed last : ℕ) → IsRising last turns → Splits turns from passed
     → (is_turned first passed ≡ wanted → ⊥) → length turns ≤ passed → IsNextGap (λ k. beq (is_true_in first turns k) wanted) from None
 no_turn first turns wanted from passed last rising s other high =
@@ -253,10 +266,12 @@ popped front old new gap n whole long rest =
     let count : n - 1 ≡ length front = omega arith in
     rest ∙ ap₂ take count whole ∙ take_at front (gap ∷ []) (length front) refl
 
+-- what is not false
 pub not_false : (b : Bool) → not b ≡ false → b ≡ true
 not_false true h = refl
 not_false false h = absurd cc
 
+-- what is not true
 pub not_true : (b : Bool) → not b ≡ true → b ≡ false
 not_true true h = absurd cc
 not_true false h = refl
