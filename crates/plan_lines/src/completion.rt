@@ -57,7 +57,7 @@ fn places_so_far(task: &Task, given: &[Option<u16>], places: &[Place]) -> bool
 }
 
 /// Whether no condition fails at the values that are given.
-fn meets_so_far(task: &Task, conditions: &Conditions, given: &[Option<u16>]) -> bool
+pub(crate) fn meets_so_far(task: &Task, conditions: &Conditions, given: &[Option<u16>]) -> bool
     ensures { result ≡ spec.meets_so_far task.now conditions.now given.now }
 {
     equalities_so_far(given, conditions.equalities())

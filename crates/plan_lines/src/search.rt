@@ -7,7 +7,7 @@ ghost use Rattle.plan_lines.specs.Given.{Extends};
 ghost use Rattle.plan_lines.specs.Left.{Fill, ShowsWith, left_of, once};
 
 use crate::children::Children;
-use crate::completion::instance_with;
+use crate::completion::{instance_with, meets_so_far};
 use crate::given::{bind_all, task_of};
 use htn_ground::Conditions;
 use htn_task::{Task, TaskSchema};
@@ -126,6 +126,9 @@ pub(crate) fn shows(
     requires left { length left.items ≡ length children.now }
     ensures { IfOk result (λ b. IsTrue b ↔ ShowsWith task.now conditions.now children.now left.items (map (λ s. s.now) schemas.now) given.now) }
 {
+    if !meets_so_far(task, conditions, given) {
+        return Ok(false);
+    }
     let Some(kept) = settle(alloc, children, schemas, given, &mut left)? else {
         return Ok(false);
     };

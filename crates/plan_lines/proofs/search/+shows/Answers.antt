@@ -5,12 +5,17 @@ use Rattle.htn_model.specs.Schema.{TaskSchema}
 use Rattle.htn_task.specs.declared.term.TaskSchema as declared
 use Rattle.plan_lines.specs.Given.{Extends}
 use Rattle.plan_lines.specs.Left.{Fill, ShowsWith, left_of, once}
+use Rattle.plan_lines.proofs.Exchanged.{fails_so_far}
 use Rattle.plan_lines.proofs.Searched.{if_none, if_some, iff_trans, no_items, none_left, none_matched, none_shows, none_true, shows_kept, shows_matched, shows_same, some_true, turned_off}
 use Rattle.plan_lines.proofs.search.+shows.Goals as goal
 use Rattle.plan_lines.proofs.search.+shows.Goals.{in-Some-2+in_ok-shows+else-branch, in_default-2}
 
 abbrev at : Bor declared.TaskSchema → TaskSchema
 at r = r.now
+
+pub returns-then-not-meets_so_far : goal.returns-then-not-meets_so_far
+returns-then-not-meets_so_far t c =
+    none_true (λ h. fails_so_far c.args.task.now c.args.conditions.now c.args.given.now (sym c.if-not-meets_so_far.ensures) (h.0, (h.1, h.2)))
 
 pub returns-in-None : goal.returns-in-None
 returns-in-None t c =
