@@ -1,21 +1,21 @@
 -- A line's children have room in a network exactly where its positions and the choices for them have.
-use Rattle.std.proofs.Common.{◌≡◌, ℕ, zero, suc, ◌+◌, ◌-◌, ◌≤◌, ◌<◌, ◌⊎◌, ◌↔◌, ◌&&◌, inl, inr, Bool, true, false, cond, eqb, ltb, List, [], ◌∷◌, ◌++◌, length, get_or, Option, Some, None, slice_get, sym, refl, ap, ◌∙◌, subst, arith}
-use Rattle.std.proofs.lemmas.Bool.{both_ways, cases_lt, cases_eq, lt-ltb, le-ltb, eq-eqb, eqb-true}
+use Rattle.std.proofs.Common.{◌≡◌, ℕ, zero, suc, ◌+◌, ◌-◌, ◌≤◌, ◌<◌, ◌⊎◌, ◌&&◌, inl, inr, Bool, true, cond, eqb, List, [], ◌∷◌, ◌++◌, length, get_or, Option, Some, None, slice_get, sym, refl, ap, ◌∙◌, subst, arith}
+use Rattle.std.proofs.lemmas.Bool.{cases_lt, lt-ltb, le-ltb, eq-eqb, eqb-true}
 use Rattle.std.proofs.lemmas.Option.{slice_get_within, slice_get_cases, get_or_from_slice_get}
 use Rattle.std.proofs.lemmas.List.{length-append}
 use Rattle.htn_model.specs.Literal.{Literal}
-use Rattle.htn_model.specs.Problem.{Network, Child, precondition, action, task, child_eq, IsNetwork, IsSquare}
+use Rattle.htn_model.specs.Problem.{Network, Child, precondition, action, task, IsSquare}
 use Rattle.htn_model.specs.Equality.{child_eq-decides}
-use Rattle.htn_model.specs.PlanFile.{IsIn, IsWithoutRepeats, IsRearrangementOf}
-use Rattle.htn_model.specs.Fits.{PlanTree, action_at, decomposition, PlanTrees, no_plans, plan, child_of, subtask_positions, StandAt, IsMatching, AreSpans, StepFits, Fits, AllFit, NetworkFits}
-use Rattle.htn_model.proofs.Ascending.{in_at, at_in}
+use Rattle.htn_model.specs.PlanFile.{IsIn, IsRearrangementOf}
+use Rattle.htn_model.specs.Fits.{PlanTree, action_at, decomposition, child_of, subtask_positions, StandAt, StepFits, Fits, AllFit, NetworkFits}
+use Rattle.htn_model.proofs.Ascending.{in_at}
 use Rattle.htn_model.proofs.Grown.{IsSubtask, subtask_at, in_subtasks, subtasks_distinct}
 use Rattle.htn_model.proofs.Monotone.{fits_monotone}
-use Rattle.htn_model.proofs.Rearranged.{in_arranged, in_rearranged}
+use Rattle.htn_model.proofs.Rearranged.{in_arranged}
 use Rattle.plan_room.specs.Placing.{HaveSpans, IsSequence}
-use Rattle.plan_room.specs.Matching.{Seating, IsAssignment, IsSeated, HasRoomWith, HasMatchedRoom, IsSeating}
+use Rattle.plan_room.specs.Matching.{Seating, IsSeated, HasMatchedRoom, IsSeating}
 use Rattle.plan_room.specs.Lines.{Lines, plans_of}
-use Rattle.plan_room.specs.Seats.{is_child_at, is_step_at, suits_at, StepRoom, ChoiceRoom, seating_of, AreAsMany}
+use Rattle.plan_room.specs.Seats.{is_child_at, is_step_at, suits_at, ChoiceRoom, seating_of, AreAsMany}
 use Rattle.plan_room.proofs.Onto.{onto, in_turn, length_in_turn, at_turn, turned}
 
 -- ## By places of lists
@@ -102,9 +102,12 @@ module _ (l : Lines) (children : List ℕ) (network : Network) (sequence : List 
   suited a c is = by (cases_lt c k)
     where
       by : (c < k) ⊎ (k ≤ c) → ChildAt a c ⊎ StepAt a c
-      by (inl low) = inl (low, is_child (slice_get network.children a) (child_of (l.plan_of (get_or children c 0)))
-          (subst (λ b. cond b (is_child_at (slice_get network.children a) (child_of (l.plan_of (get_or children c 0)))) (is_step_at (slice_get network.children a) && eqb c (k + a)) ≡ true)
-          (lt-ltb c k low) is))
+      by (inl low) = inl (
+        low,
+        is_child (slice_get network.children a) (child_of (l.plan_of (get_or children c 0)))
+            (subst (λ b. cond b (is_child_at (slice_get network.children a) (child_of (l.plan_of (get_or children c 0)))) (is_step_at (slice_get network.children a) && eqb c (k + a)) ≡ true)
+            (lt-ltb c k low) is),
+      )
       by (inr high) =
           let (step, same) = is_step (slice_get network.children a) (eqb c (k + a))
           (subst (λ b. cond b (is_child_at (slice_get network.children a) (child_of (l.plan_of (get_or children c 0)))) (is_step_at (slice_get network.children a) && eqb c (k + a)) ≡ true)
@@ -267,8 +270,11 @@ module _ (l : Lines) (children : List ℕ) (network : Network) (sequence : List 
           by (inr past) = absurd (omega arith)
 
       suited_so : (a : ℕ) → ((choices a < k) × (get_or where_at (choices a) 0 ≡ a)) ⊎ StepAt a (choices a) → suits_at l children network a (choices a) ≡ true
-      suited_so a (inl (low, same)) = suited_child a (choices a) (low, subst (λ b. slice_get network.children b ≡ Some (child_of (l.plan_of (get_or children (choices a) 0)))) same
-          (stands_at l network from to children where_at standing (choices a) low))
+      suited_so a (inl (low, same)) = suited_child a (choices a) (
+        low,
+        subst (λ b. slice_get network.children b ≡ Some (child_of (l.plan_of (get_or children (choices a) 0)))) same
+            (stands_at l network from to children where_at standing (choices a) low),
+      )
       suited_so a (inr step) = suited_step a (choices a) step
 
       low_so : (a : ℕ) → a < length network.order → ((choices a < k) × (get_or where_at (choices a) 0 ≡ a)) ⊎ StepAt a (choices a) → choices a < k + length network.children

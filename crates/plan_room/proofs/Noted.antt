@@ -1,9 +1,9 @@
 -- Which choices are taken, and by which gap the first places have finished.
-use Rattle.std.proofs.Common.{◌≡◌, ℕ, suc, ◌+◌, ◌≤◌, ◌<◌, ◌⊎◌, inl, inr, Bool, true, false, List, length, get_or, set, max, sym, refl, ap, ◌∙◌, subst, arith}
+use Rattle.std.proofs.Common.{◌≡◌, ℕ, suc, ◌+◌, ◌≤◌, ◌<◌, ◌⊎◌, inl, inr, Bool, true, false, List, length, get_or, set, max, sym, ap, ◌∙◌, subst, arith}
 use Rattle.std.proofs.lemmas.Bool.{both_ways, cases_lt, cases_eq}
 use Rattle.std.proofs.lemmas.List.{get_or_past, get_or-set_other, get_or-set_same, length-set}
 use Rattle.plan_room.specs.Placing.{IsSequence}
-use Rattle.plan_room.specs.Matching.{Seating, IsSeating, IsSearched, IsNoted, IsTaken, IsTop, IsFirstPlaced}
+use Rattle.plan_room.specs.Matching.{Seating, IsNoted, IsTaken, IsTop, IsFirstPlaced}
 
 module _ (w : Seating) (is_sequence : IsSequence w.order w.sequence) (chosen finishes highs : List ℕ) (taken : List Bool) (depth : ℕ)
     (noted : IsNoted w chosen finishes highs taken depth) where

@@ -1,6 +1,6 @@
 -- Numbers that are apart and below as many cover all below, and lists of values at numbers in turn.
 use Rattle.std.proofs.Common.{◌≡◌, ℕ, zero, suc, ◌+◌, ◌≤◌, ◌<◌, ◌⊎◌, inl, inr, List, [], ◌∷◌, length, map, get_or, sym, refl, ap, ◌∙◌, subst, arith}
-use Rattle.std.proofs.lemmas.Bool.{cases_lt, cases_eq}
+use Rattle.std.proofs.lemmas.Bool.{cases_eq}
 use Rattle.std.proofs.lemmas.List.{length-map}
 use Rattle.htn_model.specs.PlanFile.{IsIn, IsWithoutRepeats, IsRearrangementOf}
 use Rattle.htn_model.proofs.Ascending.{in_map}

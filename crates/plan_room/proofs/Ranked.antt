@@ -1,5 +1,5 @@
 -- The positions by their ranks, or as they are numbered in a chain, are a sequence that keeps the order.
-use Rattle.std.proofs.Common.{◌≡◌, ℕ, zero, suc, ◌+◌, ◌-◌, ◌≤◌, ◌<◌, ◌⊎◌, inl, inr, Bool, true, false, cond, eqb, List, [], ◌∷◌, ◌++◌, length, get_or, sym, refl, ap, ◌∙◌, subst, arith}
+use Rattle.std.proofs.Common.{◌≡◌, ℕ, zero, suc, ◌+◌, ◌-◌, ◌≤◌, ◌<◌, inl, inr, Bool, true, false, cond, eqb, List, [], ◌∷◌, ◌++◌, length, get_or, sym, refl, ap, ◌∙◌, subst, arith}
 use Rattle.std.proofs.lemmas.Bool.{both_ways, cases_lt, cases_eq, eq-eqb, eqb-true}
 use Rattle.std.proofs.lemmas.Option.{slice_get_within, get_or_from_slice_get}
 use Rattle.htn_model.specs.Problem.{Order, IsClosed, IsSquare, is_before}
@@ -172,19 +172,19 @@ module _ (rank_of : ℕ → ℕ) where
   levels_sequence order closed square is = record {
     within = λ i low. (in_levels (length order) (length order) _ (member (levels rank_of (length order) (length order)) i low)).0;
     listed = λ a low. (
-      let there = levels_in (length order) (length order) a low (let e = is a low in let f = rank_small order closed square a low in omega arith) in
-      let (i, at) = in_at a (levels rank_of (length order) (length order)) there in
-      (i, slice_get_within (levels rank_of (length order) (length order)) i a at, get_or_from_slice_get (levels rank_of (length order) (length order)) i a 0 at));
+        let there = levels_in (length order) (length order) a low (let e = is a low in let f = rank_small order closed square a low in omega arith) in
+        let (i, at) = in_at a (levels rank_of (length order) (length order)) there in
+        (i, slice_get_within (levels rank_of (length order) (length order)) i a at, get_or_from_slice_get (levels rank_of (length order) (length order)) i a 0 at));
     once = λ i j li lj e. once_at (levels rank_of (length order) (length order)) i j (distinct_levels (length order) (length order)) li lj e;
     ordered = λ i j li lj before. (
-      let a = get_or (levels rank_of (length order) (length order)) i 0 in
-      let b = get_or (levels rank_of (length order) (length order)) j 0 in
-      elim (cases_lt i j) [
-        | inl less ↦ less
-        | inr more ↦ (let up = rising_at (levels rank_of (length order) (length order)) j i (rising_levels (length order) (length order)) more li in
-            let down = ranked order closed square a b before in
-            let e = is a (inside order closed square a b before) in let f = is b (inside_right order closed square a b before) in absurd (omega arith))
-      ]);
+        let a = get_or (levels rank_of (length order) (length order)) i 0 in
+        let b = get_or (levels rank_of (length order) (length order)) j 0 in
+        elim (cases_lt i j) [
+          | inl less ↦ less
+          | inr more ↦ (let up = rising_at (levels rank_of (length order) (length order)) j i (rising_levels (length order) (length order)) more li in
+              let down = ranked order closed square a b before in
+              let e = is a (inside order closed square a b before) in let f = is b (inside_right order closed square a b before) in absurd (omega arith))
+        ]);
   }
 
 -- ## A chain

@@ -1,5 +1,5 @@
 -- The lines on a way down: one more, one less, and an answer to the last.
-use Rattle.std.proofs.Common.{◌≡◌, ℕ, zero, suc, ◌+◌, ◌≤◌, ◌<◌, ◌⊎◌, inl, inr, Bool, true, false, cond, List, [], ◌∷◌, ◌++◌, length, Option, Some, None, sym, refl, ap, ◌∙◌, subst, arith}
+use Rattle.std.proofs.Common.{◌≡◌, ℕ, ◌≤◌, ◌<◌, Bool, true, false, cond, List, [], ◌∷◌, ◌++◌, length, Option, Some, None, sym, refl, ap, ◌∙◌, subst, arith}
 use Rattle.plan_room.specs.Placing.{IsFinish}
 use Rattle.plan_room.specs.Lines.{Lines}
 use Rattle.plan_room.specs.Memo.{known, answer, IsMemo}

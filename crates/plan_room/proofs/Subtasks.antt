@@ -3,7 +3,7 @@ use Rattle.std.proofs.Common.{◌≡◌, ℕ, suc, ◌+◌, ◌≤◌, ◌<◌, 
 use Rattle.htn_model.specs.Problem as model
 use Rattle.htn_state.specs.declared.literal.LiteralList.{LiteralList}
 use Rattle.htn_model.specs.Fits.{subtask_positions}
-use Rattle.htn_ground.specs.Views.{child_view, children_of}
+use Rattle.htn_ground.specs.Views.{children_of}
 use Rattle.htn_ground.specs.declared.child.Child.{Child}
 use Rattle.htn_ground.specs.declared.child.Child.TheVariants.{Precondition, Action, Task}
 

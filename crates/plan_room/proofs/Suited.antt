@@ -1,17 +1,17 @@
 -- What stands at a position, and when it has room.
-use Rattle.std.proofs.Common.{◌≡◌, ℕ, ◌+◌, ◌-◌, ◌≤◌, ◌<◌, ◌⊎◌, ◌&&◌, inl, inr, Bool, true, false, cond, eqb, ltb, List, length, map, get_or, Option, Some, None, option_map, slice_get, sym, refl, ap, ◌∙◌, subst, arith}
+use Rattle.std.proofs.Common.{◌≡◌, ℕ, ◌+◌, ◌-◌, ◌≤◌, ◌<◌, ◌&&◌, inl, inr, Bool, true, false, cond, eqb, ltb, List, length, get_or, Some, None, option_map, slice_get, sym, refl, ap, ◌∙◌, subst, arith}
 use Rattle.std.proofs.lemmas.Bool.{both_ways, cases_lt, cases_eq, lt-ltb, le-ltb, ltb-true, ltb-false, eq-eqb, ne_eqb}
-use Rattle.std.proofs.lemmas.Option.{slice_get-map, slice_get_read, slice_get_past, slice_get_within}
+use Rattle.std.proofs.lemmas.Option.{slice_get-map, slice_get_read, slice_get_past}
 use Rattle.htn_model.specs.State.{State}
 use Rattle.htn_model.specs.Literal.{Literal, holds}
 use Rattle.htn_model.specs.Problem as model
 use Rattle.htn_model.specs.Problem.{GroundTask, Network, precondition, action, task, child_eq, ground_task_eq}
-use Rattle.htn_model.specs.Fits.{PlanTree, action_at, decomposition, child_of, Fits, StepFits}
+use Rattle.htn_model.specs.Fits.{PlanTree, action_at, decomposition, child_of, Fits}
 use Rattle.htn_ground.specs.Views.{child_view, children_of}
 use Rattle.htn_ground.specs.declared.child.Child.{Child}
 use Rattle.plan_room.specs.Placing.{IsFinish, IsFirst}
 use Rattle.plan_room.specs.Lines.{Lines, AreLines, task_of, IsNextGap}
-use Rattle.plan_room.specs.Seats.{FitAt, LineFits, is_child_at, is_step_at, suits_at, StepRoom, ChoiceRoom}
+use Rattle.plan_room.specs.Seats.{FitAt, LineFits, is_child_at, is_step_at, suits_at, ChoiceRoom}
 use Rattle.plan_room.specs.Steps.{IsStepRoom}
 use Rattle.plan_room.specs.declared.rooms.Finish.{Finish}
 use Rattle.plan_room.specs.declared.rooms.Finish.TheVariants.{Unknown, Never, At}
@@ -97,7 +97,8 @@ module _ (l : Lines) (children : List ℕ) (network : Network) (choice start : �
   step_finishes x f high e = finish_so (IsStepRoom l.states x start) (ChoiceRoom l children network choice start) l.actions f
       (λ k room. (
         (λ inside. absurd (omega arith)),
-        (λ past. let (forward, (literals, is, fits)) = room in (forward, (literals, e ∙ ap Some is, fits)))))
+        (λ past. let (forward, (literals, is, fits)) = room in (forward, (literals, e ∙ ap Some is, fits))),
+      ))
       (λ k room. let (forward, (literals, is, fits)) = room.1 high in (forward, (literals, (let same : x ≡ precondition literals = cc in same), fits)))
 
   pub no_step : length children ≤ choice → slice_get network.children (choice - length children) ≡ None → (k : ℕ) → ChoiceRoom l children network choice start k → ⊥

@@ -1,12 +1,11 @@
 -- The networks of a line, one after another.
-use Rattle.std.proofs.Common.{◌≡◌, ℕ, zero, suc, ◌+◌, ◌≤◌, ◌<◌, ◌⊎◌, inl, inr, List, [], ◌∷◌, length, map, Option, Some, None, slice_get, sym, refl, ap, ◌∙◌, subst, arith}
+use Rattle.std.proofs.Common.{◌≡◌, ℕ, ◌+◌, ◌≤◌, ◌<◌, ◌⊎◌, inl, inr, List, length, Option, Some, None, slice_get, subst, arith}
 use Rattle.std.proofs.lemmas.Bool.{cases_lt, cases_eq}
 use Rattle.std.proofs.lemmas.Option.{slice_get_within}
 use Rattle.htn_model.specs.Instance.{Instance}
-use Rattle.htn_model.specs.Problem.{Network, IsNetwork}
-use Rattle.htn_model.specs.PlanFile.{IsIn}
+use Rattle.htn_model.specs.Problem.{IsNetwork}
 use Rattle.htn_model.proofs.Ascending.{in_at, at_in, in_map, in_mapped}
-use Rattle.plan_room.specs.Placing.{IsFinish, IsFirst}
+use Rattle.plan_room.specs.Placing.{IsFirst}
 use Rattle.plan_room.specs.Matching.{IsBeaten, IsFound}
 use Rattle.plan_room.specs.Lines.{Lines, AreLines, AreCandidates, networks_of}
 use Rattle.plan_room.specs.Seats.{children_of, IsOneOf, LineFits}

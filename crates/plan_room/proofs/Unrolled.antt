@@ -1,13 +1,11 @@
 -- A line has room exactly where its children have in one of its networks.
-use Rattle.std.proofs.Common.{◌≡◌, ℕ, zero, suc, ◌+◌, ◌≤◌, ◌<◌, ◌⊎◌, ◌↔◌, inl, inr, Bool, true, false, ltb, List, [], ◌∷◌, length, get_or, sym, refl, ap, ◌∙◌, subst, arith}
-use Rattle.std.proofs.lemmas.Bool.{both_ways, lt-ltb, le-ltb, ltb-true, ltb-false}
+use Rattle.std.proofs.Common.{◌≡◌, ℕ, zero, suc, ◌≤◌, ◌<◌, Bool, true, false, ltb, List, [], ◌∷◌, length, get_or, sym, refl, ap, ◌∙◌, subst, arith}
+use Rattle.std.proofs.lemmas.Bool.{lt-ltb, le-ltb, ltb-true}
 use Rattle.std.proofs.lemmas.List.Elements.{All-get_or}
-use Rattle.htn_model.specs.Problem.{GroundTask, Network, IsNetwork}
-use Rattle.htn_model.specs.PlanFile.{Word}
-use Rattle.htn_model.specs.Fits.{PlanTree, action_at, decomposition, PlanTrees, no_plans, plan, Fits, NetworkFits}
+use Rattle.htn_model.specs.Problem.{Network, IsNetwork}
+use Rattle.htn_model.specs.Fits.{decomposition, Fits, NetworkFits}
 use Rattle.htn_model.proofs.Monotone.{network_monotone}
-use Rattle.plan_room.specs.Placing.{IsFinish, IsFirst}
-use Rattle.plan_room.specs.Lines.{Lines, AreLines, FileFits, IsNetworkOf, IsInitial, plans_of}
+use Rattle.plan_room.specs.Lines.{Lines, AreLines, FileFits, plans_of}
 use Rattle.plan_room.specs.Seats.{children_at, children_of, IsOneAt, IsOneOf, FitAt, LineFits}
 use Rattle.plan_room.specs.Frames.{IsLine, NetworkHasRoom, plan_size, plans_size, size_at, line_size}
 

@@ -1,13 +1,13 @@
 -- Lines whose finish is asked: how far their networks are tried, and how they stand above one another.
 use Rattle.std.specs.Prelude.{◌≡◌, ℕ, zero, suc, ◌+◌, ◌≤◌, ◌<◌, Bool, true, false, ltb, List, [], ◌∷◌, length, Option, Some, None, slice_get, ⊤}
 use Rattle.htn_model.specs.Instance.{Instance}
-use Rattle.htn_model.specs.Problem.{Network, IsNetwork}
+use Rattle.htn_model.specs.Problem.{Network}
 use Rattle.htn_model.specs.Fits.{PlanTree, action_at, decomposition, PlanTrees, no_plans, plan, NetworkFits}
 use Rattle.plan_room.specs.Placing.{IsSequence}
 use Rattle.plan_room.specs.Matching.{IsBeaten, IsFound}
 use Rattle.plan_room.specs.Trials.{IsTried}
 use Rattle.plan_room.specs.Lines.{Lines, AreCandidates, networks_of, plans_of}
-use Rattle.plan_room.specs.Seats.{children_of, IsOneOf, seating_of, AreAsMany}
+use Rattle.plan_room.specs.Seats.{children_of, IsOneOf, seating_of}
 use Rattle.plan_room.specs.Memo.{known}
 use Rattle.plan_room.specs.declared.rooms.Question.{Question}
 use Rattle.plan_room.specs.declared.memo.Memo.{Memo}

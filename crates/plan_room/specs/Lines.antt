@@ -1,5 +1,5 @@
 -- The lines of a plan file: what each is with all below it, its children, and the states between the action lines.
-use Rattle.std.specs.Prelude.{◌≡◌, ◌≢◌, ℕ, ◌≤◌, ◌<◌, List, [], ◌∷◌, All, map, Option, Some, None, true, false, slice_get}
+use Rattle.std.specs.Prelude.{◌≡◌, ℕ, ◌≤◌, ◌<◌, List, [], ◌∷◌, All, map, Option, Some, None, true, false, slice_get}
 use Rattle.htn_model.specs.State.{State}
 use Rattle.htn_model.specs.Literal.{Literal, holds}
 use Rattle.htn_model.specs.Instance.{Instance}

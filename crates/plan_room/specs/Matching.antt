@@ -1,5 +1,5 @@
 -- The search among the matchings of a network's positions to choices: a child's line for a subtask, and one of its own for a step.
-use Rattle.std.specs.Prelude.{◌≡◌, ℕ, suc, ◌+◌, ◌≤◌, ◌<◌, ◌⊎◌, Bool, true, false, List, length, get_or, Option, Some, None, ⊤}
+use Rattle.std.specs.Prelude.{◌≡◌, ℕ, ◌+◌, ◌≤◌, ◌<◌, ◌⊎◌, Bool, true, false, List, length, get_or, Option, Some, None, ⊤}
 use Rattle.htn_model.specs.Problem.{Order, IsSquare}
 use Rattle.plan_room.specs.Placing.{Room, IsFirst, HaveRoom, IsSequence, IsStart, ArePlaced}
 

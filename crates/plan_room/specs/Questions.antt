@@ -1,5 +1,5 @@
 -- When two questions are equal, and what they feed a hasher.
-use Rattle.std.specs.Prelude.{◌≡◌, ℕ, Bool, ◌++◌, nat_eq}
+use Rattle.std.specs.Prelude.{◌≡◌, Bool, ◌++◌, nat_eq}
 use Rattle.std.specs.Bool.{Decides}
 use Rattle.std.specs.Cmp.{IsEquivalence, IsPartialEquivalence, partial_equiv_from_equiv, unsigned_Decides, decided, first_so, second_so}
 use Rattle.std.specs.Ordering.{on, eq_of_both}

@@ -2,7 +2,7 @@
 use Rattle.std.specs.Prelude.{◌≡◌, ℕ, ◌+◌, ◌-◌, ◌≤◌, ◌<◌, ◌&&◌, ◌^◌, Bool, true, false, cond, eqb, ltb, List, length, get_or, Option, Some, None, slice_get}
 use Rattle.htn_model.specs.Literal.{Literal}
 use Rattle.htn_model.specs.Problem.{Network, Child, precondition, action, task, child_eq, IsSquare}
-use Rattle.htn_model.specs.Fits.{PlanTree, child_of, StepFits, Fits, NetworkFits, subtask_positions}
+use Rattle.htn_model.specs.Fits.{child_of, StepFits, Fits, NetworkFits, subtask_positions}
 use Rattle.plan_room.specs.Placing.{Room}
 use Rattle.plan_room.specs.Matching.{Seating}
 use Rattle.plan_room.specs.Lines.{Lines, AreLines, plans_of, IsNetworkOf, IsInitial}

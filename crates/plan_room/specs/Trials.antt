@@ -1,5 +1,5 @@
 -- The steps of the search among the matchings, and how many are left at most.
-use Rattle.std.specs.Prelude.{◌≡◌, ℕ, zero, suc, ◌+◌, ◌-◌, ◌*◌, ◌≤◌, ◌<◌, List, length, get_or, ⊤}
+use Rattle.std.specs.Prelude.{ℕ, zero, suc, ◌+◌, ◌-◌, ◌*◌, ◌≤◌, ◌<◌, List, length, get_or, ⊤}
 use Rattle.plan_room.specs.Matching.{Seating, AgreeBelow, HasRoomWith, IsBeaten, IsNoted, IsSearched, IsSeated}
 use Rattle.plan_room.specs.declared.rooms.Question.{Question}
 use Rattle.plan_room.specs.declared.rooms.Finish.{Finish}

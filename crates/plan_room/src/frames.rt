@@ -167,7 +167,15 @@ impl Frame {
         let children = children_of(lines, self.question.line);
         while self.tried < self.networks.len() {
             let gap = self.question.gap;
-            let finish = try_network(alloc, lines, memo, children, &self.networks[self.tried], gap, &mut self.work)?;
+            let finish = try_network(
+                alloc,
+                lines,
+                memo,
+                children,
+                &self.networks[self.tried],
+                gap,
+                &mut self.work,
+            )?;
             match finish {
                 Finish::Unknown(question) => return Ok(Finish::Unknown(question)),
                 Finish::Never => {}

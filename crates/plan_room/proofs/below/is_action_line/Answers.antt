@@ -1,6 +1,5 @@
-use Rattle.std.proofs.Common.{sym, ap, ◌∙◌, ◌≤◌, arith}
-use Rattle.htn_model.specs.Problem.{ground_task_eq}
-use Rattle.plan_room.proofs.Suited.{is_action_line, is_no_action_line}
+use Rattle.std.proofs.Common.{sym, arith}
+use Rattle.plan_room.proofs.Suited.{is_no_action_line}
 use Rattle.plan_room.proofs.below.is_action_line.Goals as goal
 
 pub returns-else-line-actions : goal.returns-else-line-actions

@@ -1,4 +1,4 @@
-use Rattle.std.proofs.Common.{sym, ap, ◌∙◌, ◌≤◌, ◌<◌, arith}
+use Rattle.std.proofs.Common.{sym, ap, ◌∙◌, arith}
 use Rattle.htn_model.specs.Problem.{ground_task_eq}
 use Rattle.plan_room.proofs.Suited.{is_task_line, is_no_task_line}
 use Rattle.plan_room.proofs.below.is_task_line.Goals as goal

@@ -1,13 +1,11 @@
-use Rattle.std.proofs.Common.{◌≡◌, ℕ, suc, ◌+◌, ◌*◌, ◌≤◌, ◌<◌, inl, inr, List, vec_len, [], ◌∷◌, ◌++◌, length, Option, Some, None, sym, subst, refl, ap, ◌∙◌, arith}
+use Rattle.std.proofs.Common.{◌≡◌, suc, ◌+◌, ◌*◌, ◌<◌, inl, inr, List, vec_len, [], ◌∷◌, ◌++◌, length, Some, sym, subst, refl, ap, ◌∙◌, arith}
 use Rattle.std.proofs.lemmas.Bool.{both_ways, cases_eq, eq-eqb, eqb-true}
 use Rattle.std.proofs.lemmas.List.{length-append}
-use Rattle.plan_room.specs.Placing.{IsFinish, IsFirst}
-use Rattle.plan_room.specs.Lines.{FileFits}
+use Rattle.plan_room.specs.Placing.{IsFinish}
 use Rattle.plan_room.specs.Memo.{answer, IsOpenBelow}
 use Rattle.plan_room.specs.Trials.{IsAsked}
 use Rattle.plan_room.specs.Seats.{children_of, LineFits}
-use Rattle.plan_room.specs.Frames.{AreStacked, IsFrame, last_size, line_size, missing, StartsAt}
-use Rattle.plan_room.proofs.Unrolled.{root_fits, fits_root}
+use Rattle.plan_room.specs.Frames.{AreStacked, last_size, line_size, missing, StartsAt}
 use Rattle.plan_room.proofs.Stacked.{popped, starts_popped, starts_pushed, starts_again}
 use Rattle.plan_room.proofs.Answered.{root_decided, both_stacked, deeper, rest_stacked, more_known, fewer_left}
 use Rattle.plan_room.proofs.fits.forest_fits.Goals as goal

@@ -1,4 +1,4 @@
-use Rattle.std.proofs.Common.{sym, subst, ◌<◌, ◌≤◌, arith}
+use Rattle.std.proofs.Common.{sym, subst, arith}
 use Rattle.std.proofs.lemmas.Bool.{lt-ltb, le-ltb}
 use Rattle.plan_room.specs.Lines.{AreCandidates, networks_of}
 use Rattle.plan_room.specs.Seats.{children_at, children_of, IsOneAt, IsOneOf}

@@ -1,4 +1,4 @@
-use Rattle.std.proofs.Common.{◌≡◌, ◌+◌, ◌<◌, get_or, length, max, set, true, sym, subst, arith}
+use Rattle.std.proofs.Common.{◌≡◌, ◌+◌, get_or, length, max, set, true, sym, subst, arith}
 use Rattle.std.proofs.lemmas.List.{get_or_default}
 use Rattle.plan_room.specs.Matching.{IsNoted, IsSearched}
 use Rattle.plan_room.specs.Placing.{IsStart}

@@ -1,5 +1,4 @@
 use Rattle.std.proofs.Common.{◌≡◌, ℕ, ◌<◌, get_or, length, Result, Ok, Err, IfOk, refl, ap, ◌∙◌, sym, subst, arith}
-use Rattle.std.proofs.lemmas.Bool.{both_ways}
 use Rattle.plan_room.specs.Placing.{IsSequence}
 use Rattle.plan_room.specs.Ranks.{levels}
 use Rattle.plan_room.proofs.Ranked.{levels_sequence, numbered_sequence}

@@ -1,4 +1,4 @@
-use Rattle.std.proofs.Common.{◌≡◌, ℕ, ◌+◌, ◌≤◌, ◌<◌, length, Option, Some, None, false, slice_get, sym, subst, refl, ap, ◌∙◌, arith}
+use Rattle.std.proofs.Common.{◌≡◌, ℕ, ◌+◌, ◌≤◌, length, Some, None, false, slice_get, sym, subst, refl, ap, ◌∙◌, arith}
 use Rattle.std.proofs.lemmas.Bool.{both_ways}
 use Rattle.std.proofs.lemmas.Option.{slice_get_read}
 use Rattle.plan_room.specs.Placing.{IsFinish, IsFirst}
@@ -62,44 +62,44 @@ loop-self-preserved-after-finish g c =
     subst (λ cs. IsFinish (NetworkHasRoom l cs instance.network f.question.gap) l.actions c.in_ok-finish.finish) inv.children c.in_ok-finish.ensures.finish in
     elim c.match-finish.branch [
       | in-Never w ↦ record {
-          frame = subst (λ s. IsFrame l (record { question = s.question; networks = s.networks; tried = s.tried + 1; best = s.best; work = None })) (sym w.self-is) (record {
-            line = inv.frame.line;
-            within = inv.frame.within;
-            candidates = inv.frame.candidates;
-            low = (let a = c.loop-self-test.true in let b = c.len.ensures in let o = f.networks.ok.0 in omega arith);
-            found = passed_found l (children_of l f.question.line) f.networks.items f.question.gap f.tried f.best inv.frame.found inv.frame.none_better instance is;
-            none_better = passed_none l (children_of l f.question.line) f.networks.items f.question.gap f.tried f.best inv.frame.found inv.frame.none_better instance is (subst (IsFinish (NetworkHasRoom l (children_of l f.question.line) instance.network f.question.gap) l.actions) w.in-Never.is finish);
-            work = λ other at. tt;
-          });
-          question = ap (λ s. s.question) w.self-is ∙ inv.question;
-          children = inv.children ∙ ap (λ s. children_of l s.question.line) (sym w.self-is);
-        }
+        frame = subst (λ s. IsFrame l (record { question = s.question; networks = s.networks; tried = s.tried + 1; best = s.best; work = None })) (sym w.self-is) (record {
+          line = inv.frame.line;
+          within = inv.frame.within;
+          candidates = inv.frame.candidates;
+          low = (let a = c.loop-self-test.true in let b = c.len.ensures in let o = f.networks.ok.0 in omega arith);
+          found = passed_found l (children_of l f.question.line) f.networks.items f.question.gap f.tried f.best inv.frame.found inv.frame.none_better instance is;
+          none_better = passed_none l (children_of l f.question.line) f.networks.items f.question.gap f.tried f.best inv.frame.found inv.frame.none_better instance is (subst (IsFinish (NetworkHasRoom l (children_of l f.question.line) instance.network f.question.gap) l.actions) w.in-Never.is finish);
+          work = λ other at. tt;
+        });
+        question = ap (λ s. s.question) w.self-is ∙ inv.question;
+        children = inv.children ∙ ap (λ s. children_of l s.question.line) (sym w.self-is);
+      }
       | in-At+then-not-is_beaten w ↦ record {
-          frame = subst (λ s. IsFrame l (record { question = s.question; networks = s.networks; tried = s.tried + 1; best = s.best; work = None })) (sym w.self-is) (record {
-            line = inv.frame.line;
-            within = inv.frame.within;
-            candidates = inv.frame.candidates;
-            low = (let a = c.loop-self-test.true in let b = c.len.ensures in let o = f.networks.ok.0 in omega arith);
-            found = better_found l (children_of l f.question.line) f.networks.items f.question.gap f.tried f.best inv.frame.found inv.frame.none_better instance is w.in-At.end (subst (IsFinish (NetworkHasRoom l (children_of l f.question.line) instance.network f.question.gap) l.actions) w.in-At.is finish) (λ b. both_ways false refl (w.if-not-is_beaten.ensures.1 b));
-            none_better = better_none l (children_of l f.question.line) f.networks.items f.question.gap f.tried f.best inv.frame.found inv.frame.none_better instance is w.in-At.end (subst (IsFinish (NetworkHasRoom l (children_of l f.question.line) instance.network f.question.gap) l.actions) w.in-At.is finish) (λ b. both_ways false refl (w.if-not-is_beaten.ensures.1 b));
-            work = λ other at. tt;
-          });
-          question = ap (λ s. s.question) w.self-is ∙ inv.question;
-          children = inv.children ∙ ap (λ s. children_of l s.question.line) (sym w.self-is);
-        }
+        frame = subst (λ s. IsFrame l (record { question = s.question; networks = s.networks; tried = s.tried + 1; best = s.best; work = None })) (sym w.self-is) (record {
+          line = inv.frame.line;
+          within = inv.frame.within;
+          candidates = inv.frame.candidates;
+          low = (let a = c.loop-self-test.true in let b = c.len.ensures in let o = f.networks.ok.0 in omega arith);
+          found = better_found l (children_of l f.question.line) f.networks.items f.question.gap f.tried f.best inv.frame.found inv.frame.none_better instance is w.in-At.end (subst (IsFinish (NetworkHasRoom l (children_of l f.question.line) instance.network f.question.gap) l.actions) w.in-At.is finish) (λ b. both_ways false refl (w.if-not-is_beaten.ensures.1 b));
+          none_better = better_none l (children_of l f.question.line) f.networks.items f.question.gap f.tried f.best inv.frame.found inv.frame.none_better instance is w.in-At.end (subst (IsFinish (NetworkHasRoom l (children_of l f.question.line) instance.network f.question.gap) l.actions) w.in-At.is finish) (λ b. both_ways false refl (w.if-not-is_beaten.ensures.1 b));
+          work = λ other at. tt;
+        });
+        question = ap (λ s. s.question) w.self-is ∙ inv.question;
+        children = inv.children ∙ ap (λ s. children_of l s.question.line) (sym w.self-is);
+      }
       | in-At+else-not-is_beaten w ↦ record {
-          frame = subst (λ s. IsFrame l (record { question = s.question; networks = s.networks; tried = s.tried + 1; best = s.best; work = None })) (sym w.self-is) (record {
-            line = inv.frame.line;
-            within = inv.frame.within;
-            candidates = inv.frame.candidates;
-            low = (let a = c.loop-self-test.true in let b = c.len.ensures in let o = f.networks.ok.0 in omega arith);
-            found = passed_found l (children_of l f.question.line) f.networks.items f.question.gap f.tried f.best inv.frame.found inv.frame.none_better instance is;
-            none_better = late_none l (children_of l f.question.line) f.networks.items f.question.gap f.tried f.best inv.frame.found inv.frame.none_better instance is w.in-At.end (subst (IsFinish (NetworkHasRoom l (children_of l f.question.line) instance.network f.question.gap) l.actions) w.in-At.is finish) (w.if-not-is_beaten.ensures.0 refl);
-            work = λ other at. tt;
-          });
-          question = ap (λ s. s.question) w.self-is ∙ inv.question;
-          children = inv.children ∙ ap (λ s. children_of l s.question.line) (sym w.self-is);
-        }
+        frame = subst (λ s. IsFrame l (record { question = s.question; networks = s.networks; tried = s.tried + 1; best = s.best; work = None })) (sym w.self-is) (record {
+          line = inv.frame.line;
+          within = inv.frame.within;
+          candidates = inv.frame.candidates;
+          low = (let a = c.loop-self-test.true in let b = c.len.ensures in let o = f.networks.ok.0 in omega arith);
+          found = passed_found l (children_of l f.question.line) f.networks.items f.question.gap f.tried f.best inv.frame.found inv.frame.none_better instance is;
+          none_better = late_none l (children_of l f.question.line) f.networks.items f.question.gap f.tried f.best inv.frame.found inv.frame.none_better instance is w.in-At.end (subst (IsFinish (NetworkHasRoom l (children_of l f.question.line) instance.network f.question.gap) l.actions) w.in-At.is finish) (w.if-not-is_beaten.ensures.0 refl);
+          work = λ other at. tt;
+        });
+        question = ap (λ s. s.question) w.self-is ∙ inv.question;
+        children = inv.children ∙ ap (λ s. children_of l s.question.line) (sym w.self-is);
+      }
     ]
 
 pub loop-self-preserved : goal.loop-self-preserved
@@ -114,44 +114,44 @@ loop-self-preserved g c =
     subst (λ cs. IsFinish (NetworkHasRoom l cs instance.network f.question.gap) l.actions c.in_ok-finish.finish) inv.children c.in_ok-finish.ensures.finish in
     elim c.match-finish.branch [
       | in-Never w ↦ record {
-          frame = subst (λ s. IsFrame l (record { question = s.question; networks = s.networks; tried = s.tried + 1; best = s.best; work = None })) (sym w.self-is) (record {
-            line = inv.frame.line;
-            within = inv.frame.within;
-            candidates = inv.frame.candidates;
-            low = (let a = c.loop-self-test.true in let b = c.len.ensures in let o = f.networks.ok.0 in omega arith);
-            found = passed_found l (children_of l f.question.line) f.networks.items f.question.gap f.tried f.best inv.frame.found inv.frame.none_better instance is;
-            none_better = passed_none l (children_of l f.question.line) f.networks.items f.question.gap f.tried f.best inv.frame.found inv.frame.none_better instance is (subst (IsFinish (NetworkHasRoom l (children_of l f.question.line) instance.network f.question.gap) l.actions) w.in-Never.is finish);
-            work = λ other at. tt;
-          });
-          question = ap (λ s. s.question) w.self-is ∙ inv.question;
-          children = inv.children ∙ ap (λ s. children_of l s.question.line) (sym w.self-is);
-        }
+        frame = subst (λ s. IsFrame l (record { question = s.question; networks = s.networks; tried = s.tried + 1; best = s.best; work = None })) (sym w.self-is) (record {
+          line = inv.frame.line;
+          within = inv.frame.within;
+          candidates = inv.frame.candidates;
+          low = (let a = c.loop-self-test.true in let b = c.len.ensures in let o = f.networks.ok.0 in omega arith);
+          found = passed_found l (children_of l f.question.line) f.networks.items f.question.gap f.tried f.best inv.frame.found inv.frame.none_better instance is;
+          none_better = passed_none l (children_of l f.question.line) f.networks.items f.question.gap f.tried f.best inv.frame.found inv.frame.none_better instance is (subst (IsFinish (NetworkHasRoom l (children_of l f.question.line) instance.network f.question.gap) l.actions) w.in-Never.is finish);
+          work = λ other at. tt;
+        });
+        question = ap (λ s. s.question) w.self-is ∙ inv.question;
+        children = inv.children ∙ ap (λ s. children_of l s.question.line) (sym w.self-is);
+      }
       | in-At+then-not-is_beaten w ↦ record {
-          frame = subst (λ s. IsFrame l (record { question = s.question; networks = s.networks; tried = s.tried + 1; best = s.best; work = None })) (sym w.self-is) (record {
-            line = inv.frame.line;
-            within = inv.frame.within;
-            candidates = inv.frame.candidates;
-            low = (let a = c.loop-self-test.true in let b = c.len.ensures in let o = f.networks.ok.0 in omega arith);
-            found = better_found l (children_of l f.question.line) f.networks.items f.question.gap f.tried f.best inv.frame.found inv.frame.none_better instance is w.in-At.end (subst (IsFinish (NetworkHasRoom l (children_of l f.question.line) instance.network f.question.gap) l.actions) w.in-At.is finish) (λ b. both_ways false refl (w.if-not-is_beaten.ensures.1 b));
-            none_better = better_none l (children_of l f.question.line) f.networks.items f.question.gap f.tried f.best inv.frame.found inv.frame.none_better instance is w.in-At.end (subst (IsFinish (NetworkHasRoom l (children_of l f.question.line) instance.network f.question.gap) l.actions) w.in-At.is finish) (λ b. both_ways false refl (w.if-not-is_beaten.ensures.1 b));
-            work = λ other at. tt;
-          });
-          question = ap (λ s. s.question) w.self-is ∙ inv.question;
-          children = inv.children ∙ ap (λ s. children_of l s.question.line) (sym w.self-is);
-        }
+        frame = subst (λ s. IsFrame l (record { question = s.question; networks = s.networks; tried = s.tried + 1; best = s.best; work = None })) (sym w.self-is) (record {
+          line = inv.frame.line;
+          within = inv.frame.within;
+          candidates = inv.frame.candidates;
+          low = (let a = c.loop-self-test.true in let b = c.len.ensures in let o = f.networks.ok.0 in omega arith);
+          found = better_found l (children_of l f.question.line) f.networks.items f.question.gap f.tried f.best inv.frame.found inv.frame.none_better instance is w.in-At.end (subst (IsFinish (NetworkHasRoom l (children_of l f.question.line) instance.network f.question.gap) l.actions) w.in-At.is finish) (λ b. both_ways false refl (w.if-not-is_beaten.ensures.1 b));
+          none_better = better_none l (children_of l f.question.line) f.networks.items f.question.gap f.tried f.best inv.frame.found inv.frame.none_better instance is w.in-At.end (subst (IsFinish (NetworkHasRoom l (children_of l f.question.line) instance.network f.question.gap) l.actions) w.in-At.is finish) (λ b. both_ways false refl (w.if-not-is_beaten.ensures.1 b));
+          work = λ other at. tt;
+        });
+        question = ap (λ s. s.question) w.self-is ∙ inv.question;
+        children = inv.children ∙ ap (λ s. children_of l s.question.line) (sym w.self-is);
+      }
       | in-At+else-not-is_beaten w ↦ record {
-          frame = subst (λ s. IsFrame l (record { question = s.question; networks = s.networks; tried = s.tried + 1; best = s.best; work = None })) (sym w.self-is) (record {
-            line = inv.frame.line;
-            within = inv.frame.within;
-            candidates = inv.frame.candidates;
-            low = (let a = c.loop-self-test.true in let b = c.len.ensures in let o = f.networks.ok.0 in omega arith);
-            found = passed_found l (children_of l f.question.line) f.networks.items f.question.gap f.tried f.best inv.frame.found inv.frame.none_better instance is;
-            none_better = late_none l (children_of l f.question.line) f.networks.items f.question.gap f.tried f.best inv.frame.found inv.frame.none_better instance is w.in-At.end (subst (IsFinish (NetworkHasRoom l (children_of l f.question.line) instance.network f.question.gap) l.actions) w.in-At.is finish) (w.if-not-is_beaten.ensures.0 refl);
-            work = λ other at. tt;
-          });
-          question = ap (λ s. s.question) w.self-is ∙ inv.question;
-          children = inv.children ∙ ap (λ s. children_of l s.question.line) (sym w.self-is);
-        }
+        frame = subst (λ s. IsFrame l (record { question = s.question; networks = s.networks; tried = s.tried + 1; best = s.best; work = None })) (sym w.self-is) (record {
+          line = inv.frame.line;
+          within = inv.frame.within;
+          candidates = inv.frame.candidates;
+          low = (let a = c.loop-self-test.true in let b = c.len.ensures in let o = f.networks.ok.0 in omega arith);
+          found = passed_found l (children_of l f.question.line) f.networks.items f.question.gap f.tried f.best inv.frame.found inv.frame.none_better instance is;
+          none_better = late_none l (children_of l f.question.line) f.networks.items f.question.gap f.tried f.best inv.frame.found inv.frame.none_better instance is w.in-At.end (subst (IsFinish (NetworkHasRoom l (children_of l f.question.line) instance.network f.question.gap) l.actions) w.in-At.is finish) (w.if-not-is_beaten.ensures.0 refl);
+          work = λ other at. tt;
+        });
+        question = ap (λ s. s.question) w.self-is ∙ inv.question;
+        children = inv.children ∙ ap (λ s. children_of l s.question.line) (sym w.self-is);
+      }
     ]
 
 pub returns-in-Some-clause-finish : goal.returns-in-Some-clause-finish
