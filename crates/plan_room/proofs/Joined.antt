@@ -9,7 +9,7 @@ use Rattle.htn_model.specs.Equality.{child_eq-decides}
 use Rattle.htn_model.specs.PlanFile.{IsIn, IsRearrangementOf}
 use Rattle.htn_model.specs.Fits.{PlanTree, action_at, decomposition, child_of, subtask_positions, StandAt, StepFits, Fits, AllFit, NetworkFits}
 use Rattle.htn_model.proofs.Ascending.{in_at}
-use Rattle.htn_model.proofs.Grown.{IsSubtask, subtask_at, in_subtasks, subtasks_distinct}
+use Rattle.htn_model.proofs.Laid.{IsSubtask, subtask_at, in_subtasks, subtasks_distinct}
 use Rattle.htn_model.proofs.Monotone.{fits_monotone}
 use Rattle.htn_model.proofs.Rearranged.{in_arranged}
 use Rattle.plan_room.specs.Placing.{HaveSpans, IsSequence}
