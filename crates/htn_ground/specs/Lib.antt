@@ -10,3 +10,4 @@ pub mod Methods
 pub mod Distinct
 pub mod Shown
 pub mod Trees
+pub mod Naming

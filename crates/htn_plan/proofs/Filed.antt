@@ -7,7 +7,7 @@ use Rattle.htn_model.specs.Tree.{Node, leaf, step, compound, Nodes, no_nodes, no
 use Rattle.htn_plan.specs.declared.ids.ActionIds.{ActionIds}
 use Rattle.htn_plan.specs.Gathered.{gather_all, nothing, somes}
 use Rattle.htn_plan.specs.Ids.{AreNumbered, first_actions, id_among, id_of}
-use Rattle.htn_plan.specs.Naming.{naming_of}
+use Rattle.htn_ground.specs.Naming.{naming_of}
 use Rattle.htn_plan.specs.Preorder.{Item, action, task, items, items_from, compound_count}
 use Rattle.htn_plan.proofs.Gathering.{gathered_lines, gathered_roots, items_from_count, total}
 use Rattle.htn_plan.proofs.Lists.{length_map, take_all}

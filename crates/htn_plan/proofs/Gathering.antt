@@ -9,7 +9,7 @@ use Rattle.htn_model.specs.Shadow.{compounds, compounds_from, ids_of, shown_from
 use Rattle.htn_model.specs.Task.{Task}
 use Rattle.htn_model.specs.Tree.{Node, leaf, step, compound, Nodes, no_nodes, node, list_of, children_in, Place, node_at, Solution}
 use Rattle.htn_plan.specs.Gathered.{Gathered, gather, gather_all, line_of, nothing, somes}
-use Rattle.htn_plan.specs.Naming.{naming_of}
+use Rattle.htn_ground.specs.Naming.{naming_of}
 use Rattle.htn_plan.specs.Ids.{id_among}
 use Rattle.htn_plan.specs.Preorder.{Item, items, items_from, task, compound_count}
 use Rattle.htn_plan.proofs.Counted.{count_join}

@@ -9,7 +9,7 @@ use Rattle.htn_model.specs.Problem.{GroundTask}
 use Rattle.htn_model.specs.Shadow.{HasId}
 use Rattle.htn_model.specs.Task.{HasDistinctNames, IsWellTyped, Task, task_names}
 use Rattle.htn_model.specs.Tree.{IsSolution, Node, leaf, step, compound, Solution, node_at}
-use Rattle.htn_plan.specs.Naming.{naming_of, object_name, objects_named, task_name, task_named, unnamed}
+use Rattle.htn_ground.specs.Naming.{naming_of, object_name, objects_named, task_name, task_named, unnamed}
 use Rattle.htn_task.specs.Numbers.{number_of}
 use Rattle.htn_plan.proofs.Lists.{length_join, length_map}
 use Rattle.htn_plan.proofs.Ranges.{IsInRange, node_fits}

@@ -10,7 +10,7 @@ use Rattle.htn_model.specs.Tree.{leaf, Place, Solution, node_at}
 use Rattle.plan_text.specs.PlanFile.{IsActionLine}
 use Rattle.htn_plan.specs.declared.ids.ActionIds.{ActionIds}
 use Rattle.htn_plan.specs.Ids.{AreNumbered, IsNumbered, first_actions, id_among}
-use Rattle.htn_plan.specs.Naming.{naming_of, task_name, object_name}
+use Rattle.htn_ground.specs.Naming.{naming_of, task_name, object_name}
 use Rattle.htn_plan.proofs.Lists.{all_join, filter_join, map_join, length_map, take_one, take_drop}
 use Rattle.htn_plan.proofs.Positions.{id_next, ids_next}
 

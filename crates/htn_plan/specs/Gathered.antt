@@ -3,7 +3,7 @@ use Rattle.std.specs.Prelude.{ℕ, suc, ◌-◌, List, [], ◌∷◌, length, ta
 use Rattle.htn_model.specs.PlanFile.{DecompositionLine}
 use Rattle.htn_model.specs.Problem.{GroundTask}
 use Rattle.htn_model.specs.Task.{Task}
-use Rattle.htn_plan.specs.Naming.{task_name, object_name, method_name}
+use Rattle.htn_ground.specs.Naming.{task_name, object_name, method_name}
 use Rattle.htn_plan.specs.Preorder.{Item, action, step_item, task}
 
 abbrev pub line_of : Task → ℕ → GroundTask → ℕ → List ℕ → DecompositionLine

@@ -7,7 +7,7 @@ use Rattle.htn_model.specs.Tree.{Place, Solution, node_at}
 use Rattle.htn_model.specs.PlanFile.{ActionLine}
 use Rattle.htn_model.specs.Task.{Task}
 use Rattle.plan_text.specs.PlanFile.{IsActionLine}
-use Rattle.htn_plan.specs.Naming.{naming_of}
+use Rattle.htn_ground.specs.Naming.{naming_of}
 use Rattle.htn_plan.specs.declared.ids.ActionIds.{ActionIds}
 use Rattle.indexmap.specs.IndexMap.{get}
 

@@ -1,4 +1,3 @@
-pub mod Naming
 pub mod Ids
 pub mod Preorder
 pub mod Walk

@@ -7,7 +7,7 @@ ghost use Rattle.plan_text.specs.PlanFile.{IsActionLine, IsDecompositionLine};
 ghost use Rattle.htn_model.specs.Grounding.{problem_of};
 ghost use Rattle.htn_model.specs.Shadow.{IsShadow};
 ghost use Rattle.htn_model.specs.Tree.{IsSolution};
-ghost use Rattle.htn_plan.specs.Naming.{naming_of};
+ghost use Rattle.htn_ground.specs.Naming.{naming_of};
 
 use crate::actions::number_actions;
 use crate::compounds::{count_compounds, number_compounds};

@@ -4,7 +4,7 @@ ghost use Rattle.std.specs.List.{AllByRecursion};
 ghost use Rattle.htn_model.specs.PlanWord.{IsName};
 ghost use Rattle.plan_text.specs.PlanFile.{IsActionLine, IsDecompositionLine, IsId};
 ghost use Rattle.htn_plan.specs.Gathered as spec;
-ghost use Rattle.htn_plan.specs.Naming as named;
+ghost use Rattle.htn_ground.specs.Naming as named;
 
 use crate::names::{method_name, object_name, task_name};
 use htn_ground::GroundTask;

@@ -1,7 +1,7 @@
 //! The names of what stands in a task.
 ghost use Rattle.std.specs.Prelude.{◌≡◌, IfOk};
 ghost use Rattle.htn_model.specs.PlanWord.{IsName};
-ghost use Rattle.htn_plan.specs.Naming as spec;
+ghost use Rattle.htn_ground.specs.Naming as spec;
 
 use htn_ground::{GroundTask, method_of};
 use htn_task::Task;

@@ -18,7 +18,7 @@ use Rattle.htn_model.proofs.Exhaustion.{exhaustion_decides}
 use Rattle.htn_model.proofs.LiveSearch.{live_numbers, met_is_left_out}
 use Rattle.htn_model.proofs.OneToOne.{one_to_one}
 use Rattle.hddl_meaning.proofs.SomeTask.{tasks_exist}
-use Rattle.htn_plan.specs.Naming.{naming_of}
+use Rattle.htn_ground.specs.Naming.{naming_of}
 use Rattle.plan_text.specs.Written.{written}
 use Rattle.htn_run.specs.declared.outcome.Outcome.{Outcome}
 use Rattle.htn_run.specs.declared.outcome.Outcome.TheVariants.{Found, NoPlan, Unsolvable}

@@ -13,7 +13,7 @@ use Rattle.htn_model.specs.Grounding.{problem_of}
 use Rattle.htn_model.specs.Numbered.{numbered}
 use Rattle.htn_model.proofs.Answers.{least_word_answers}
 use Rattle.htn_model.proofs.Grounded.{tasks_are_grounded}
-use Rattle.htn_plan.specs.Naming.{naming_of}
+use Rattle.htn_ground.specs.Naming.{naming_of}
 use Rattle.plan_text.specs.Written.{written}
 use Rattle.htn_run.specs.declared.outcome.Outcome.{Outcome}
 use Rattle.htn_run.specs.declared.outcome.Outcome.TheVariants.{Found, NoPlan, Unsolvable}

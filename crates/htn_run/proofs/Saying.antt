@@ -6,7 +6,7 @@ use Rattle.htn_model.specs.Grounding.{problem_of}
 use Rattle.htn_model.specs.Numbered.{numbered}
 use Rattle.htn_ground.specs.declared.node.Solution.{Solution}
 use Rattle.htn_ground.specs.Trees.{solution_of}
-use Rattle.htn_plan.specs.Naming.{naming_of}
+use Rattle.htn_ground.specs.Naming.{naming_of}
 use Rattle.plan_text.specs.Written.{written}
 use Rattle.plan_text.specs.Out.{TakesBeginning}
 use Rattle.htn_search.specs.Answer.{Answers}

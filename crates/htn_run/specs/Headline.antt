@@ -15,7 +15,7 @@ use Rattle.htn_model.specs.Answer.{IsAnswer}
 use Rattle.htn_model.specs.Exhaustion.{IsMet, IsUnsolvable}
 use Rattle.htn_model.specs.Grounding.{problem_of}
 use Rattle.htn_model.specs.Numbered.{numbered}
-use Rattle.htn_plan.specs.Naming.{naming_of}
+use Rattle.htn_ground.specs.Naming.{naming_of}
 use Rattle.plan_text.specs.Written.{written}
 use Rattle.plan_text.specs.Out.{TakesBeginning}
 use Rattle.word_machine.specs.declared.bounds.Bounds.{Bounds}

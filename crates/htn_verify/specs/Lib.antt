@@ -1,3 +1,4 @@
 pub mod Tasks
 pub mod Instances
 pub mod Runs
+pub mod Verdicts

@@ -2,5 +2,9 @@
 #![tactic(auto)]
 
 mod laws;
+mod verdict;
+mod verify;
 
 pub use laws::{instances_by_tasks, runs_are_of_lines};
+pub use verdict::Verdict;
+pub use verify::verify;

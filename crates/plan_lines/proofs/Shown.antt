@@ -12,7 +12,7 @@ use Rattle.htn_model.specs.Problem.{GroundTask, Network, Child, ground_task_eq, 
 use Rattle.htn_model.specs.Schema.{Formula, NetworkSchema, TaskSchema}
 use Rattle.htn_model.specs.Task.{MethodSchema, Task, has_type, is_compound, objects_of}
 use Rattle.htn_model.specs.Verdict.{subtasks}
-use Rattle.htn_plan.specs.Naming.{numbered_method_name, unnamed}
+use Rattle.htn_ground.specs.Naming.{numbered_method_name, unnamed}
 use Rattle.plan_lines.specs.Given.{Extends, Narrows}
 use Rattle.plan_lines.specs.Left.{Fill, MethodShows, ShowsWith, left_of, times}
 use Rattle.plan_lines.specs.Lines.{IsNamedInstance, ShowsInitial, ShowsInstance}

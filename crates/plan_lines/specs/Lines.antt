@@ -5,7 +5,7 @@ use Rattle.htn_model.specs.PlanFile.{Word, IsRearrangementOf}
 use Rattle.htn_model.specs.Problem.{GroundTask, Network}
 use Rattle.htn_model.specs.Task.{Task}
 use Rattle.htn_model.specs.Verdict.{subtasks}
-use Rattle.htn_plan.specs.Naming.{naming_of}
+use Rattle.htn_ground.specs.Naming.{naming_of}
 
 -- the network of an instance of the task's method with this name
 abbrev pub IsNamedInstance : Task → GroundTask → Word → Network → Type 0

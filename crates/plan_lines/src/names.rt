@@ -1,7 +1,7 @@
 //! What the words of a plan file name.
 ghost use Rattle.std.specs.Prelude.{◌≡◌, IfOk};
-ghost use Rattle.htn_plan.specs.Naming as spec;
-ghost use Rattle.htn_plan.specs.Naming.{naming_of};
+ghost use Rattle.htn_ground.specs.Naming as spec;
+ghost use Rattle.htn_ground.specs.Naming.{naming_of};
 
 use htn_ground::{GroundTask, ObjectList};
 use htn_task::Task;

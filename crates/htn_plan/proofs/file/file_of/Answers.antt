@@ -8,7 +8,7 @@ use Rattle.htn_model.specs.Grounding.{problem_of}
 use Rattle.htn_model.specs.Numbered.{numbered}
 use Rattle.htn_model.specs.Shadow.{IsShadow}
 use Rattle.htn_model.proofs.Numbered.{numbered_is_shadow}
-use Rattle.htn_plan.specs.Naming.{naming_of}
+use Rattle.htn_ground.specs.Naming.{naming_of}
 use Rattle.htn_plan.proofs.Named.{names_nodes}
 use Rattle.htn_plan.proofs.Filed.{filed}
 use Rattle.htn_plan.proofs.Lists.{length_map}

@@ -1,5 +1,5 @@
 use Rattle.std.proofs.Common.{◌≡◌, ◌++◌, Some, drop, option_and_then}
-use Rattle.htn_plan.specs.Naming.{objects_named}
+use Rattle.htn_ground.specs.Naming.{objects_named}
 use Rattle.plan_lines.proofs.names.objects_named.Given as goal
 
 abbrev pub invariant-loop-word : goal.invariant-loop-word
