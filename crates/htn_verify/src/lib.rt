@@ -3,8 +3,8 @@
 
 mod laws;
 mod verdict;
-mod verify;
+mod verifier;
 
 pub use laws::{instances_by_tasks, runs_are_of_lines};
 pub use verdict::Verdict;
-pub use verify::verify;
+pub use verifier::verify;
