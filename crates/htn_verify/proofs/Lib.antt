@@ -1,3 +1,7 @@
 pub mod Naming
 pub mod Showing
 pub mod Running
+pub mod Tabled
+pub mod Faulted
+pub mod Instanced
+pub mod Tested

@@ -12,7 +12,7 @@ use Rattle.plan_run.proofs.Going.{same_literals}
 use Rattle.htn_verify.specs.Runs.{AreTasksOf, RunsAreOfLines}
 
 -- a list around one of its places
-around : {X : Type 0} (xs : List X) (i : ℕ) (x : X) → slice_get xs i ≡ Some x → xs ≡ take i xs ++ x ∷ drop (suc i) xs
+pub around : {X : Type 0} (xs : List X) (i : ℕ) (x : X) → slice_get xs i ≡ Some x → xs ≡ take i xs ++ x ∷ drop (suc i) xs
 around [] i x h = absurd cc
 around (y ∷ xs) zero x h = let same : y ≡ x = cc in ap (λ z. z ∷ xs) same
 around (y ∷ xs) (suc i) x h = ap (λ zs. y ∷ zs) (around xs i x h)

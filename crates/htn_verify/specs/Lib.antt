@@ -1,4 +1,6 @@
 pub mod Tasks
+pub mod Named
 pub mod Instances
+pub mod Faults
 pub mod Runs
 pub mod Verdicts

@@ -1,7 +1,10 @@
 //! The verifier of plan files.
 #![tactic(auto)]
 
+mod arrangement;
+mod faults;
 mod laws;
+mod named;
 mod verdict;
 mod verifier;
 

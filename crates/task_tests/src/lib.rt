@@ -13,3 +13,5 @@ mod plans;
 mod searches;
 #[cfg(test)]
 mod steps;
+#[cfg(test)]
+mod verdicts;

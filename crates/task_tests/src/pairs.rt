@@ -15,30 +15,23 @@ pub struct Pair {
 
 /// A truck that drives from a over b to c.
 pub const ROAD: Pair = Pair {
-    domain: "(define (domain road)
-  (:requirements :typing :hierarchy :method-preconditions)
-  (:types place truck)
-  (:predicates (road ?a ?b - place) (at ?t - truck ?p - place))
-  (:task go :parameters (?t - truck ?p - place))
-  (:method m-stay
-    :parameters (?t - truck ?p - place)
-    :task (go ?t ?p)
-    :precondition (at ?t ?p)
-    :subtasks ())
-  (:method m-step
-    :parameters (?t - truck ?a ?b ?p - place)
-    :task (go ?t ?p)
-    :precondition (and (at ?t ?a) (road ?a ?b))
-    :ordered-subtasks (and (drive ?t ?a ?b) (go ?t ?p)))
-  (:action drive
-    :parameters (?t - truck ?a ?b - place)
-    :precondition (and (at ?t ?a) (road ?a ?b))
-    :effect (and (not (at ?t ?a)) (at ?t ?b))))",
+    domain: ROAD_DOMAIN,
     problem: "(define (problem p1)
   (:domain road)
   (:objects a b c - place t1 - truck)
   (:htn :parameters () :subtasks (go t1 c))
   (:init (at t1 a) (road a b) (road b c)))",
+};
+
+/// The same truck, which is to be at b in the end.
+pub const ROAD_TO_B: Pair = Pair {
+    domain: ROAD_DOMAIN,
+    problem: "(define (problem p1)
+  (:domain road)
+  (:objects a b c - place t1 - truck)
+  (:htn :parameters () :subtasks (go t1 c))
+  (:init (at t1 a) (road a b) (road b c))
+  (:goal (at t1 b)))",
 };
 
 /// Nothing is to be done.
@@ -49,10 +42,21 @@ pub const NOTHING: Pair = Pair {
 
 /// Two unordered tasks: the method of one needs what the other makes.
 pub const LATE: Pair = Pair {
-    domain: "(define (domain d) (:predicates (p)) (:task a :parameters () :precondition () :effect ())
-  (:method m-a :task (a) :precondition (p) :subtasks ())
-  (:action make-p :effect (p)))",
+    domain: LATE_DOMAIN,
     problem: "(define (problem x) (:domain d) (:htn :subtasks (and (a) (make-p))))",
+};
+
+/// The same two tasks, in this order.
+pub const LATE_ORDERED: Pair = Pair {
+    domain: LATE_DOMAIN,
+    problem: "(define (problem x) (:domain d)
+  (:htn :subtasks (and (s1 (a)) (s2 (make-p))) :ordering (and (s1 < s2))))",
+};
+
+/// An action that adds and deletes the goal.
+pub const ADDED_AND_DELETED: Pair = Pair {
+    domain: "(define (domain d) (:predicates (p)) (:action a :effect (and (p) (not (p)))))",
+    problem: "(define (problem x) (:domain d) (:goal (p)) (:htn :ordered-subtasks (a)))",
 };
 
 /// Three unordered tasks: what the first needs is set and cleared by the others, and its subtask needs it cleared.
@@ -163,6 +167,31 @@ const ONE_TASK: &str = "(define (problem x) (:domain d) (:htn :tasks (t)))";
 
 const TOUCHING: &str =
     "(define (domain d) (:types thing) (:action touch :parameters (?x - thing)))";
+
+const ROAD_DOMAIN: &str = "(define (domain road)
+  (:requirements :typing :hierarchy :method-preconditions)
+  (:types place truck)
+  (:predicates (road ?a ?b - place) (at ?t - truck ?p - place))
+  (:task go :parameters (?t - truck ?p - place))
+  (:method m-stay
+    :parameters (?t - truck ?p - place)
+    :task (go ?t ?p)
+    :precondition (at ?t ?p)
+    :subtasks ())
+  (:method m-step
+    :parameters (?t - truck ?a ?b ?p - place)
+    :task (go ?t ?p)
+    :precondition (and (at ?t ?a) (road ?a ?b))
+    :ordered-subtasks (and (drive ?t ?a ?b) (go ?t ?p)))
+  (:action drive
+    :parameters (?t - truck ?a ?b - place)
+    :precondition (and (at ?t ?a) (road ?a ?b))
+    :effect (and (not (at ?t ?a)) (at ?t ?b))))";
+
+const LATE_DOMAIN: &str =
+    "(define (domain d) (:predicates (p)) (:task a :parameters () :precondition () :effect ())
+  (:method m-a :task (a) :precondition (p) :subtasks ())
+  (:action make-p :effect (p)))";
 
 /// The task of a pair.
 pub fn task_of(alloc: Global, pair: Pair) -> Result<Task, Fail> {
