@@ -1,3 +1,6 @@
 pub mod Naming
 pub mod Showing
 pub mod Running
+pub mod Fitting
+pub mod Candidates
+pub mod Arranging

@@ -1,5 +1,5 @@
 -- The tasks that the words of lines name, by the lines' numbers.
-use Rattle.std.specs.Prelude.{◌≡◌, ℕ, ◌+◌, List, length, map, Option, Some, slice_get}
+use Rattle.std.specs.Prelude.{◌≡◌, ℕ, ◌+◌, List, [], length, map, get_or, Option, Some, slice_get}
 use Rattle.htn_model.specs.Problem.{GroundTask}
 use Rattle.htn_model.specs.PlanFile.{ActionLine, DecompositionLine, PlanFile, Naming}
 
@@ -12,3 +12,7 @@ pub record AreNamedAs (naming : Naming) (file : PlanFile) (named_at : ℕ → Op
 -- the lines with these numbers have these tasks, in turn
 abbrev pub HaveTasks : (ℕ → Option GroundTask) → List ℕ → List GroundTask → Type 0
 HaveTasks named_at numbers tasks = map named_at numbers ≡ map Some tasks
+
+-- the task of a line, by the line's number
+abbrev pub task_at : List GroundTask → ℕ → GroundTask
+task_at tasks line = get_or tasks line (record { name = 0; arguments = [] })

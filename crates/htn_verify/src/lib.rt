@@ -1,10 +1,12 @@
 //! The verifier of plan files.
 #![tactic(auto)]
 
+mod arrangement;
 mod laws;
+mod placed_lines;
 mod verdict;
-mod verify;
+mod verifier;
 
 pub use laws::{instances_by_tasks, runs_are_of_lines};
 pub use verdict::Verdict;
-pub use verify::verify;
+pub use verifier::verify;
