@@ -83,6 +83,7 @@ lists_low lists actions n i all = by (ltb i actions) (cases_lt (i - actions) (le
 
 module _ (t : Task) (file : PlanFile) (forest : Forest) (tasks : List GroundTask) (is : IsForestOf file forest) (named : AreTasks (naming_of t) file (task_at tasks))
     (many : length tasks ≡ length file.actions + length file.decompositions) where
+  -- their trees
   abbrev trees : AreTrees (naming_of t) file forest (task_at tasks)
   trees = forests_are_trees (naming_of t) file forest (task_at tasks) is named
 
@@ -90,11 +91,12 @@ module _ (t : Task) (file : PlanFile) (forest : Forest) (tasks : List GroundTask
   ids_many : length (defined_ids file) ≡ length tasks
   ids_many = line_count file ∙ sym many
 
-  -- roots and children are lines
+  -- children are lines
   low_children : (i : ℕ) → All (λ c. c < length tasks) (children_at (length file.actions) forest.children i)
   low_children i = subst (λ n. All (λ c. c < n) (children_at (length file.actions) forest.children i)) ids_many
       (lists_low forest.children (length file.actions) (length (defined_ids file)) i (lists_within (defined_ids file) forest.children file.decompositions is.children))
 
+  -- and so are roots
   low_roots : All (λ c. c < length tasks) forest.roots
   low_roots = subst (λ n. All (λ c. c < n) forest.roots) ids_many (numbers_within (defined_ids file) forest.roots file.roots is.roots)
 

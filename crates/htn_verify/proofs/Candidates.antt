@@ -56,6 +56,7 @@ tree_there (suc depth) task_of_line file forest i high low =
     (plans, ap (λ b. cond b (action_at (task_of_line i) i) (decomposition (task_of_line i) (method_at file i) plans)) (le-ltb i (length file.actions) high))
 
 module _ (t : Task) (file : PlanFile) (forest : Forest) (tasks : List GroundTask) (h : History) (placed : ArePlaced t file forest tasks h) where
+  -- the lines
   abbrev lines_placed : Lines
   lines_placed = placed_lines t file forest tasks
 

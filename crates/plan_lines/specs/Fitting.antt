@@ -1,9 +1,9 @@
--- The networks that a line's children may be matched to in a run.
-use Rattle.std.specs.Prelude.{◌≡◌, ℕ, ◌≤◌, true, List, ⊤}
+-- The instances of a line that may fit into a run.
+use Rattle.std.specs.Prelude.{◌≡◌, ℕ, ◌≤◌, List, true, ⊤}
 use Rattle.std.specs.List.{All}
 use Rattle.htn_model.specs.Literal.{Literal, atom}
 use Rattle.htn_model.specs.PlanFile.{IsIn}
-use Rattle.htn_model.specs.Problem.{Child, precondition, GroundTask, Network}
+use Rattle.htn_model.specs.Problem.{Child, GroundTask, Network, precondition}
 use Rattle.plan_run.specs.Turns.{History, truth}
 use Rattle.plan_lines.specs.Lines.{HasSubtasks}
 
