@@ -5,3 +5,6 @@ pub mod Tabled
 pub mod Faulted
 pub mod Instanced
 pub mod Tested
+pub mod Fitting
+pub mod Candidates
+pub mod Arranging

@@ -57,7 +57,7 @@ module _ (naming : Naming) (problem : Problem) where
   as_many (line ∷ lines) (t ∷ tasks) are = ap suc (as_many lines tasks are.1)
 
   -- the states between lines are those that their run reaches
-  runs_to : (lines : List ActionLine) (states : ℕ → State)
+  pub runs_to : (lines : List ActionLine) (states : ℕ → State)
       → ((i : ℕ) (line : ActionLine) → slice_get lines i ≡ Some line → perform_line naming problem (states i) line ≡ Some (states (suc i)))
       → (k : ℕ) → k ≤ length lines → run_lines naming problem (states 0) (take k lines) ≡ Some (states k)
   runs_to lines states performs zero h = refl

@@ -4,3 +4,4 @@ pub mod Instances
 pub mod Faults
 pub mod Runs
 pub mod Verdicts
+pub mod Placed

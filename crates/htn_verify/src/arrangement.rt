@@ -1,5 +1,5 @@
-//! Whether the lines of a file have room between one another.
-ghost use Rattle.std.specs.Prelude.{◌≡◌, ◌+◌, ◌↔◌, length, take, true, IfOk, IsTrue};
+//! Whether the lines of a plan file can be arranged as a solution wants them.
+ghost use Rattle.std.specs.Prelude.{◌≡◌, ◌+◌, ◌↔◌, IfOk, IsTrue, length, take, true};
 ghost use Rattle.htn_ground.specs.Naming.{naming_of};
 ghost use Rattle.htn_model.specs.Grounding.{problem_of};
 ghost use Rattle.htn_model.specs.Shadow.{IsAccepted};
@@ -9,9 +9,11 @@ ghost use Rattle.plan_forest.specs.Forest.{IsForestOf};
 ghost use Rattle.plan_forest.specs.Plans.{AreTasks};
 ghost use Rattle.plan_run.specs.Run.{IsHistoryOf};
 
+use crate::placed_lines::PlacedLines;
 use htn_ground::GroundTask;
 use htn_task::Task;
 use plan_forest::Forest;
+use plan_room::forest_fits;
 use plan_run::Turns;
 use plan_text::PlanFile;
 use std::alloc::{AllocError, Global};
@@ -33,11 +35,15 @@ pub(crate) fn is_arranged(
     requires history { IsHistoryOf (problem_of task.now) (take (length file.now.actions) tasks.now) turns.now }
     ensures { IfOk result (λ b. IsTrue b ↔ IsAccepted (naming_of task.now) (problem_of task.now) file.now) }
 {
-    let _ = alloc;
-    let _ = task;
-    let _ = file;
-    let _ = forest;
-    let _ = tasks;
-    let _ = turns;
-    Err(AllocError)
+    let _initial = task.initial_atoms();
+    let lines = PlacedLines {
+        alloc,
+        task,
+        file,
+        forest,
+        tasks,
+        turns,
+    };
+    let fits = forest_fits(alloc, &lines)?;
+    Ok(fits)
 }

@@ -5,6 +5,7 @@ mod arrangement;
 mod faults;
 mod laws;
 mod named;
+mod placed_lines;
 mod verdict;
 mod verifier;
 

@@ -2,3 +2,4 @@ pub mod Given
 pub mod Left
 pub mod Allowed
 pub mod Lines
+pub mod Fitting

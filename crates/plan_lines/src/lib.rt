@@ -4,10 +4,12 @@
 
 mod children;
 mod completion;
+mod fitting;
 mod given;
 mod instances;
 mod names;
 mod search;
 
+pub use fitting::{initials_to_fit, instances_to_fit};
 pub use instances::{has_initial, has_instance};
 pub use names::{Names, task_named};
