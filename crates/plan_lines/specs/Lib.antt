@@ -2,3 +2,5 @@ pub mod Given
 pub mod Left
 pub mod Allowed
 pub mod Lines
+pub mod Fitting
+pub mod Found

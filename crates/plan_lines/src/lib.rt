@@ -3,11 +3,16 @@
 #![tactic(auto)]
 
 mod children;
+mod completing;
 mod completion;
+mod ever;
+mod fitting;
 mod given;
 mod instances;
+mod matching;
 mod names;
 mod search;
 
+pub use fitting::{initials_to_fit, instances_to_fit};
 pub use instances::{has_initial, has_instance};
 pub use names::{Names, task_named};
