@@ -1,19 +1,19 @@
 -- What an instance's network says: the same at values that are alike, and which atoms its step asks for.
-use Rattle.std.proofs.Common.{◌≡◌, ◌∙◌, ◌+◌, ◌<◌, ◌++◌, ◌∷◌, ◌||◌, Bool, List, [], ap, append_assoc, arith, cond, false, get_or, inl, inr, length, map, not, refl, subst, suc, sym, true, zero, ℕ}
+use Rattle.std.proofs.Common.{◌≡◌, ◌∙◌, ◌+◌, ◌++◌, ◌∷◌, ◌||◌, Bool, List, [], ap, append_assoc, arith, cond, false, get_or, inl, inr, length, map, not, refl, subst, suc, sym, true, ℕ}
 use Rattle.std.specs.List.{All, list_any}
 use Rattle.htn_model.specs.Instances.{child_of, ground_atom, ground_task, has_step, is_equation, literals_in, literals_of, network_of, state_formulas}
 use Rattle.htn_model.specs.Literal.{Literal, atom}
 use Rattle.htn_model.specs.PlanFile.{IsIn}
-use Rattle.htn_model.specs.Problem.{Child, Network, precondition}
+use Rattle.htn_model.specs.Problem.{Child, precondition}
 use Rattle.htn_model.specs.Schema.{AtomSchema, Formula, NetworkSchema, literal}
 use Rattle.htn_model.specs.Task.{Task}
-use Rattle.htn_ground.specs.Shown.{AreShown, is_shown}
+use Rattle.htn_ground.specs.Shown.{AreShown}
 use Rattle.htn_ground.proofs.Unshown.{network_same}
 use Rattle.plan_run.specs.Turns.{History}
 use Rattle.plan_lines.specs.Fitting.{MayHold, StepsMayHold}
 use Rattle.plan_lines.specs.Found.{AreAlike, AreEverTrue}
 use Rattle.plan_lines.proofs.Left.{length_push}
-use Rattle.plan_lines.proofs.Shown.{filter_in, in_join_left, pieces_in}
+use Rattle.plan_lines.proofs.Shown.{filter_in, pieces_in}
 
 module _ (t : Task) (fs : List Formula) (n : NetworkSchema) (shown : List Bool) (count : ℕ) (are : AreShown fs n.subtasks count shown) where
   same_from : (before values others : List ℕ) → length before + length values ≡ count → length values ≡ length others

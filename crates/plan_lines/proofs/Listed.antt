@@ -1,11 +1,11 @@
 -- The networks of a line's instances, method by method.
-use Rattle.std.proofs.Common.{◌≡◌, ◌∙◌, ◌+◌, ◌<◌, ◌≤◌, ◌⊎◌, ◌++◌, ◌∷◌, Bool, List, None, Option, Some, [], ap, arith, false, get_or, inl, inr, length, map, nat_eq, refl, replicate, slice_get, subst, sym, true, ℕ}
+use Rattle.std.proofs.Common.{◌≡◌, ◌∙◌, ◌+◌, ◌<◌, ◌≤◌, ◌++◌, ◌∷◌, Bool, List, None, Option, Some, [], ap, arith, false, inl, inr, length, map, nat_eq, refl, replicate, slice_get, subst, sym, true, ℕ}
 use Rattle.std.specs.Cmp.{unsigned_Decides}
 use Rattle.std.specs.Option.{option_map}
 use Rattle.std.proofs.lemmas.List.{map-append}
 use Rattle.std.proofs.lemmas.Option.{slice_get-map}
 use Rattle.htn_model.specs.Instance.{Instance}
-use Rattle.htn_model.specs.Instances.{Conditions, ground_task, have_types, initial_conditions, initial_instance, initials, instances, is_instance, meets, method_conditions, method_instance, network_of, value_of}
+use Rattle.htn_model.specs.Instances.{Conditions, have_types, initial_conditions, initial_instance, initials, instances, meets, method_conditions, method_instance, network_of, value_of}
 use Rattle.htn_model.specs.PlanFile.{IsIn, IsRearrangementOf, Word}
 use Rattle.htn_model.specs.Problem.{GroundTask, Network}
 use Rattle.htn_model.specs.Schema.{Formula, NetworkSchema}

@@ -1,4 +1,4 @@
-use Rattle.std.proofs.Common.{◌≡◌, ◌∙◌, ◌+◌, ◌<◌, Bor, Global, List, Option, Some, Vec, ap, arith, get_or, length, map, set, subst, sym, true, ℕ}
+use Rattle.std.proofs.Common.{◌≡◌, ◌∙◌, ◌+◌, ◌<◌, Bor, Global, List, Option, Some, Vec, ap, arith, get_or, length, map, set, subst, sym, ℕ}
 use Rattle.htn_model.specs.Schema.{AtomSchema}
 use Rattle.htn_model.specs.Task.{objects_of}
 use Rattle.htn_ground.specs.declared.object_list.ObjectList.{ObjectList}

@@ -1,4 +1,4 @@
-use Rattle.std.proofs.Common.{◌≡◌, ◌∙◌, Bor, Bool, Global, Vec, ap, map, subst, sym, true}
+use Rattle.std.proofs.Common.{◌∙◌, Bor, Bool, Global, Vec, ap, map, subst, sym, true}
 use Rattle.htn_model.specs.PlanFile.{IsIn}
 use Rattle.htn_model.specs.Schema.{AtomSchema, literal}
 use Rattle.htn_task.specs.declared.formula.Formula.{Literal}

@@ -1,11 +1,9 @@
-use Rattle.std.proofs.Common.{◌≡◌, ◌∙◌, ◌≤◌, Bor, List, None, [], ap, arith, length, map, refl, replicate, subst, sym, take, ℕ}
+use Rattle.std.proofs.Common.{◌≡◌, ◌∙◌, Bor, List, None, [], ap, arith, length, map, replicate, subst, sym, take, ℕ}
 use Rattle.std.proofs.lemmas.List.{take_all}
 use Rattle.htn_model.specs.Instance.{Instance}
 use Rattle.htn_model.specs.Instances.{initial_conditions, initial_instance}
-use Rattle.htn_model.specs.Schema.{Formula}
 use Rattle.htn_model.specs.Task.{InitialSchema, Task}
 use Rattle.htn_ground.specs.declared.ground_task.GroundTask as declared
-use Rattle.htn_task.specs.declared.formula.Formula as formulas
 use Rattle.htn_task.specs.Formulas.{formula_of}
 use Rattle.plan_lines.specs.Allowed.{IsInstanceWith}
 use Rattle.plan_lines.specs.Fitting.{AreToFit}

@@ -1,8 +1,7 @@
-use Rattle.std.proofs.Common.{◌≡◌, ◌∙◌, ◌+◌, Bor, Global, List, Some, Vec, ap, arith, bytes_eq, false, length, map, refl, slice_get, subst, sym, true, ℕ}
+use Rattle.std.proofs.Common.{◌≡◌, ◌∙◌, ◌+◌, Bor, Global, List, Some, Vec, ap, arith, bytes_eq, false, length, map, slice_get, subst, sym, true, ℕ}
 use Rattle.std.proofs.lemmas.Option.{slice_get-get_or}
 use Rattle.std.proofs.lemmas.Slice.Eq.{bytes_eq-Decides}
 use Rattle.htn_model.specs.Instance.{Instance}
-use Rattle.htn_model.specs.Instances.{method_instance}
 use Rattle.htn_model.specs.Problem.{Network}
 use Rattle.htn_model.specs.Task.{MethodSchema, Task}
 use Rattle.htn_ground.specs.declared.ground_task.GroundTask as declared

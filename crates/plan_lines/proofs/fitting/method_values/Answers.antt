@@ -1,4 +1,4 @@
-use Rattle.std.proofs.Common.{◌≡◌, ◌∙◌, List, None, ap, arith, false, length, refl, replicate, subst, sym, true, ℕ}
+use Rattle.std.proofs.Common.{◌∙◌, List, None, ap, arith, false, length, refl, replicate, subst, sym, true, ℕ}
 use Rattle.htn_model.specs.Instances.{method_conditions}
 use Rattle.htn_model.specs.Schema.{TaskSchema}
 use Rattle.htn_task.specs.Views.{terms_of}

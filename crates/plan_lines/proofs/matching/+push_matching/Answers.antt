@@ -1,4 +1,4 @@
-use Rattle.std.proofs.Common.{◌≡◌, ◌↔◌, ◌∙◌, ◌+◌, ◌∷◌, [], Bor, Global, IfNone, List, Option, Some, Vec, ap, arith, map, refl, slice_get, subst, sym, true, ℕ}
+use Rattle.std.proofs.Common.{◌≡◌, ◌↔◌, ◌∙◌, ◌+◌, ◌∷◌, [], Bor, Global, IfNone, List, Option, Some, Vec, ap, arith, map, refl, slice_get, subst, sym, ℕ}
 use Rattle.htn_model.specs.Instances.{ground_task}
 use Rattle.htn_model.specs.Problem.{GroundTask, ground_task_eq}
 use Rattle.htn_model.specs.Schema.{AtomSchema, TaskSchema}

@@ -1,7 +1,7 @@
 use Rattle.std.proofs.Common.{◌≡◌, ◌∙◌, Bor, List, [], ap, length, map, subst, sym, true, ℕ}
 use Rattle.htn_model.specs.Instances.{network_of}
 use Rattle.htn_model.specs.PlanFile.{IsIn}
-use Rattle.htn_model.specs.Schema.{AtomSchema, NetworkSchema, TaskSchema, literal}
+use Rattle.htn_model.specs.Schema.{AtomSchema, TaskSchema, literal}
 use Rattle.htn_ground.specs.Shown.{AreShown}
 use Rattle.htn_task.specs.declared.term.AtomSchema as atoms
 use Rattle.htn_task.specs.declared.term.TaskSchema as declared
