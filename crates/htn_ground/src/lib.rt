@@ -32,7 +32,10 @@ pub use ground_task::GroundTask;
 pub use instance::Instance;
 pub use instances::is_instance;
 pub use literals::goal_literals;
-pub use methods::{action_of, initials, live_methods_of, method_of, methods_of};
+pub use methods::{
+    action_of, initial_instance, initials, live_methods_of, method_instance, method_of, methods_of,
+};
 pub use node::{Node, Solution, compound};
 pub use numbers::{initial_number_of, number_of};
 pub use object_list::ObjectList;
+pub use shown::{is_hidden, shown_parameters};

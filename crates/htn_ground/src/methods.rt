@@ -102,7 +102,7 @@ pub(crate) fn count_for(
 }
 
 /// The instance of a method at values.
-pub(crate) fn method_instance(
+pub fn method_instance(
     alloc: Global,
     task: &Task,
     number: u16,
@@ -234,7 +234,7 @@ pub fn live_methods_of(
 }
 
 /// The instance of the initial network at values.
-pub(crate) fn initial_instance(
+pub fn initial_instance(
     alloc: Global,
     task: &Task,
     values: ObjectList,

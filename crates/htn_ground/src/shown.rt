@@ -76,7 +76,7 @@ fn stands_in_subtasks(subtasks: &[TaskSchema], place: usize) -> bool
 }
 
 /// For each of so many parameters whether it stands in the precondition step or in a subtask.
-pub(crate) fn shown_parameters(
+pub fn shown_parameters(
     alloc: Global,
     precondition: &FormulaList,
     network: &NetworkSchema,
@@ -94,7 +94,7 @@ pub(crate) fn shown_parameters(
 }
 
 /// Whether a parameter is one of those that are not shown.
-pub(crate) fn is_hidden(shown: &[bool], place: usize) -> bool
+pub fn is_hidden(shown: &[bool], place: usize) -> bool
     ensures { result ≡ not (get_or shown.now place true) }
 {
     match shown.get(place) {

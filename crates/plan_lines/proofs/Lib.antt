@@ -4,3 +4,7 @@ pub mod Left
 pub mod Exchanged
 pub mod Searched
 pub mod Shown
+pub mod Gathering
+pub mod Alike
+pub mod Positive
+pub mod Listed

@@ -23,16 +23,16 @@ use Rattle.plan_lines.proofs.Times.{rearranged_times, times_rearranged}
 
 -- ## Members
 
-in_join_left : {X : Type 0} (x : X) (xs ys : List X) → IsIn x xs → IsIn x (xs ++ ys)
+pub in_join_left : {X : Type 0} (x : X) (xs ys : List X) → IsIn x xs → IsIn x (xs ++ ys)
 in_join_left x [] ys i = absurd i
 in_join_left x (z ∷ xs) ys (inl e) = inl e
 in_join_left x (z ∷ xs) ys (inr i) = inr (in_join_left x xs ys i)
 
-in_join_right : {X : Type 0} (x : X) (xs ys : List X) → IsIn x ys → IsIn x (xs ++ ys)
+pub in_join_right : {X : Type 0} (x : X) (xs ys : List X) → IsIn x ys → IsIn x (xs ++ ys)
 in_join_right x [] ys i = i
 in_join_right x (z ∷ xs) ys i = inr (in_join_right x xs ys i)
 
-in_either : {X : Type 0} (x : X) (xs ys : List X) → IsIn x (xs ++ ys) → IsIn x xs ⊎ IsIn x ys
+pub in_either : {X : Type 0} (x : X) (xs ys : List X) → IsIn x (xs ++ ys) → IsIn x xs ⊎ IsIn x ys
 in_either x [] ys i = inr i
 in_either x (z ∷ xs) ys (inl e) = inl (inl e)
 in_either x (z ∷ xs) ys (inr i) = elim (in_either x xs ys i) [ inl a ↦ inl (inr a) | inr b ↦ inr b ]
@@ -45,17 +45,17 @@ in_pieces {X = X} f y (x ∷ xs) i = by (in_either y (f x) (flat_map f xs) i) (i
     by (inl here) more = (x, inl refl, here)
     by (inr there) more = let m = more there in (m.0, inr m.1, m.2)
 
-pieces_in : {X Y : Type 0} (f : X → List Y) (y : Y) (x : X) (xs : List X) → IsIn x xs → IsIn y (f x) → IsIn y (flat_map f xs)
+pub pieces_in : {X Y : Type 0} (f : X → List Y) (y : Y) (x : X) (xs : List X) → IsIn x xs → IsIn y (f x) → IsIn y (flat_map f xs)
 pieces_in f y x [] i at = absurd i
 pieces_in f y x (z ∷ xs) (inl e) at = in_join_left y (f z) (flat_map f xs) (subst (λ w. IsIn y (f w)) e at)
 pieces_in f y x (z ∷ xs) (inr i) at = in_join_right y (f z) (flat_map f xs) (pieces_in f y x xs i at)
 
-in_map : {X Y : Type 0} (f : X → Y) (y : Y) (xs : List X) → IsIn y (map f xs) → (x : X) × IsIn x xs × (y ≡ f x)
+pub in_map : {X Y : Type 0} (f : X → Y) (y : Y) (xs : List X) → IsIn y (map f xs) → (x : X) × IsIn x xs × (y ≡ f x)
 in_map f y [] i = absurd i
 in_map f y (x ∷ xs) (inl e) = (x, inl refl, e)
 in_map f y (x ∷ xs) (inr i) = let m = in_map f y xs i in (m.0, inr m.1, m.2)
 
-map_in : {X Y : Type 0} (f : X → Y) (x : X) (xs : List X) → IsIn x xs → IsIn (f x) (map f xs)
+pub map_in : {X Y : Type 0} (f : X → Y) (x : X) (xs : List X) → IsIn x xs → IsIn (f x) (map f xs)
 map_in f x [] i = absurd i
 map_in f x (z ∷ xs) (inl e) = inl (ap f e)
 map_in f x (z ∷ xs) (inr i) = inr (map_in f x xs i)
@@ -69,7 +69,7 @@ in_filter p x (z ∷ xs) i = by (p z) refl i (in_filter p x xs)
     by true e (inr there) more = let m = more there in (inr m.0, m.1)
     by false e there more = let m = more there in (inr m.0, m.1)
 
-filter_in : {X : Type 0} (p : X → Bool) (x : X) (xs : List X) → IsIn x xs → p x ≡ true → IsIn x (filter p xs)
+pub filter_in : {X : Type 0} (p : X → Bool) (x : X) (xs : List X) → IsIn x xs → p x ≡ true → IsIn x (filter p xs)
 filter_in p x [] i passes = absurd i
 filter_in p x (z ∷ xs) i passes = by (p z) refl i (λ there. filter_in p x xs there passes)
   where
@@ -192,7 +192,7 @@ name_at [] k m e = absurd cc
 name_at (x ∷ ms) zero m e = let same : x ≡ m = cc in ap (λ (y : MethodSchema). y.name) same
 name_at (x ∷ ms) (suc k) m e = name_at ms k m e
 
-some_mapped : {X Y : Type 0} (f : X → Y) (o : Option X) (y : Y) → option_map f o ≡ Some y → (x : X) × (o ≡ Some x) × (f x ≡ y)
+pub some_mapped : {X Y : Type 0} (f : X → Y) (o : Option X) (y : Y) → option_map f o ≡ Some y → (x : X) × (o ≡ Some x) × (f x ≡ y)
 some_mapped f None y e = absurd cc
 some_mapped f (Some x) y e = (x, refl, (let same : f x ≡ y = cc in same))
 

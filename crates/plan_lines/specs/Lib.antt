@@ -3,3 +3,4 @@ pub mod Left
 pub mod Allowed
 pub mod Lines
 pub mod Fitting
+pub mod Found

@@ -1,17 +1,90 @@
-//! The instances that the lines of a plan file may be.
-ghost use Rattle.std.specs.Prelude.{map, IfOk};
-ghost use Rattle.plan_lines.specs.Fitting.{AreToFit};
-ghost use Rattle.plan_lines.specs.Lines.{IsInitial, IsNamedInstance};
+//! The instances of a plan file's lines that may fit into its run.
+ghost use Rattle.std.specs.Prelude.{◌≡◌, ◌++◌, IfOk, OnOk, length, map};
+ghost use Rattle.htn_model.specs.Instances as model;
 ghost use Rattle.plan_run.specs.Turns.{IsHistory};
+ghost use Rattle.plan_lines.specs.Fitting.{AreToFit};
+ghost use Rattle.plan_lines.specs.Found.{AreValuesToFit, IsFor};
+ghost use Rattle.plan_lines.specs.Lines.{IsInitial, IsNamedInstance};
 
+use crate::children::{Children, count_children};
+use crate::given::bind_all;
+use crate::instances::no_values;
+use crate::matching::values_to_fit;
 use crate::names::Names;
-use htn_ground::{GroundTask, Instance};
+use htn_ground::{
+    GroundTask, Instance, ObjectList, initial_conditions, initial_instance, method_conditions,
+    method_instance,
+};
+use htn_task::{FormulaList, MethodSchema, Task};
 use plan_run::Turns;
 use plan_text::Word;
 use std::alloc::{AllocError, Global};
 
-/// The networks of a task's methods with this name that have the children's tasks, and whose steps' atoms are ever
-/// true: each such network is among those of the instances.
+/// The number of a method at a place. Where it doesn't fit, so many could not be held either.
+fn method_number(place: usize) -> Result<u16, AllocError>
+    ensures { IfOk result (λ n. n ≡ place) }
+{
+    match u16::try_from(place) {
+        Ok(number) => Ok(number),
+        Err(_) => Err(AllocError),
+    }
+}
+
+/// The values of a method's instances for a task that have the children's tasks and whose step may hold.
+fn method_values(
+    alloc: Global,
+    task: &Task,
+    turns: &Turns<'_>,
+    goal: &GroundTask,
+    method: &MethodSchema,
+    children: &Children,
+    counts: &[usize],
+) -> Result<Vec<ObjectList>, AllocError>
+    requires history { IsHistory turns.now }
+    requires counts { length counts.now ≡ length children.now }
+    ensures { IfOk result (λ v. AreValuesToFit task.now turns.now children.now counts.now method.now.precondition method.now.network (IsFor task.now goal.now method.now) v.items) }
+{
+    if method.task().name() != goal.name() {
+        return Ok(Vec::new(alloc));
+    }
+    let mut given = no_values(alloc, method.parameters())?;
+    if !bind_all(&mut given, method.task().arguments(), goal.arguments()) {
+        return Ok(Vec::new(alloc));
+    }
+    let conditions = method_conditions(alloc, task, method)?;
+    let values = values_to_fit(
+        alloc,
+        task,
+        turns,
+        &conditions,
+        method.precondition(),
+        method.network(),
+        children,
+        counts,
+        &given,
+    )?;
+    Ok(values)
+}
+
+/// Appends the instances of a method at these values.
+fn push_instances(
+    alloc: Global,
+    task: &Task,
+    number: u16,
+    method: &MethodSchema,
+    values: &[ObjectList],
+    found: &mut Vec<Instance>,
+) -> Result<(), AllocError>
+    ensures { OnOk result (found.new.items ≡ found.old.items ++ map (model.method_instance task.now number method.now) values.now) }
+{
+    for choice in values {
+        found.push(method_instance(alloc, task, number, method, choice.clone()?)?)?;
+    }
+    Ok(())
+}
+
+/// The instances of a task's methods with this name that have the children's tasks as their subtasks, and whose
+/// positive literals are ever true: each such network is among those of the instances.
 pub fn instances_to_fit(
     alloc: Global,
     names: &Names<'_>,
@@ -23,13 +96,18 @@ pub fn instances_to_fit(
     requires { IsHistory turns.now }
     ensures { IfOk result (λ v. AreToFit turns.now (IsNamedInstance names.now goal.now method.now) (map (λ c. c.now) children.now) (map (λ i. i.network) v.items)) }
 {
-    let _alloc = alloc;
-    let _task = names.task();
-    let _holds = turns.holds(&[], 0);
-    let _name = goal.name();
-    let _bytes = method.as_bytes();
-    let _count = children.len();
-    Err(AllocError)
+    let task = names.task();
+    let (tasks, counts) = count_children(alloc, children)?;
+    let methods = task.methods();
+    let mut found = Vec::new(alloc);
+    for (place, schema) in methods.iter().enumerate() {
+        if schema.name().as_bytes() == method.as_bytes() {
+            let number = method_number(place)?;
+            let values = method_values(alloc, task, turns, goal, schema, &tasks, &counts)?;
+            push_instances(alloc, task, number, schema, &values, &mut found)?;
+        }
+    }
+    Ok(found)
 }
 
 /// The same for the initial network.
@@ -42,9 +120,26 @@ pub fn initials_to_fit(
     requires { IsHistory turns.now }
     ensures { IfOk result (λ v. AreToFit turns.now (IsInitial names.now) (map (λ c. c.now) roots.now) (map (λ i. i.network) v.items)) }
 {
-    let _alloc = alloc;
-    let _task = names.task();
-    let _holds = turns.holds(&[], 0);
-    let _count = roots.len();
-    Err(AllocError)
+    let task = names.task();
+    let (tasks, counts) = count_children(alloc, roots)?;
+    let initial = task.initial_network();
+    let empty = FormulaList::of(Vec::new(alloc));
+    let conditions = initial_conditions(alloc, task, initial)?;
+    let given = no_values(alloc, initial.parameters())?;
+    let values = values_to_fit(
+        alloc,
+        task,
+        turns,
+        &conditions,
+        &empty,
+        initial.network(),
+        &tasks,
+        &counts,
+        &given,
+    )?;
+    let mut found = Vec::new(alloc);
+    for choice in &values {
+        found.push(initial_instance(alloc, task, choice.clone()?)?)?;
+    }
+    Ok(found)
 }

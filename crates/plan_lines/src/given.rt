@@ -6,7 +6,8 @@ ghost use Rattle.plan_lines.specs.Given as spec;
 ghost use Rattle.plan_lines.specs.Given.{Extends, Narrows};
 
 use htn_ground::{GroundTask, ObjectList};
-use htn_task::{TaskSchema, Term};
+use htn_state::Atom;
+use htn_task::{AtomSchema, TaskSchema, Term};
 use std::alloc::{AllocError, Global};
 
 /// The object that a term stands for, if it has one.
@@ -61,6 +62,24 @@ pub(crate) fn bind_all(given: &mut Vec<Option<u16>>, terms: &[Term], objects: &[
     true
 }
 
+/// The objects that terms stand for, if all have one.
+fn objects_at(
+    alloc: Global,
+    given: &[Option<u16>],
+    terms: &[Term],
+) -> Result<Option<ObjectList>, AllocError>
+    ensures { IfOk result (λ found. IfSome found (λ l. (values : List ℕ) → Extends values given.now → map (model.value_of values) (terms_of terms.now) ≡ l)) }
+{
+    let mut objects = ObjectList::new(alloc);
+    for term in terms {
+        let Some(object) = object_of(given, *term) else {
+            return Ok(None);
+        };
+        objects.push(object)?;
+    }
+    Ok(Some(objects))
+}
+
 /// The task of a schema, if all its arguments have objects.
 pub(crate) fn task_of(
     alloc: Global,
@@ -69,13 +88,25 @@ pub(crate) fn task_of(
 ) -> Result<Option<GroundTask>, AllocError>
     ensures { IfOk result (λ found. IfSome found (λ g. (values : List ℕ) → Extends values given.now → model.ground_task values schema.now ≡ g)) }
 {
-    let mut arguments = ObjectList::new(alloc);
-    let terms = schema.arguments();
-    for term in terms {
-        let Some(object) = object_of(given, *term) else {
-            return Ok(None);
-        };
-        arguments.push(object)?;
+    match objects_at(alloc, given, schema.arguments())? {
+        Some(arguments) => Ok(Some(GroundTask::new(schema.name(), arguments))),
+        None => Ok(None),
     }
-    Ok(Some(GroundTask::new(schema.name(), arguments)))
+}
+
+/// The atom of a schema, if all its arguments have objects.
+pub(crate) fn atom_of(
+    alloc: Global,
+    given: &[Option<u16>],
+    schema: &AtomSchema,
+) -> Result<Option<Atom>, AllocError>
+    ensures { IfOk result (λ found. IfSome found (λ a. (values : List ℕ) → Extends values given.now → model.ground_atom values schema.now ≡ a)) }
+{
+    match objects_at(alloc, given, schema.arguments())? {
+        Some(arguments) => {
+            let atom = Atom::new(alloc, schema.predicate(), arguments.as_slice())?;
+            Ok(Some(atom))
+        }
+        None => Ok(None),
+    }
 }

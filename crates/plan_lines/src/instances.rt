@@ -14,7 +14,10 @@ use plan_text::Word;
 use std::alloc::{AllocError, Global};
 
 /// References to subtasks, in their order.
-fn references(alloc: Global, subtasks: &[TaskSchema]) -> Result<Vec<&TaskSchema>, AllocError>
+pub(crate) fn references(
+    alloc: Global,
+    subtasks: &[TaskSchema],
+) -> Result<Vec<&TaskSchema>, AllocError>
     ensures { IfOk result (λ v. map (λ s. s.now) v.items ≡ subtasks.now) }
 {
     let mut all = Vec::with_capacity(alloc, subtasks.len())?;
@@ -25,7 +28,7 @@ fn references(alloc: Global, subtasks: &[TaskSchema]) -> Result<Vec<&TaskSchema>
 }
 
 /// No value yet for each parameter.
-fn no_values(alloc: Global, parameters: &[u16]) -> Result<Vec<Option<u16>>, AllocError>
+pub(crate) fn no_values(alloc: Global, parameters: &[u16]) -> Result<Vec<Option<u16>>, AllocError>
     ensures { IfOk result (λ v. v.items ≡ replicate (length parameters.now) None) }
 {
     let mut given = Vec::with_capacity(alloc, parameters.len())?;

@@ -3,10 +3,13 @@
 #![tactic(auto)]
 
 mod children;
+mod completing;
 mod completion;
+mod ever;
 mod fitting;
 mod given;
 mod instances;
+mod matching;
 mod names;
 mod search;
 

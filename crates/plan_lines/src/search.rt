@@ -15,7 +15,7 @@ use std::alloc::{AllocError, Global};
 
 /// Takes the tasks of those schemas whose arguments have objects from what is left. Gives the other
 /// schemas; none where a task isn't left.
-fn settle<'s>(
+pub(crate) fn settle<'s>(
     alloc: Global,
     children: &Children,
     schemas: &[&'s TaskSchema],
@@ -45,7 +45,7 @@ fn settle<'s>(
 
 /// The values with which a schema's task is one of the children's, and what is left then; none where
 /// it can't be.
-fn matched(
+pub(crate) fn matched(
     alloc: Global,
     children: &Children,
     number: usize,
@@ -79,7 +79,7 @@ fn matched(
 }
 
 /// Whether nothing is left.
-fn is_used_up(children: &Children, left: &[usize]) -> bool
+pub(crate) fn is_used_up(children: &Children, left: &[usize]) -> bool
     requires { length left.now ≡ length children.now }
     ensures { MatchBool result ((g : model.GroundTask) → left_of children.now left.now g ≡ 0) (((g : model.GroundTask) → left_of children.now left.now g ≡ 0) → ⊥) }
 {

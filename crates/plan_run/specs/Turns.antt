@@ -59,6 +59,10 @@ pub record IsHistory (h : History) : Type 0 where
   pub as_many : length h.turns ≡ length h.atoms
   pub rising : (i : ℕ) → IsRising h.last (get_or h.turns i [])
 
+-- the atom is true in some gap
+abbrev pub IsEverTrue : History → Atom → Type 0
+IsEverTrue h a = (k : ℕ) × (k ≤ h.last) × (truth h a k ≡ true)
+
 -- ## Literals
 
 abbrev pub literal_truth : History → Literal → ℕ → Bool

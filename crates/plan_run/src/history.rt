@@ -5,7 +5,7 @@ ghost use Rattle.std.specs.List.{position_or_len};
 ghost use Rattle.htn_model.specs.Atom as model;
 ghost use Rattle.htn_state.specs.Views.{literal_of, literals_of};
 ghost use Rattle.plan_run.specs.Turns as spec;
-ghost use Rattle.plan_run.specs.Turns.{AreTurned, IsApplied, IsHistory, IsNextGap, IsOnward, IsRising, IsTurnedOver, IsWithin, Splits, is_true_in, literal_truth, literals_truth, truth, turns_of};
+ghost use Rattle.plan_run.specs.Turns.{AreTurned, IsApplied, IsEverTrue, IsHistory, IsNextGap, IsOnward, IsRising, IsTurnedOver, IsWithin, Splits, is_true_in, literal_truth, literals_truth, truth, turns_of};
 
 use htn_state::{Action, Atom, Literal, State};
 use indexmap::IndexSet;
@@ -186,6 +186,14 @@ impl<'a> Turns<'a> {
             wanted,
             from,
         )
+    }
+
+    /// Whether an atom is true in some gap.
+    pub fn is_ever_true(&self, atom: &Atom) -> bool
+        requires { IsHistory self.now }
+        ensures { IsTrue result ↔ IsEverTrue self.now atom.now }
+    {
+        self.next_with(atom, true, 0).is_some()
     }
 
     /// The first gap from one on in which a literal holds.
