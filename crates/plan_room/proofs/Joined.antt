@@ -98,7 +98,7 @@ module _ (l : Lines) (children : List ℕ) (network : Network) (sequence : List 
       (sym (le-ltb c k (omega arith))) (subst (λ o. (is_step_at o && eqb c (k + a)) ≡ true) (sym is) (eq-eqb c (k + a) e))
 
   -- what suits a position is the child there, or its step
-  suited : (a c : ℕ) → suits_at l children network a c ≡ true → ChildAt a c ⊎ StepAt a c
+  pub suited : (a c : ℕ) → suits_at l children network a c ≡ true → ChildAt a c ⊎ StepAt a c
   suited a c is = by (cases_lt c k)
     where
       by : (c < k) ⊎ (k ≤ c) → ChildAt a c ⊎ StepAt a c
@@ -113,11 +113,25 @@ module _ (l : Lines) (children : List ℕ) (network : Network) (sequence : List 
           (subst (λ b. cond b (is_child_at (slice_get network.children a) (child_of (l.plan_of (get_or children c 0)))) (is_step_at (slice_get network.children a) && eqb c (k + a)) ≡ true)
           (le-ltb c k high) is) in inr (eqb-true c (k + a) same, step)
 
+  -- positions that share a choice share all
+  pub alike_so : (a b c d : ℕ) → suits_at l children network a c ≡ true → suits_at l children network b c ≡ true → suits_at l children network a d ≡ true
+      → suits_at l children network b d ≡ true
+  alike_so a b c d ac bc ad = by (suited a c ac) (suited b c bc) (suited a d ad)
+    where
+      by : ChildAt a c ⊎ StepAt a c → ChildAt b c ⊎ StepAt b c → ChildAt a d ⊎ StepAt a d → suits_at l children network b d ≡ true
+      by (inl x) (inl y) (inl z) = suited_child b d (z.0, y.1 ∙ sym x.1 ∙ z.1)
+      by (inl x) (inl y) (inr z) =
+          let (literals, stands) = z.1 in
+          let same : precondition literals ≡ child_of (l.plan_of (get_or children c 0)) = (let e = x.1 in cc) in
+          absurd (subst IsSubtask (sym same) (plan_is_subtask (l.plan_of (get_or children c 0))))
+      by (inl x) (inr y) at = absurd (let e = x.0 in let f = y.0 in omega arith)
+      by (inr x) (inl y) at = absurd (let e = x.0 in let f = y.0 in omega arith)
+      by (inr x) (inr y) at = subst (λ p. suits_at l children network p d ≡ true) (let e = x.0 in let f = y.0 in let g : a ≡ b = omega arith in g) ad
+
   module _ (square : IsSquare (length network.children) network.order) where
     -- ### From the choices
 
-    module _ (many : AreAsMany l children network) (m : ℕ → ℕ) (seated : IsSeated w m) (h : ℕ) (start finish : ℕ → ℕ)
-        (have : HaveSpans (λ a. ChoiceRoom l children network (m a)) network.order gap h start finish) where
+    module _ (many : AreAsMany l children network) (m : ℕ → ℕ) (seated : IsSeated w m) where
       child_there : (a : ℕ) → IsIn a subtasks → ChildAt a (m a)
       child_there a i =
           let s = subtask_at 0 network.children a i in
@@ -137,80 +151,93 @@ module _ (l : Lines) (children : List ℕ) (network : Network) (sequence : List 
       position : (c : ℕ) → c < k → (a : ℕ) × IsIn a subtasks × (m a ≡ c)
       position = onto m subtasks k (subtasks_distinct 0 network.children) apart many (λ a i. (child_there a i).0)
 
-      abbrev position_at : (c : ℕ) → (c < k) ⊎ (k ≤ c) → ℕ
-      position_at c (inl low) = (position c low).0
-      position_at c (inr past) = 0
-
-      place : ℕ → ℕ
-      place c = position_at c (cases_lt c k)
-
-      placed : (c : ℕ) → c < k → IsIn (place c) subtasks × (m (place c) ≡ c)
-      unfolding place
-      placed c low = by (cases_lt c k)
+      -- what can stand somewhere does
+      pub used_so : (a c : ℕ) → a < length network.order → suits_at l children network a c ≡ true → (b : ℕ) × (b < length network.order) × (m b ≡ c)
+      used_so a c low is = by (suited a c is) (suited a (m a) (seated.suited a low))
         where
-          by : (side : (c < k) ⊎ (k ≤ c)) → IsIn (position_at c side) subtasks × (m (position_at c side) ≡ c)
-          by (inl small) = ((position c small).1, (position c small).2)
-          by (inr past) = absurd (omega arith)
-
-      positions : List ℕ
-      positions = in_turn place 0 k
-
-      positions_at : (j : ℕ) → j < k → get_or positions j 0 ≡ place j
-      unfolding positions
-      positions_at j low = at_turn place 0 k j low ∙ ap place (let e : 0 + j ≡ j = omega arith in e)
-
-      as_many : length positions ≡ k
-      unfolding positions
-      as_many = length_in_turn place 0 k
-
-      each_once : IsRearrangementOf positions subtasks
-      unfolding positions
-      each_once = turned m place subtasks k (subtasks_distinct 0 network.children) apart (λ a i. (child_there a i).0) (λ c low. (placed c low).0) (λ c low. (placed c low).1)
-
-      stands_there : (j : ℕ) → j < k → slice_get network.children (place j) ≡ Some (child_of (l.plan_of (get_or children j 0)))
-      stands_there j low =
-          let there = child_there (place j) (placed j low).0 in
-          subst (λ c. slice_get network.children (place j) ≡ Some (child_of (l.plan_of (get_or children c 0)))) (placed j low).1 there.1
-
-      fits_there : (j : ℕ) → j < k → Fits l.naming l.problem l.states (l.plan_of (get_or children j 0)) (start (place j)) (finish (place j))
-      fits_there j low =
-          let room = have.rooms (place j) (inside (place j) (placed j low).0) in
-          subst (λ c. Fits l.naming l.problem l.states (l.plan_of (get_or children c 0)) (start (place j)) (finish (place j))) (placed j low).1
-          (room.0 (let e = (placed j low).1 in omega arith))
-
-      steps_fit : (a : ℕ) (literals : List Literal) → slice_get network.children a ≡ Some (precondition literals) → StepFits l.states literals (start a) (finish a)
-      steps_fit a literals is = by (suited a (m a) (seated.suited a low))
-        where
-          low : a < length network.order
-          low = let x = slice_get_within network.children a (precondition literals) is in let e = square.0 in omega arith
-
-          by : ChildAt a (m a) ⊎ StepAt a (m a) → StepFits l.states literals (start a) (finish a)
-          by (inl child) =
+          by : ChildAt a c ⊎ StepAt a c → ChildAt a (m a) ⊎ StepAt a (m a) → (b : ℕ) × (b < length network.order) × (m b ≡ c)
+          by (inl child) here = let (b, i, same) = position c child.0 in (b, inside b i, same)
+          by (inr step) (inl child) =
+              let (literals, stands) = step.1 in
               let same : precondition literals ≡ child_of (l.plan_of (get_or children (m a) 0)) = (let e = child.1 in cc) in
               absurd (subst IsSubtask (sym same) (plan_is_subtask (l.plan_of (get_or children (m a) 0))))
-          by (inr step) =
-              let room = (have.rooms a low).1 (let e = step.0 in omega arith) in
-              let (others, stands, fits) = room.1 in
-              let back : m a - k ≡ a = (let e = step.0 in omega arith) in
-              let there : slice_get network.children a ≡ Some (precondition others) = subst (λ b. slice_get network.children b ≡ Some (precondition others)) back stands in
-              let same : others ≡ literals = cc in
-              subst (λ ls. StepFits l.states ls (start a) (finish a)) same fits
+          by (inr step) (inr other) = (a, low, (let e = step.0 in let f = other.0 in omega arith))
 
-      pub to_fits : NetworkFits l.naming l.problem l.states network (plans_of l.plan_of children) gap h
-      to_fits = (
-        positions,
-        record {
-          each_once = each_once;
-          stand = stand l network start finish children positions as_many (λ j low.
-              subst (λ a. slice_get network.children a ≡ Some (child_of (l.plan_of (get_or children j 0)))) (sym (positions_at j low)) (stands_there j low));
-        },
-        start,
-        finish,
-        have.spans,
-        steps_fit,
-        all_fit l network start finish children positions as_many (λ j low.
-            subst (λ a. Fits l.naming l.problem l.states (l.plan_of (get_or children j 0)) (start a) (finish a)) (sym (positions_at j low)) (fits_there j low)),
-      )
+      module _ (h : ℕ) (start finish : ℕ → ℕ) (have : HaveSpans (λ a. ChoiceRoom l children network (m a)) network.order gap h start finish) where
+        abbrev position_at : (c : ℕ) → (c < k) ⊎ (k ≤ c) → ℕ
+        position_at c (inl low) = (position c low).0
+        position_at c (inr past) = 0
+
+        place : ℕ → ℕ
+        place c = position_at c (cases_lt c k)
+
+        placed : (c : ℕ) → c < k → IsIn (place c) subtasks × (m (place c) ≡ c)
+        unfolding place
+        placed c low = by (cases_lt c k)
+          where
+            by : (side : (c < k) ⊎ (k ≤ c)) → IsIn (position_at c side) subtasks × (m (position_at c side) ≡ c)
+            by (inl small) = ((position c small).1, (position c small).2)
+            by (inr past) = absurd (omega arith)
+
+        positions : List ℕ
+        positions = in_turn place 0 k
+
+        positions_at : (j : ℕ) → j < k → get_or positions j 0 ≡ place j
+        unfolding positions
+        positions_at j low = at_turn place 0 k j low ∙ ap place (let e : 0 + j ≡ j = omega arith in e)
+
+        as_many : length positions ≡ k
+        unfolding positions
+        as_many = length_in_turn place 0 k
+
+        each_once : IsRearrangementOf positions subtasks
+        unfolding positions
+        each_once = turned m place subtasks k (subtasks_distinct 0 network.children) apart (λ a i. (child_there a i).0) (λ c low. (placed c low).0) (λ c low. (placed c low).1)
+
+        stands_there : (j : ℕ) → j < k → slice_get network.children (place j) ≡ Some (child_of (l.plan_of (get_or children j 0)))
+        stands_there j low =
+            let there = child_there (place j) (placed j low).0 in
+            subst (λ c. slice_get network.children (place j) ≡ Some (child_of (l.plan_of (get_or children c 0)))) (placed j low).1 there.1
+
+        fits_there : (j : ℕ) → j < k → Fits l.naming l.problem l.states (l.plan_of (get_or children j 0)) (start (place j)) (finish (place j))
+        fits_there j low =
+            let room = have.rooms (place j) (inside (place j) (placed j low).0) in
+            subst (λ c. Fits l.naming l.problem l.states (l.plan_of (get_or children c 0)) (start (place j)) (finish (place j))) (placed j low).1
+            (room.0 (let e = (placed j low).1 in omega arith))
+
+        steps_fit : (a : ℕ) (literals : List Literal) → slice_get network.children a ≡ Some (precondition literals) → StepFits l.states literals (start a) (finish a)
+        steps_fit a literals is = by (suited a (m a) (seated.suited a low))
+          where
+            low : a < length network.order
+            low = let x = slice_get_within network.children a (precondition literals) is in let e = square.0 in omega arith
+
+            by : ChildAt a (m a) ⊎ StepAt a (m a) → StepFits l.states literals (start a) (finish a)
+            by (inl child) =
+                let same : precondition literals ≡ child_of (l.plan_of (get_or children (m a) 0)) = (let e = child.1 in cc) in
+                absurd (subst IsSubtask (sym same) (plan_is_subtask (l.plan_of (get_or children (m a) 0))))
+            by (inr step) =
+                let room = (have.rooms a low).1 (let e = step.0 in omega arith) in
+                let (others, stands, fits) = room.1 in
+                let back : m a - k ≡ a = (let e = step.0 in omega arith) in
+                let there : slice_get network.children a ≡ Some (precondition others) = subst (λ b. slice_get network.children b ≡ Some (precondition others)) back stands in
+                let same : others ≡ literals = cc in
+                subst (λ ls. StepFits l.states ls (start a) (finish a)) same fits
+
+        pub to_fits : NetworkFits l.naming l.problem l.states network (plans_of l.plan_of children) gap h
+        to_fits = (
+          positions,
+          record {
+            each_once = each_once;
+            stand = stand l network start finish children positions as_many (λ j low.
+                subst (λ a. slice_get network.children a ≡ Some (child_of (l.plan_of (get_or children j 0)))) (sym (positions_at j low)) (stands_there j low));
+          },
+          start,
+          finish,
+          have.spans,
+          steps_fit,
+          all_fit l network start finish children positions as_many (λ j low.
+              subst (λ a. Fits l.naming l.problem l.states (l.plan_of (get_or children j 0)) (start a) (finish a)) (sym (positions_at j low)) (fits_there j low)),
+        )
 
     -- ### From a matching
 
@@ -328,8 +355,8 @@ fits_forward l (decomposition t method plans) g h fits =
 
 -- the rooms of choices are such as a search asks for
 pub is_seating : (l : Lines) (children : List ℕ) (network : Network) (sequence : List ℕ) (gap : ℕ) → IsSquare (length network.children) network.order
-    → IsSequence network.order sequence → gap ≤ l.actions → IsSeating (seating_of l children network sequence gap)
-is_seating l children network sequence gap square is_sequence small = record {
+    → AreAsMany l children network → IsSequence network.order sequence → gap ≤ l.actions → IsSeating (seating_of l children network sequence gap)
+is_seating l children network sequence gap square many is_sequence small = record {
   sequence = is_sequence;
   square = subst (λ n. IsSquare n network.order) (sym square.0) square;
   within = small;
@@ -343,4 +370,6 @@ is_seating l children network sequence gap square is_sequence small = record {
         ((let f = forward in omega arith), (literals, is, (at, (let f = from in omega arith), to, there)))),
   );
   bound = λ h room. (let spans = room.2.2.spans in let f = spans.from 0 in let e = spans.forward 0 in let t = spans.to 0 in omega arith);
+  used = λ m seated a c low less is. used_so l children network sequence gap square many m seated a c low is;
+  alike = alike_so l children network sequence gap;
 }

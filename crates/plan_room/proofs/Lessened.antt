@@ -1,5 +1,6 @@
 -- Each step leaves fewer.
-use Rattle.std.proofs.Common.{◌≡◌, ℕ, zero, suc, ◌+◌, ◌-◌, ◌*◌, ◌≤◌, ◌<◌, List, length, get_or, set, sym, refl, ap, ◌∙◌, subst, arith}
+use Rattle.std.proofs.Common.{◌≡◌, ℕ, zero, suc, ◌+◌, ◌-◌, ◌*◌, ◌≤◌, ◌<◌, inl, inr, List, length, get_or, set, sym, refl, ap, ◌∙◌, subst, arith}
+use Rattle.std.proofs.lemmas.Bool.{cases_eq}
 use Rattle.std.proofs.Math.Nat.{mul-le-mul_right}
 use Rattle.std.proofs.lemmas.List.{get_or-set_other, get_or-set_same}
 use Rattle.plan_room.specs.Trials.{weight, level, behind, left}
@@ -57,3 +58,13 @@ back_less count size chosen depth before next e low =
     ap (λ c. (count - c) * (w + 1)) (let f : suc (get_or chosen before 0) ≡ get_or chosen before 0 + 1 = omega arith in f) in
     let step : left count size chosen before (get_or chosen before 0 + 1) < left count size chosen (suc before) next = omega arith in
     subst (λ d. left count size chosen before (get_or chosen before 0 + 1) < left count size chosen d next) (sym e) step
+
+-- back to the choice before, and on to a later one
+pub back_further : (count size : ℕ) (chosen : List ℕ) (depth before next later : ℕ) → depth ≡ suc before → before < size → get_or chosen before 0 < later → later ≤ count
+    → left count size chosen before later < left count size chosen depth next
+back_further count size chosen depth before next later e low more small =
+    let back = back_less count size chosen depth before next e low in
+    elim (cases_eq (get_or chosen before 0 + 1) later) [
+      | inl same ↦ subst (λ k. left count size chosen before k < left count size chosen depth next) same back
+      | inr other ↦ (let skip = skip_less count size chosen before (get_or chosen before 0 + 1) later low (omega arith) small in omega arith)
+    ]

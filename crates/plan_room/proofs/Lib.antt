@@ -1,10 +1,12 @@
 pub mod Placed
+pub mod Twins
 pub mod Searched
 pub mod Lessened
 pub mod Noted
 pub mod Started
 pub mod Onto
 pub mod Joined
+pub mod Linked
 pub mod Unrolled
 pub mod Missing
 pub mod Stacked

@@ -4,8 +4,9 @@ use Rattle.std.proofs.lemmas.Bool.{both_ways, cases_lt, cases_eq}
 use Rattle.std.proofs.lemmas.List.{get_or_past, get_or-set_other, get_or-set_same, length-set}
 use Rattle.htn_model.specs.Problem.{is_before}
 use Rattle.plan_room.specs.Placing.{Room, IsFirst, IsSequence, IsStart, IsGreatest, ArePlaced}
-use Rattle.plan_room.specs.Matching.{Seating, IsSeating, IsSeated, HasRoomWith, HasMatchedRoom, AgreeBelow, IsToCome, IsBeaten, IsFound, IsSearched, IsTop}
+use Rattle.plan_room.specs.Matching.{Seating, IsSeating, IsSeated, HasRoomWith, HasMatchedRoom, AgreeBelow, AreTwins, IsFixed, IsNextChoice, IsToCome, IsBeaten, IsFound, IsSearched, IsTop}
 use Rattle.plan_room.proofs.Placed.{never, one_more, all_placed, no_earlier, kept}
+use Rattle.plan_room.proofs.Twins.{changed, changed_seated, changed_room, changed_first, changed_other}
 
 pub beaten_later : (b : Option ℕ) {x h : ℕ} → IsBeaten b x → x ≤ h → IsBeaten b h
 beaten_later None none least = none
@@ -81,6 +82,72 @@ module _ (w : Seating) (is_seating : IsSeating w) (chosen finishes : List ℕ) (
 
   pub skipped_one : next < w.count → Dismissed → Searched chosen finishes depth (next + 1) best
   skipped_one less dismissed = skipped (next + 1) (omega arith) (λ m assigned h low have agree from to. dismissed m assigned h low have agree (omega arith))
+
+  -- none of them suits
+  pub none_between : depth < length sequence → (end : ℕ) → end ≤ w.count → ((c : ℕ) → next ≤ c → c < end → suits here c ≡ true → ⊥) → Searched chosen finishes depth end best
+  none_between inside end small none = skipped end small (λ m assigned h l have agree from to.
+      absurd (none (m here) from to (assigned.suited here (is_sequence.within depth inside))))
+
+  -- a choice that was taken, and those that come before the next one like it
+  pub taken_to : (i : ℕ) → i < depth → depth < length sequence → get_or chosen i 0 ≡ next → (end : ℕ) → end ≤ w.count
+      → ((c : ℕ) → next < c → c < end → suits here c ≡ true → ⊥) → Searched chosen finishes depth end best
+  taken_to i before low same end small none = skipped end small (λ m assigned h l have agree from to. elim (cases_eq (m here) next) [
+    | inl is ↦ (let alike : m (get_or sequence i 0) ≡ m here = agree i before ∙ same ∙ sym is in
+        let place : i ≡ depth = is_sequence.once i depth (omega arith) low (assigned.apart (get_or sequence i 0) here (is_sequence.within i (omega arith)) (is_sequence.within depth low) alike) in
+        absurd (omega arith))
+    | inr other ↦ absurd (none (m here) (omega arith) to (assigned.suited here (is_sequence.within depth low)))
+  ])
+
+  -- where the position is fixed, the first choice that is free stands for all
+  module _ (inside : depth < length sequence) (choice : ℕ) (before_next : choice < next) (less : choice < w.count) (suitable : suits here choice ≡ true)
+      (free : (i : ℕ) → i < depth → get_or chosen i 0 ≡ choice → ⊥) where
+    module _ (m : ℕ → ℕ) (assigned : IsSeated w m) (h : ℕ) (low : h ≤ w.last) (have : HasRoomWith w m h) (agree : AgreeBelow sequence chosen depth m) (other : m here ≡ choice → ⊥)
+        (b : ℕ) (b_low : b < length w.order) (takes : m b ≡ choice) (j : ℕ) (j_low : j < length sequence) (at_j : get_or sequence j 0 ≡ b) (twins : AreTwins w.order here b) where
+      here_low : here < length w.order
+      here_low = is_sequence.within depth inside
+
+      abbrev so : ℕ → ℕ
+      so = changed w is_seating here b twins here_low b_low m assigned choice suitable takes
+
+      still : AgreeBelow sequence chosen depth so
+      still i l = changed_other w is_seating here b twins here_low b_low m assigned choice suitable takes (get_or sequence i 0)
+          (λ e. let f = is_sequence.once i depth (omega arith) inside e in absurd (omega arith))
+          (λ e. free i l (sym (agree i l) ∙ ap m e ∙ takes)) ∙ agree i l
+
+      first : so here ≡ choice
+      first = changed_first w is_seating here b twins here_low b_low m assigned choice suitable takes
+
+      changed_beaten : IsBeaten best h
+      changed_beaten = elim (searched.tried so (changed_seated w is_seating here b twins here_low b_low m assigned choice suitable takes) h low
+          (changed_room w is_seating here b twins here_low b_low m assigned choice suitable takes h have)) [
+            | inl beaten ↦ beaten
+            | inr come ↦ by come (cases_eq come.place depth)
+          ]
+        where
+          by : (come : IsToCome sequence chosen depth next so) → (come.place ≡ depth) ⊎ (come.place ≡ depth → ⊥) → IsBeaten best h
+          by come (inl e) = absurd (let f = come.here e in let g : so (get_or sequence come.place 0) ≡ so here = ap (λ k. so (get_or sequence k 0)) e in let k = first in omega arith)
+          by come (inr o) = absurd (let l = come.low in let f = come.later (omega arith) in let g = still come.place (omega arith) in omega arith)
+
+    pub fixed_beaten : IsFixed w here → (m : ℕ → ℕ) → IsSeated w m → (h : ℕ) → h ≤ w.last → HasRoomWith w m h → AgreeBelow sequence chosen depth m
+        → (m here ≡ choice → ⊥) → IsBeaten best h
+    fixed_beaten fixed m assigned h low have agree other =
+        let (b, b_low, takes) = is_seating.used m assigned here choice (is_sequence.within depth inside) less suitable in
+        let (j, j_low, at_j) = is_sequence.listed b b_low in
+        let later : depth < j = elim (cases_lt depth j) [
+          | inl l ↦ l
+          | inr l ↦ elim (cases_eq j depth) [
+            | inl e ↦ absurd (other (ap (λ k. m (get_or sequence k 0)) (sym e) ∙ ap m at_j ∙ takes))
+            | inr o ↦ absurd (free j (omega arith) (sym (agree j (omega arith)) ∙ ap m at_j ∙ takes))
+          ]
+        ] in
+        let shared : suits (get_or sequence j 0) choice ≡ true = subst (λ x. suits x choice ≡ true) (sym at_j) (subst (λ c. suits b c ≡ true) takes (assigned.suited b b_low)) in
+        let twins : AreTwins w.order here b = subst (AreTwins w.order here) at_j (fixed depth j choice later j_low refl suitable shared) in
+        changed_beaten m assigned h low have agree other b b_low takes j j_low at_j twins
+
+    -- on to the next choice
+    pub passed : (end : ℕ) → next ≡ suc choice → IsNextChoice w here choice end → Searched chosen finishes depth end best
+    passed end e is_next = skipped end is_next.within (λ m assigned h l have agree from to.
+        fixed_beaten (is_next.between (m here) (omega arith) to (assigned.suited here (is_sequence.within depth inside))) m assigned h l have agree (λ same. absurd (omega arith)))
 
   -- choices out of the range of those that suit
   pub out_of_range : depth < length sequence → (low : ℕ) → low ≤ w.count → ((c : ℕ) → suits here c ≡ true → low ≤ c) → Searched chosen finishes depth low best

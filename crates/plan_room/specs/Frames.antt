@@ -7,7 +7,8 @@ use Rattle.plan_room.specs.Placing.{IsSequence}
 use Rattle.plan_room.specs.Matching.{IsBeaten, IsFound}
 use Rattle.plan_room.specs.Trials.{IsTried}
 use Rattle.plan_room.specs.Lines.{Lines, AreCandidates, networks_of, plans_of}
-use Rattle.plan_room.specs.Seats.{children_of, IsOneOf, seating_of}
+use Rattle.plan_room.specs.Seats.{children_of, AreAsMany, IsOneOf, seating_of}
+use Rattle.plan_room.specs.Links.{AreLinked}
 use Rattle.plan_room.specs.Memo.{known}
 use Rattle.plan_room.specs.declared.rooms.Question.{Question}
 use Rattle.plan_room.specs.declared.memo.Memo.{Memo}
@@ -24,7 +25,8 @@ NetworkHasRoom l children network g h = NetworkFits l.naming l.problem l.states 
 -- how far the matchings of a network are tried
 abbrev pub IsWork : Lines → List ℕ → Network → ℕ → Option Work → Type 0
 IsWork l children network gap None = ⊤
-IsWork l children network gap (Some work) = IsSequence network.order work.sequence.items × IsTried (seating_of l children network work.sequence.items gap) work.trial
+IsWork l children network gap (Some work) = AreAsMany l children network × IsSequence network.order work.sequence.items
+    × AreLinked (seating_of l children network work.sequence.items gap) (length children) work.links × IsTried (seating_of l children network work.sequence.items gap) work.trial
 
 -- one of the first networks has room up to gap h
 abbrev pub SomeFits : Lines → List ℕ → List Instance → ℕ → ℕ → ℕ → Type 0

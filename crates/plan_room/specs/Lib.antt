@@ -5,6 +5,7 @@ pub mod Questions
 pub mod Lines
 pub mod Seats
 pub mod Memo
+pub mod Links
 pub mod Ranks
 pub mod Frames
 pub mod Steps

@@ -1,6 +1,6 @@
 -- The search among the matchings of a network's positions to choices: a child's line for a subtask, and one of its own for a step.
 use Rattle.std.specs.Prelude.{◌≡◌, ℕ, ◌+◌, ◌≤◌, ◌<◌, ◌⊎◌, Bool, true, false, List, length, get_or, Option, Some, None, ⊤}
-use Rattle.htn_model.specs.Problem.{Order, IsSquare}
+use Rattle.htn_model.specs.Problem.{Order, IsSquare, is_before}
 use Rattle.plan_room.specs.Placing.{Room, IsFirst, HaveRoom, IsSequence, IsStart, ArePlaced}
 
 -- a network's positions, the choices for them, and where each choice has room
@@ -33,7 +33,8 @@ HasRoomWith w m h = HaveRoom (λ a. w.room (m a)) w.order w.gap h
 abbrev pub HasMatchedRoom : Seating → ℕ → Type 0
 HasMatchedRoom w h = (m : ℕ → ℕ) × IsSeated w m × HasRoomWith w m h
 
--- who has room has it forwards, and from earlier on too
+-- who has room has it forwards, and from earlier on too; who can stand somewhere does in each matching; and positions that a
+-- choice can stand at have all their choices in common
 pub record IsSeating (w : Seating) : Type 0 where
   pub sequence : IsSequence w.order w.sequence
   pub square : IsSquare (length w.order) w.order
@@ -41,6 +42,23 @@ pub record IsSeating (w : Seating) : Type 0 where
   pub forward : (c x y : ℕ) → w.room c x y → x ≤ y
   pub sooner : (c x y x' : ℕ) → x' ≤ x → w.room c x y → w.room c x' y
   pub bound : (h : ℕ) → HasMatchedRoom w h → w.bound ≤ h
+  pub used : (m : ℕ → ℕ) → IsSeated w m → (a c : ℕ) → a < length w.order → c < w.count → w.suits a c ≡ true → (b : ℕ) × (b < length w.order) × (m b ≡ c)
+  pub alike : (a b c d : ℕ) → w.suits a c ≡ true → w.suits b c ≡ true → w.suits a d ≡ true → w.suits b d ≡ true
+
+-- the same positions are before both, and after both
+abbrev pub AreTwins : Order → ℕ → ℕ → Type 0
+AreTwins order a b = ((x : ℕ) → is_before order x a ≡ is_before order x b) × ((x : ℕ) → is_before order a x ≡ is_before order b x)
+
+-- the later positions that have choices in common with this one are its twins
+abbrev pub IsFixed : Seating → ℕ → Type 0
+IsFixed w a = (i j c : ℕ) → i < j → j < length w.sequence → get_or w.sequence i 0 ≡ a → w.suits a c ≡ true → w.suits (get_or w.sequence j 0) c ≡ true
+    → AreTwins w.order a (get_or w.sequence j 0)
+
+-- none that comes between them can stand at the position, or it is fixed
+pub record IsNextChoice (w : Seating) (a c next : ℕ) : Type 0 where
+  pub more : c < next
+  pub within : next ≤ w.count
+  pub between : (d : ℕ) → c < d → d < next → w.suits a d ≡ true → IsFixed w a
 
 -- the first places of the sequence have the choices that are listed
 abbrev pub AgreeBelow : List ℕ → List ℕ → ℕ → (ℕ → ℕ) → Type 0

@@ -12,6 +12,7 @@ ghost use Rattle.plan_room.specs.Placing.{IsFinish};
 ghost use Rattle.plan_room.specs.Trials.{IsAsked};
 
 use crate::lines::PlanLines;
+use crate::links::Links;
 use crate::matching::Choices;
 use crate::memo::Memo;
 use crate::rooms::{Finish, Question};
@@ -117,19 +118,22 @@ pub(crate) struct Below<'a, L: PlanLines> {
     pub children: &'a [usize],
     pub instance: &'a Instance,
     pub sequence: &'a [usize],
+    pub links: &'a Links,
     pub gap: usize,
 }
 
 impl<L: PlanLines> Choices for Below<'_, L> {
     ghost use Rattle.std.specs.Prelude.{◌+◌, ◌^◌, ◌<◌, length};
     ghost use Rattle.plan_room.specs.Seats.{seating_of, AreBelow};
+    ghost use Rattle.plan_room.specs.Links.{AreLinked};
     ghost use Rattle.plan_room.specs.Memo.{IsMemo, IsOpenBelow};
 
     ghost seating = { λ b. seating_of (L.lines b.lines.now) b.children.now b.instance.now.network b.sequence.now b.gap };
 
     ghost asks = { λ b. IsOpenBelow (L.lines b.lines.now) b.memo.now b.children.now };
 
-    ghost is_sound = { λ b. AreBelow (L.lines b.lines.now) b.children.now b.instance.now.network × IsMemo (L.lines b.lines.now) b.memo.now };
+    ghost is_sound = { λ b. AreBelow (L.lines b.lines.now) b.children.now b.instance.now.network × IsMemo (L.lines b.lines.now) b.memo.now
+        × AreLinked (seating_of (L.lines b.lines.now) b.children.now b.instance.now.network b.sequence.now b.gap) (length b.children.now) b.links.now };
 
     fn size(&self) -> usize {
         self.instance.order().size()
@@ -156,8 +160,15 @@ impl<L: PlanLines> Choices for Below<'_, L> {
     }
 
     fn range(&self, position: usize) -> (usize, usize) {
-        let _position = position;
-        (0, self.count())
+        let Some(child) = self.instance.children().as_slice().get(position) else {
+            return (0, 0);
+        };
+        if is_step(child) {
+            let choice = self.children.len() + position;
+            (choice, choice + 1)
+        } else {
+            (self.links.first[position], self.children.len())
+        }
     }
 
     fn suits(&self, position: usize, choice: usize) -> bool {
@@ -168,6 +179,21 @@ impl<L: PlanLines> Choices for Below<'_, L> {
             takes_line(self.lines, child, self.children[choice])
         } else {
             is_step(child) && choice - self.children.len() == position
+        }
+    }
+
+    fn after(&self, choice: usize) -> usize {
+        if choice < self.children.len() {
+            self.links.after[choice]
+        } else {
+            self.count()
+        }
+    }
+
+    fn is_fixed(&self, position: usize) -> bool {
+        match self.links.fixed.get(position) {
+            Some(is_fixed) => *is_fixed,
+            None => false,
         }
     }
 

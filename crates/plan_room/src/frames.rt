@@ -1,16 +1,17 @@
 //! A line whose finish is asked, with how far its networks are tried.
-ghost use Rattle.std.specs.Prelude.{◌≡◌, ◌≤◌, ◌<◌, ℕ, IfOk, get_or, length};
+ghost use Rattle.std.specs.Prelude.{◌≡◌, ◌≤◌, ◌<◌, ◌+◌, ◌^◌, ℕ, Some, IfOk, get_or, length};
 ghost use Rattle.htn_model.specs.Fits.{subtask_positions};
 ghost use Rattle.htn_model.specs.Problem.{IsClosed, IsSquare};
 ghost use Rattle.plan_room.specs.Frames.{IsFrame, IsLine, IsWork, NetworkHasRoom};
 ghost use Rattle.plan_room.specs.Lines.{AreLines};
 ghost use Rattle.plan_room.specs.Memo.{IsMemo, IsOpenBelow};
 ghost use Rattle.plan_room.specs.Placing.{IsFinish};
-ghost use Rattle.plan_room.specs.Seats.{AreBelow, LineFits, children_of};
+ghost use Rattle.plan_room.specs.Seats.{AreAsMany, AreBelow, LineFits, children_of};
 ghost use Rattle.plan_room.specs.Trials.{IsAsked};
 
 use crate::below::Below;
 use crate::lines::PlanLines;
+use crate::links::{Links, links_of};
 use crate::matching::{Trial, best_matching, is_beaten, start};
 use crate::memo::Memo;
 use crate::rooms::{Finish, Question};
@@ -22,6 +23,7 @@ use std::alloc::{AllocError, Global};
 #[derive(Drop)]
 pub(crate) struct Work {
     sequence: Vec<usize>,
+    links: Links,
     trial: Trial,
 }
 
@@ -92,6 +94,43 @@ fn subtask_count(instance: &Instance) -> usize
     count
 }
 
+/// The search among the matchings of a network before its first step.
+fn work_of<L: PlanLines>(
+    alloc: Global,
+    lines: &L,
+    memo: &Memo,
+    children: &[usize],
+    instance: &Instance,
+    gap: usize,
+) -> Result<Work, AllocError>
+    requires lines { AreLines (L.lines lines.now) }
+    requires memo { IsMemo (L.lines lines.now) memo.now }
+    requires low { (i : ℕ) → i < length children.now → get_or children.now i 0 < (L.lines lines.now).count }
+    requires few { length children.now + length instance.now.network.children < 2 ^ 64 }
+    requires square { IsSquare (length instance.now.network.children) instance.now.network.order }
+    requires many { AreAsMany (L.lines lines.now) children.now instance.now.network }
+    requires within { gap ≤ (L.lines lines.now).actions }
+    ensures { IfOk result (λ work. IsWork (L.lines lines.now) children.now instance.now.network gap (Some work)) }
+{
+    let sequence = sequence(alloc, instance.order())?;
+    let links = links_of(alloc, lines, children, instance, &sequence, gap)?;
+    let below = Below {
+        lines,
+        memo,
+        children,
+        instance,
+        sequence: &sequence,
+        links: &links,
+        gap,
+    };
+    let trial = start(alloc, &below)?;
+    Ok(Work {
+        sequence,
+        links,
+        trial,
+    })
+}
+
 /// Goes on matching a network's positions to the children. It stops where the finish of one of them
 /// has to be known first.
 fn try_network<L: PlanLines>(
@@ -116,35 +155,35 @@ fn try_network<L: PlanLines>(
     let Some(_) = children.len().checked_add(instance.children().len()) else {
         return Err(AllocError);
     };
-    if subtask_count(instance) != children.len() {
-        return Ok(Finish::Never);
-    }
-    let (sequence, mut trial) = match work.take() {
-        Some(work) => (work.sequence, work.trial),
+    let current = match work.take() {
+        Some(current) => current,
         None => {
-            let sequence = sequence(alloc, instance.order())?;
-            let below = Below {
-                lines,
-                memo,
-                children,
-                instance,
-                sequence: &sequence,
-                gap,
-            };
-            let trial = start(alloc, &below)?;
-            (sequence, trial)
+            if subtask_count(instance) != children.len() {
+                return Ok(Finish::Never);
+            }
+            work_of(alloc, lines, memo, children, instance, gap)?
         }
     };
+    let Work {
+        sequence,
+        links,
+        mut trial,
+    } = current;
     let below = Below {
         lines,
         memo,
         children,
         instance,
         sequence: &sequence,
+        links: &links,
         gap,
     };
     let finish = best_matching(&mut trial, &below);
-    *work = Some(Work { sequence, trial });
+    *work = Some(Work {
+        sequence,
+        links,
+        trial,
+    });
     Ok(finish)
 }
 

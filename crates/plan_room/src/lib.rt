@@ -5,8 +5,10 @@ mod below;
 mod fits;
 mod frames;
 mod lines;
+mod links;
 mod matching;
 mod memo;
+mod places;
 mod rooms;
 mod sequence;
 

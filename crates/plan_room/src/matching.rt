@@ -2,7 +2,7 @@
 ghost use Rattle.std.specs.Prelude.{◌≡◌, ◌≤◌, ◌<◌, ◌↔◌, ℕ, IfOk, IsTrue, get_or, length, true};
 ghost use Rattle.htn_model.specs.Problem as problem;
 ghost use Rattle.plan_room.specs.Placing.{IsFinish, IsStart};
-ghost use Rattle.plan_room.specs.Matching.{HasMatchedRoom, IsBeaten, IsFirstPlaced, IsNoted, IsSeating};
+ghost use Rattle.plan_room.specs.Matching.{HasMatchedRoom, IsBeaten, IsFirstPlaced, IsNextChoice, IsNoted, IsSeating};
 ghost use Rattle.plan_room.specs.Trials.{AreDismissed, IsAsked, IsTried, StepSays};
 
 use crate::rooms::{Finish, Question};
@@ -11,7 +11,7 @@ use std::alloc::{AllocError, Global};
 /// What can stand at the positions of a network, by number: a line for a subtask, and one choice of
 /// its own for a step.
 pub trait Choices {
-    ghost use Rattle.plan_room.specs.Matching.{Seating};
+    ghost use Rattle.plan_room.specs.Matching.{IsFixed, Seating};
     ghost use Rattle.plan_room.specs.declared.rooms.Question.{Question};
 
     // The network, and which choices have room where.
@@ -58,6 +58,20 @@ pub trait Choices {
     fn suits(&self, position: usize, choice: usize) -> bool
         requires { is_sound self.now }
         ensures { result ≡ (seating self.now).suits position choice };
+
+    /// The next choice that can stand where this one can.
+    fn after(&self, choice: usize) -> usize
+        requires sound { is_sound self.now }
+        requires low { choice < (seating self.now).count }
+        ensures more { choice < result }
+        ensures within { result ≤ (seating self.now).count }
+        ensures next { (a c : ℕ) → (seating self.now).suits a choice ≡ true → (seating self.now).suits a c ≡ true → choice < c → result ≤ c };
+
+    /// Whether the position can do with the first choice that is free: the later positions that it
+    /// shares choices with are ordered as it is.
+    fn is_fixed(&self, position: usize) -> bool
+        requires { is_sound self.now }
+        ensures { IsTrue result → IsFixed (seating self.now) position };
 
     /// How early the choice can have finished, if it may start at that gap.
     fn finish(&self, choice: usize, start: usize) -> Finish
@@ -126,6 +140,20 @@ fn start_of<C: Choices>(trial: &Trial, choices: &C, position: usize) -> usize
     start
 }
 
+/// The choice to try at the position after this one is done with.
+fn next_choice<C: Choices>(choices: &C, position: usize, choice: usize) -> usize
+    requires sound { C.is_sound choices.now }
+    requires low { choice < (C.seating choices.now).count }
+    requires suited { (C.seating choices.now).suits position choice ≡ true }
+    ensures { IsNextChoice (C.seating choices.now) position choice result }
+{
+    if choices.is_fixed(position) {
+        choices.count()
+    } else {
+        choices.after(choice)
+    }
+}
+
 /// Goes back to the choice before, where the ones from `next` on are done with.
 fn back<C: Choices>(trial: &mut Trial, choices: &C) -> Step
     requires sound { C.is_sound choices.now }
@@ -142,7 +170,7 @@ fn back<C: Choices>(trial: &mut Trial, choices: &C) -> Step
     trial.depth -= 1;
     let choice = trial.chosen[trial.depth];
     trial.taken[choice] = false;
-    trial.next = choice + 1;
+    trial.next = next_choice(choices, choices.sequence()[trial.depth], choice);
     Step::Onward
 }
 
@@ -178,17 +206,21 @@ fn try_choice<C: Choices>(trial: &mut Trial, choices: &C, position: usize) -> St
     ensures step { StepSays (C.seating choices.now) (C.asks choices.now) trial.old trial.new result }
 {
     let choice = trial.next;
-    if trial.taken[choice] || !choices.suits(position, choice) {
+    if !choices.suits(position, choice) {
         trial.next += 1;
+        return Step::Onward;
+    }
+    if trial.taken[choice] {
+        trial.next = choices.after(choice);
         return Step::Onward;
     }
     let start = start_of(trial, choices, position);
     match choices.finish(choice, start) {
         Finish::Unknown(question) => return Step::Unknown(question),
-        Finish::Never => trial.next += 1,
+        Finish::Never => trial.next = next_choice(choices, position, choice),
         Finish::At(finish) => {
             if is_beaten(trial.best, finish) {
-                trial.next += 1;
+                trial.next = next_choice(choices, position, choice);
             } else {
                 take(trial, choices, position, finish);
             }
@@ -219,10 +251,10 @@ fn advance<C: Choices>(trial: &mut Trial, choices: &C) -> Step
     }
     let position = sequence[trial.depth];
     let (low, end) = choices.range(position);
-    if end <= trial.next {
+    if end <= trial.next || end <= low {
         return back(trial, choices);
     }
-    if trial.next < low && low < end {
+    if trial.next < low {
         trial.next = low;
         return Step::Onward;
     }

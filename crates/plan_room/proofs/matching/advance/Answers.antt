@@ -43,24 +43,24 @@ back-requires-then-trial-sequence-clause-dismissed g c m seated h low have agree
     top_least w c.requires.seating t.chosen.items t.finishes.items t.depth t.next t.best s c.index-high.result.now
     (subst (IsTop w.sequence t.finishes.items w.gap t.depth) high (c.requires.tried.noted.tops t.depth (omega arith))) m agree h have
 
-pub returns-then-low-end-clause-tried : goal.returns-then-low-end-clause-tried
-returns-then-low-end-clause-tried g c =
+pub returns-then-trial-low-clause-tried : goal.returns-then-trial-low-clause-tried
+returns-then-trial-low-clause-tried g c =
     let w = g.C.Choices.seating c.args.choices.now in
     let t = c.args.trial.now in
     let s = c.requires.tried.searched in
     record {
       searched = out_of_range w c.requires.seating t.chosen.items t.finishes.items t.depth t.next t.best s
           (let e = ap length c.sequence-sequence.ensures in let f = c.if-trial-sequence.false in let l = s.within in omega arith)
-          c.range-low.result.0 (let e = c.range-low.ensures.within in let f = c.if-low-end.true in omega arith)
+          c.range-low.result.0 (let e = c.range-low.ensures.within in let f = c.if-end-low.false in omega arith)
           (subst (λ xs. (k : ℕ) → w.suits (get_or xs t.depth 0) k ≡ true → c.range-low.result.0 ≤ k) c.sequence-sequence.ensures (λ k is. (c.range-low.ensures.all k is).0));
       noted = c.requires.tried.noted;
     }
 
-pub returns-then-low-end-clause-step : goal.returns-then-low-end-clause-step
-returns-then-low-end-clause-step g c =
+pub returns-then-trial-low-clause-step : goal.returns-then-trial-low-clause-step
+returns-then-trial-low-clause-step g c =
     let w = g.C.Choices.seating c.args.choices.now in
     let t = c.args.trial.now in
     let s = c.requires.tried.searched in
     skip_less w.count (length w.sequence) t.chosen.items t.depth t.next c.range-low.result.0
     (let e = ap length c.sequence-sequence.ensures in let f = c.if-trial-sequence.false in let l = s.within in omega arith)
-    c.if-trial-low.true (let e = c.range-low.ensures.within in let f = c.if-low-end.true in omega arith)
+    c.if-trial-low.true (let e = c.range-low.ensures.within in let f = c.if-end-low.false in omega arith)
