@@ -12,8 +12,9 @@ use Rattle.hddl_meaning.specs.Types.{text_or_object, HasType, IsBelow}
 use Rattle.hddl_meaning.specs.Uses.{Variable}
 use Rattle.hddl_meaning.specs.Items.{IsDeclaredType, MayStand, ShareSubtype}
 use Rattle.hddl_meaning.proofs.Listed.{texts_decide}
-use Rattle.hddl_names.specs.Members.{AreMembersOf, object_at}
-use Rattle.hddl_names.specs.TypeNumbers.{type_at}
+use Rattle.hddl_names.specs.Members.{AreDeclaredTypes, object_at}
+use Rattle.hddl_names.specs.Reach.{Reaches}
+use Rattle.hddl_names.specs.TypeNumbers.{type_at, numbered_pairs}
 use Rattle.hddl_uses.specs.Known.{AreKnown, IsTyped}
 use Rattle.hddl_scope.proofs.Positions.{has_position}
 use Rattle.hddl_uses.proofs.TypeNames.{is_type_number}
@@ -122,26 +123,29 @@ module _ (d : DomainText) (p : ProblemText) (t : Text) (place : Variable) where
   pub lacks_none : (Lacks → ⊥) → IsTrue false ↔ Lacks
   lacks_none never = (λ h. absurd (true≢false (sym h)), λ h. absurd (never h))
 
-  module _ (lists : List (List ℕ)) (o u : ℕ) (found : position (is_same_text t) (object_names d p) ≡ Some o) (wanted : type_position d place ≡ Some u) where
-    members_of : AreMembersOf d p lists → Contains (get_or lists u []) o ↔ HasType d p t (type_text place)
-    members_of all =
+  module _ (rows : List (List ℕ)) (o u : ℕ) (found : position (is_same_text t) (object_names d p) ≡ Some o) (wanted : type_position d place ≡ Some u) where
+    -- one of the types in the object's row leads to that of the place
+    abbrev pub LeadsThere : Type 0
+    LeadsThere = (own : ℕ) × Contains (get_or rows o []) own × Reaches (numbered_pairs d) own u
+
+    led : AreDeclaredTypes d p rows → LeadsThere ↔ HasType d p t (type_text place)
+    led all =
         let object = at_position (object_names d p) t o found in
         let type = at_position (type_names d) (type_text place) u wanted in
-        subst (λ (x : Text). Contains (get_or lists u []) o ↔ HasType d p x (type_text place)) object.1
-        (subst (λ (y : Text). Contains (get_or lists u []) o ↔ HasType d p (object_at d p o) y) type.1 (all.members u o type.0 object.0))
+        subst (λ (x : Text). LeadsThere ↔ HasType d p x (type_text place)) object.1
+        (subst (λ (y : Text). LeadsThere ↔ HasType d p (object_at d p o) y) type.1 (all.members u o type.0 object.0))
 
-    pub lacks : (has : Bool) → ∥ AreKnown d p × AreMembersOf d p lists ∥₁ → (IsTrue has ↔ Contains (get_or lists u []) o) → IsTrue (not has) ↔ Lacks
+    pub lacks : (has : Bool) → ∥ AreKnown d p × AreDeclaredTypes d p rows ∥₁ → (IsTrue has ↔ LeadsThere) → IsTrue (not has) ↔ Lacks
     lacks has known is = (
       λ h. (
         ∥∥₁_map known (λ k. k.0),
         type_known d (type_text place) u wanted,
         (named (object_names d p) t).0 (ap is_some found),
-        λ typed. ∥∥₁_elim known (λ x y. absurd x) (λ k. not_both has h (is.1 ((members_of k.1).1 typed))),
+        λ typed. ∥∥₁_elim known (λ x y. absurd x) (λ k. not_both has h (is.1 ((led k.1).1 typed))),
       ),
-      λ (k, w, at, lacking). not_by has (λ h. ∥∥₁_elim known (λ x y. absurd x) (λ k. lacking ((members_of k.1).0 (is.0 h)))),
+      λ (k, w, at, lacking). not_by has (λ h. ∥∥₁_elim known (λ x y. absurd x) (λ k. lacking ((led k.1).0 (is.0 h)))),
     )
 
-    pub few : ∥ AreKnown d p × AreMembersOf d p lists ∥₁ → o < 65536
-    few known =
-        let below : o < length (object_names d p) = (at_position (object_names d p) t o found).0 in
-        ∥∥₁_elim known (search props) (λ k. let most : length (object_names d p) ≤ 65536 = k.0.few in omega (arith, below, most))
+  -- the place's type has a number
+  pub type_small : (u : ℕ) → type_position d place ≡ Some u → u < length (type_names d)
+  type_small u wanted = (at_position (type_names d) (type_text place) u wanted).0
