@@ -1,8 +1,7 @@
 //! The types of each object, where that can be told.
-ghost use Rattle.std.specs.Prelude.{◌≡◌, ◌↔◌, IfOk, IsTrue, MatchOption, All};
+ghost use Rattle.std.specs.Prelude.{◌≡◌, ◌↔◌, IfOk, IsTrue, MatchOption};
 ghost use Rattle.hddl_meaning.specs.Building.{vocabulary_of};
 ghost use Rattle.hddl_meaning.specs.Mentions.{typed_names};
-ghost use Rattle.hddl_meaning.specs.Names.{type_names};
 ghost use Rattle.hddl_names.specs.Members.{AreDeclaredTypes};
 ghost use Rattle.hddl_uses.specs.Known.{AllTyped, AreKnown};
 

@@ -1,5 +1,5 @@
 //! The objects of each type.
-ghost use Rattle.std.specs.Prelude.{◌≡◌, ℕ, ◌<◌, ◌≤◌, ◌++◌, ◌∷◌, [], false, ◌↔◌, IsTrue, IfOk, OnOk, Contains, All, length, get_or, slice_set, replicate, nat_eq, cond};
+ghost use Rattle.std.specs.Prelude.{◌≡◌, ℕ, ◌<◌, ◌≤◌, ◌++◌, ◌∷◌, [], false, IfOk, OnOk, All, length, get_or, slice_set, replicate, nat_eq, cond};
 ghost use Rattle.std.specs.List.{filter, list_any, IsDistinct};
 ghost use Rattle.hddl_meaning.specs.Names.{object_names, type_names};
 ghost use Rattle.hddl_meaning.specs.Building.{vocabulary_of};

@@ -1,7 +1,8 @@
 -- When an argument fits its place.
-use Rattle.std.proofs.Common.{◌≡◌, ℕ, ◌+◌, ◌<◌, ◌≤◌, ◌||◌, ◌↔◌, IsTrue, Bool, true, false, not, cond, nat_lt, suc, List, [], ◌∷◌, Option, Some, None, is_some, refl, sym, ap, subst, ◌∙◌, get_or, length, arith, true≢false, Contains}
-use Rattle.std.specs.List.{list_any, position, position_or_len}
+use Rattle.std.proofs.Common.{◌≡◌, ℕ, ◌+◌, ◌<◌, ◌||◌, ◌↔◌, IsTrue, Bool, true, false, not, cond, nat_lt, suc, List, [], ◌∷◌, Option, Some, None, is_some, refl, sym, ap, subst, ◌∙◌, get_or, length, arith, true≢false, Contains}
+use Rattle.std.specs.List.{All, list_any, position, position_or_len}
 use Rattle.std.proofs.lemmas.Bool.Decides.{Decides-ltb}
+use Rattle.std.proofs.lemmas.List.Elements.{All-get_or, All-from_get_or}
 use Rattle.std.proofs.Math.Logic.{∥∥₁_elim, ∥∥₁_map}
 use Rattle.std.proofs.Props.{props}
 use Rattle.hddl_tree.specs.declared.domain.DomainText.{DomainText}
@@ -116,6 +117,18 @@ module _ (d : DomainText) (v place : Variable) (t u : ℕ) (own : type_position 
 
 -- ## An object that lacks the type of a place
 
+-- the types of objects are known, with these rows
+abbrev pub KnownWith : DomainText → ProblemText → List (List ℕ) → Type 0
+KnownWith d p rows = ∥ AreKnown d p × AreDeclaredTypes d p rows ∥₁
+
+-- then the rows have numbers of types
+pub rows_typed : (d : DomainText) (p : ProblemText) (rows : List (List ℕ)) → KnownWith d p rows → All (All (λ t. t < length (type_names d))) rows
+rows_typed d p rows known =
+    All-from_get_or (All (λ t. t < length (type_names d))) rows []
+    (λ o lt. All-from_get_or (λ t. t < length (type_names d)) (get_or rows o []) 0
+    (λ i small. ∥∥₁_elim known (search props)
+    (λ h. All-get_or (λ t. t < length (type_names d)) (get_or rows o []) i 0 small (All-get_or (All (λ t. t < length (type_names d))) rows o [] lt h.1.typed))))
+
 module _ (d : DomainText) (p : ProblemText) (t : Text) (place : Variable) where
   abbrev pub Lacks : Type 0
   Lacks = ∥ AreKnown d p ∥₁ × IsTyped d place.typed × IsIn t (object_names d p) × (HasType d p t (type_text place) → ⊥)
@@ -135,7 +148,7 @@ module _ (d : DomainText) (p : ProblemText) (t : Text) (place : Variable) where
         subst (λ (x : Text). LeadsThere ↔ HasType d p x (type_text place)) object.1
         (subst (λ (y : Text). LeadsThere ↔ HasType d p (object_at d p o) y) type.1 (all.members u o type.0 object.0))
 
-    pub lacks : (has : Bool) → ∥ AreKnown d p × AreDeclaredTypes d p rows ∥₁ → (IsTrue has ↔ LeadsThere) → IsTrue (not has) ↔ Lacks
+    pub lacks : (has : Bool) → KnownWith d p rows → (IsTrue has ↔ LeadsThere) → IsTrue (not has) ↔ Lacks
     lacks has known is = (
       λ h. (
         ∥∥₁_map known (λ k. k.0),

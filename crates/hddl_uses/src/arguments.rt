@@ -93,11 +93,7 @@ fn is_barred(
 }
 
 /// Whether a constant or object lacks the type of a place. Not, where it isn't declared, or types aren't.
-fn lacks_type(
-    context: &Context<'_>,
-    text: &[u8],
-    place: &Declared,
-) -> Result<bool, AllocError>
+fn lacks_type(context: &Context<'_>, text: &[u8], place: &Declared) -> Result<bool, AllocError>
     ensures { IfOk result (λ lacks. IsTrue lacks ↔ (∥ AreKnown context.now.domain.now context.now.problem.now ∥₁ × IsTyped context.now.domain.now place.now.typed
         × IsIn text.now (object_names context.now.domain.now context.now.problem.now)
         × (HasType context.now.domain.now context.now.problem.now text.now (text_or_object place.now.typed.of_type) → ⊥))) }
