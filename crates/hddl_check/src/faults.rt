@@ -1,7 +1,7 @@
 //! Faults of a domain and a problem.
 ghost use Rattle.std.specs.Prelude.{◌≡◌, IfOk, MatchOption};
 ghost use Rattle.hddl_meaning.specs.Building.{vocabulary_of};
-ghost use Rattle.hddl_names.specs.Members.{AreMembersOf};
+ghost use Rattle.hddl_names.specs.Members.{AreDeclaredTypes};
 ghost use Rattle.hddl_uses.specs.Declarations.{AreDeclarationsOf};
 ghost use Rattle.hddl_scope.specs.Findings.{Finds};
 ghost use Rattle.hddl_uses.specs.Known.{AreKnown};
@@ -9,7 +9,7 @@ ghost use Rattle.hddl_check.specs.TextParts.{PartFails};
 
 use crate::shape::{check_domain, check_problem};
 use hddl_meaning::{CheckFault, Source};
-use hddl_names::{ObjectsByType, TypeHierarchy, Vocabulary};
+use hddl_names::{DeclaredTypes, TypeHierarchy, Vocabulary};
 use hddl_scope::first_of;
 use hddl_tree::{DomainText, ProblemText};
 use hddl_uses::{Context, Declarations};
@@ -22,12 +22,12 @@ pub(crate) fn fault_among<'a>(
     problem: &'a ProblemText,
     vocabulary: &'a Vocabulary,
     types: &'a TypeHierarchy<'a>,
-    objects: Option<&'a ObjectsByType>,
+    objects: Option<&'a DeclaredTypes>,
     declared: &'a Declarations,
 ) -> Result<Option<CheckFault>, AllocError>
     requires vocabulary { vocabulary.now ≡ vocabulary_of domain.now problem.now }
     requires types { types.now ≡ domain.now }
-    requires objects { MatchOption objects (AreKnown domain.now problem.now → ⊥) (λ o. AreKnown domain.now problem.now × AreMembersOf domain.now problem.now o.now) }
+    requires objects { MatchOption objects (AreKnown domain.now problem.now → ⊥) (λ o. AreKnown domain.now problem.now × AreDeclaredTypes domain.now problem.now o.now) }
     requires declared { AreDeclarationsOf domain.now declared.now }
     ensures { IfOk result (Finds (PartFails domain.now problem.now)) }
 {

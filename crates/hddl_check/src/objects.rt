@@ -1,12 +1,11 @@
-//! The objects of each type, where that can be told.
-ghost use Rattle.std.specs.Prelude.{◌≡◌, ◌↔◌, IfOk, IsTrue, MatchOption, All};
+//! The types of each object, where that can be told.
+ghost use Rattle.std.specs.Prelude.{◌≡◌, ◌↔◌, IfOk, IsTrue, MatchOption};
 ghost use Rattle.hddl_meaning.specs.Building.{vocabulary_of};
 ghost use Rattle.hddl_meaning.specs.Mentions.{typed_names};
-ghost use Rattle.hddl_meaning.specs.Names.{type_names};
-ghost use Rattle.hddl_names.specs.Members.{AreMembersOf};
+ghost use Rattle.hddl_names.specs.Members.{AreDeclaredTypes};
 ghost use Rattle.hddl_uses.specs.Known.{AllTyped, AreKnown};
 
-use hddl_names::{ObjectsByType, TypeHierarchy, Vocabulary};
+use hddl_names::{DeclaredTypes, TypeHierarchy, Vocabulary};
 use hddl_tree::{NameGroup, ProblemText};
 use std::alloc::{AllocError, Global};
 
@@ -25,22 +24,22 @@ fn are_typed(alloc: Global, types: &TypeHierarchy, groups: &[NameGroup]) -> Resu
     Ok(true)
 }
 
-/// The objects of each type. None where an object has a type that isn't declared, or there are more than can be numbered.
+/// The types of each object. None where one of these isn't declared, or there are more objects than can be numbered.
 pub(crate) fn known_objects(
     alloc: Global,
     problem: &ProblemText,
     vocabulary: &Vocabulary,
     types: &TypeHierarchy,
-) -> Result<Option<ObjectsByType>, AllocError>
+) -> Result<Option<DeclaredTypes>, AllocError>
     requires { vocabulary.now ≡ vocabulary_of types.now problem.now }
     ensures { IfOk result (λ objects. MatchOption objects (AreKnown types.now problem.now → ⊥)
-        (λ o. AreKnown types.now problem.now × AreMembersOf types.now problem.now o)) }
+        (λ o. AreKnown types.now problem.now × AreDeclaredTypes types.now problem.now o)) }
 {
     let constants = are_typed(alloc, types, types.domain().constants.as_slice())?;
     let objects = are_typed(alloc, types, problem.objects.as_slice())?;
     if !constants || !objects || vocabulary.objects().len() > MOST_OBJECTS {
         return Ok(None);
     }
-    let all = ObjectsByType::of(alloc, problem, vocabulary, types)?;
+    let all = DeclaredTypes::of(alloc, problem, vocabulary, types)?;
     Ok(Some(all))
 }

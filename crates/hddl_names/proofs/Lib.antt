@@ -13,7 +13,6 @@ pub mod Nested
 pub mod NumberBits
 pub mod Parents
 pub mod RowLists
-pub mod Searched
 pub mod Texts
 pub mod Told
 pub mod Typed

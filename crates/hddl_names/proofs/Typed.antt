@@ -1,11 +1,11 @@
 -- The types that the constants and objects have by their declarations.
-use Rattle.std.proofs.Common.{◌≡◌, ℕ, ◌<◌, ◌≤◌, ◌↔◌, ◌++◌, Bool, true, false, nat_eq, List, [], map, sym, ap, subst, ◌∙◌, arith, inl, inr, length, get_or, replicate}
+use Rattle.std.proofs.Common.{◌≡◌, ℕ, ◌<◌, ◌≤◌, ◌↔◌, ◌++◌, Bool, true, false, nat_eq, List, [], map, sym, ap, subst, ◌∙◌, arith, inl, inr, ⊎_elim, length, get_or}
 use Rattle.std.specs.List.{Contains, All, list_any}
-use Rattle.std.proofs.lemmas.Bool.{eqb-true}
+use Rattle.std.proofs.lemmas.Bool.{cases_lt, eqb-true}
 use Rattle.std.proofs.lemmas.Cmp.{nat_eq_equiv}
-use Rattle.std.proofs.lemmas.List.{get_or-replicate, map-append}
+use Rattle.std.proofs.lemmas.List.{get_or_past, map-append}
 use Rattle.std.proofs.lemmas.Map.Views.{list_any-from_Contains, Contains-from_any}
-use Rattle.std.proofs.lemmas.List.Elements.{Contains-get_or, All-contains, All-from_get_or}
+use Rattle.std.proofs.lemmas.List.Elements.{Contains-get_or, All-contains, All-get_or, All-from_get_or}
 use Rattle.htn_order.specs.Closure.{Precedes, Direct, Through, AreBelow}
 use Rattle.hddl_tree.specs.declared.term.NameGroup.{NameGroup}
 use Rattle.hddl_tree.specs.declared.domain.DomainText.{DomainText}
@@ -16,7 +16,7 @@ use Rattle.hddl_meaning.specs.Types.{text_or_object, HasType, IsBelow}
 use Rattle.hddl_meaning.specs.Building.{Vocabulary, vocabulary_of}
 use Rattle.hddl_names.specs.Rows.{AreRows}
 use Rattle.hddl_names.specs.Reach.{Reaches}
-use Rattle.hddl_names.specs.Members.{AreTyped, AreDeclaredTypes, AreMembersOf, AreNamedMembersOf, AreFilled, IsFlaggedAbove, declared_in, number_typed, object_at}
+use Rattle.hddl_names.specs.Members.{AreTyped, AreDeclaredTypes, AreNamedMembersOf, AreFilled, IsFlaggedAbove, declared_in, number_typed, object_at}
 use Rattle.hddl_names.specs.TypeNumbers.{type_at, numbered_pairs}
 use Rattle.hddl_names.proofs.Texts.{distinct-has, distinct-different, number-small, number-names, number-at}
 use Rattle.hddl_names.proofs.Parents.{numbers-below, below-reaches, reaches-below, type-number}
@@ -127,6 +127,27 @@ declared-types d p all rows size typed is are long enough = record {
               (subst (λ u. IsBelow d u (type_at d k)) (sym (number-names (type_names d) (text_or_object x.of_type) type)) below),
         )
 
+-- the numbers in a row are those of types
+pub row-typed : (d : DomainText) (rows : List (List ℕ)) (o i : ℕ) → All (All (λ t. t < length (type_names d))) rows → i < length (get_or rows o [])
+    → get_or (get_or rows o []) i 0 < length (type_names d)
+row-typed d rows o i typed lt =
+    ⊎_elim
+    (λ small. All-get_or (λ t. t < length (type_names d)) (get_or rows o []) i 0 lt (All-get_or (All (λ t. t < length (type_names d))) rows o [] small typed))
+    (λ past. absurd (let none = ap length (get_or_past rows o [] past) in omega (arith, lt, none)))
+    (cases_lt o (length rows))
+
+-- whether the row's number at a place leads to another, where that is tested by the types' names
+pub leads-at : (d : DomainText) (rows : List (List ℕ)) (o i u : ℕ) → All (All (λ t. t < length (type_names d))) rows → i < length (get_or rows o []) → u < length (type_names d)
+    → IsBelow d (type_at d (get_or (get_or rows o []) i 0)) (type_at d u) ↔ Reaches (numbered_pairs d) (get_or (get_or rows o []) i 0) u
+leads-at d rows o i u typed lt small =
+    let own = get_or (get_or rows o []) i 0 in
+    (λ below. below-reaches d own u (row-typed d rows o i typed lt) small below, λ leads. reaches-below d own u leads)
+
+-- none of a row leads to a number where that at no place does
+pub leads-none : (pairs : List (ℕ × ℕ)) (row : List ℕ) (u : ℕ) → ((k : ℕ) → k < length row → Reaches pairs (get_or row k 0) u → ⊥)
+    → ((t : ℕ) × Contains row t × Reaches pairs t u) → ⊥
+leads-none pairs row u none (t, there, r) = All-contains (λ t. Reaches pairs t u → ⊥) row t (All-from_get_or (λ t. Reaches pairs t u → ⊥) row 0 none) there r
+
 -- what a list has where the flags are those of some numbers
 filled-at : (d : DomainText) (p : ProblemText) (rows lists : List (List ℕ)) (flags : List Bool) (n m : ℕ) → AreDeclaredTypes d p rows → AreFilled (numbered_pairs d) rows flags n m lists
     → m ≡ length (object_names d p) → (k o : ℕ) → k < length (type_names d) → o < length (object_names d p)
@@ -136,18 +157,6 @@ filled-at d p rows lists flags n m declared filled count k o small few =
       λ h. let member = (filled.members k o).0 h in (member.1, are.0 member.2),
       λ (flag, typed). (filled.members k o).1 (subst (λ m. o < m) (sym count) few, flag, are.1 typed),
     )
-
--- all flags are set
-pub filled-members : (d : DomainText) (p : ProblemText) (rows lists : List (List ℕ)) (flags : List Bool) (n m : ℕ) → AreDeclaredTypes d p rows → flags ≡ replicate n true
-    → n ≡ length (type_names d) → m ≡ length (object_names d p) → AreFilled (numbered_pairs d) rows flags n m lists → AreMembersOf d p lists
-filled-members d p rows lists flags n m declared all types count filled = record {
-  count = filled.count ∙ types;
-  ascending = filled.ascending;
-  members = λ k o small few.
-      let at = filled-at d p rows lists flags n m declared filled count k o small few in
-      (λ h. (at.0 h).1, λ h. at.1 (ap (λ l. get_or l k false) all ∙ get_or-replicate n k true false (subst (λ n. k < n) (sym types) small), h));
-  within = λ k o h. subst (λ m. o < m) count ((filled.members k o).0 h).0;
-}
 
 -- those of some numbers are set
 pub filled-named : (d : DomainText) (p : ProblemText) (rows lists : List (List ℕ)) (flags : List Bool) (named : List ℕ) (n m : ℕ) → AreDeclaredTypes d p rows

@@ -34,14 +34,6 @@ pub record AreDeclaredTypes (d : DomainText) (p : ProblemText) (rows : List (Lis
   pub members : (k o : ℕ) → k < length (type_names d) → o < length (object_names d p)
       → ((t : ℕ) × Contains (get_or rows o []) t × Reaches (numbered_pairs d) t k) ↔ HasType d p (object_at d p o) (type_at d k)
 
--- the lists have exactly the objects that have each type, ascending
-pub record AreMembersOf (d : DomainText) (p : ProblemText) (lists : List (List ℕ)) : Type 0 where
-  pub count : length lists ≡ length (type_names d)
-  pub ascending : (k : ℕ) → IsStrictlySortedBy nat_cmp (get_or lists k [])
-  pub members : (k o : ℕ) → k < length (type_names d) → o < length (object_names d p)
-      → Contains (get_or lists k []) o ↔ HasType d p (object_at d p o) (type_at d k)
-  pub within : (k o : ℕ) → Contains (get_or lists k []) o → o < length (object_names d p)
-
 -- the lists of the named types have exactly the objects that have these, ascending, and the others have none
 pub record AreNamedMembersOf (d : DomainText) (p : ProblemText) (named : List ℕ) (lists : List (List ℕ)) : Type 0 where
   pub count : length lists ≡ length (type_names d)

@@ -3,6 +3,7 @@
 
 mod closure;
 mod cycles;
+mod declared_types;
 mod edges;
 mod hierarchy;
 mod intervals;
@@ -16,6 +17,7 @@ mod rows;
 mod text;
 mod vocabulary;
 
+pub use declared_types::DeclaredTypes;
 pub use hierarchy::TypeHierarchy;
 pub use members::ObjectsByType;
 pub use names::Names;

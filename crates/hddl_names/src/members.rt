@@ -1,21 +1,16 @@
 //! The objects of each type.
-ghost use Rattle.std.specs.Prelude.{◌≡◌, ℕ, ◌<◌, ◌≤◌, ◌++◌, ◌∷◌, [], false, ◌↔◌, IsTrue, IfOk, OnOk, Contains, All, length, get_or, slice_set, replicate, nat_eq, cond};
+ghost use Rattle.std.specs.Prelude.{◌≡◌, ℕ, ◌<◌, ◌≤◌, ◌++◌, ◌∷◌, [], false, IfOk, OnOk, All, length, get_or, slice_set, replicate, nat_eq, cond};
 ghost use Rattle.std.specs.List.{filter, list_any, IsDistinct};
 ghost use Rattle.hddl_meaning.specs.Names.{object_names, type_names};
-ghost use Rattle.std.specs.List.Sorted.{IsStrictlySortedBy};
-ghost use Rattle.std.specs.Ordering.{nat_cmp};
 ghost use Rattle.hddl_meaning.specs.Building.{vocabulary_of};
-ghost use Rattle.hddl_names.specs.Members.{AreTyped, AreDeclaredTypes, AreMembersOf, AreNamedMembersOf, declared_in, AreFilled, IsFlaggedAbove};
+ghost use Rattle.hddl_names.specs.Members.{AreTyped, AreNamedMembersOf, AreFilled, IsFlaggedAbove};
 ghost use Rattle.hddl_names.specs.TypeNumbers.{numbered_pairs};
 ghost use Rattle.hddl_names.specs.Rows.{lists_of};
 
-use crate::edges::rows_of;
+use crate::declared_types::DeclaredTypes;
 use crate::hierarchy::TypeHierarchy;
-use crate::names::Names;
-use crate::pairs::{parent_number, push_pairs};
-use crate::rows::Rows;
 use crate::vocabulary::Vocabulary;
-use hddl_tree::{DomainText, NameGroup, ProblemText};
+use hddl_tree::ProblemText;
 use indexmap::IndexSet;
 use std::alloc::{AllocError, Global};
 use std::marker::Model;
@@ -33,78 +28,6 @@ impl Model for ObjectsByType {
     ghost Value = { List (List ℕ) };
 
     ghost view = { λ objects. lists_of objects.lists.items };
-}
-
-/// Adds the numbers of a group's names, each with that of its type.
-fn push_declared(
-    pairs: &mut Vec<(usize, usize)>,
-    buffer: &mut Vec<u8>,
-    objects: &Names,
-    types: &Names,
-    group: &NameGroup,
-) -> Result<(), AllocError>
-    ensures { OnOk result (pairs.new.items ≡ pairs.old.items ++ declared_in objects.now types.now (group.now ∷ [])) }
-{
-    let parent = parent_number(buffer, types, &group.of_type)?;
-    push_pairs(pairs, buffer, objects, group.names.as_slice(), parent)?;
-    Ok(())
-}
-
-/// The numbers of all constants and objects that are declared, each with that of its type.
-fn declarations(
-    alloc: Global,
-    vocabulary: &Vocabulary,
-    constants: &[NameGroup],
-    objects: &[NameGroup],
-) -> Result<Vec<(usize, usize)>, AllocError>
-    ensures { IfOk result (λ pairs. pairs.items ≡ declared_in vocabulary.now.objects vocabulary.now.types constants.now
-        ++ declared_in vocabulary.now.objects vocabulary.now.types objects.now) }
-{
-    let mut pairs = Vec::new(alloc);
-    let mut buffer = Vec::new(alloc);
-    for group in constants {
-        push_declared(
-            &mut pairs,
-            &mut buffer,
-            vocabulary.objects(),
-            vocabulary.types(),
-            group,
-        )?;
-    }
-    for group in objects {
-        push_declared(
-            &mut pairs,
-            &mut buffer,
-            vocabulary.objects(),
-            vocabulary.types(),
-            group,
-        )?;
-    }
-    Ok(pairs)
-}
-
-/// The types that each constant and object has by its declarations, without those above them.
-fn declared_types(
-    alloc: Global,
-    problem: &ProblemText,
-    vocabulary: &Vocabulary,
-    types: &TypeHierarchy,
-) -> Result<Rows, AllocError>
-    requires vocabulary { vocabulary.now ≡ vocabulary_of types.now problem.now }
-    requires typed { AreTyped types.now problem.now }
-    ensures { IfOk result (AreDeclaredTypes types.now problem.now) }
-{
-    let domain = types.domain();
-    let pairs = declarations(
-        alloc,
-        vocabulary,
-        domain.constants.as_slice(),
-        problem.objects.as_slice(),
-    )?;
-    let count = vocabulary.types().len();
-    let objects = vocabulary.objects().len();
-    let rows = rows_of(alloc, objects.max(count), &pairs)?;
-    Ok(rows)
 }
 
 /// For each number below a count, whether it is among these.
@@ -202,7 +125,7 @@ impl ObjectsByType {
         types: &TypeHierarchy,
         flags: &[bool],
         count: usize,
-        declared: &Rows,
+        declared: &DeclaredTypes,
         objects: usize,
     ) -> Result<ObjectsByType, AllocError>
         requires few { objects ≤ 65536 }
@@ -225,26 +148,6 @@ impl ObjectsByType {
         Ok(all)
     }
 
-    /// The objects of each type of a domain, or an error where memory was refused.
-    pub fn of(
-        alloc: Global,
-        problem: &ProblemText,
-        vocabulary: &Vocabulary,
-        types: &TypeHierarchy,
-    ) -> Result<ObjectsByType, AllocError>
-        requires vocabulary { vocabulary.now ≡ vocabulary_of types.now problem.now }
-        requires few { length (object_names types.now problem.now) ≤ 65536 }
-        requires typed { AreTyped types.now problem.now }
-        ensures { IfOk result (λ all. AreMembersOf types.now problem.now all) }
-    {
-        let declared = declared_types(alloc, problem, vocabulary, types)?;
-        let count = vocabulary.types().len();
-        let flags = vec![in alloc; true; count]?;
-        let objects = vocabulary.objects().len();
-        let all = ObjectsByType::filled(alloc, types, &flags, count, &declared, objects)?;
-        Ok(all)
-    }
-
     /// The objects of each type whose number is named, and none of another type, or an error where memory was refused.
     pub fn of_named(
         alloc: Global,
@@ -258,23 +161,12 @@ impl ObjectsByType {
         requires typed { AreTyped types.now problem.now }
         ensures { IfOk result (λ all. AreNamedMembersOf types.now problem.now named.now all) }
     {
-        let declared = declared_types(alloc, problem, vocabulary, types)?;
+        let declared = DeclaredTypes::of(alloc, problem, vocabulary, types)?;
         let count = vocabulary.types().len();
         let flags = flags_of(alloc, count, named)?;
         let objects = vocabulary.objects().len();
         let all = ObjectsByType::filled(alloc, types, &flags, count, &declared, objects)?;
         Ok(all)
-    }
-
-    /// Whether an object has a type, both by number.
-    pub fn has_type(&self, object: u16, of_type: usize) -> bool
-        requires { (k : ℕ) → IsStrictlySortedBy nat_cmp (get_or self.now k []) }
-        ensures { IsTrue result ↔ Contains (get_or self.now of_type []) object }
-    {
-        match self.lists.get(of_type) {
-            Some(list) => list.binary_search(&object).is_ok(),
-            None => false,
-        }
     }
 
     /// The lists, one for each type.

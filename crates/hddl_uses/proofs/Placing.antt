@@ -1,7 +1,8 @@
 -- When an argument fits its place.
-use Rattle.std.proofs.Common.{◌≡◌, ℕ, ◌+◌, ◌<◌, ◌≤◌, ◌||◌, ◌↔◌, IsTrue, Bool, true, false, not, cond, nat_lt, suc, List, [], ◌∷◌, Option, Some, None, is_some, refl, sym, ap, subst, ◌∙◌, get_or, length, arith, true≢false, Contains}
-use Rattle.std.specs.List.{list_any, position, position_or_len}
+use Rattle.std.proofs.Common.{◌≡◌, ℕ, ◌+◌, ◌<◌, ◌||◌, ◌↔◌, IsTrue, Bool, true, false, not, cond, nat_lt, suc, List, [], ◌∷◌, Option, Some, None, is_some, refl, sym, ap, subst, ◌∙◌, get_or, length, arith, true≢false, Contains}
+use Rattle.std.specs.List.{All, list_any, position, position_or_len}
 use Rattle.std.proofs.lemmas.Bool.Decides.{Decides-ltb}
+use Rattle.std.proofs.lemmas.List.Elements.{All-get_or, All-from_get_or}
 use Rattle.std.proofs.Math.Logic.{∥∥₁_elim, ∥∥₁_map}
 use Rattle.std.proofs.Props.{props}
 use Rattle.hddl_tree.specs.declared.domain.DomainText.{DomainText}
@@ -12,8 +13,9 @@ use Rattle.hddl_meaning.specs.Types.{text_or_object, HasType, IsBelow}
 use Rattle.hddl_meaning.specs.Uses.{Variable}
 use Rattle.hddl_meaning.specs.Items.{IsDeclaredType, MayStand, ShareSubtype}
 use Rattle.hddl_meaning.proofs.Listed.{texts_decide}
-use Rattle.hddl_names.specs.Members.{AreMembersOf, object_at}
-use Rattle.hddl_names.specs.TypeNumbers.{type_at}
+use Rattle.hddl_names.specs.Members.{AreDeclaredTypes, object_at}
+use Rattle.hddl_names.specs.Reach.{Reaches}
+use Rattle.hddl_names.specs.TypeNumbers.{type_at, numbered_pairs}
 use Rattle.hddl_uses.specs.Known.{AreKnown, IsTyped}
 use Rattle.hddl_scope.proofs.Positions.{has_position}
 use Rattle.hddl_uses.proofs.TypeNames.{is_type_number}
@@ -115,6 +117,18 @@ module _ (d : DomainText) (v place : Variable) (t u : ℕ) (own : type_position 
 
 -- ## An object that lacks the type of a place
 
+-- the types of objects are known, with these rows
+abbrev pub KnownWith : DomainText → ProblemText → List (List ℕ) → Type 0
+KnownWith d p rows = ∥ AreKnown d p × AreDeclaredTypes d p rows ∥₁
+
+-- then the rows have numbers of types
+pub rows_typed : (d : DomainText) (p : ProblemText) (rows : List (List ℕ)) → KnownWith d p rows → All (All (λ t. t < length (type_names d))) rows
+rows_typed d p rows known =
+    All-from_get_or (All (λ t. t < length (type_names d))) rows []
+    (λ o lt. All-from_get_or (λ t. t < length (type_names d)) (get_or rows o []) 0
+    (λ i small. ∥∥₁_elim known (search props)
+    (λ h. All-get_or (λ t. t < length (type_names d)) (get_or rows o []) i 0 small (All-get_or (All (λ t. t < length (type_names d))) rows o [] lt h.1.typed))))
+
 module _ (d : DomainText) (p : ProblemText) (t : Text) (place : Variable) where
   abbrev pub Lacks : Type 0
   Lacks = ∥ AreKnown d p ∥₁ × IsTyped d place.typed × IsIn t (object_names d p) × (HasType d p t (type_text place) → ⊥)
@@ -122,26 +136,29 @@ module _ (d : DomainText) (p : ProblemText) (t : Text) (place : Variable) where
   pub lacks_none : (Lacks → ⊥) → IsTrue false ↔ Lacks
   lacks_none never = (λ h. absurd (true≢false (sym h)), λ h. absurd (never h))
 
-  module _ (lists : List (List ℕ)) (o u : ℕ) (found : position (is_same_text t) (object_names d p) ≡ Some o) (wanted : type_position d place ≡ Some u) where
-    members_of : AreMembersOf d p lists → Contains (get_or lists u []) o ↔ HasType d p t (type_text place)
-    members_of all =
+  module _ (rows : List (List ℕ)) (o u : ℕ) (found : position (is_same_text t) (object_names d p) ≡ Some o) (wanted : type_position d place ≡ Some u) where
+    -- one of the types in the object's row leads to that of the place
+    abbrev pub LeadsThere : Type 0
+    LeadsThere = (own : ℕ) × Contains (get_or rows o []) own × Reaches (numbered_pairs d) own u
+
+    led : AreDeclaredTypes d p rows → LeadsThere ↔ HasType d p t (type_text place)
+    led all =
         let object = at_position (object_names d p) t o found in
         let type = at_position (type_names d) (type_text place) u wanted in
-        subst (λ (x : Text). Contains (get_or lists u []) o ↔ HasType d p x (type_text place)) object.1
-        (subst (λ (y : Text). Contains (get_or lists u []) o ↔ HasType d p (object_at d p o) y) type.1 (all.members u o type.0 object.0))
+        subst (λ (x : Text). LeadsThere ↔ HasType d p x (type_text place)) object.1
+        (subst (λ (y : Text). LeadsThere ↔ HasType d p (object_at d p o) y) type.1 (all.members u o type.0 object.0))
 
-    pub lacks : (has : Bool) → ∥ AreKnown d p × AreMembersOf d p lists ∥₁ → (IsTrue has ↔ Contains (get_or lists u []) o) → IsTrue (not has) ↔ Lacks
+    pub lacks : (has : Bool) → KnownWith d p rows → (IsTrue has ↔ LeadsThere) → IsTrue (not has) ↔ Lacks
     lacks has known is = (
       λ h. (
         ∥∥₁_map known (λ k. k.0),
         type_known d (type_text place) u wanted,
         (named (object_names d p) t).0 (ap is_some found),
-        λ typed. ∥∥₁_elim known (λ x y. absurd x) (λ k. not_both has h (is.1 ((members_of k.1).1 typed))),
+        λ typed. ∥∥₁_elim known (λ x y. absurd x) (λ k. not_both has h (is.1 ((led k.1).1 typed))),
       ),
-      λ (k, w, at, lacking). not_by has (λ h. ∥∥₁_elim known (λ x y. absurd x) (λ k. lacking ((members_of k.1).0 (is.0 h)))),
+      λ (k, w, at, lacking). not_by has (λ h. ∥∥₁_elim known (λ x y. absurd x) (λ k. lacking ((led k.1).0 (is.0 h)))),
     )
 
-    pub few : ∥ AreKnown d p × AreMembersOf d p lists ∥₁ → o < 65536
-    few known =
-        let below : o < length (object_names d p) = (at_position (object_names d p) t o found).0 in
-        ∥∥₁_elim known (search props) (λ k. let most : length (object_names d p) ≤ 65536 = k.0.few in omega (arith, below, most))
+  -- the place's type has a number
+  pub type_small : (u : ℕ) → type_position d place ≡ Some u → u < length (type_names d)
+  type_small u wanted = (at_position (type_names d) (type_text place) u wanted).0

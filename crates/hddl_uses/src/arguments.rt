@@ -93,15 +93,18 @@ fn is_barred(
 }
 
 /// Whether a constant or object lacks the type of a place. Not, where it isn't declared, or types aren't.
-fn lacks_type(context: &Context<'_>, text: &[u8], place: &Declared) -> bool
-    ensures { IsTrue result ↔ (∥ AreKnown context.now.domain.now context.now.problem.now ∥₁ × IsTyped context.now.domain.now place.now.typed
+fn lacks_type(context: &Context<'_>, text: &[u8], place: &Declared) -> Result<bool, AllocError>
+    ensures { IfOk result (λ lacks. IsTrue lacks ↔ (∥ AreKnown context.now.domain.now context.now.problem.now ∥₁ × IsTyped context.now.domain.now place.now.typed
         × IsIn text.now (object_names context.now.domain.now context.now.problem.now)
-        × (HasType context.now.domain.now context.now.problem.now text.now (text_or_object place.now.typed.of_type) → ⊥)) }
+        × (HasType context.now.domain.now context.now.problem.now text.now (text_or_object place.now.typed.of_type) → ⊥))) }
 {
     let number = context.vocabulary.objects().number_of(text);
     match (context.objects, number, type_number(context, place)) {
-        (Some(objects), Some(object), Some(wanted)) => !objects.has_type(object as u16, wanted),
-        _ => false,
+        (Some(objects), Some(object), Some(wanted)) => {
+            let has = objects.has_type(context.alloc, context.types, object, wanted)?;
+            Ok(!has)
+        }
+        _ => Ok(false),
     }
 }
 
@@ -132,7 +135,7 @@ fn check_object_type(
     ensures { IfOk result (Finds (ObjectClashes context.now name.now place.now.typed)) }
 {
     let text = fold(context.alloc, name.text())?;
-    if lacks_type(context, &text, place) {
+    if lacks_type(context, &text, place)? {
         return Ok(Some(CheckFault::TypeClash(context.at(name.place()))));
     }
     Ok(None)

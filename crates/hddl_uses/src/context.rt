@@ -1,13 +1,13 @@
 //! What a check knows of the texts.
 ghost use Rattle.std.specs.Prelude.{◌≡◌, MatchOption};
 ghost use Rattle.hddl_meaning.specs.Building.{vocabulary_of};
-ghost use Rattle.hddl_names.specs.Members.{AreMembersOf};
+ghost use Rattle.hddl_names.specs.Members.{AreDeclaredTypes};
 ghost use Rattle.hddl_uses.specs.Known.{AreKnown};
 ghost use Rattle.hddl_uses.specs.Declarations.{AreDeclarationsOf};
 
 use crate::declared::Declarations;
 use hddl_meaning::{At, Source};
-use hddl_names::{ObjectsByType, TypeHierarchy, Vocabulary};
+use hddl_names::{DeclaredTypes, TypeHierarchy, Vocabulary};
 use hddl_tree::{DomainText, ProblemText};
 use std::alloc::Global;
 
@@ -21,12 +21,12 @@ pub struct Context<'a> {
     pub problem: &'a ProblemText,
     pub vocabulary: &'a Vocabulary,
     pub types: &'a TypeHierarchy<'a>,
-    /// The objects of each type, unless one has a type that isn't declared, or there are more than sixteen bits number.
-    pub objects: Option<&'a ObjectsByType>,
+    /// The types of each object, unless one of these isn't declared, or there are more objects than sixteen bits number.
+    pub objects: Option<&'a DeclaredTypes>,
     pub declared: &'a Declarations,
     ghost known: { vocabulary.now ≡ vocabulary_of domain.now problem.now },
     ghost known_types: { types.now ≡ domain.now },
-    ghost known_objects: { ∥ MatchOption objects (AreKnown domain.now problem.now → ⊥) (λ o. AreKnown domain.now problem.now × AreMembersOf domain.now problem.now o.now) ∥₁ },
+    ghost known_objects: { ∥ MatchOption objects (AreKnown domain.now problem.now → ⊥) (λ o. AreKnown domain.now problem.now × AreDeclaredTypes domain.now problem.now o.now) ∥₁ },
     ghost known_declared: { AreDeclarationsOf domain.now declared.now },
 }
 

@@ -7,13 +7,13 @@ use Rattle.hddl_scope.proofs.Finding.{Finds-none, Finds-some, found_at, none_at}
 use Rattle.hddl_uses.proofs.Placing.{Lacks, declared_types}
 use Rattle.hddl_uses.proofs.arguments.check_object_type.Goals as goal
 
-pub returns-then-lacks_type : goal.returns-then-lacks_type
-returns-then-lacks_type c =
+pub returns-then-branch : goal.returns-then-branch
+returns-then-branch c =
     let d = c.args.context.now.domain.now in
     let p = c.args.context.now.problem.now in
-    let told : IsTrue c.lacks_type.result ↔ Lacks d p (folded c.args.name.now.text) c.args.place.now =
-    subst (λ (t : Text). IsTrue c.lacks_type.result ↔ Lacks d p t c.args.place.now) (c.deref.ensures.value ∙ c.in_ok-text.ensures ∙ ap folded c.text.ensures.value) c.lacks_type.ensures in
-    let lacks = told.0 c.if-lacks_type.true in
+    let told : IsTrue c.in_ok-lacks_type.field-0 ↔ Lacks d p (folded c.args.name.now.text) c.args.place.now =
+    subst (λ (t : Text). IsTrue c.in_ok-lacks_type.field-0 ↔ Lacks d p t c.args.place.now) (c.deref.ensures.value ∙ c.in_ok-text.ensures ∙ ap folded c.text.ensures.value) c.in_ok-lacks_type.ensures in
+    let lacks = told.0 c.if-branch.true in
     found_at TypeClash c.args.context.now.source {P = IsKnownClash d p [] (term.Object c.args.name.now) c.args.place.now.typed} c.at.result
     (Finds-some c.place.result (record {
       clash = (lacks.1, (lacks.2, (λ t at is. declared_types d p lacks.0 t at), lacks.3, c.place.ensures));
@@ -25,7 +25,7 @@ pub returns : goal.returns
 returns c =
     let d = c.args.context.now.domain.now in
     let p = c.args.context.now.problem.now in
-    let told : IsTrue c.lacks_type.result ↔ Lacks d p (folded c.args.name.now.text) c.args.place.now =
-    subst (λ (t : Text). IsTrue c.lacks_type.result ↔ Lacks d p t c.args.place.now) (c.deref.ensures.value ∙ c.in_ok-text.ensures ∙ ap folded c.text.ensures.value) c.lacks_type.ensures in
+    let told : IsTrue c.in_ok-lacks_type.field-0 ↔ Lacks d p (folded c.args.name.now.text) c.args.place.now =
+    subst (λ (t : Text). IsTrue c.in_ok-lacks_type.field-0 ↔ Lacks d p t c.args.place.now) (c.deref.ensures.value ∙ c.in_ok-text.ensures ∙ ap folded c.text.ensures.value) c.in_ok-lacks_type.ensures in
     none_at TypeClash c.args.context.now.source {P = IsKnownClash d p [] (term.Object c.args.name.now) c.args.place.now.typed}
-    (Finds-none (λ place k. let some = told.1 (k.known, k.clash.0, k.clash.1.0, k.clash.1.2) in let none = c.if-lacks_type.false in cc))
+    (Finds-none (λ place k. let some = told.1 (k.known, k.clash.0, k.clash.1.0, k.clash.1.2) in let none = c.if-branch.false in cc))

@@ -22,12 +22,12 @@ push_all-requires-clause-within c =
     let rows = c.requires.rows in
     let known : (c.if-ne.row.now ≡ get_or c.args.declared.now c.loop-object.object []) × IsFlaggedAbove (numbered_pairs c.args.types.now) c.args.flags.now c.if-ne.row.now c.if-ne.above.items = elim c.if-ne.branch [
       | then-ne+in_ok-above w ↦ (
-        ap (λ r. r.now) w.row-is ∙ w.row-row.ensures.value,
+        ap (λ r. r.now) w.row-is ∙ w.row-row.ensures,
         subst (λ r. IsFlaggedAbove (numbered_pairs c.args.types.now) c.args.flags.now r.now c.if-ne.above.items) (sym w.row-is)
             (subst (λ s. IsFlaggedAbove (numbered_pairs c.args.types.now) c.args.flags.now w.row-row.result.now s.items) (sym w.above-is) w.in_ok-above.ensures),
       )
       | else-ne w ↦ (
-        ap (λ r. r.now) w.row-is ∙ sym (same_row c.row.result.now c.loop-object.row.now w.if-ne.ensures) ∙ c.row.ensures.value,
+        ap (λ r. r.now) w.row-is ∙ sym (same_row c.row.result.now c.loop-object.row.now w.if-ne.ensures) ∙ c.row.ensures,
         subst (λ r. IsFlaggedAbove (numbered_pairs c.args.types.now) c.args.flags.now r.now c.if-ne.above.items) (sym w.row-is)
             (subst (λ s. IsFlaggedAbove (numbered_pairs c.args.types.now) c.args.flags.now c.loop-object.row.now s.items) (sym w.above-is) c.loop-object.invariant.1),
       )
@@ -41,12 +41,12 @@ pub push_all-requires-clause-different : goal.push_all-requires-clause-different
 push_all-requires-clause-different c =
     let known : (c.if-ne.row.now ≡ get_or c.args.declared.now c.loop-object.object []) × IsFlaggedAbove (numbered_pairs c.args.types.now) c.args.flags.now c.if-ne.row.now c.if-ne.above.items = elim c.if-ne.branch [
       | then-ne+in_ok-above w ↦ (
-        ap (λ r. r.now) w.row-is ∙ w.row-row.ensures.value,
+        ap (λ r. r.now) w.row-is ∙ w.row-row.ensures,
         subst (λ r. IsFlaggedAbove (numbered_pairs c.args.types.now) c.args.flags.now r.now c.if-ne.above.items) (sym w.row-is)
             (subst (λ s. IsFlaggedAbove (numbered_pairs c.args.types.now) c.args.flags.now w.row-row.result.now s.items) (sym w.above-is) w.in_ok-above.ensures),
       )
       | else-ne w ↦ (
-        ap (λ r. r.now) w.row-is ∙ sym (same_row c.row.result.now c.loop-object.row.now w.if-ne.ensures) ∙ c.row.ensures.value,
+        ap (λ r. r.now) w.row-is ∙ sym (same_row c.row.result.now c.loop-object.row.now w.if-ne.ensures) ∙ c.row.ensures,
         subst (λ r. IsFlaggedAbove (numbered_pairs c.args.types.now) c.args.flags.now r.now c.if-ne.above.items) (sym w.row-is)
             (subst (λ s. IsFlaggedAbove (numbered_pairs c.args.types.now) c.args.flags.now c.loop-object.row.now s.items) (sym w.above-is) c.loop-object.invariant.1),
       )
@@ -57,12 +57,12 @@ pub loop-object-preserved : goal.loop-object-preserved
 loop-object-preserved c =
     let known : (c.if-ne.row.now ≡ get_or c.args.declared.now c.loop-object.object []) × IsFlaggedAbove (numbered_pairs c.args.types.now) c.args.flags.now c.if-ne.row.now c.if-ne.above.items = elim c.if-ne.branch [
       | then-ne+in_ok-above w ↦ (
-        ap (λ r. r.now) w.row-is ∙ w.row-row.ensures.value,
+        ap (λ r. r.now) w.row-is ∙ w.row-row.ensures,
         subst (λ r. IsFlaggedAbove (numbered_pairs c.args.types.now) c.args.flags.now r.now c.if-ne.above.items) (sym w.row-is)
             (subst (λ s. IsFlaggedAbove (numbered_pairs c.args.types.now) c.args.flags.now w.row-row.result.now s.items) (sym w.above-is) w.in_ok-above.ensures),
       )
       | else-ne w ↦ (
-        ap (λ r. r.now) w.row-is ∙ sym (same_row c.row.result.now c.loop-object.row.now w.if-ne.ensures) ∙ c.row.ensures.value,
+        ap (λ r. r.now) w.row-is ∙ sym (same_row c.row.result.now c.loop-object.row.now w.if-ne.ensures) ∙ c.row.ensures,
         subst (λ r. IsFlaggedAbove (numbered_pairs c.args.types.now) c.args.flags.now r.now c.if-ne.above.items) (sym w.row-is)
             (subst (λ s. IsFlaggedAbove (numbered_pairs c.args.types.now) c.args.flags.now c.loop-object.row.now s.items) (sym w.above-is) c.loop-object.invariant.1),
       )

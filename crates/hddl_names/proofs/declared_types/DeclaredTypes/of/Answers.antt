@@ -3,7 +3,7 @@ use Rattle.hddl_tree.specs.declared.domain.DomainText.{DomainText}
 use Rattle.hddl_meaning.specs.Building.{Vocabulary}
 use Rattle.hddl_meaning.specs.Names.{type_names, object_names}
 use Rattle.hddl_names.proofs.Typed.{AreDeclared, declared-is, declared-below, declared-types}
-use Rattle.hddl_names.proofs.members.declared_types.Goals as goal
+use Rattle.hddl_names.proofs.declared_types.DeclaredTypes.of.Goals as goal
 
 pub rows_of-requires : goal.rows_of-requires
 rows_of-requires c =

@@ -2,7 +2,7 @@ use Rattle.std.proofs.Common.{◌++◌, map, ap, ◌∙◌}
 use Rattle.hddl_meaning.specs.Mentions.{folded}
 use Rattle.hddl_meaning.specs.Names.{number_in}
 use Rattle.hddl_names.proofs.GroupPairs.{group_declared}
-use Rattle.hddl_names.proofs.members.push_declared.Goals as goal
+use Rattle.hddl_names.proofs.declared_types.push_declared.Goals as goal
 
 pub returns : goal.returns
 returns c =

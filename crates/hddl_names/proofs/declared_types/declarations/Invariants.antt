@@ -1,6 +1,6 @@
 use Rattle.std.proofs.Common.{◌≡◌, ◌++◌, take}
 use Rattle.hddl_names.specs.Members.{declared_in}
-use Rattle.hddl_names.proofs.members.declarations.Given as goal
+use Rattle.hddl_names.proofs.declared_types.declarations.Given as goal
 
 abbrev pub invariant-loop-group : goal.invariant-loop-group
 invariant-loop-group l = l.pairs.items ≡ declared_in l.vocabulary.objects l.vocabulary.types (take l.group-index l.constants)
