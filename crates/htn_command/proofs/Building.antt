@@ -8,7 +8,8 @@ use Rattle.clap.specs.declared.builder.value_parser.ValueParser.TheVariants.{Uns
 use Rattle.clap.specs.Built.{AddsArg}
 use Rattle.clap.specs.Faults.{is_simple_and_free}
 use Rattle.clap.specs.Simple.{App, Shape, app_of, app_of_fields, is_simple, on_top, with_rule}
-use Rattle.clap.specs.Walk.{Rule, rule_of}
+use Rattle.std.specs.Borrow.{Bor}
+use Rattle.clap.specs.Walk.{Rule, Text, rule_of}
 use Rattle.clap.specs.declared.builder.arg.Arg.{Arg}
 use Rattle.clap.specs.declared.builder.command.Command.{Command}
 use Rattle.clap.specs.declared.builder.command.Command.TheOpen.{Command-F}
@@ -25,6 +26,14 @@ pub with_one : (old new : Command) (a : Arg) (app : App) (rule : Rule) → Is ol
     → Is new (with_rule app rule)
 with_one old new a app rule is adds rule_is local =
     (adds.shape local ∙ ap₂ with_rule is.0 rule_is, adds.globals ∙ ap₂ (λ x y. x || y) is.1 local)
+
+abbrev pub versioned : Shape → Shape
+versioned s = record s { has_version = true }
+
+-- a command that has a version
+pub made_versioned : (a b : Command) (text : Bor Text) (app : App) → app_of a ≡ app → out-Command b ≡ record (out-Command a) { version = Some text }
+    → app_of b ≡ on_top versioned app
+made_versioned a b text app is one = ap app_of_fields one ∙ ap (on_top versioned) is
 
 abbrev pub strict : Shape → Shape
 strict s = record s { subcommand_required = true; arg_required_else_help = true }

@@ -12,8 +12,13 @@ examples_hold = record {
   default_nodes = refl;
   nodes = refl;
   workers = refl;
-  sound = (refl, refl);
+  checked = (refl, refl);
+  plan = refl;
+  sound = (refl, refl, refl);
   no_worker = refl;
   no_problem = refl;
   help = refl;
+  no_plan = refl;
+  two_plans = refl;
+  version = refl;
 }

@@ -1,7 +1,8 @@
 -- What the matches of a parse give.
-use Rattle.std.proofs.Common.{◌≡◌, ◌≢◌, inl, inr, ◌∙◌, ◌<◌, ◌≤◌, ◌^◌, arith, true, false, ap, sym, subst, ℕ, List, [], Option, Some, None, refl}
+use Rattle.std.proofs.Common.{◌≡◌, ◌≢◌, ◌⊎◌, inl, inr, ◌∙◌, ◌<◌, ◌≤◌, ◌^◌, arith, true, false, ap, sym, subst, slice_index, ℕ, List, [], Option, Some, None, refl}
 use Rattle.std.specs.Prelude.{option_map, unwrap_or, Box, codes}
 use Rattle.std.specs.Box.{box_value}
+use Rattle.std.specs.Borrow.{Bor}
 use Rattle.std.specs.Str.Parse.{IsNumeral, digits_value, without_leading_plus}
 use Rattle.clap.specs.Faults.{fault_of, is_simple_and_free}
 use Rattle.clap.specs.Kinds.{HasKind, IsAmong, Kinds}
@@ -15,13 +16,14 @@ use Rattle.clap.specs.declared.parser.matches.Found.{Found}
 use Rattle.clap.specs.declared.parser.matches.SubCommand.{SubCommand}
 use Rattle.clap.specs.declared.error.Error.{Error}
 use Rattle.clap.specs.declared.error.kind.ErrorKind.{ErrorKind}
-use Rattle.clap.specs.declared.error.kind.ErrorKind.TheVariants.{DisplayHelp, OutOfMemory}
+use Rattle.clap.specs.declared.error.kind.ErrorKind.TheVariants.{DisplayHelp, DisplayVersion, OutOfMemory}
 use Rattle.clap.proofs.WalkLemmas.{first_value-rows, one_text-rows}
 use Rattle.word_machine.specs.Bounds.{AreInRange}
-use Rattle.htn_command.specs.CommandLine.{HelpIsDue, IsNumber, faults, htnplan, read_by}
+use Rattle.word_machine.specs.declared.bounds.Bounds.{Bounds}
+use Rattle.htn_command.specs.CommandLine.{HelpIsDue, IsNumber, VersionIsDue, faults, htnplan, read_by}
 use Rattle.htn_command.specs.Request.{AskNothing, IsGiven, IsOf}
 use Rattle.htn_command.specs.declared.request.Request.{Request}
-use Rattle.htn_command.specs.declared.request.Request.TheVariants.{Plan}
+use Rattle.htn_command.specs.declared.request.Request.TheVariants.{Plan, Verify}
 use Rattle.htn_command.proofs.Building.{line_is_free, line_is_simple}
 
 -- a command's name and its rows
@@ -85,30 +87,70 @@ one_number text n m h k =
     let same : h.0 ≡ k.0 = ap (λ o. unwrap_or o k.0) (sym h.1 ∙ k.1) in
     sym h.3 ∙ ap (λ t. digits_value 10 (without_leading_plus t)) same ∙ k.3
 
+-- the two commands have different names
+pub commands_differ : {Z : Type 0} → codes "plan" ≡ codes "verify" → Z
+commands_differ same =
+    let bad : ◌≡◌ {A = ℕ} 112 118 = ap (λ (t : Text). slice_index t 0) same in
+    absurd (omega arith)
+
+-- a command with its rows is none of another name
+other_command : {Z : Type 0} → (row : Text × List Row) (other : Text × List Row) → Some row ≡ Some other → (row.0 ≡ other.0 → Z) → Z
+other_command row other same differ = differ (ap (λ o. (unwrap_or o row).0) same)
+
 module _ (f : Found) where
-  pub lacks_nodes : (r : Request) → IsUnread f (codes "nodes") → IsGiven (rows_of f) r → ⊥
-  lacks_nodes (Plan domain problem bounds) unread h = let within = h.5.nodes_within in no_number f (codes "nodes") bounds.nodes unread (omega arith) h.2
+  -- what `plan` was given
+  abbrev pub Planned : Request → Type 0
+  Planned r = IsOf (Some (codes "plan", rows_of f)) r
 
-  pub lacks_workers : (r : Request) → IsUnread f (codes "workers") → IsGiven (rows_of f) r → ⊥
-  lacks_workers (Plan domain problem bounds) unread h = let within = h.5.workers_within in no_number f (codes "workers") bounds.workers unread (omega arith) h.3
+  -- a request for a plan, whose rows these are
+  plan_of : {Z : Type 0} → (r : Request) → Planned r → ((domain problem : Bor Text) (bounds : Bounds) → IsGiven (rows_of f) (Plan domain problem bounds) → Z) → Z
+  plan_of (Plan domain problem bounds) is use_it = use_it domain problem bounds (given_rows _ _ (Plan domain problem bounds) is refl)
+  plan_of (Verify domain problem plan) is use_it = other_command _ _ is.1 commands_differ
 
-  pub lacks_piece : (r : Request) → IsUnread f (codes "piece") → IsGiven (rows_of f) r → ⊥
-  lacks_piece (Plan domain problem bounds) unread h = no_number f (codes "piece") bounds.piece unread h.5.piece_within h.4
+  pub lacks_nodes : (r : Request) → IsUnread f (codes "nodes") → Planned r → ⊥
+  lacks_nodes r unread is = plan_of r is (λ domain problem bounds h.
+      let within = h.5.nodes_within in no_number f (codes "nodes") bounds.nodes unread (omega arith) h.2)
 
-  pub lacks_domain : (r : Request) → None ≡ first_value f (codes "DOMAIN") → IsGiven (rows_of f) r → ⊥
-  lacks_domain (Plan domain problem bounds) none h = no_text f (codes "DOMAIN") domain.now none h.0
+  pub lacks_workers : (r : Request) → IsUnread f (codes "workers") → Planned r → ⊥
+  lacks_workers r unread is = plan_of r is (λ domain problem bounds h.
+      let within = h.5.workers_within in no_number f (codes "workers") bounds.workers unread (omega arith) h.3)
 
-  pub lacks_problem : (r : Request) → None ≡ first_value f (codes "PROBLEM") → IsGiven (rows_of f) r → ⊥
-  lacks_problem (Plan domain problem bounds) none h = no_text f (codes "PROBLEM") problem.now none h.1
+  pub lacks_piece : (r : Request) → IsUnread f (codes "piece") → Planned r → ⊥
+  lacks_piece r unread is = plan_of r is (λ domain problem bounds h.
+      no_number f (codes "piece") bounds.piece unread h.5.piece_within h.4)
+
+  pub lacks_domain : (r : Request) → None ≡ first_value f (codes "DOMAIN") → Planned r → ⊥
+  lacks_domain r none is = plan_of r is (λ domain problem bounds h. no_text f (codes "DOMAIN") domain.now none h.0)
+
+  pub lacks_problem : (r : Request) → None ≡ first_value f (codes "PROBLEM") → Planned r → ⊥
+  lacks_problem r none is = plan_of r is (λ domain problem bounds h. no_text f (codes "PROBLEM") problem.now none h.1)
 
   -- numbers out of range are not those of a request
   pub out_of_range : (nodes workers piece : ℕ) (r : Request) → IsNumber (one_of (codes "nodes") (rows_of f)) nodes
       → IsNumber (one_of (codes "workers") (rows_of f)) workers → IsNumber (one_of (codes "piece") (rows_of f)) piece
-      → (AreInRange nodes workers piece → false ≡ true) → IsGiven (rows_of f) r → ⊥
-  out_of_range nodes workers piece (Plan domain problem bounds) n w p never h =
+      → (AreInRange nodes workers piece → false ≡ true) → Planned r → ⊥
+  out_of_range nodes workers piece r n w p never is = plan_of r is (λ domain problem bounds h.
       let in_range : AreInRange nodes workers piece = rw (one_number _ _ _ n h.2, one_number _ _ _ w h.3, one_number _ _ _ p h.4) h.5 in
       let bad = never in_range in
-      cc
+      cc)
+
+  -- what `verify` was given
+  abbrev pub Verified : Request → Type 0
+  Verified r = IsOf (Some (codes "verify", rows_of f)) r
+
+  -- a request for a verdict lacks none of its files
+  pub lacks_a_file : (r : Request) (id : Text) → None ≡ first_value f id → (id ≡ codes "DOMAIN") ⊎ ((id ≡ codes "PROBLEM") ⊎ (id ≡ codes "PLAN"))
+      → Verified r → ⊥
+  lacks_a_file (Plan domain problem bounds) id none which is = other_command _ _ is.1 (λ same. commands_differ (sym same))
+  lacks_a_file (Verify domain problem plan) id none which is =
+      let h = given_rows _ _ (Verify domain problem plan) is refl in
+      elim which [
+        | inl e ↦ no_text f _ domain.now (rw (← e) none) h.0
+        | inr more ↦ elim more [
+          | inl e ↦ no_text f _ problem.now (rw (← e) none) h.1
+          | inr e ↦ no_text f _ plan.now (rw (← e) none) h.2
+        ]
+      ]
 
 -- words with a fault ask for nothing
 pub faulty_ask_nothing : (app : App) (words : List Text) (e : Error) → app ≡ htnplan
@@ -121,15 +163,23 @@ faulty_ask_nothing app words e is kinds enough request asked = elim (kinds (ap i
       subst (λ (ks : Kinds). IsAmong (kind_of e) ks) none among
 ]
 
+-- the kind of an error is among those of the words, but for want of memory
+pub among_faults : (app : App) (words : List Text) (e : Error) (k : ErrorKind) → app ≡ htnplan
+    → (is_simple_and_free app ≡ true → HasKind (fault_of app words) e) → kind_of e ≡ k → (k ≡ OutOfMemory → ⊥) → IsAmong k (faults words)
+unfolding faults
+among_faults app words e k is kinds is_kind other = elim (kinds (ap is_simple_and_free is ∙ line_is_free)) [
+  | inl memory ↦ absurd (other (sym is_kind ∙ memory))
+  | inr among ↦
+      let there : IsAmong k (fault_of app words) = subst (λ (k : ErrorKind). IsAmong k (fault_of app words)) is_kind among in
+      subst (λ (a : App). IsAmong k (fault_of a words)) is there
+]
+
 -- help is due where the kind says so
 pub help_is_due : (app : App) (words : List Text) (e : Error) → app ≡ htnplan
     → (is_simple_and_free app ≡ true → HasKind (fault_of app words) e) → kind_of e ≡ DisplayHelp → HelpIsDue words
-unfolding faults
-help_is_due app words e is kinds help = elim (kinds (ap is_simple_and_free is ∙ line_is_free)) [
-  | inl memory ↦
-      let bad : DisplayHelp ≡ OutOfMemory = sym help ∙ memory in
-      cc
-  | inr among ↦
-      let at_help : IsAmong DisplayHelp (fault_of app words) = subst (λ (k : ErrorKind). IsAmong k (fault_of app words)) help among in
-      subst (λ (a : App). IsAmong DisplayHelp (fault_of a words)) is at_help
-]
+help_is_due app words e is kinds help = among_faults app words e DisplayHelp is kinds help (λ bad. cc)
+
+-- and so is the version
+pub version_is_due : (app : App) (words : List Text) (e : Error) → app ≡ htnplan
+    → (is_simple_and_free app ≡ true → HasKind (fault_of app words) e) → kind_of e ≡ DisplayVersion → VersionIsDue words
+version_is_due app words e is kinds version = among_faults app words e DisplayVersion is kinds version (λ bad. cc)

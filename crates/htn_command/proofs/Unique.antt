@@ -2,21 +2,31 @@
 use Rattle.std.proofs.Common.{◌≡◌, ◌∙◌, ap, sym, List, Option, Some}
 use Rattle.std.specs.Prelude.{option_map, unwrap_or}
 use Rattle.clap.specs.Walk.{Row, Text}
-use Rattle.htn_command.specs.Request.{AreAlike, IsGiven, RequestsAreUnique}
+use Rattle.htn_command.specs.Request.{AreAlike, IsGiven, RequestsAreUnique, command_of}
 use Rattle.htn_command.specs.declared.request.Request.{Request}
-use Rattle.htn_command.specs.declared.request.Request.TheVariants.{Plan}
-use Rattle.htn_command.proofs.Matches.{given_rows, one_number}
+use Rattle.htn_command.specs.declared.request.Request.TheVariants.{Plan, Verify}
+use Rattle.htn_command.proofs.Matches.{commands_differ, given_rows, one_number}
 
 -- an option holds one value
 one_value : (text : Option Text) (a b : Text) → text ≡ Some a → text ≡ Some b → a ≡ b
 one_value text a b is also = ap (λ o. unwrap_or o b) (sym is ∙ also)
 
--- rows give one request
-rows_give_one : (rows : List Row) (request other : Request) → IsGiven rows request → IsGiven rows other → AreAlike request other
-rows_give_one rows (Plan domain problem bounds) (Plan other second limits) h k =
+-- so does one of a pair
+one_pair : (found : Option (Text × List Row)) (a b : Text × List Row) → found ≡ Some a → found ≡ Some b → a ≡ b
+one_pair found a b is also = ap (λ o. unwrap_or o b) (sym is ∙ also)
+
+-- a command's rows give one request
+rows_give_one : (rows : List Row) (request other : Request) → command_of request ≡ command_of other → IsGiven rows request → IsGiven rows other
+    → AreAlike request other
+rows_give_one rows (Plan domain problem bounds) (Plan other second limits) same h k =
     (one_value _ _ _ h.0 k.0, one_value _ _ _ h.1 k.1, one_number _ _ _ h.2 k.2, one_number _ _ _ h.3 k.3, one_number _ _ _ h.4 k.4)
+rows_give_one rows (Verify domain problem plan) (Verify other second third) same h k =
+    (one_value _ _ _ h.0 k.0, one_value _ _ _ h.1 k.1, one_value _ _ _ h.2 k.2)
+rows_give_one rows (Plan domain problem bounds) (Verify other second third) same h k = commands_differ same
+rows_give_one rows (Verify domain problem plan) (Plan other second limits) same h k = commands_differ (sym same)
 
 pub requests_are_unique : RequestsAreUnique
 requests_are_unique words request other h k =
     let rows = k.given.0 in
-    rows_give_one rows request other (given_rows _ rows request h.given (ap (option_map (λ p. p.1)) k.given.1)) k.given.2
+    let same = one_pair _ _ _ h.given.1 k.given.1 in
+    rows_give_one rows request other (ap (λ p. p.0) same) (given_rows _ rows request h.given (ap (option_map (λ p. p.1)) k.given.1)) k.given.2

@@ -1,9 +1,10 @@
--- Words that ask for help.
-use Rattle.std.specs.Prelude.{◌||◌, ℕ, Bool, List, codes, nat_eq, ⊤, String, string_bytes}
+-- Words that ask for help, or for the version.
+use Rattle.std.specs.Prelude.{◌≡◌, ◌||◌, ℕ, Bool, true, List, codes, map, nat_eq, ⊤, String, string_bytes}
 use Rattle.std.specs.Cmp.Lexicographic.{pointwise}
 use Rattle.std.specs.List.{list_any, starts_with}
+use Rattle.htn_command.specs.CommandLine.{HelpIsDue, VersionIsDue}
 use Rattle.htn_command.specs.declared.refusal.Refusal.{Refusal}
-use Rattle.htn_command.specs.declared.refusal.Refusal.TheVariants.{Help, Words, OutOfMemory}
+use Rattle.htn_command.specs.declared.refusal.Refusal.TheVariants.{Help, Version, OutOfMemory}
 
 -- `help` itself, or a word that begins with `--help` or `-h`
 abbrev pub is_help_word : List ℕ → Bool
@@ -11,6 +12,21 @@ is_help_word word = pointwise nat_eq word (codes "help") || starts_with nat_eq w
 
 abbrev pub asks_for_help : {Z : Type 0} → List (String Z) → Bool
 asks_for_help words = list_any (λ word. is_help_word (string_bytes word)) words
+
+-- a word that begins with `--version` or `-V`
+abbrev pub is_version_word : List ℕ → Bool
+is_version_word word = starts_with nat_eq word (codes "--version") || starts_with nat_eq word (codes "-V")
+
+abbrev pub asks_for_version : {Z : Type 0} → List (String Z) → Bool
+asks_for_version words = list_any (λ word. is_version_word (string_bytes word)) words
+
+-- the words ask for help: it is due, and one of them asks for it
+abbrev pub HelpIsAsked : {Z : Type 0} → List (String Z) → Type 0
+HelpIsAsked words = HelpIsDue (map string_bytes words) × (asks_for_help words ≡ true)
+
+-- the same of the version
+abbrev pub VersionIsAsked : {Z : Type 0} → List (String Z) → Type 0
+VersionIsAsked words = VersionIsDue (map string_bytes words) × (asks_for_version words ≡ true)
 
 -- a refusal that the words are the reason of
 abbrev pub IsOfWords : Refusal → Type 0
@@ -20,5 +36,9 @@ IsOfWords _ = ⊤
 -- a refusal with the text of help
 abbrev pub ShowsHelp : Refusal → Type 0
 ShowsHelp (Help error) = ⊤
-ShowsHelp (Words error) = ⊥
-ShowsHelp OutOfMemory = ⊥
+ShowsHelp _ = ⊥
+
+-- a refusal with the text of the version
+abbrev pub ShowsVersion : Refusal → Type 0
+ShowsVersion (Version error) = ⊤
+ShowsVersion _ = ⊥

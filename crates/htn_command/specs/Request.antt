@@ -4,11 +4,12 @@ use Rattle.clap.specs.Walk.{Row, Text, first_of, one_of}
 use Rattle.word_machine.specs.Bounds.{AreInRange}
 use Rattle.htn_command.specs.CommandLine.{IsNumber, faults, read_by}
 use Rattle.htn_command.specs.declared.request.Request.{Request}
-use Rattle.htn_command.specs.declared.request.Request.TheVariants.{Plan}
+use Rattle.htn_command.specs.declared.request.Request.TheVariants.{Plan, Verify}
 
 -- the command of a request
 abbrev pub command_of : Request → Text
 command_of (Plan domain problem bounds) = codes "plan"
+command_of (Verify domain problem plan) = codes "verify"
 
 -- what stands under the names of the command
 abbrev pub IsGiven : List Row → Request → Type 0
@@ -19,6 +20,10 @@ IsGiven rows (Plan domain problem bounds) =
     × IsNumber (one_of (codes "workers") rows) bounds.workers
     × IsNumber (one_of (codes "piece") rows) bounds.piece
     × AreInRange bounds.nodes bounds.workers bounds.piece
+IsGiven rows (Verify domain problem plan) =
+    (first_of (codes "DOMAIN") rows ≡ Some domain.now)
+    × (first_of (codes "PROBLEM") rows ≡ Some problem.now)
+    × (first_of (codes "PLAN") rows ≡ Some plan.now)
 
 -- a command with what it was given is this request
 abbrev pub IsOf : Option (Text × List Row) → Request → Type 0
@@ -36,11 +41,13 @@ pub record IsAskedBy (words : List Text) (request : Request) : Type 0 where
 abbrev pub AskNothing : List Text → Type 0
 AskNothing words = (request : Request) → IsAskedBy words request → ⊥
 
--- the same command, over the same files, within the same bounds
+-- the same command, over the same files, and for a plan within the same bounds
 abbrev pub AreAlike : Request → Request → Type 0
 AreAlike (Plan domain problem bounds) (Plan other second limits) =
     (domain.now ≡ other.now) × (problem.now ≡ second.now)
     × (bounds.nodes ≡ limits.nodes) × (bounds.workers ≡ limits.workers) × (bounds.piece ≡ limits.piece)
+AreAlike (Verify domain problem plan) (Verify other second third) = (domain.now ≡ other.now) × (problem.now ≡ second.now) × (plan.now ≡ third.now)
+AreAlike _ _ = ⊥
 
 -- words ask for one request at most
 abbrev pub RequestsAreUnique : Type 0

@@ -11,6 +11,8 @@ use clap::error::ErrorKind;
 pub enum Refusal {
     /// Help was asked for, and this is its text.
     Help(Error),
+    /// The version was asked for, and this is its text.
+    Version(Error),
     /// The words are refused, and this text says why.
     Words(Error),
     /// Memory was refused.
@@ -27,11 +29,25 @@ fn is_help_word(word: &[u8]) -> bool
     word.starts_with(b"--help") || word.starts_with(b"-h")
 }
 
+/// Whether a word asks for the version.
+fn is_version_word(word: &[u8]) -> bool
+    ensures { result ≡ spec.is_version_word word.now }
+{
+    word.starts_with(b"--version") || word.starts_with(b"-V")
+}
+
 /// Whether one of the words asks for help.
 fn ask_for_help(words: &[String]) -> bool
     ensures { result ≡ spec.asks_for_help words.now }
 {
     words.iter().any(|word| is_help_word(word.as_bytes()))
+}
+
+/// Whether one of the words asks for the version.
+fn ask_for_version(words: &[String]) -> bool
+    ensures { result ≡ spec.asks_for_version words.now }
+{
+    words.iter().any(|word| is_version_word(word.as_bytes()))
 }
 
 impl Refusal {
@@ -40,12 +56,17 @@ impl Refusal {
         ensures refused { spec.IsOfWords result → kind_of error ≢ ErrorKind.OutOfMemory }
         ensures help { spec.ShowsHelp result → kind_of error ≡ ErrorKind.DisplayHelp }
         ensures asked { spec.ShowsHelp result → spec.asks_for_help words.now ≡ true }
+        ensures version { spec.ShowsVersion result → kind_of error ≡ ErrorKind.DisplayVersion }
+        ensures wanted { spec.ShowsVersion result → spec.asks_for_version words.now ≡ true }
     {
         if error.kind() == ErrorKind::OutOfMemory {
             return Refusal::OutOfMemory;
         }
         if error.kind() == ErrorKind::DisplayHelp && ask_for_help(words) {
             return Refusal::Help(error);
+        }
+        if error.kind() == ErrorKind::DisplayVersion && ask_for_version(words) {
+            return Refusal::Version(error);
         }
         Refusal::Words(error)
     }

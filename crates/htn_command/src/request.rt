@@ -1,9 +1,9 @@
 //! The words of the command line, read with `clap`.
-ghost use Rattle.std.specs.Prelude.{◌≡◌, ◌≢◌, [], ◌∷◌, true, false, Some, IfOk, IfErr, IfSome, IsNone, MatchOption, map, string_bytes};
-ghost use Rattle.clap.specs.Words.{app_of, kind_of, rule_of, subcommand_rows_of};
+ghost use Rattle.std.specs.Prelude.{◌≡◌, ◌≢◌, false, Some, IfOk, IfErr, IfSome, IsNone, codes, map, string_bytes};
+ghost use Rattle.clap.specs.Words.{app_of, found_of, kind_of, rows_of, rule_of, subcommand_rows_of};
 ghost use Rattle.clap.specs.declared.builder.command.Command.TheViews.{out-Command as fields_of};
 ghost use Rattle.htn_command.specs.CommandLine as line;
-ghost use Rattle.htn_command.specs.Help.{asks_for_help, IsOfWords, ShowsHelp};
+ghost use Rattle.htn_command.specs.Help.{HelpIsAsked, IsOfWords, ShowsHelp, ShowsVersion, VersionIsAsked};
 ghost use Rattle.htn_command.specs.Request.{AskNothing, IsAskedBy, IsOf, IsOfNothing};
 
 use crate::refusal::Refusal;
@@ -22,14 +22,41 @@ pub enum Request<'a> {
         problem: &'a str,
         bounds: Bounds,
     },
+    /// The verdict on the plan in the last of these files, for the domain and the problem in the others.
+    Verify {
+        domain: &'a str,
+        problem: &'a str,
+        plan: &'a str,
+    },
 }
 
-/// Reads the words, of which the first is the program's name. Words that are refused ask for nothing. A refusal is one
-/// for help only where a word asks for it.
+// The version of the program.
+const VERSION: &str = "0.1.0";
+
+// What stands below the help of the program, and of each of its commands.
+const CALLS: &str = "Examples:
+  htnplan plan domain.hddl problem.hddl --nodes 50 > plan.txt
+  htnplan verify domain.hddl problem.hddl plan.txt
+
+The language of domains and problems is described in docs/LANGUAGE.md, that of plans in docs/PLANS.md.";
+
+const PLAN_CALL: &str = "Example:
+  htnplan plan domain.hddl problem.hddl --nodes 50
+
+The language of domains and problems is described in docs/LANGUAGE.md, that of plans in docs/PLANS.md.";
+
+const VERIFY_CALL: &str = "Example:
+  htnplan verify domain.hddl problem.hddl plan.txt
+
+The language of domains and problems is described in docs/LANGUAGE.md, that of plans in docs/PLANS.md.";
+
+/// Reads the words, of which the first is the program's name. Words that are refused ask for nothing. Help and the
+/// version are shown only where a word asks for them.
 pub fn parse<'a>(alloc: Global, words: &'a [String]) -> Result<Request<'a>, Refusal>
     ensures asked { IfOk result (IsAskedBy (map string_bytes words.now)) }
     ensures refused { IfErr result (λ refusal. IsOfWords refusal → AskNothing (map string_bytes words.now)) }
-    ensures help { IfErr result (λ refusal. ShowsHelp refusal → line.HelpIsDue (map string_bytes words.now) × (asks_for_help words.now ≡ true)) }
+    ensures help { IfErr result (λ refusal. ShowsHelp refusal → HelpIsAsked words.now) }
+    ensures version { IfErr result (λ refusal. ShowsVersion refusal → VersionIsAsked words.now) }
 {
     match read(alloc, words) {
         Ok(request) => Ok(request),
@@ -42,10 +69,11 @@ fn read<'a>(alloc: Global, words: &'a [String]) -> Result<Request<'a>, Error>
     ensures asked { IfOk result (IsAskedBy (map string_bytes words.now)) }
     ensures refused { IfErr result (λ e. kind_of e ≢ ErrorKind.OutOfMemory → AskNothing (map string_bytes words.now)) }
     ensures help { IfErr result (λ e. kind_of e ≡ ErrorKind.DisplayHelp → line.HelpIsDue (map string_bytes words.now)) }
+    ensures version { IfErr result (λ e. kind_of e ≡ ErrorKind.DisplayVersion → line.VersionIsDue (map string_bytes words.now)) }
 {
     let command = command(alloc)?;
     let matches = command.try_get_matches_from(words)?;
-    match read_plan_words(&matches) {
+    match read_words(&matches) {
         Some(request) => Ok(request),
         None => Err(unread(alloc)?),
     }
@@ -56,13 +84,17 @@ fn command<'a>(alloc: Global) -> Result<Command<'a>, AllocError>
     ensures { IfOk result (λ c. app_of c ≡ line.htnplan) }
 {
     let plan = plan(alloc)?;
+    let verify = verify(alloc)?;
     let program = Command::new(alloc, "htnplan")
-        .about("Plans hierarchical tasks, and every answer is proved")
+        .version(VERSION)
+        .about("Plans hierarchical tasks and verifies plans, and every answer is proved")
+        .after_help(CALLS)
         .subcommand_required(true)
         .arg_required_else_help(true);
-    program.subcommand(plan)
+    program.subcommand(plan)?.subcommand(verify)
 }
 
+// The command `plan`.
 fn plan<'a>(alloc: Global) -> Result<Command<'a>, AllocError>
     ensures { IfOk result (λ c. (app_of c ≡ line.plan) × ((fields_of c).has_globals ≡ false)) }
 {
@@ -76,13 +108,27 @@ fn plan<'a>(alloc: Global) -> Result<Command<'a>, AllocError>
     );
     Command::new(alloc, "plan")
         .about("Prints the plan with the fewest nodes, or `none`, or `unsolvable`")
-        .arg(file(alloc, "DOMAIN", "The domain, in HDDL"))?
-        .arg(file(alloc, "PROBLEM", "The problem, in HDDL"))?
+        .after_help(PLAN_CALL)
+        .arg(file(alloc, "DOMAIN", "The file of the domain, in HDDL"))?
+        .arg(file(alloc, "PROBLEM", "The file of the problem, in HDDL"))?
         .arg(nodes.help("Compound tasks, actions and precondition steps of a plan, at most"))?
         .arg(workers.help("Threads that search"))?
         .arg(piece.help("Configurations that a worker takes at a time"))
 }
 
+// The command `verify`.
+fn verify<'a>(alloc: Global) -> Result<Command<'a>, AllocError>
+    ensures { IfOk result (λ c. (app_of c ≡ line.verify) × ((fields_of c).has_globals ≡ false)) }
+{
+    Command::new(alloc, "verify")
+        .about("Prints `valid` where the plan solves the problem, or else `invalid:` and why")
+        .after_help(VERIFY_CALL)
+        .arg(file(alloc, "DOMAIN", "The file of the domain, in HDDL"))?
+        .arg(file(alloc, "PROBLEM", "The file of the problem, in HDDL"))?
+        .arg(file(alloc, "PLAN", "The file of the plan, as `plan` prints it"))
+}
+
+// A word that has to stand: the name of a file.
 fn file<'a>(alloc: Global, id: &'a str, help: &'a str) -> Arg<'a>
     ensures rule { rule_of result ≡ line.file id.now }
     ensures local { result.global ≡ false }
@@ -90,6 +136,7 @@ fn file<'a>(alloc: Global, id: &'a str, help: &'a str) -> Arg<'a>
     Arg::new(alloc, id).required(true).help(help)
 }
 
+// An option with a number.
 fn number<'a>(alloc: Global, id: &'a str, default: &'a str, parser: ValueParser<'a>) -> Arg<'a>
     ensures rule { rule_of result ≡ record (line.number id.now default.now 0 0) { parser = Some parser.entry } }
     ensures local { result.global ≡ false }
@@ -101,12 +148,22 @@ fn number<'a>(alloc: Global, id: &'a str, default: &'a str, parser: ValueParser<
         .value_parser(parser)
 }
 
-// None where the matches lack a word or a number of `plan`, which `clap` doesn't let pass.
-fn read_plan_words<'a>(matches: &ArgMatches<'a>) -> Option<Request<'a>>
+// None where the matches lack a word or a number of a command, which `clap` doesn't let pass.
+fn read_words<'a>(matches: &ArgMatches<'a>) -> Option<Request<'a>>
     ensures some { IfSome result (IsOf (subcommand_rows_of matches.now)) }
     ensures none { IsNone result → IsOfNothing (subcommand_rows_of matches.now) }
 {
-    let plan = matches.subcommand_matches("plan")?;
+    if let Some(plan) = matches.subcommand_matches("plan") {
+        return read_plan_words(plan);
+    }
+    read_verify_words(matches.subcommand_matches("verify")?)
+}
+
+// The request of what `plan` was given.
+fn read_plan_words<'a>(plan: &ArgMatches<'a>) -> Option<Request<'a>>
+    ensures some { IfSome result (IsOf (Some (codes "plan", rows_of (found_of plan.now)))) }
+    ensures none { IsNone result → IsOfNothing (Some (codes "plan", rows_of (found_of plan.now))) }
+{
     let nodes = plan.get_one::<u64>("nodes")?;
     let workers = plan.get_one::<u64>("workers")?;
     let piece = plan.get_one::<u64>("piece")?;
@@ -117,6 +174,21 @@ fn read_plan_words<'a>(matches: &ArgMatches<'a>) -> Option<Request<'a>>
         domain,
         problem,
         bounds,
+    })
+}
+
+// The request of what `verify` was given.
+fn read_verify_words<'a>(verify: &ArgMatches<'a>) -> Option<Request<'a>>
+    ensures some { IfSome result (IsOf (Some (codes "verify", rows_of (found_of verify.now)))) }
+    ensures none { IsNone result → IsOfNothing (Some (codes "verify", rows_of (found_of verify.now))) }
+{
+    let domain = verify.get_str("DOMAIN")?;
+    let problem = verify.get_str("PROBLEM")?;
+    let plan = verify.get_str("PLAN")?;
+    Some(Request::Verify {
+        domain,
+        problem,
+        plan,
     })
 }
 

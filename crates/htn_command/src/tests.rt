@@ -32,7 +32,7 @@ fn status_of(alloc: Global, line: &str) -> Result<i32, AllocError> {
     let words = words_of(alloc, line)?;
     Ok(match parse(alloc, words.as_slice()) {
         Ok(_) => -1,
-        Err(Refusal::Help(_)) => 0,
+        Err(Refusal::Help(_) | Refusal::Version(_)) => 0,
         Err(Refusal::Words(_)) => 2,
         Err(Refusal::OutOfMemory) => 4,
     })
@@ -52,11 +52,119 @@ fn refuses_numbers_out_of_range(rt: HostRuntime) -> Result<(), Fail> {
     assert!(rt; status_of(alloc, "htnplan plan d p --workers 65")? == 2);
     assert!(rt; status_of(alloc, "htnplan plan d p --piece 0")? == 2);
     assert!(rt; status_of(alloc, "htnplan plan d")? == 2);
-    assert!(rt; status_of(alloc, "htnplan verify d p f")? == 2);
     assert!(rt; status_of(alloc, "htnplan")? == 2);
+    Ok(())
+}
+
+#[test]
+fn reads_three_files(rt: HostRuntime) -> Result<(), Fail> {
+    let words = words_of(rt.alloc(), "htnplan verify d.hddl p.hddl f.txt")?;
+    let Ok(
+        Request::Verify {
+            domain,
+            problem,
+            plan,
+        },
+    ) = parse(rt.alloc(), words.as_slice())
+    else {
+        return Err(Fail::new("no request"));
+    };
+    assert!(rt; domain == "d.hddl" && problem == "p.hddl" && plan == "f.txt");
+    Ok(())
+}
+
+#[test]
+fn refuses_fewer_files_and_more(rt: HostRuntime) -> Result<(), Fail> {
+    let alloc = rt.alloc();
+    assert!(rt; status_of(alloc, "htnplan verify d p f")? == -1);
+    assert!(rt; status_of(alloc, "htnplan verify -- d p f")? == -1);
+    assert!(rt; status_of(alloc, "htnplan verify")? == 2);
+    assert!(rt; status_of(alloc, "htnplan verify d")? == 2);
+    assert!(rt; status_of(alloc, "htnplan verify d p")? == 2);
+    assert!(rt; status_of(alloc, "htnplan verify d p f g")? == 2);
+    assert!(rt; status_of(alloc, "htnplan verify d p f --nodes 5")? == 2);
+    assert!(rt; status_of(alloc, "htnplan plan d p f")? == 2);
+    Ok(())
+}
+
+#[test]
+fn shows_help_and_the_version(rt: HostRuntime) -> Result<(), Fail> {
+    let alloc = rt.alloc();
     assert!(rt; status_of(alloc, "htnplan --help")? == 0);
     assert!(rt; status_of(alloc, "htnplan plan --help")? == 0);
     assert!(rt; status_of(alloc, "htnplan plan -h")? == 0);
     assert!(rt; status_of(alloc, "htnplan help plan")? == 0);
+    assert!(rt; status_of(alloc, "htnplan verify --help")? == 0);
+    assert!(rt; status_of(alloc, "htnplan verify d -h")? == 0);
+    assert!(rt; status_of(alloc, "htnplan help verify")? == 0);
+    assert!(rt; status_of(alloc, "htnplan --version")? == 0);
+    assert!(rt; status_of(alloc, "htnplan -V")? == 0);
+    assert!(rt; status_of(alloc, "htnplan verify --version")? == 2);
+    assert!(rt; status_of(alloc, "htnplan paint --version")? == 2);
+    Ok(())
+}
+
+// The text that is shown for a line, or the text of its refusal.
+fn shown(alloc: Global, line: &str) -> Result<String, Fail> {
+    let words = words_of(alloc, line)?;
+    match parse(alloc, words.as_slice()) {
+        Err(Refusal::Help(text) | Refusal::Version(text) | Refusal::Words(text)) => Ok(
+            format!(in alloc; "{text}")?,
+        ),
+        _ => Err(Fail::new("no text")),
+    }
+}
+
+const HELP: &str = "Plans hierarchical tasks and verifies plans, and every answer is proved
+
+Usage: htnplan <COMMAND>
+
+Commands:
+  plan    Prints the plan with the fewest nodes, or `none`, or `unsolvable`
+  verify  Prints `valid` where the plan solves the problem, or else `invalid:` and why
+  help    Print this message or the help of the given subcommand(s)
+
+Options:
+  -h, --help     Print help
+  -V, --version  Print version
+
+Examples:
+  htnplan plan domain.hddl problem.hddl --nodes 50 > plan.txt
+  htnplan verify domain.hddl problem.hddl plan.txt
+
+The language of domains and problems is described in docs/LANGUAGE.md, that of plans in docs/PLANS.md.
+";
+
+const HELP_OF_VERIFY: &str =
+    "Prints `valid` where the plan solves the problem, or else `invalid:` and why
+
+Usage: htnplan verify <DOMAIN> <PROBLEM> <PLAN>
+
+Arguments:
+  <DOMAIN>   The file of the domain, in HDDL
+  <PROBLEM>  The file of the problem, in HDDL
+  <PLAN>     The file of the plan, as `plan` prints it
+
+Options:
+  -h, --help  Print help
+
+Example:
+  htnplan verify domain.hddl problem.hddl plan.txt
+
+The language of domains and problems is described in docs/LANGUAGE.md, that of plans in docs/PLANS.md.
+";
+
+#[test]
+fn texts(rt: HostRuntime) -> Result<(), Fail> {
+    let alloc = rt.alloc();
+    let rows = [
+        ("htnplan --version", "htnplan 0.1.0\n"),
+        ("htnplan --help", HELP),
+        ("htnplan verify --help", HELP_OF_VERIFY),
+    ];
+    for (line, text) in rows {
+        let found = shown(alloc, line)?;
+        assert_eq!(rt; found.as_str(), text, "{line}");
+    }
     Ok(())
 }

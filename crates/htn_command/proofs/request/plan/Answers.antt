@@ -22,7 +22,8 @@ returns c =
     let with_nodes = ap rule c.help.ensures ∙ c.number-nodes.ensures.rule ∙ ap (with_parser (number (codes "nodes") (codes "100") 0 0)) nodes in
     let with_workers = ap rule c.help-2.ensures ∙ c.number-workers.ensures.rule ∙ ap (with_parser (number (codes "workers") (codes "1") 0 0)) workers in
     let with_piece = ap rule c.help-3.ensures ∙ c.number-piece.ensures.rule ∙ ap (with_parser (number (codes "piece") (codes "64") 0 0)) piece in
-    let start : Is c.about.result (new_app (codes "plan")) = (ap app_of_fields c.about.ensures ∙ c.new-4.ensures.app, search rules) in
+    let start : Is c.after_help.result (new_app (codes "plan")) =
+    (ap app_of_fields c.after_help.ensures ∙ ap app_of_fields c.about.ensures ∙ c.new-4.ensures.app, search rules) in
     let one = with_one _ _ _ _ _ start c.in_ok-arg.ensures c.file.ensures.rule c.file.ensures.local in
     let two = with_one _ _ _ _ _ one c.in_ok-arg-2.ensures c.file-2.ensures.rule c.file-2.ensures.local in
     let three = with_one _ _ _ _ _ two c.in_ok-arg-3.ensures with_nodes (ap global c.help.ensures ∙ c.number-nodes.ensures.local) in

@@ -1,7 +1,7 @@
 use Rattle.std.proofs.Common.{rules, sym, subst}
 use Rattle.std.proofs.lemmas.Result.{err_from_is_err_and}
 use Rattle.htn_command.specs.Request.{IsOf}
-use Rattle.htn_command.proofs.Matches.{faulty_ask_nothing, help_is_due, parse_is_sound, parse_reads}
+use Rattle.htn_command.proofs.Matches.{faulty_ask_nothing, help_is_due, parse_is_sound, parse_reads, version_is_due}
 use Rattle.htn_command.proofs.request.read.Goals as goal
 
 pub returns-in_err-matches-clause-refused : goal.returns-in_err-matches-clause-refused
@@ -13,6 +13,11 @@ pub returns-in_err-matches-clause-help : goal.returns-in_err-matches-clause-help
 returns-in_err-matches-clause-help c =
     let p = err_from_is_err_and c.from_residual-in_err-matches.result c.from_residual-in_err-matches.ensures.1 in
     rw (p.1, p.2) (help_is_due _ _ c.in_err-matches.field-0.0 c.in_ok-command.ensures c.in_err-matches.ensures.kinds)
+
+pub returns-in_err-matches-clause-version : goal.returns-in_err-matches-clause-version
+returns-in_err-matches-clause-version c =
+    let p = err_from_is_err_and c.from_residual-in_err-matches.result c.from_residual-in_err-matches.ensures.1 in
+    rw (p.1, p.2) (version_is_due _ _ c.in_err-matches.field-0.0 c.in_ok-command.ensures c.in_err-matches.ensures.kinds)
 
 pub returns-in-Some-clause-asked : goal.returns-in-Some-clause-asked
 returns-in-Some-clause-asked c = record {

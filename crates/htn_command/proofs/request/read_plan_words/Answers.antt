@@ -1,46 +1,46 @@
-use Rattle.std.proofs.Common.{rules, ◌∙◌, sym, refl, codes}
+use Rattle.std.proofs.Common.{◌∙◌, sym, refl, codes}
 use Rattle.clap.specs.Walk.{rows_of}
 use Rattle.clap.specs.Matches.{found_of}
 use Rattle.clap.proofs.WalkLemmas.{first_value-rows}
-use Rattle.htn_command.proofs.Matches.{given_rows, lacks_domain, lacks_nodes, lacks_piece, lacks_problem, lacks_workers, name_and_rows, number_read, out_of_range}
+use Rattle.htn_command.proofs.Matches.{lacks_domain, lacks_nodes, lacks_piece, lacks_problem, lacks_workers, number_read, out_of_range}
 use Rattle.htn_command.proofs.request.read_plan_words.Goals as goal
 
 pub returns-in_err-nodes-clause-none : goal.returns-in_err-nodes-clause-none
 returns-in_err-nodes-clause-none c none request is =
-    lacks_nodes (found_of c.in_ok-plan.plan.now) request (λ t e. (c.in_err-nodes.ensures.value t e).1.0) (given_rows _ _ request is c.in_ok-plan.ensures.rows)
+    lacks_nodes (found_of c.args.plan.now) request (λ t e. (c.in_err-nodes.ensures.value t e).1.0) is
 
 pub returns-in_err-workers-clause-none : goal.returns-in_err-workers-clause-none
 returns-in_err-workers-clause-none c none request is =
-    lacks_workers (found_of c.in_ok-plan.plan.now) request (λ t e. (c.in_err-workers.ensures.value t e).1.0) (given_rows _ _ request is c.in_ok-plan.ensures.rows)
+    lacks_workers (found_of c.args.plan.now) request (λ t e. (c.in_err-workers.ensures.value t e).1.0) is
 
 pub returns-in_err-piece-clause-none : goal.returns-in_err-piece-clause-none
 returns-in_err-piece-clause-none c none request is =
-    lacks_piece (found_of c.in_ok-plan.plan.now) request (λ t e. (c.in_err-piece.ensures.value t e).1.0) (given_rows _ _ request is c.in_ok-plan.ensures.rows)
+    lacks_piece (found_of c.args.plan.now) request (λ t e. (c.in_err-piece.ensures.value t e).1.0) is
 
 pub returns-in_err-domain-clause-none : goal.returns-in_err-domain-clause-none
 returns-in_err-domain-clause-none c none request is =
-    lacks_domain (found_of c.in_ok-plan.plan.now) request c.in_err-domain.ensures (given_rows _ _ request is c.in_ok-plan.ensures.rows)
+    lacks_domain (found_of c.args.plan.now) request c.in_err-domain.ensures is
 
 pub returns-in_err-problem-clause-none : goal.returns-in_err-problem-clause-none
 returns-in_err-problem-clause-none c none request is =
-    lacks_problem (found_of c.in_ok-plan.plan.now) request c.in_err-problem.ensures (given_rows _ _ request is c.in_ok-plan.ensures.rows)
+    lacks_problem (found_of c.args.plan.now) request c.in_err-problem.ensures is
 
 pub returns-in_err-bounds-clause-none : goal.returns-in_err-bounds-clause-none
 returns-in_err-bounds-clause-none c none request is =
-    let f = found_of c.in_ok-plan.plan.now in
+    let f = found_of c.args.plan.now in
     out_of_range f _ _ _ request
     (number_read f (codes "nodes") _ _ refl c.in_ok-nodes.ensures.none (λ t e. (c.in_ok-nodes.ensures.value t e).0))
     (number_read f (codes "workers") _ _ refl c.in_ok-workers.ensures.none (λ t e. (c.in_ok-workers.ensures.value t e).0))
     (number_read f (codes "piece") _ _ refl c.in_ok-piece.ensures.none (λ t e. (c.in_ok-piece.ensures.value t e).0))
     c.in_err-bounds.ensures.in_range.1
-    (given_rows _ _ request is c.in_ok-plan.ensures.rows)
+    is
 
 pub returns-clause-some : goal.returns-clause-some
 returns-clause-some c =
-    let f = found_of c.in_ok-plan.plan.now in
+    let f = found_of c.args.plan.now in
     let same = c.in_ok-bounds.ensures.bounds in (
       rows_of f,
-      name_and_rows _ _ _ (c.in_ok-plan.ensures.found.0 (search rules)) c.in_ok-plan.ensures.rows,
+      refl,
       (
         sym (first_value-rows f (codes "DOMAIN")) ∙ sym c.in_ok-domain.ensures,
         sym (first_value-rows f (codes "PROBLEM")) ∙ sym c.in_ok-problem.ensures,

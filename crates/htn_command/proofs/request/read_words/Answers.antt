@@ -1,0 +1,19 @@
+use Rattle.std.proofs.Common.{rules, ◌≡◌, subst, Some, codes}
+use Rattle.clap.specs.Matches.{found_of}
+use Rattle.clap.specs.Simple.{subcommand_rows_of}
+use Rattle.clap.specs.Walk.{rows_of}
+use Rattle.htn_command.specs.Request.{IsOf}
+use Rattle.htn_command.proofs.Matches.{name_and_rows}
+use Rattle.htn_command.proofs.request.read_words.Goals as goal
+
+pub returns-in-Some-clause-none : goal.returns-in-Some-clause-none
+returns-in-Some-clause-none c none request is =
+    let found : subcommand_rows_of c.args.matches.now ≡ Some (codes "plan", rows_of (found_of c.in-Some.plan.now)) =
+    name_and_rows _ _ _ (c.subcommand_matches.ensures.found.0 (search rules)) c.in-Some.ensures.rows in
+    c.read_plan_words.ensures.none none request (subst (λ f. IsOf f request) found is)
+
+pub returns-clause-none : goal.returns-clause-none
+returns-clause-none c none request is =
+    let found : subcommand_rows_of c.args.matches.now ≡ Some (codes "verify", rows_of (found_of c.in_ok-subcommand_matches.field-0.now)) =
+    name_and_rows _ _ _ (c.subcommand_matches-2.ensures.found.0 (search rules)) c.in_ok-subcommand_matches.ensures.rows in
+    c.read_verify_words.ensures.none none request (subst (λ f. IsOf f request) found is)
