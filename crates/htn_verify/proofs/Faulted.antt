@@ -28,16 +28,18 @@ decomposition_line_at [] j line at = absurd cc
 decomposition_line_at (l ∷ lines) zero line at = let same : l ≡ line = cc in ap (λ x. Some (decomposition_line x)) same
 decomposition_line_at (l ∷ lines) (suc j) line at = decomposition_line_at lines j line at
 
--- as many of them
+-- as many lines as action lines
 pub action_line_count : (lines : List ActionLine) → length (action_lines lines) ≡ length lines
 action_line_count [] = refl
 action_line_count (line ∷ lines) = ap suc (action_line_count lines)
 
+-- as many lines as decomposition lines
 pub decomposition_line_count : (lines : List DecompositionLine) → length (decomposition_lines lines) ≡ length lines
 decomposition_line_count [] = refl
 decomposition_line_count (line ∷ lines) = ap suc (decomposition_line_count lines)
 
 module _ (naming : Naming) (problem : Problem) (file : PlanFile) where
+  -- a line has an instance
   abbrev Has : Line → Type 0
   Has = HasInstance naming problem file
 

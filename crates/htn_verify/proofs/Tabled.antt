@@ -40,6 +40,7 @@ are_named naming file =
 
 -- ## Tasks alone
 
+-- each entry is a task
 abbrev AreSome : List (Option GroundTask) → Type 0
 AreSome named = AllByRecursion (λ o. (t : GroundTask) × (o ≡ Some t)) named
 
@@ -49,16 +50,17 @@ kept [] all = refl
 kept (None ∷ named) all = absurd cc
 kept (Some t ∷ named) all = ap (λ ts. Some t ∷ ts) (kept named all.1)
 
--- both parts of a list
+-- what holds of two lists holds of both together
 pub all_joined : {X : Type 0} (P : X → Type 0) (xs ys : List X) → AllByRecursion P xs → AllByRecursion P ys → AllByRecursion P (xs ++ ys)
 all_joined P [] ys first second = second
 all_joined P (x ∷ xs) ys first second = (first.0, all_joined P xs ys first.1 second)
 
--- and each of them
+-- the first part of such a list
 pub all_first : {X : Type 0} (P : X → Type 0) (xs ys : List X) → AllByRecursion P (xs ++ ys) → AllByRecursion P xs
 all_first P [] ys all = tt
 all_first P (x ∷ xs) ys all = (all.0, all_first P xs ys all.1)
 
+-- and the second
 pub all_second : {X : Type 0} (P : X → Type 0) (xs ys : List X) → AllByRecursion P (xs ++ ys) → AllByRecursion P ys
 all_second P [] ys all = all
 all_second P (x ∷ xs) ys all = all_second P xs ys all.1
