@@ -1,6 +1,7 @@
 -- A `forall` and its body.
 use Rattle.std.proofs.Common.{◌≡◌, ◌++◌, ◌∙◌, sym, [], ◌∷◌, Global, List, Vec, ap, map, rules, ℕ, ◌+◌, ◌≤◌, ◌&&◌, Bool, true, false, nat_le, length, refl, get_or, ◌<◌}
 use Rattle.std.specs.List.{list_all}
+use Rattle.std.proofs.lemmas.List.{map-append}
 use Rattle.std.proofs.lemmas.List.Recursion.{and_at}
 use borrow.Author.Tests.{leb-true}
 use Rattle.htn_model.specs.Schema as model
@@ -17,6 +18,10 @@ use Rattle.hddl_build.proofs.Groups.{map-map}
 
 pub view-ForAll : (types : Vec ℕ Global) (body : Vec Formula Global) → task.formula_of (ForAll types body) ≡ model.for_all types.items (model.formulas_of (task.formulas_view body.items))
 view-ForAll types body = search (rules, the_lemmas)
+
+-- the formulas, with one more
+pub view_more : (old : List Formula) (formula : Formula) → task.formulas_view (old ++ formula ∷ []) ≡ task.formulas_view old ++ task.formula_of formula ∷ []
+view_more old formula = map-append task.formula_of old (formula ∷ [])
 
 step-Forall : (v : Vocabulary) (groups : List VariableGroup) (body : List Condition)
     → formula_of v (Forall groups body) ≡ formula_step v (Condition-F.Forall groups (map (formula_of v) body))

@@ -1,14 +1,14 @@
 -- Typed lists, group by group.
-use Rattle.std.proofs.Common.{◌≡◌, ◌+◌, Bool, not, List, [], ◌∷◌, ◌++◌, map, Some, None, refl, ap, ap₂, ◌∙◌, cond, nat_lt}
-use Rattle.std.specs.List.{flat_map, position, position_or_len}
+use Rattle.std.proofs.Common.{◌≡◌, List, [], ◌∷◌, ◌++◌, map, refl, ap, ap₂, ◌∙◌}
+use Rattle.std.specs.List.{flat_map}
 use Rattle.std.specs.Option.{option_map}
-use Rattle.std.proofs.lemmas.List.{map-append, length-map}
+use Rattle.std.proofs.lemmas.List.{map-append}
 use Rattle.hddl_tree.specs.declared.term.VariableGroup.{VariableGroup}
-use Rattle.hddl_meaning.specs.Mentions.{Typed, folded, mention_of, variable_mention, typed_variables}
+use Rattle.hddl_meaning.specs.Mentions.{Typed, mention_of, variable_mention, typed_variables}
 use Rattle.hddl_meaning.specs.Names.{number_in}
 use Rattle.hddl_meaning.specs.Types.{text_or_object}
 use Rattle.hddl_meaning.specs.Building as building
-use Rattle.hddl_meaning.specs.Building.{variables_of, types_of}
+use Rattle.hddl_meaning.specs.Building.{types_of}
 
 pub map-map : {X Y Z : Type 0} (f : Y → Z) (g : X → Y) (xs : List X) → map f (map g xs) ≡ map (λ x. f (g x)) xs
 map-map f g [] = refl
@@ -22,16 +22,6 @@ map_typed f (g ∷ gs) =
     map-append f (map (λ x. record { mention = variable_mention x; of_type = option_map mention_of g.of_type }) g.variables) (typed_variables gs)
     ∙ ap₂ (λ a b. a ++ b) (map-map f (λ x. record { mention = variable_mention x; of_type = option_map mention_of g.of_type }) g.variables) (map_typed f gs)
 
-pub variables_by_group : (groups : List VariableGroup) → variables_of groups ≡ flat_map (λ g. map (λ x. folded x.text) g.variables) groups
-variables_by_group groups = map-map (λ m. m.text) (λ t. t.mention) (typed_variables groups) ∙ map_typed (λ t. t.mention.text) groups
-
 pub types_by_group : (v : building.Vocabulary) (groups : List VariableGroup)
     → types_of v groups ≡ flat_map (λ g. map (λ _. number_in v.types (text_or_object (option_map mention_of g.of_type))) g.variables) groups
 types_by_group v groups = map_typed (λ t. number_in v.types (text_or_object t.of_type)) groups
-
-pub position_or_len-map : {X Y : Type 0} (p : Y → Bool) (f : X → Y) (xs : List X) → position_or_len p (map f xs) ≡ position_or_len (λ x. p (f x)) xs
-position_or_len-map p f [] = refl
-position_or_len-map p f (x ∷ xs) = ap (λ n. cond (not (p (f x))) (1 + n) 0) (position_or_len-map p f xs)
-
-pub position-map : {X Y : Type 0} (p : Y → Bool) (f : X → Y) (xs : List X) → position p (map f xs) ≡ position (λ x. p (f x)) xs
-position-map p f xs = ap₂ (λ k n. cond (nat_lt k n) (Some k) None) (position_or_len-map p f xs) (length-map xs f)

@@ -1,5 +1,5 @@
 pub mod Groups
-pub mod Positions
+pub mod Variables
 pub mod Steps
 pub mod Formulas
 pub mod Labelled

@@ -1,7 +1,13 @@
 -- Steps of loops that add to a list.
-use Rattle.std.proofs.Common.{◌≡◌, ℕ, ◌+◌, ◌<◌, ◌≤◌, List, [], ◌∷◌, ◌++◌, sym, ap, ◌∙◌, length, take, get_or, subst}
+use Rattle.std.proofs.Common.{◌≡◌, ℕ, ◌+◌, ◌<◌, ◌≤◌, List, [], ◌∷◌, ◌++◌, sym, ap, ◌∙◌, length, map, take, get_or, subst}
 use Rattle.std.specs.List.{AllZip, flat_map}
-use Rattle.std.proofs.lemmas.List.{flat_map_more, take_more, take_all}
+use Rattle.std.proofs.lemmas.List.{flat_map_more, map-append, take_more, take_all}
+
+pub map_step : {X A : Type 0} (f : X → A) (mid new : List A) (xs : List X) (i : ℕ) (x : X) → i < length xs → x ≡ get_or xs i x
+    → mid ≡ map f (take i xs) → new ≡ mid ++ f x ∷ [] → new ≡ map f (take (i + 1) xs)
+map_step f mid new xs i x h at before step =
+    step ∙ ap (λ l. l ++ f x ∷ []) before ∙ sym (map-append f (take i xs) (x ∷ []))
+    ∙ ap (λ l. map f l) (ap (λ y. take i xs ++ y ∷ []) at ∙ sym (take_more xs i x h))
 
 pub flat_step : {X A : Type 0} (f : X → List A) (old mid new : List A) (xs : List X) (i : ℕ) (x : X) → i < length xs → x ≡ get_or xs i x
     → mid ≡ old ++ flat_map f (take i xs) → new ≡ mid ++ f x → new ≡ old ++ flat_map f (take (i + 1) xs)

@@ -1,8 +1,7 @@
--- Variables that are lent, as their texts.
+-- Variables in force as their texts.
 use Rattle.std.specs.Prelude.{List, map}
-use Rattle.std.specs.Borrow.{Bor}
-use Rattle.hddl_words.specs.Names.{Variable}
-use Rattle.hddl_meaning.specs.Mentions.{Text, folded}
+use Rattle.hddl_meaning.specs.Mentions.{Text}
+use Rattle.hddl_meaning.specs.Uses.{Variable}
 
-abbrev pub texts_of : List (Bor Variable) → List Text
-texts_of variables = map (λ x. folded x.now.text) variables
+abbrev pub texts_of : List Variable → List Text
+texts_of variables = map (λ v. v.typed.mention.text) variables

@@ -13,16 +13,17 @@ use hddl_tree::{Condition, LiteralText};
 use htn_task::{AtomSchema, Formula, FormulaList};
 use std::alloc::{AllocError, Global};
 
-/// A part of a condition under the variables in force.
-fn formula_of<'a>(
+/// A part of a condition under the variables in force. These are in force afterwards too.
+fn formula_of(
     alloc: Global,
     vocabulary: &Vocabulary,
-    scope: &Scope<'a>,
-    condition: &'a Condition,
+    scope: &mut Scope,
+    condition: &Condition,
 ) -> Result<Formula, AllocError>
     requires numbered { IsNumbered vocabulary.now }
-    requires in_force { fits (length scope.now) condition.now ≡ true }
-    ensures { IfOk result (λ f. formulas.formula_of f ≡ building.formula_of vocabulary.now condition.now scope.now) }
+    requires in_force { fits (length scope.old) condition.now ≡ true }
+    ensures value { IfOk result (λ f. formulas.formula_of f ≡ building.formula_of vocabulary.now condition.now scope.old) }
+    ensures kept { scope.new ≡ scope.old }
 {
     match condition {
         Condition::Literal(literal) => {
@@ -35,26 +36,40 @@ fn formula_of<'a>(
         }
         Condition::Forall(groups, body) => {
             let types = types_of(alloc, vocabulary, groups.as_slice())?;
-            let inner = scope.with(alloc, groups.as_slice())?;
+            let around = scope.len();
+            scope.push(alloc, groups.as_slice())?;
             let mut formulas = Vec::new(alloc);
             for part in body.as_slice() {
-                formulas.push(formula_of(alloc, vocabulary, &inner, part)?)?;
+                match formula_of(alloc, vocabulary, scope, part) {
+                    Ok(formula) => {
+                        if formulas.push(formula).is_err() {
+                            scope.truncate(around);
+                            return Err(AllocError);
+                        }
+                    }
+                    Err(error) => {
+                        scope.truncate(around);
+                        return Err(error);
+                    }
+                }
             }
+            scope.truncate(around);
             Ok(Formula::ForAll(types, formulas))
         }
     }
 }
 
-/// A conjunction.
-pub(crate) fn formulas_of<'a>(
+/// A conjunction. The variables in force afterwards are those before.
+pub(crate) fn formulas_of(
     alloc: Global,
     vocabulary: &Vocabulary,
-    scope: &Scope<'a>,
-    conditions: &'a [Condition],
+    scope: &mut Scope,
+    conditions: &[Condition],
 ) -> Result<FormulaList, AllocError>
     requires numbered { IsNumbered vocabulary.now }
-    requires in_force { all_fit (length scope.now) conditions.now ≡ true }
-    ensures { IfOk result (λ l. l ≡ building.formulas_of vocabulary.now scope.now conditions.now) }
+    requires in_force { all_fit (length scope.old) conditions.now ≡ true }
+    ensures value { IfOk result (λ l. l ≡ building.formulas_of vocabulary.now scope.old conditions.now) }
+    ensures kept { scope.new ≡ scope.old }
 {
     let mut formulas = Vec::new(alloc);
     for condition in conditions {
@@ -73,8 +88,8 @@ pub(crate) fn goal_of(
     requires in_force { all_fit 0 conditions.now ≡ true }
     ensures { IfOk result (λ l. l ≡ building.formulas_of vocabulary.now [] conditions.now) }
 {
-    let scope = Scope::empty(alloc);
-    let goal = formulas_of(alloc, vocabulary, &scope, conditions)?;
+    let mut scope = Scope::empty(alloc);
+    let goal = formulas_of(alloc, vocabulary, &mut scope, conditions)?;
     Ok(goal)
 }
 
@@ -82,7 +97,7 @@ pub(crate) fn goal_of(
 pub(crate) fn deletes_of(
     alloc: Global,
     vocabulary: &Vocabulary,
-    scope: &Scope<'_>,
+    scope: &Scope,
     effect: &[LiteralText],
 ) -> Result<Vec<AtomSchema>, AllocError>
     requires { IsNumbered vocabulary.now }
@@ -101,7 +116,7 @@ pub(crate) fn deletes_of(
 pub(crate) fn adds_of(
     alloc: Global,
     vocabulary: &Vocabulary,
-    scope: &Scope<'_>,
+    scope: &Scope,
     effect: &[LiteralText],
 ) -> Result<Vec<AtomSchema>, AllocError>
     requires { IsNumbered vocabulary.now }

@@ -90,7 +90,7 @@ fn order_of(alloc: Global, network: &NetworkText) -> Result<Order, AllocError>
 fn subtasks_of(
     alloc: Global,
     vocabulary: &Vocabulary,
-    scope: &Scope<'_>,
+    scope: &Scope,
     subtasks: &[SubtaskText],
 ) -> Result<Vec<TaskSchema>, AllocError>
     requires { IsNumbered vocabulary.now }
@@ -107,7 +107,7 @@ fn subtasks_of(
 pub(crate) fn network_of(
     alloc: Global,
     vocabulary: &Vocabulary,
-    scope: &Scope<'_>,
+    scope: &Scope,
     network: &NetworkText,
 ) -> Result<NetworkSchema, AllocError>
     requires numbered { IsNumbered vocabulary.now }
@@ -123,7 +123,7 @@ pub(crate) fn network_of(
 pub(crate) fn constraints_of(
     alloc: Global,
     vocabulary: &Vocabulary,
-    scope: &Scope<'_>,
+    scope: &Scope,
     constraints: &[EqualityText],
 ) -> Result<Vec<EqualitySchema>, AllocError>
     requires { IsNumbered vocabulary.now }

@@ -66,8 +66,13 @@ fn action_of(
 {
     let name = name_of(alloc, &action.name)?;
     let parameters = types_of(alloc, vocabulary, action.parameters.as_slice())?;
-    let scope = Scope::of(alloc, action.parameters.as_slice())?;
-    let precondition = formulas_of(alloc, vocabulary, &scope, action.precondition.as_slice())?;
+    let mut scope = Scope::of(alloc, action.parameters.as_slice())?;
+    let precondition = formulas_of(
+        alloc,
+        vocabulary,
+        &mut scope,
+        action.precondition.as_slice(),
+    )?;
     let deletes = deletes_of(alloc, vocabulary, &scope, action.effect.as_slice())?;
     let adds = adds_of(alloc, vocabulary, &scope, action.effect.as_slice())?;
     Ok(ActionSchema::new(name, parameters, precondition, deletes, adds))
@@ -86,9 +91,14 @@ fn method_of(
     let network = &method.network;
     let name = name_of(alloc, &method.name)?;
     let parameters = types_of(alloc, vocabulary, method.parameters.as_slice())?;
-    let scope = Scope::of(alloc, method.parameters.as_slice())?;
+    let mut scope = Scope::of(alloc, method.parameters.as_slice())?;
     let task = subtask_of(alloc, vocabulary, &scope, &method.task)?;
-    let precondition = formulas_of(alloc, vocabulary, &scope, method.precondition.as_slice())?;
+    let precondition = formulas_of(
+        alloc,
+        vocabulary,
+        &mut scope,
+        method.precondition.as_slice(),
+    )?;
     let constraints = constraints_of(alloc, vocabulary, &scope, network.constraints.as_slice())?;
     let network = network_of(alloc, vocabulary, &scope, network)?;
     Ok(MethodSchema::new(name, parameters, task, precondition, constraints, network))

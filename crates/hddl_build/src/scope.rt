@@ -1,24 +1,23 @@
 //! The variables in force.
-ghost use Rattle.std.specs.Prelude.{◌≡◌, ◌+◌, ◌≤◌, [], ◌++◌, length, map, IfOk, OnOk};
+ghost use Rattle.std.specs.Prelude.{◌≡◌, ◌+◌, ◌≤◌, [], ◌++◌, length, take, IfOk, OnOk, OnErr};
 ghost use Rattle.hddl_meaning.specs.Mentions.{folded};
 ghost use Rattle.hddl_meaning.specs.Names.{number_in};
 ghost use Rattle.hddl_meaning.specs.Building.{variables_of};
 ghost use Rattle.hddl_build.specs.InForce.{most_in_force};
-ghost use Rattle.hddl_build.specs.Scopes.{texts_of};
 
+use hddl_names::fold;
 use hddl_tree::{Variable, VariableGroup};
-use hddl_words::is_same;
 use std::alloc::{AllocError, Global};
 use std::marker::Model;
 
 /// The variables in force: the parameters, and then those of each `forall` around. Contracts see their texts. There are
-/// 65,536 at most, so their places fit sixteen bits.
+/// 65,536 at most, so their positions fit sixteen bits.
 #[derive(Drop)]
-pub(crate) struct Scope<'a> {
-    variables: Vec<&'a Variable>,
+pub(crate) struct Scope {
+    variables: hddl_scope::Scope,
 }
 
-impl<'a> Model for Scope<'a> {
+impl Model for Scope {
     ghost use Rattle.std.specs.Prelude.{List, ◌≤◌, length};
     ghost use Rattle.hddl_meaning.specs.Mentions.{Text};
     ghost use Rattle.hddl_build.specs.InForce.{most_in_force};
@@ -26,70 +25,61 @@ impl<'a> Model for Scope<'a> {
 
     ghost Value = { List Text };
 
-    ghost view = { λ scope. texts_of scope.variables.items };
+    ghost view = { λ scope. texts_of scope.variables };
 
-    ghost invariant = { λ scope. length scope.variables.items ≤ most_in_force };
+    ghost invariant = { λ scope. length scope.variables ≤ most_in_force };
 }
 
-/// Adds the variables of a group.
-fn push_group<'a>(
-    variables: &mut Vec<&'a Variable>,
-    group: &'a VariableGroup,
-) -> Result<(), AllocError>
-    ensures { OnOk result (texts_of variables.new.items ≡ texts_of variables.old.items ++ map (λ x. folded x.text) group.now.variables) }
-{
-    for variable in group.variables.as_slice() {
-        variables.push(variable)?;
-    }
-    Ok(())
-}
-
-impl<'a> Scope<'a> {
+impl Scope {
     /// No variable.
-    pub(crate) fn empty(alloc: Global) -> Scope<'a>
+    pub(crate) fn empty(alloc: Global) -> Scope
         ensures { result ≡ [] }
     {
         Scope {
-            variables: Vec::new(alloc),
+            variables: hddl_scope::Scope::new(alloc),
         }
     }
 
-    /// The variables of these groups.
-    pub(crate) fn of(alloc: Global, groups: &'a [VariableGroup]) -> Result<Scope<'a>, AllocError>
+    /// The parameters of a schema.
+    pub(crate) fn of(alloc: Global, groups: &[VariableGroup]) -> Result<Scope, AllocError>
         requires { length (variables_of groups.now) ≤ most_in_force }
         ensures { IfOk result (λ scope. scope ≡ variables_of groups.now) }
     {
-        let none = Scope::empty(alloc);
-        let scope = none.with(alloc, groups)?;
-        Ok(scope)
-    }
-
-    /// These variables, and then those of the groups.
-    #[tactic(auto, using(crate::proofs::Groups::variables_by_group))]
-    pub(crate) fn with(
-        &self,
-        alloc: Global,
-        groups: &'a [VariableGroup],
-    ) -> Result<Scope<'a>, AllocError>
-        requires { length self.now + length (variables_of groups.now) ≤ most_in_force }
-        ensures { IfOk result (λ scope. scope ≡ self.now ++ variables_of groups.now) }
-    {
-        let mut variables = Vec::from_slice(alloc, &self.variables)?;
-        for group in groups {
-            push_group(&mut variables, group)?;
-        }
+        let variables = hddl_scope::Scope::of(alloc, groups)?;
         Ok(Scope { variables })
     }
 
-    /// The place of the first variable of that text, or 0 where none has it.
-    pub(crate) fn number_of(&self, variable: &Variable) -> u16
-        ensures { result ≡ number_in self.now (folded variable.now.text) }
+    /// How many variables are in force.
+    pub(crate) fn len(&self) -> usize
+        ensures { result ≡ length self.now }
     {
-        for (place, known) in self.variables.iter().enumerate() {
-            if is_same(variable.text(), known.text()) {
-                return place as u16;
-            }
+        self.variables.len()
+    }
+
+    /// Puts the variables of a `forall` in force. Where memory is refused, none of them is.
+    pub(crate) fn push(&mut self, alloc: Global, groups: &[VariableGroup]) -> Result<(), AllocError>
+        requires { length self.old + length (variables_of groups.now) ≤ most_in_force }
+        ensures ok { OnOk result (self.new ≡ self.old ++ variables_of groups.now) }
+        ensures err { OnErr result (self.new ≡ self.old) }
+    {
+        self.variables.push_quantified(alloc, groups)
+    }
+
+    /// Leaves only the first `len` variables in force.
+    pub(crate) fn truncate(&mut self, len: usize)
+        ensures { self.new ≡ take len self.old }
+    {
+        self.variables.truncate(len);
+    }
+
+    /// The position of the first variable of that text, or 0 where none has it.
+    pub(crate) fn number_of(&self, alloc: Global, variable: &Variable) -> Result<u16, AllocError>
+        ensures { IfOk result (λ number. number ≡ number_in self.now (folded variable.now.text)) }
+    {
+        let text = fold(alloc, variable.text())?;
+        match self.variables.position(&text) {
+            Some(position) => Ok(position as u16),
+            None => Ok(0),
         }
-        0
     }
 }

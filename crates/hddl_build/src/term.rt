@@ -15,14 +15,17 @@ use std::alloc::{AllocError, Global};
 fn term_of(
     alloc: Global,
     vocabulary: &Vocabulary,
-    scope: &Scope<'_>,
+    scope: &Scope,
     term: &Term,
 ) -> Result<htn_task::Term, AllocError>
     requires { IsNumbered vocabulary.now }
     ensures { IfOk result (λ t. views.term_of t ≡ building.term_of vocabulary.now scope.now term.now) }
 {
     match term {
-        Term::Variable(variable) => Ok(htn_task::Term::Parameter(scope.number_of(variable))),
+        Term::Variable(variable) => {
+            let number = scope.number_of(alloc, variable)?;
+            Ok(htn_task::Term::Parameter(number))
+        }
         Term::Object(name) => {
             let number = number_of(alloc, vocabulary.objects(), name)?;
             Ok(htn_task::Term::Object(number))
@@ -33,7 +36,7 @@ fn term_of(
 fn terms_of(
     alloc: Global,
     vocabulary: &Vocabulary,
-    scope: &Scope<'_>,
+    scope: &Scope,
     terms: &[Term],
 ) -> Result<TermList, AllocError>
     requires { IsNumbered vocabulary.now }
@@ -50,7 +53,7 @@ fn terms_of(
 pub(crate) fn atom_of(
     alloc: Global,
     vocabulary: &Vocabulary,
-    scope: &Scope<'_>,
+    scope: &Scope,
     atom: &AtomText,
 ) -> Result<AtomSchema, AllocError>
     requires { IsNumbered vocabulary.now }
@@ -65,7 +68,7 @@ pub(crate) fn atom_of(
 pub(crate) fn subtask_of(
     alloc: Global,
     vocabulary: &Vocabulary,
-    scope: &Scope<'_>,
+    scope: &Scope,
     task: &AtomText,
 ) -> Result<TaskSchema, AllocError>
     requires { IsNumbered vocabulary.now }
@@ -79,7 +82,7 @@ pub(crate) fn subtask_of(
 pub(crate) fn equality_of(
     alloc: Global,
     vocabulary: &Vocabulary,
-    scope: &Scope<'_>,
+    scope: &Scope,
     equality: &EqualityText,
 ) -> Result<EqualitySchema, AllocError>
     requires { IsNumbered vocabulary.now }

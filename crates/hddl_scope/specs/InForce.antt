@@ -1,17 +1,14 @@
 -- What is known of the variables in force.
-use Rattle.std.specs.Prelude.{◌≡◌, ◌≤◌, ℕ, Bool, List, map, take, length, slice_get, Option, Some}
+use Rattle.std.specs.Prelude.{◌≡◌, ◌≤◌, ℕ, List, map, take, length, slice_get, Option, Some}
 use Rattle.std.specs.List.{position}
 use Rattle.hddl_meaning.specs.Mentions.{Text}
-use Rattle.hddl_meaning.specs.Names.{is_same_text}
 use Rattle.hddl_meaning.specs.Items.{variable_mentions}
 use Rattle.hddl_meaning.specs.Uses.{Variable}
 use Rattle.hddl_scope.specs.Findings.{Finds}
 use Rattle.hddl_scope.specs.Numbers.{Entries, number_at}
 use Rattle.hddl_scope.specs.Repeats.{IsRepeat}
+use Rattle.hddl_scope.specs.Scopes.{has_text}
 use Rattle.hddl_scope.specs.declared.in_force.Entry.{Entry}
-
-abbrev pub has_text : Text → Variable → Bool
-has_text text v = is_same_text text v.typed.mention.text
 
 -- the position of the first variable of each text, and one whose text stood before
 pub record AreNoted (known : Entries) (variables : List Variable) (repeat : Option ℕ) : Type 0 where

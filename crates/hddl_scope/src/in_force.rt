@@ -1,6 +1,6 @@
 //! The variables in force, found by their texts.
 ghost use Rattle.std.specs.Prelude.{◌≡◌, [], ◌∷◌, ◌++◌, length, take, cond, is_some, Some, None, IfOk, OnErr, OnOk, option_map};
-ghost use Rattle.std.specs.List.{flat_map};
+ghost use Rattle.std.specs.List.{flat_map, position};
 ghost use Rattle.hddl_meaning.specs.Mentions.{Text};
 ghost use Rattle.hddl_meaning.specs.Names.{is_same_text};
 ghost use Rattle.hddl_meaning.specs.Items.{IsPast, variable_in, variable_mentions};
@@ -8,7 +8,7 @@ ghost use Rattle.hddl_meaning.specs.Uses.{parameters_of, quantified_of};
 ghost use Rattle.hddl_scope.specs.Findings.{Finds};
 ghost use Rattle.hddl_scope.specs.Numbers.{number_at};
 ghost use Rattle.hddl_scope.specs.Repeats.{IsRepeat};
-ghost use Rattle.hddl_scope.specs.Scopes.{group_variables};
+ghost use Rattle.hddl_scope.specs.Scopes.{group_variables, has_text};
 
 use crate::numbers::Numbers;
 use crate::repeated::{later, least};
@@ -108,6 +108,13 @@ impl Scope {
             },
             None => None,
         }
+    }
+
+    /// The position of the first variable of a text.
+    pub fn position(&self, text: &[u8]) -> Option<usize>
+        ensures { result ≡ position (has_text text.now) self.now }
+    {
+        self.positions.get(text)
     }
 
     /// The place of a variable whose text stood before, if there is one.

@@ -2,7 +2,8 @@ use Rattle.std.proofs.Common.{◌≡◌, ◌∙◌, None, Some, ap, option_map, 
 use Rattle.std.specs.List.{position}
 use Rattle.std.proofs.lemmas.Option.{slice_get-get_or, slice_get-map}
 use Rattle.hddl_meaning.specs.Items.{variable_in}
-use Rattle.hddl_scope.specs.InForce.{has_text, variables_of}
+use Rattle.hddl_scope.specs.InForce.{variables_of}
+use Rattle.hddl_scope.specs.Scopes.{has_text}
 use Rattle.hddl_scope.specs.declared.in_force.Entry.{Entry}
 use Rattle.hddl_scope.proofs.Positions.{found_at, found_nowhere}
 use Rattle.hddl_scope.proofs.in_force.Scope.get.Goals as goal
