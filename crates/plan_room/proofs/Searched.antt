@@ -129,8 +129,9 @@ module _ (w : Seating) (is_seating : IsSeating w) (chosen finishes : List ℕ) (
           by come (inr o) = absurd (let l = come.low in let f = come.later (omega arith) in let g = still come.place (omega arith) in omega arith)
 
     pub fixed_beaten : IsFixed w here → (m : ℕ → ℕ) → IsSeated w m → (h : ℕ) → h ≤ w.last → HasRoomWith w m h → AgreeBelow sequence chosen depth m
-        → (m here ≡ choice → ⊥) → IsBeaten best h
-    fixed_beaten fixed m assigned h low have agree other =
+        → choice < m here → IsBeaten best h
+    fixed_beaten fixed m assigned h low have agree beyond =
+        let other : m here ≡ choice → ⊥ = λ same. omega arith in
         let (b, b_low, takes) = is_seating.used m assigned here choice (is_sequence.within depth inside) less suitable in
         let (j, j_low, at_j) = is_sequence.listed b b_low in
         let later : depth < j = elim (cases_lt depth j) [
@@ -141,13 +142,18 @@ module _ (w : Seating) (is_seating : IsSeating w) (chosen finishes : List ℕ) (
           ]
         ] in
         let shared : suits (get_or sequence j 0) choice ≡ true = subst (λ x. suits x choice ≡ true) (sym at_j) (subst (λ c. suits b c ≡ true) takes (assigned.suited b b_low)) in
-        let twins : AreTwins w.order here b = subst (AreTwins w.order here) at_j (fixed depth j choice later j_low refl suitable shared) in
-        changed_beaten m assigned h low have agree other b b_low takes j j_low at_j twins
+        elim (fixed depth j choice later j_low refl suitable shared) [
+          | inl twins ↦ changed_beaten m assigned h low have agree other b b_low takes j j_low at_j (subst (AreTwins w.order here) at_j twins)
+          | inr (before, blocked) ↦ (let (start, finish, spans) = have in
+              absurd (blocked (m here) beyond (assigned.suited here (is_sequence.within depth inside)) (start here) (finish here) (start b) (finish b)
+              (spans.rooms here (is_sequence.within depth inside)) (subst (λ c. room c (start b) (finish b)) takes (spans.rooms b b_low))
+              (spans.spans.ordered here b (subst (λ x. is_before w.order here x ≡ true) at_j before))))
+        ]
 
     -- on to the next choice
     pub passed : (end : ℕ) → next ≡ suc choice → IsNextChoice w here choice end → Searched chosen finishes depth end best
     passed end e is_next = skipped end is_next.within (λ m assigned h l have agree from to.
-        fixed_beaten (is_next.between (m here) (omega arith) to (assigned.suited here (is_sequence.within depth inside))) m assigned h l have agree (λ same. absurd (omega arith)))
+        fixed_beaten (is_next.between (m here) (omega arith) to (assigned.suited here (is_sequence.within depth inside))) m assigned h l have agree (omega arith))
 
   -- choices out of the range of those that suit
   pub out_of_range : depth < length sequence → (low : ℕ) → low ≤ w.count → ((c : ℕ) → suits here c ≡ true → low ≤ c) → Searched chosen finishes depth low best

@@ -1,7 +1,7 @@
 -- Which children of a line have the same task, and which positions of a network share choices.
-use Rattle.std.specs.Prelude.{◌≡◌, ℕ, ◌+◌, ◌≤◌, ◌<◌, ◌⊎◌, true, false, List, length, get_or, Option, Some, None}
+use Rattle.std.specs.Prelude.{◌≡◌, ℕ, ◌+◌, ◌≤◌, ◌<◌, ◌⊎◌, Bool, true, false, List, length, get_or, Option, Some, None}
 use Rattle.indexmap.specs.IndexMap.{get}
-use Rattle.htn_model.specs.Problem.{GroundTask, ground_task_eq, Order, Child, precondition, action, task}
+use Rattle.htn_model.specs.Problem.{GroundTask, ground_task_eq, Order, is_before, Child, precondition, action, task}
 use Rattle.plan_room.specs.Lines.{Lines, task_of}
 use Rattle.plan_room.specs.Matching.{Seating, AreTwins, IsFixed}
 use Rattle.plan_room.specs.declared.places.Places.{Places}
@@ -17,13 +17,14 @@ task_at l children c = task_of (l.plan_of (get_or children c 0))
 -- the first of the places from one on that has the task
 abbrev pub IsFirstPlace : (ℕ → GroundTask) → ℕ → ℕ → GroundTask → Option ℕ → Type 0
 IsFirstPlace task_of from n t None = (c : ℕ) → from ≤ c → c < n → task_of c ≡ t → ⊥
-IsFirstPlace task_of from n t (Some first) = (from ≤ first) × (first < n) × ((c : ℕ) → from ≤ c → c < n → task_of c ≡ t → first ≤ c)
+IsFirstPlace task_of from n t (Some first) = (from ≤ first) × (first < n) × (task_of first ≡ t) × ((c : ℕ) → from ≤ c → c < n → task_of c ≡ t → first ≤ c)
 
--- each place leads on, and from a place on to no later one than the next with the same task
+-- each place leads on, to one with the same task or past all, and from a place on to no later one than the next
 pub record AreNext (task_of : ℕ → GroundTask) (from n : ℕ) (after : List ℕ) : Type 0 where
   pub size : length after ≡ n
   pub more : (c : ℕ) → c < n → c < get_or after c 0
   pub within : (c : ℕ) → c < n → get_or after c 0 ≤ n
+  pub same : (c : ℕ) → c < n → get_or after c 0 < n → task_of c ≡ task_of (get_or after c 0)
   pub next : (c d : ℕ) → from ≤ c → c < d → d < n → task_of c ≡ task_of d → get_or after c 0 ≤ d
 
 -- where a node's task comes first; past all for one that comes nowhere, and for a step
@@ -36,10 +37,17 @@ first_of find n (precondition literals) = n
 first_of find n (action t) = place_or (find t) n
 first_of find n (task t) = place_or (find t) n
 
--- where a flag is set, the later positions with the same first place are twins of that one
-abbrev pub AreFlagged : Order → List ℕ → (ℕ → ℕ) → ℕ → (ℕ → Type 0) → Type 0
-AreFlagged order sequence first from IsFlagged = (i j : ℕ) → from ≤ i → i < j → j < length sequence → IsFlagged (get_or sequence i 0)
-    → first (get_or sequence i 0) ≡ first (get_or sequence j 0) → AreTwins order (get_or sequence i 0) (get_or sequence j 0)
+-- where a flag is set, those from there on that have the same task are action lines, each later one after the earlier ones
+abbrev pub AreRising : (ℕ → GroundTask) → List ℕ → ℕ → ℕ → List Bool → Type 0
+AreRising task_of children actions from rising = (c d : ℕ) → from ≤ c → c ≤ d → d < length children → get_or rising c false ≡ true → task_of c ≡ task_of d
+    → (get_or children d 0 < actions) × ((e : ℕ) → d < e → e < length children → task_of c ≡ task_of e → get_or children d 0 < get_or children e 0)
+
+-- where a flag is set, the later positions with the same first place are twins of that one, or come after it, and the task's lines rise
+abbrev pub AreFlagged : Order → List ℕ → (ℕ → ℕ) → List Bool → ℕ → (ℕ → Type 0) → Type 0
+AreFlagged order sequence first rising from IsFlagged = (i j : ℕ) → from ≤ i → i < j → j < length sequence → IsFlagged (get_or sequence i 0)
+    → first (get_or sequence i 0) ≡ first (get_or sequence j 0)
+    → AreTwins order (get_or sequence i 0) (get_or sequence j 0)
+    ⊎ ((is_before order (get_or sequence i 0) (get_or sequence j 0) ≡ true) × (get_or rising (first (get_or sequence i 0)) false ≡ true))
 
 -- what stands at a position comes no earlier than its first; what can stand there after another, no earlier than that one's next
 pub record AreLinked (w : Seating) (k : ℕ) (links : Links) : Type 0 where

@@ -49,10 +49,15 @@ pub record IsSeating (w : Seating) : Type 0 where
 abbrev pub AreTwins : Order → ℕ → ℕ → Type 0
 AreTwins order a b = ((x : ℕ) → is_before order x a ≡ is_before order x b) × ((x : ℕ) → is_before order a x ≡ is_before order b x)
 
--- the later positions that have choices in common with this one are its twins
+-- what follows the second choice can't be the first
+abbrev pub IsBlockedBy : Seating → ℕ → ℕ → Type 0
+IsBlockedBy w c d = (x y x' y' : ℕ) → w.room d x y → w.room c x' y' → y ≤ x' → ⊥
+
+-- the later positions that have choices in common with this one are its twins, or come after it, where later choices block each earlier one
 abbrev pub IsFixed : Seating → ℕ → Type 0
 IsFixed w a = (i j c : ℕ) → i < j → j < length w.sequence → get_or w.sequence i 0 ≡ a → w.suits a c ≡ true → w.suits (get_or w.sequence j 0) c ≡ true
     → AreTwins w.order a (get_or w.sequence j 0)
+    ⊎ ((is_before w.order a (get_or w.sequence j 0) ≡ true) × ((d : ℕ) → c < d → w.suits a d ≡ true → IsBlockedBy w c d))
 
 -- none that comes between them can stand at the position, or it is fixed
 pub record IsNextChoice (w : Seating) (a c next : ℕ) : Type 0 where

@@ -12,7 +12,7 @@ ghost use Rattle.plan_room.specs.Placing.{IsFinish};
 ghost use Rattle.plan_room.specs.Trials.{IsAsked};
 
 use crate::lines::PlanLines;
-use crate::links::Links;
+use crate::links::{Links, flag_at};
 use crate::matching::Choices;
 use crate::memo::Memo;
 use crate::rooms::{Finish, Question};
@@ -191,10 +191,7 @@ impl<L: PlanLines> Choices for Below<'_, L> {
     }
 
     fn is_fixed(&self, position: usize) -> bool {
-        match self.links.fixed.get(position) {
-            Some(is_fixed) => *is_fixed,
-            None => false,
-        }
+        flag_at(&self.links.fixed, position)
     }
 
     fn finish(&self, choice: usize, start: usize) -> Finish {

@@ -4,7 +4,7 @@ ghost use Rattle.htn_ground.specs.Views.{child_view};
 ghost use Rattle.htn_model.specs.Problem.{IsSquare};
 ghost use Rattle.htn_model.specs.Problem as problem;
 ghost use Rattle.plan_room.specs.Lines.{AreLines};
-ghost use Rattle.plan_room.specs.Links.{AreFlagged, AreLinked, AreNext, IsFirstPlace, first_of, place_of, task_at};
+ghost use Rattle.plan_room.specs.Links.{AreFlagged, AreLinked, AreNext, AreRising, IsFirstPlace, first_of, place_of, task_at};
 ghost use Rattle.plan_room.specs.Matching.{AreTwins};
 ghost use Rattle.plan_room.specs.Placing.{IsSequence};
 ghost use Rattle.plan_room.specs.Seats.{seating_of};
@@ -22,7 +22,7 @@ pub(crate) struct Links {
     pub first: Vec<usize>,
     /// For each child the next one that has the same task, or the number past all.
     pub after: Vec<usize>,
-    /// For each position whether the later ones of the same task are ordered as it is.
+    /// For each position whether the first choice that is free will do.
     pub fixed: Vec<bool>,
 }
 
@@ -81,9 +81,6 @@ fn first_places(
 fn are_twins(order: &Order, a: usize, b: usize) -> bool
     ensures { IsTrue result → AreTwins order.now a b }
 {
-    if order.is_before(a, b) {
-        return false;
-    }
     for x in 0..order.size() {
         if order.is_before(x, a) != order.is_before(x, b)
             || order.is_before(a, x) != order.is_before(b, x)
@@ -94,32 +91,85 @@ fn are_twins(order: &Order, a: usize, b: usize) -> bool
     true
 }
 
-/// Whether a position is the last of its task, or ordered as the later one, as that is with all after it.
-fn is_settled(order: &Order, fixed: &[bool], position: usize, later: usize) -> bool
-    ensures { IsTrue result → (later ≡ length order.now) ⊎ ((get_or fixed.now later false ≡ true) × AreTwins order.now position later) }
+/// The flag at a place, false past all.
+pub(crate) fn flag_at(flags: &[bool], place: usize) -> bool
+    ensures { result ≡ get_or flags.now place false }
 {
-    if later == order.size() {
-        return true;
-    }
-    match fixed.get(later) {
-        Some(is_fixed) => *is_fixed && are_twins(order, position, later),
+    match flags.get(place) {
+        Some(flag) => *flag,
         None => false,
     }
 }
 
-/// For each position whether the later ones of the same task are ordered as it is.
+/// Whether a line is an action's, and the next of its task a later one with which it is so too.
+fn rises(children: &[usize], actions: usize, rising: &[bool], place: usize, next: usize) -> bool
+    requires { place < length children.now }
+    ensures { IsTrue result → (get_or children.now place 0 < actions)
+        × ((length children.now ≤ next) ⊎ ((get_or children.now place 0 < get_or children.now next 0) × (get_or rising.now next false ≡ true))) }
+{
+    if actions <= children[place] {
+        return false;
+    }
+    if children.len() <= next {
+        return true;
+    }
+    flag_at(rising, next) && children[place] < children[next]
+}
+
+/// For each child whether it and all later ones of its task are action lines, in their order.
+fn rising_places<L: PlanLines>(
+    alloc: Global,
+    lines: &L,
+    children: &[usize],
+    after: &[usize],
+) -> Result<Vec<bool>, AllocError>
+    requires { AreNext (task_at (L.lines lines.now) children.now) 0 (length children.now) after.now }
+    ensures { IfOk result (λ v. AreRising (task_at (L.lines lines.now) children.now) children.now (L.lines lines.now).actions 0 v.items) }
+{
+    let actions = lines.actions();
+    let mut rising = vec![in alloc; false; children.len()]?;
+    let mut place = children.len();
+    while place > 0 {
+        place -= 1;
+        let is_rising = rises(children, actions, &rising, place, after[place]);
+        rising[place] = is_rising;
+    }
+    Ok(rising)
+}
+
+/// Whether a position is the last of its task, or that after it is settled and its twin or behind it.
+fn is_settled(order: &Order, fixed: &[bool], is_rising: bool, position: usize, later: usize) -> bool
+    ensures { IsTrue result → (later ≡ length order.now) ⊎ ((get_or fixed.now later false ≡ true)
+        × (AreTwins order.now position later ⊎ ((problem.is_before order.now position later ≡ true) × (is_rising ≡ true)))) }
+{
+    if later == order.size() {
+        return true;
+    }
+    if !flag_at(fixed, later) {
+        return false;
+    }
+    if order.is_before(position, later) {
+        is_rising
+    } else {
+        are_twins(order, position, later)
+    }
+}
+
+/// For each position whether the first choice that is free will do: each later one of the same task is
+/// its twin or behind it.
 fn fixed_positions(
     alloc: Global,
     order: &Order,
     sequence: &[usize],
     first: &[usize],
+    rising: &[bool],
     count: usize,
 ) -> Result<Vec<bool>, AllocError>
     requires sequence { IsSequence order.now sequence.now }
     requires size { length first.now ≡ length order.now }
     requires within { (a : ℕ) → get_or first.now a 0 ≤ count }
     requires few { count + 1 < 2 ^ 64 }
-    ensures { IfOk result (λ v. AreFlagged order.now sequence.now (λ a. get_or first.now a 0) 0 (λ a. get_or v.items a false ≡ true)) }
+    ensures { IfOk result (λ v. AreFlagged order.now sequence.now (λ a. get_or first.now a 0) rising.now 0 (λ a. get_or v.items a false ≡ true)) }
 {
     let size = order.size();
     let mut fixed = vec![in alloc; false; size]?;
@@ -129,7 +179,8 @@ fn fixed_positions(
         place -= 1;
         let position = sequence[place];
         let later = seen[first[position]];
-        fixed[position] = is_settled(order, &fixed, position, later);
+        let is_rising = flag_at(rising, first[position]);
+        fixed[position] = is_settled(order, &fixed, is_rising, position, later);
         seen[first[position]] = position;
     }
     Ok(fixed)
@@ -160,7 +211,9 @@ pub(crate) fn links_of<L: PlanLines>(
         children.len(),
         instance.children().as_slice(),
     )?;
-    let fixed = fixed_positions(alloc, instance.order(), sequence, &first, children.len())?;
+    let rising = rising_places(alloc, lines, children, &after)?;
+    let order = instance.order();
+    let fixed = fixed_positions(alloc, order, sequence, &first, &rising, children.len())?;
     Ok(Links {
         first,
         after,

@@ -68,7 +68,7 @@ pub trait Choices {
         ensures next { (a c : ℕ) → (seating self.now).suits a choice ≡ true → (seating self.now).suits a c ≡ true → choice < c → result ≤ c };
 
     /// Whether the position can do with the first choice that is free: the later positions that it
-    /// shares choices with are ordered as it is.
+    /// shares choices with are ordered as it is, or come after it, where they can have but later choices.
     fn is_fixed(&self, position: usize) -> bool
         requires { is_sound self.now }
         ensures { IsTrue result → IsFixed (seating self.now) position };

@@ -8,8 +8,8 @@ invariant-loop-place l = record {
   low : l.place ≤ length l.sequence;
   sizes : length l.fixed.items ≡ length l.order;
   wide : length l.seen.items ≡ l.count + 1;
-  flagged : AreFlagged l.order l.sequence (λ a. get_or l.first a 0) l.place (λ a. get_or l.fixed.items a false ≡ true);
-  seen : (f : ℕ) → f ≤ l.count → IsSeen l.order l.sequence (λ a. get_or l.first a 0) l.place f (get_or l.seen.items f 0);
+  flagged : AreFlagged l.order l.sequence (λ a. get_or l.first a 0) l.rising l.place (λ a. get_or l.fixed.items a false ≡ true);
+  seen : (f : ℕ) → f ≤ l.count → IsSeen l.order l.sequence (λ a. get_or l.first a 0) l.rising l.place f (get_or l.seen.items f 0);
 }
 
 abbrev pub decreases-loop-place : goal.decreases-loop-place
