@@ -1,7 +1,7 @@
 //! Verdicts on plan texts.
 
 use crate::pairs::{
-    ADDED_AND_DELETED, AGAINST, LATE, LATE_ORDERED, NEED, NOTHING, Pair, ROAD, ROAD_TO_B,
+    ADDED_AND_DELETED, AGAINST, ENDING, LATE, LATE_ORDERED, NEED, NOTHING, Pair, ROAD, ROAD_TO_B,
     SET_AND_CLEAR, THROUGH, TWO_ACTIONS, TWO_METHODS, task_of,
 };
 use htn_verify::{Verdict, verify};
@@ -182,4 +182,33 @@ fn other_files_have_no_arrangement(rt: HostRuntime) -> Result<(), Fail> {
         ),
     ];
     expect_verdicts(&rt, rt.alloc(), &rows)
+}
+
+// The text of so many lines below one another, the last of which has this method.
+fn nested(alloc: Global, count: u64, last: &str) -> Result<String, Fail> {
+    let mut text = String::new(alloc);
+    text.push_str("==>\nroot 0\n")?;
+    for id in 0..count {
+        let line = format!(in alloc; "{id} t -> m {}\n", id + 1)?;
+        text.push_str(line.as_str())?;
+    }
+    let line = format!(in alloc; "{count} t -> {last}\n<==\n")?;
+    text.push_str(line.as_str())?;
+    Ok(text)
+}
+
+#[test]
+fn deep_files_have_faults(rt: HostRuntime) -> Result<(), Fail> {
+    let text = nested(rt.alloc(), 2_000, "m")?;
+    let found = verdict_on(rt.alloc(), ENDING, text.as_str())?;
+    assert!(rt; found == Verdict::NoInstance(Some(2_000)));
+    Ok(())
+}
+
+#[test]
+fn deep_files_are_valid(rt: HostRuntime) -> Result<(), Fail> {
+    let text = nested(rt.alloc(), 2_000, "e")?;
+    let found = verdict_on(rt.alloc(), ENDING, text.as_str())?;
+    assert!(rt; found == Verdict::Valid);
+    Ok(())
 }
