@@ -64,7 +64,7 @@ VerdictsAreUnique =
     (domain problem plan : List ℕ) (verdict other : Verdict) (text second : List ℕ)
     → Judges domain problem plan verdict text → Judges domain problem plan other second → (verdict ≡ other) × (text ≡ second)
 
--- an id in the verdict is one that a plan can have
+-- an id in the verdict, if it has one, is one that a plan can have
 abbrev pub HasId : Verdict → Type 0
 HasId (NoInstance (Some id)) = id < 2 ^ 64
 HasId (NotExecutable id) = id < 2 ^ 64
