@@ -22,7 +22,7 @@ use Rattle.htn_verify.specs.declared.verdict.Verdict.{Verdict}
 use Rattle.htn_verify.specs.declared.verdict.Verdict.TheVariants.{Structure, NoInstance, NotExecutable, GoalFails, NoArrangement, Valid}
 use Rattle.plan_text.proofs.FileLaws.{one_file}
 use Rattle.htn_run.specs.Judgement.{Tells, verdict_text}
-use Rattle.htn_run.specs.Laws.{FaultyHaveNoVerdict, HasId, ValidIsSolved, VerdictsAreTold, VerdictsAreUnique, VerdictsExist}
+use Rattle.htn_run.specs.Laws.{FaultyHaveNoVerdict, IdFits, ValidIsSolved, VerdictsAreTold, VerdictsAreUnique, VerdictsExist}
 use Rattle.htn_run.specs.declared.outcome.RunFault.TheVariants as fault
 use Rattle.htn_run.proofs.OneAnswer.{is_grounded, texts_have_one_task}
 use Rattle.htn_run.proofs.SomeVerdict.{has_verdict}
@@ -172,7 +172,7 @@ line_told id small =
     ap (λ b. cond b None (Some (id_in (decimal id ++ codes "\n")))) (no_root (decimal id) numeral.0 numeral.1) ∙ ap Some (id_told id small)
 
 -- and a verdict
-verdict_told : (v : Verdict) → HasId v → verdict_in (verdict_text v) ≡ v
+verdict_told : (v : Verdict) → IdFits v → verdict_in (verdict_text v) ≡ v
 unfolding verdict_in line_in
 verdict_told Structure has = refl
 verdict_told (NoInstance None) has = refl

@@ -65,14 +65,14 @@ VerdictsAreUnique =
     → Judges domain problem plan verdict text → Judges domain problem plan other second → (verdict ≡ other) × (text ≡ second)
 
 -- an id in the verdict, if it has one, is one that a plan can have
-abbrev pub HasId : Verdict → Type 0
-HasId (NoInstance (Some id)) = id < 2 ^ 64
-HasId (NotExecutable id) = id < 2 ^ 64
-HasId _ = ⊤
+abbrev pub IdFits : Verdict → Type 0
+IdFits (NoInstance (Some id)) = id < 2 ^ 64
+IdFits (NotExecutable id) = id < 2 ^ 64
+IdFits _ = ⊤
 
 -- different verdicts, with ids as plans have them, are told by different texts
 abbrev pub VerdictsAreTold : Type 0
-VerdictsAreTold = (verdict other : Verdict) → HasId verdict → HasId other → verdict_text verdict ≡ verdict_text other → verdict ≡ other
+VerdictsAreTold = (verdict other : Verdict) → IdFits verdict → IdFits other → verdict_text verdict ≡ verdict_text other → verdict ≡ other
 
 -- texts that have a task, and a plan's text that holds a file, have a verdict
 abbrev pub VerdictsExist : Type 0
