@@ -1,11 +1,8 @@
 -- Successors, one after another, while the table grows.
-use Rattle.std.proofs.Common.{◌≡◌, ℕ, suc, ◌+◌, ◌<◌, List, [], ◌∷◌, ◌++◌, map, length, get_or, take, drop, refl, sym, ap, ap₂, subst, ◌∙◌, arith, All, Bool, false, true≢false, zero, set, Option, is_some, option_map, append-nil, inl, inr, ◌⊎◌, ◌≤◌, Some, None, slice_get, length-take-le}
-use Rattle.std.proofs.Math.Seq.{take-suc}
+use Rattle.std.proofs.Common.{◌≡◌, ℕ, suc, ◌<◌, List, [], ◌∷◌, ◌++◌, map, length, get_or, take, drop, refl, sym, ap, ap₂, subst, ◌∙◌, arith, All, Bool, false, true≢false, zero, set, Option, is_some, option_map, append-nil, inl, inr, ◌⊎◌, ◌≤◌, Some, None, slice_get}
 use Rattle.std.proofs.lemmas.List.{length-map, get_or-map, map_push, get_or-set_same, get_or-set_other}
-use Rattle.std.proofs.lemmas.List.Elements.{All-cons, All-nil, All-push, All-append, All-take, All-drop}
-use Rattle.std.specs.List.{enumerate_from}
+use Rattle.std.proofs.lemmas.List.Elements.{All-nil, All-push, All-append, All-take, All-drop}
 use Rattle.std.proofs.lemmas.Option.{slice_get-get_or}
-use Rattle.htn_ground.proofs.Numbered.{enumerate-append}
 use Rattle.htn_model.proofs.Passing.{passes}
 use Rattle.htn_model.specs.Problem.{Child, GroundTask, Network, Order, IsSquare, is_before, precondition, task}
 use Rattle.htn_model.specs.Choice.{child_of, is_free, passing}
@@ -15,10 +12,9 @@ use Rattle.network_table.specs.declared.expansion.Expansion.{Expansion}
 use Rattle.network_table.specs.declared.expansion.Expansion.TheVariants.{Decomposed, Performed}
 use Rattle.std.proofs.lemmas.Bool.{cases_lt}
 use Rattle.std.proofs.lemmas.Option.{none-some, same_Some}
-use Rattle.network_table.specs.Numbered.{Numbered, network_of, replaced_numbered, IsWithin}
+use Rattle.network_table.specs.Numbered.{Numbered, network_of, replaced_numbered, replaced_network, IsWithin}
 use Rattle.network_table.specs.Networks.{children, nothing, numbered_at, network_at, expansion_at, Knows, IsGrown, IsMore, IsWhole}
-use Rattle.network_table.specs.Expansions.{AreDecompositions, AreRemovals, AreInstances, IsKnown, IsKnownRemoval, IsDecomposed, IsExpansion, IsPerformed, IsSound, Live, first_free, free_positions, successor_at, decomposed_by, removal_at, removed_at, successor_network, instance_network, removal_network, position_network, numbered_instance}
-use Rattle.network_table.specs.declared.expansion.Successor.{Successor}
+use Rattle.network_table.specs.Expansions.{AreDecompositions, AreRemovals, AreInstances, IsKnownRemoval, IsDecomposed, IsExpansion, IsPerformed, IsSound, Live, first_free, free_positions, removal_at, removed_at, removal_network, position_network}
 use Rattle.network_table.specs.declared.expansion.Removal.{Removal}
 use Rattle.network_table.specs.declared.table.NetworkTable.{NetworkTable}
 use Rattle.network_table.proofs.Replacing.{replaced_alike}
@@ -45,24 +41,20 @@ map_all P f g same (x ∷ xs) all = ap₂ (λ y ys. y ∷ ys) (same x (all 0 x (
 pub all_more : {X : Type 0} (P Q : X → Type 0) → ((x : X) → P x → Q x) → (xs : List X) → All P xs → All Q xs
 all_more P Q gives xs all k d inside = gives (get_or xs k d) (all k d inside)
 
--- what is known stays known
-known_more : (s t : NetworkTable) → IsMore s t → (x : Successor) → IsKnown s x → IsKnown t x
-known_more s t more x known = (more_known s t x.network more known.0, known.1 ∙ ap (λ (n : Numbered). length n.nodes) (sym (more_same s t x.network more known.0)))
-
 -- decompositions stay right while networks are added
-pub decompositions_more : (s t : NetworkTable) (n : Numbered) (i : ℕ) (instances : List (ℕ × Numbered)) (xs : List Successor) → IsMore s t
+pub decompositions_more : (s t : NetworkTable) (n : Numbered) (i : ℕ) (instances : List Numbered) (xs : List ℕ) → IsMore s t
     → AreDecompositions s n i instances xs → AreDecompositions t n i instances xs
 decompositions_more s t n i instances xs more are = record {
-  known = all_more (IsKnown s) (IsKnown t) (known_more s t more) xs are.known;
-  each = map_all (IsKnown s) (successor_at t) (successor_at s) (λ x known. ap (λ m. (x.number, m)) (more_same s t x.network more known.0)) xs are.known ∙ are.each;
+  known = all_more (Knows s) (Knows t) (λ x known. more_known s t x more known) xs are.known;
+  each = map_all (Knows s) (numbered_at t) (numbered_at s) (λ x known. more_same s t x more known) xs are.known ∙ are.each;
 }
 
--- one more instance, one more successor
-pub decompositions_push : (t : NetworkTable) (n : Numbered) (i : ℕ) (instances : List (ℕ × Numbered)) (xs : List Successor) (p : ℕ × Numbered) (x : Successor)
-    → AreDecompositions t n i instances xs → IsKnown t x → successor_at t x ≡ decomposed_by n i p → AreDecompositions t n i (instances ++ p ∷ []) (xs ++ x ∷ [])
+-- one more instance, one more network
+pub decompositions_push : (t : NetworkTable) (n : Numbered) (i : ℕ) (instances : List Numbered) (xs : List ℕ) (p : Numbered) (x : ℕ)
+    → AreDecompositions t n i instances xs → Knows t x → numbered_at t x ≡ replaced_numbered n i p → AreDecompositions t n i (instances ++ p ∷ []) (xs ++ x ∷ [])
 decompositions_push t n i instances xs p x are known is = record {
-  known = All-push (IsKnown t) xs x are.known known;
-  each = map_push (successor_at t) xs x ∙ ap₂ (λ l y. l ++ y ∷ []) are.each is ∙ sym (map_push (decomposed_by n i) instances p);
+  known = All-push (Knows t) xs x are.known known;
+  each = map_push (numbered_at t) xs x ∙ ap₂ (λ l y. l ++ y ∷ []) are.each is ∙ sym (map_push (replaced_numbered n i) instances p);
 }
 
 -- a known removal stays known
@@ -70,14 +62,14 @@ known_removal_more : (s t : NetworkTable) → IsMore s t → (r : Removal) → I
 known_removal_more s t more r known = (more_known s t r.network more known.0, subst (λ (l : ChildTable). r.node < length (numbered_children l)) (sym more.children) known.1)
 
 -- removals stay right while networks are added
-pub removals_more : (s t : NetworkTable) (n : Numbered) (free : List (ℕ × ℕ)) (xs : List Removal) → IsMore s t → AreRemovals s n free xs → AreRemovals t n free xs
+pub removals_more : (s t : NetworkTable) (n : Numbered) (free : List ℕ) (xs : List Removal) → IsMore s t → AreRemovals s n free xs → AreRemovals t n free xs
 removals_more s t n free xs more are = record {
   known = all_more (IsKnownRemoval s) (IsKnownRemoval t) (known_removal_more s t more) xs are.known;
-  each = map_all (IsKnownRemoval s) (removal_at t) (removal_at s) (λ r known. ap (λ m. (r.number, (r.node, m))) (more_same s t r.network more known.0)) xs are.known ∙ are.each;
+  each = map_all (IsKnownRemoval s) (removal_at t) (removal_at s) (λ r known. ap (λ m. (r.node, m)) (more_same s t r.network more known.0)) xs are.known ∙ are.each;
 }
 
 -- one more free position, one more removal
-pub removals_push : (t : NetworkTable) (n : Numbered) (free : List (ℕ × ℕ)) (xs : List Removal) (p : ℕ × ℕ) (x : Removal)
+pub removals_push : (t : NetworkTable) (n : Numbered) (free : List ℕ) (xs : List Removal) (p : ℕ) (x : Removal)
     → AreRemovals t n free xs → IsKnownRemoval t x → removal_at t x ≡ removed_at n p → AreRemovals t n (free ++ p ∷ []) (xs ++ x ∷ [])
 removals_push t n free xs p x are known is = record {
   known = All-push (IsKnownRemoval t) xs x are.known known;
@@ -86,19 +78,11 @@ removals_push t n free xs p x are known is = record {
 
 -- of no instances there are none
 pub no_decompositions : (t : NetworkTable) (n : Numbered) (i : ℕ) → AreDecompositions t n i [] []
-no_decompositions t n i = record { known = All-nil (IsKnown t); each = refl }
+no_decompositions t n i = record { known = All-nil (Knows t); each = refl }
 
 -- of no free positions there are none
 pub no_removals : (t : NetworkTable) (n : Numbered) → AreRemovals t n [] []
 no_removals t n = record { known = All-nil (IsKnownRemoval t); each = refl }
-
--- the next item with its place
-pub numbered_next : (xs : List ℕ) (k : ℕ) → k < length xs → enumerate_from 0 (take (k + 1) xs) ≡ enumerate_from 0 (take k xs) ++ (k, get_or xs k 0) ∷ []
-numbered_next xs k inside =
-    let e : k + 1 ≡ suc k = omega arith in
-    let x = get_or xs k 0 in
-    ap (λ l. enumerate_from 0 l) (ap (λ j. take j xs) e ∙ take-suc xs k 0 inside) ∙ enumerate-append 0 (take k xs) (x ∷ [])
-    ∙ ap (λ j. enumerate_from 0 (take k xs) ++ enumerate_from j (x ∷ [])) (let z : 0 + length (take k xs) ≡ k = omega (arith, length-take-le k xs (omega (arith, inside))) in z)
 
 -- free positions are within the network
 pub free_within : (n : ℕ) (test : ℕ → Bool) (free : List ℕ) → free ≡ passing test n → (k : ℕ) → k < length free → get_or free k 0 < n
@@ -120,43 +104,38 @@ pub map_two : {X Y Z : Type 0} (f : X → Z) (g : X → Y) (h : Y → Z) → ((x
 map_two f g h same [] = refl
 map_two f g h same (x ∷ xs) = ap₂ (λ y ys. y ∷ ys) (same x) (map_two f g h same xs)
 
--- what holds of all holds of them with their places
-all_numbered : (P : ℕ → Type 0) (k : ℕ) (xs : List ℕ) → All P xs → All (λ (p : ℕ × ℕ). P p.1) (enumerate_from k xs)
-all_numbered P k [] all = All-nil (λ (p : ℕ × ℕ). P p.1)
-all_numbered P k (x ∷ xs) all =
-    All-cons (λ (p : ℕ × ℕ). P p.1) (k, x) (enumerate_from (k + 1) xs) (all 0 x (omega arith)) (all_numbered P (k + 1) xs (λ j d inside. all (suc j) d (omega (arith, inside))))
-
 -- a number stands for what it stood for
 same_network : (s t : NetworkTable) (n : ℕ) → IsMore s t → Knows s n → network_at t n ≡ network_at s n
 same_network s t n more known = ap₂ (λ (l : List Child) (m : Numbered). network_of l m) (ap numbered_children more.children) (more_same s t n more known)
 
 -- decompositions by numbers are those of what they stand for
-pub decomposed_right : (live : Live) (s t : NetworkTable) (n i : ℕ) (g : GroundTask) (instances : List (ℕ × Numbered)) (xs : List Successor) → IsMore s t → Knows s n
+pub decomposed_right : (live : Live) (s t : NetworkTable) (n i : ℕ) (g : GroundTask) (instances : List Numbered) (xs : List ℕ) → IsMore s t → Knows s n
     → first_free (network_at s n) ≡ Some i → child_of (network_at s n).children i ≡ task g → AreInstances live s n instances
     → AreDecompositions t (numbered_at s n) i instances xs → IsDecomposed live t n i xs
 decomposed_right live s t n i g instances xs more known first stands given are =
     let same = same_network s t n more known in
-    let own = network_of (children t) (numbered_at s n) in
+    let m = numbered_at s n in
+    let own = network_of (children t) m in
     let own_is : own ≡ network_at t n = ap (λ m. network_of (children t) m) (sym (more_same s t n more known)) in
-    let instances_are : map (numbered_instance t) instances ≡ live g = ap (λ l. map {B = ℕ × Network} (λ (p : ℕ × Numbered). (p.0, network_of l p.1)) instances) (ap numbered_children more.children) ∙ given i g first stands in
+    let instances_are : map (network_of (children t)) instances ≡ live g = ap (λ l. map (network_of l) instances) (ap numbered_children more.children) ∙ given i g first stands in
     record {
       goal = g;
       first = ap first_free same ∙ first;
       stands = ap (λ (m : Network). child_of m.children i) same ∙ stands;
       known = are.known;
-      each = map_two (successor_network t) (successor_at t) (numbered_instance t) (λ x. refl) xs ∙ ap (map (numbered_instance t)) are.each
-          ∙ sym (map_two (λ p. numbered_instance t (decomposed_by (numbered_at s n) i p)) (decomposed_by (numbered_at s n) i) (numbered_instance t) (λ p. refl) instances)
-          ∙ map_two (λ p. numbered_instance t (decomposed_by (numbered_at s n) i p)) (numbered_instance t) (instance_network own i) (λ p. ap (λ m. (p.0, m)) (replaced_alike (children t) (numbered_at s n) p.1 i)) instances
-          ∙ ap₂ (λ (m : Network) (l : List (ℕ × Network)). map (instance_network m i) l) own_is instances_are;
+      each = map_two (network_at t) (numbered_at t) (network_of (children t)) (λ x. refl) xs ∙ ap (map (network_of (children t))) are.each
+          ∙ sym (map_two (λ p. network_of (children t) (replaced_numbered m i p)) (replaced_numbered m i) (network_of (children t)) (λ p. refl) instances)
+          ∙ map_two (λ p. network_of (children t) (replaced_numbered m i p)) (network_of (children t)) (replaced_network own i) (λ p. replaced_alike (children t) m p i) instances
+          ∙ ap₂ (λ (x : Network) (l : List Network). map (replaced_network x i) l) own_is instances_are;
     }
 
 -- a removal by numbers, as what it stands for
-abbrev removal_lifted : NetworkTable → ℕ × (ℕ × Numbered) → ℕ × (Child × Network)
-removal_lifted t p = (p.0, (child_of (children t) p.1.0, network_of (children t) p.1.1))
+abbrev removal_lifted : NetworkTable → ℕ × Numbered → Child × Network
+removal_lifted t p = (child_of (children t) p.0, network_of (children t) p.1)
 
 -- removals by numbers are those of what they stand for
 pub performed_right : (s t : NetworkTable) (n : ℕ) (xs : List Removal) → IsMore s t → Knows s n → first_free (network_at s n) ≡ None
-    → AreRemovals t (numbered_at s n) (enumerate_from 0 (free_positions (length (numbered_at s n).nodes) (numbered_at s n).order)) xs → IsPerformed t n xs
+    → AreRemovals t (numbered_at s n) (free_positions (length (numbered_at s n).nodes) (numbered_at s n).order) xs → IsPerformed t n xs
 performed_right s t n xs more known first are =
     let m = numbered_at s n in
     let same = same_network s t n more known in
@@ -165,18 +144,18 @@ performed_right s t n xs more known first are =
     let free = free_positions (length m.nodes) m.order in
     let P : ℕ → Type 0 = λ j. j < length m.nodes in
     let below : All P free = λ k d inside. (passes (is_free (length m.nodes) (is_before m.order)) (length m.nodes) k (get_or free k d) (slice_get-get_or free k d inside)).0 in
-    let positions : map (λ p. removal_lifted t (removed_at m p)) (enumerate_from 0 free) ≡ map (position_network own) (enumerate_from 0 free) =
-    map_all (λ (p : ℕ × ℕ). P p.1) (λ p. removal_lifted t (removed_at m p)) (position_network own)
-    (λ p inside. ap₂ (λ (c : Child) (x : Network). (p.0, (c, x))) (sym (get_or-map (child_of (children t)) m.nodes p.1 0 (precondition []) inside)) (replaced_alike (children t) m nothing p.1))
-    (enumerate_from 0 free) (all_numbered P 0 free below) in
+    let positions : map (λ j. removal_lifted t (removed_at m j)) free ≡ map (position_network own) free =
+    map_all P (λ j. removal_lifted t (removed_at m j)) (position_network own)
+    (λ j inside. ap₂ (λ (c : Child) (x : Network). (c, x)) (sym (get_or-map (child_of (children t)) m.nodes j 0 (precondition []) inside)) (replaced_alike (children t) m nothing j))
+    free below in
     let long : length m.nodes ≡ length own.children = sym (length-map m.nodes (child_of (children t))) in
     record {
       first = ap first_free same ∙ first;
       known = are.known;
       each = map_two (removal_network t) (removal_at t) (removal_lifted t) (λ x. refl) xs ∙ ap (map (removal_lifted t)) are.each
-          ∙ sym (map_two (λ p. removal_lifted t (removed_at m p)) (removed_at m) (removal_lifted t) (λ p. refl) (enumerate_from 0 free)) ∙ positions
-          ∙ ap (λ k. map (position_network own) (enumerate_from 0 (free_positions k m.order))) long
-          ∙ ap (λ (x : Network). map (position_network x) (enumerate_from 0 (free_positions (length x.children) x.order))) own_is;
+          ∙ sym (map_two (λ j. removal_lifted t (removed_at m j)) (removed_at m) (removal_lifted t) (λ j. refl) free) ∙ positions
+          ∙ ap (λ k. map (position_network own) (free_positions k m.order)) long
+          ∙ ap (λ (x : Network). map (position_network x) (free_positions (length x.children) x.order)) own_is;
     }
 
 -- ## What is remembered, as the table grows
@@ -189,9 +168,9 @@ expansion_more live s t n (Decomposed i successors) more known are =
       goal = are.goal;
       first = ap first_free same ∙ are.first;
       stands = ap (λ (m : Network). child_of m.children i) same ∙ are.stands;
-      known = all_more (IsKnown s) (IsKnown t) (known_more s t more) successors.items are.known;
-      each = map_all (IsKnown s) (successor_network t) (successor_network s) (λ x own. ap (λ (m : Network). (x.number, m)) (same_network s t x.network more own.0)) successors.items are.known
-          ∙ are.each ∙ ap (λ (m : Network). map (instance_network m i) (live are.goal)) (sym same);
+      known = all_more (Knows s) (Knows t) (λ x own. more_known s t x more own) successors.items are.known;
+      each = map_all (Knows s) (network_at t) (network_at s) (λ x own. same_network s t x more own) successors.items are.known
+          ∙ are.each ∙ ap (λ (m : Network). map (replaced_network m i) (live are.goal)) (sym same);
     }
 expansion_more live s t n (Performed removals) more known are =
     let same = same_network s t n more known in
@@ -199,8 +178,8 @@ expansion_more live s t n (Performed removals) more known are =
       first = ap first_free same ∙ are.first;
       known = all_more (IsKnownRemoval s) (IsKnownRemoval t) (known_removal_more s t more) removals.items are.known;
       each = map_all (IsKnownRemoval s) (removal_network t) (removal_network s)
-          (λ r own. ap₂ (λ (l : List Child) (m : Network). (r.number, (child_of l r.node, m))) (ap numbered_children more.children) (same_network s t r.network more own.0)) removals.items are.known
-          ∙ are.each ∙ ap (λ (x : Network). map (position_network x) (enumerate_from 0 (free_positions (length x.children) x.order))) (sym same);
+          (λ r own. ap₂ (λ (l : List Child) (m : Network). (child_of l r.node, m)) (ap numbered_children more.children) (same_network s t r.network more own.0)) removals.items are.known
+          ∙ are.each ∙ ap (λ (x : Network). map (position_network x) (free_positions (length x.children) x.order)) (sym same);
     }
 
 -- what is there stands within

@@ -6,12 +6,11 @@ use Rattle.std.proofs.lemmas.List.Sums.{sum-map}
 use Rattle.htn_ground.specs.Views.{child_view, children_of}
 use Rattle.htn_model.specs.Problem.{Child, Network, precondition}
 use Rattle.htn_model.specs.Choice.{child_of}
-use Rattle.std.specs.List.{enumerate_from}
 use Rattle.network_table.specs.Children.{AreBounds, AreKept, AreWhole, numbered_children}
-use Rattle.network_table.specs.Numbered.{Numbered, IsWithin}
+use Rattle.network_table.specs.Numbered.{Numbered, IsWithin, replaced_network}
 use Rattle.network_table.specs.Networks.{bound_of, children, numbered_at, network_at, Knows, IsWhole}
 use Rattle.network_table.specs.declared.child_table.ChildTable.{ChildTable}
-use Rattle.network_table.specs.Expansions.{IsKnown, IsKnownRemoval, IsExpansion, IsSound, Live, first_free, free_positions, successor_network, instance_network, removal_network, position_network}
+use Rattle.network_table.specs.Expansions.{IsKnownRemoval, IsExpansion, IsSound, Live, first_free, free_positions, removal_network, position_network}
 use Rattle.network_table.specs.declared.expansion.Removal.{Removal}
 use Rattle.network_table.specs.declared.expansion.Expansion.{Expansion}
 use Rattle.network_table.specs.declared.expansion.Expansion.TheVariants.{Decomposed, Performed}
@@ -67,8 +66,8 @@ module _ (s : NetworkTable) (new : ChildTable) (kept : AreKept s.children new) (
         first = ap first_free same ∙ are.first;
         stands = ap (λ (m : Network). child_of m.children i) same ∙ are.stands;
         known = are.known;
-        each = map_all (IsKnown s) (successor_network after) (successor_network s) (λ x own. ap (λ (m : Network). (x.number, m)) (network_same x.network own.0)) successors.items are.known
-            ∙ are.each ∙ ap (λ (m : Network). map (instance_network m i) (live are.goal)) (sym same);
+        each = map_all (Knows s) (network_at after) (network_at s) (λ x own. network_same x own) successors.items are.known
+            ∙ are.each ∙ ap (λ (m : Network). map (replaced_network m i) (live are.goal)) (sym same);
       }
   right_after live n (Performed removals) known are =
       let same = network_same n known in
@@ -76,8 +75,8 @@ module _ (s : NetworkTable) (new : ChildTable) (kept : AreKept s.children new) (
         first = ap first_free same ∙ are.first;
         known = all_more (IsKnownRemoval s) (IsKnownRemoval after) known_after removals.items are.known;
         each = map_all (IsKnownRemoval s) (removal_network after) (removal_network s)
-            (λ r own. ap₂ (λ (c : Child) (m : Network). (r.number, (c, m))) (child_same r.node own.1) (network_same r.network own.0)) removals.items are.known
-            ∙ are.each ∙ ap (λ (x : Network). map (position_network x) (enumerate_from 0 (free_positions (length x.children) x.order))) (sym same);
+            (λ r own. ap₂ (λ (c : Child) (m : Network). (c, m)) (child_same r.node own.1) (network_same r.network own.0)) removals.items are.known
+            ∙ are.each ∙ ap (λ (x : Network). map (position_network x) (free_positions (length x.children) x.order)) (sym same);
       }
 
   -- all that is remembered stays right

@@ -1,6 +1,5 @@
 //! What becomes of a network, found once.
 ghost use Rattle.std.specs.Prelude.{◌≡◌, ◌<◌, ℕ, List, All, IfOk, IfSome, OnOk, IsSome, length, get_or};
-ghost use Rattle.std.specs.List.{enumerate_from};
 ghost use Rattle.std.specs.Option.{option_map};
 ghost use Rattle.htn_model.specs.Problem.{GroundTask, task};
 ghost use Rattle.htn_model.specs.Choice.{child_of};
@@ -8,7 +7,7 @@ ghost use Rattle.network_table.specs.Numbered.{IsWithin};
 ghost use Rattle.network_table.specs.Networks.{children, expansion_at, IsGrown, IsMore, IsWhole, Knows, network_at, numbered_at};
 ghost use Rattle.network_table.specs.Expansions.{AreDecompositions, AreInstances, AreRemovals, IsExpansion, IsSound, Live, first_free, free_positions};
 
-use crate::expansion::{Expansion, Removal, Successor};
+use crate::expansion::{Expansion, Removal};
 use crate::network::Network;
 use crate::table::NetworkTable;
 use htn_ground::{Child, GroundTask};
@@ -63,27 +62,21 @@ impl NetworkTable {
         alloc: Global,
         number: u32,
         position: usize,
-        instances: &[(u64, Network)],
-    ) -> Result<Vec<Successor>, AllocError>
+        instances: &[Network],
+    ) -> Result<Vec<u32>, AllocError>
         requires whole { IsWhole self.old }
         requires known { Knows self.old number }
         requires placed { position < length (numbered_at self.old number).nodes }
-        requires within { All (λ p. IsWithin (children self.old) p.1) instances.now }
+        requires within { All (IsWithin (children self.old)) instances.now }
         ensures whole { OnOk result (IsWhole self.new) }
         ensures more { OnOk result (IsMore self.old self.new) }
         ensures each { IfOk result (λ v.
             AreDecompositions self.new (numbered_at self.old number) position instances.now v.items) }
     {
         let mut successors = Vec::with_capacity(alloc, instances.len())?;
-        for (instance, inner) in instances {
-            let next = self.network(number).replaced(alloc, position, inner)?;
-            let open_len = next.nodes().len() as u64;
-            let network = self.keep(next)?;
-            successors.push(Successor {
-                number: *instance,
-                network,
-                open_len,
-            })?;
+        for instance in instances {
+            let next = self.network(number).replaced(alloc, position, instance)?;
+            successors.push(self.keep(next)?)?;
         }
         Ok(successors)
     }
@@ -95,22 +88,16 @@ impl NetworkTable {
         ensures whole { OnOk result (IsWhole self.new) }
         ensures more { OnOk result (IsMore self.old self.new) }
         ensures each { IfOk result (λ v. AreRemovals self.new (numbered_at self.old number)
-            (enumerate_from 0
-            (free_positions (length (numbered_at self.old number).nodes) (numbered_at self.old number).order))
-            v.items) }
+            (free_positions (length (numbered_at self.old number).nodes) (numbered_at self.old number).order) v.items) }
     {
         let free = self.network(number).order().free_positions(alloc)?;
         let none = Network::new(Vec::new(alloc), Order::empty());
         let mut removals = Vec::with_capacity(alloc, free.len())?;
-        for (place, position) in free.iter().enumerate() {
+        for position in &free {
             let node = self.node_at(number, *position);
             let next = self.network(number).replaced(alloc, *position, &none)?;
             let network = self.keep(next)?;
-            removals.push(Removal {
-                number: place as u64,
-                node,
-                network,
-            })?;
+            removals.push(Removal { node, network })?;
         }
         Ok(removals)
     }
@@ -120,11 +107,11 @@ impl NetworkTable {
         &mut self,
         alloc: Global,
         number: u32,
-        instances: &[(u64, Network)],
+        instances: &[Network],
     ) -> Result<Expansion, AllocError>
         requires whole { IsWhole self.old }
         requires known { Knows self.old number }
-        requires within { All (λ p. IsWithin (children self.old) p.1) instances.now }
+        requires within { All (IsWithin (children self.old)) instances.now }
         ensures whole { OnOk result (IsWhole self.new) }
         ensures more { OnOk result (IsMore self.old self.new) }
         ensures right { IfOk result (λ e. (live : Live) → AreInstances live self.old number instances.now
@@ -142,17 +129,17 @@ impl NetworkTable {
         }
     }
 
-    /// Finds what becomes of a network, unless that is known, where these are the live instances of
-    /// its first free compound task, if there is one.
+    /// Finds what becomes of a network, unless that is known, where these are the instances that
+    /// are listed for its first free compound task, if there is one.
     pub fn expand(
         &mut self,
         alloc: Global,
         number: u32,
-        instances: &[(u64, Network)],
+        instances: &[Network],
     ) -> Result<(), AllocError>
         requires whole { IsWhole self.old }
         requires known { Knows self.old number }
-        requires within { All (λ p. IsWithin (children self.old) p.1) instances.now }
+        requires within { All (IsWithin (children self.old)) instances.now }
         ensures whole { OnOk result (IsWhole self.new) }
         ensures grown { OnOk result (IsGrown self.old self.new) }
         ensures ready { OnOk result (IsSome (expansion_at self.new number)) }

@@ -15,7 +15,7 @@ mod network;
 mod table;
 
 pub use child_table::ChildTable;
-pub use expansion::{Expansion, Removal, Successor};
+pub use expansion::{Expansion, Removal};
 pub use laws::{numbers_differ, replaces_as_model};
 pub use network::Network;
 pub use table::NetworkTable;
