@@ -1,0 +1,88 @@
+-- Sets that number what they hold.
+use Rattle.std.proofs.Common.{◌≡◌, ℕ, zero, suc, ◌<◌, inl, inr, Bool, true, false, not, if◌then◌else◌, List, [], ◌∷◌, ◌++◌, map, length, get_or, refl, sym, ap, subst, ◌∙◌, arith, true≢false, slice_get, Some}
+use Rattle.std.specs.List.{IsDistinct, list_any}
+use Rattle.std.specs.Bool.{Decides}
+use Rattle.std.proofs.lemmas.Bool.{cases_lt}
+use Rattle.std.proofs.lemmas.List.{length-map, get_or-map}
+use Rattle.std.proofs.lemmas.Map.Made.{AllPairs-from_IsDistinct}
+use Rattle.std.proofs.lemmas.Map.Keys.{apart_from_distinct}
+use Rattle.std.proofs.lemmas.Option.{none-some, same_Some, slice_get-get_or}
+use Rattle.indexmap.specs.IndexSet.{insert_key}
+use Rattle.htn_model.specs.PlanFile.{IsIn, IsWithoutRepeats}
+use Rattle.htn_model.proofs.Ascending.{at_in, in_at}
+
+-- what was not there goes last
+pub inserted_new : {K : Type 0} (eq : K → K → Bool) (ks : List K) (k : K) (b : Bool) → b ≡ not (list_any (eq k) ks) → b ≡ true → insert_key eq ks k ≡ ks ++ k ∷ []
+inserted_new eq ks k b is new = by (list_any (eq k) ks) refl
+  where
+    by : (c : Bool) → list_any (eq k) ks ≡ c → insert_key eq ks k ≡ ks ++ k ∷ []
+    by true e = absurd (true≢false (sym new ∙ is ∙ ap not e))
+    by false e = ap (λ b. if b then ks else ks ++ k ∷ []) e
+
+-- what was there changes nothing
+pub inserted_old : {K : Type 0} (eq : K → K → Bool) (ks : List K) (k : K) (b : Bool) → b ≡ not (list_any (eq k) ks) → b ≡ false → insert_key eq ks k ≡ ks
+inserted_old eq ks k b is old = by (list_any (eq k) ks) refl
+  where
+    by : (c : Bool) → list_any (eq k) ks ≡ c → insert_key eq ks k ≡ ks
+    by true e = ap (λ b. if b then ks else ks ++ k ∷ []) e
+    by false e = absurd (true≢false (sym (is ∙ ap not e) ∙ old))
+
+-- what a slice gives stands within it
+pub at_slice : {X : Type 0} (xs : List X) (i : ℕ) (x d : X) → slice_get xs i ≡ Some x → (i < length xs) × (get_or xs i d ≡ x)
+at_slice [] i x d e = absurd (none-some x e)
+at_slice (y ∷ xs) zero x d e = (omega arith, same_Some _ x e)
+at_slice (y ∷ xs) (suc i) x d e = let rest = at_slice xs i x d e in (omega (arith, rest.0), rest.1)
+
+-- equal items of a list stand at one place
+abbrev pub AreApart : {X : Type 0} → X → List X → Type 0
+AreApart d xs = (i j : ℕ) → i < length xs → j < length xs → get_or xs i d ≡ get_or xs j d → i ≡ j
+
+-- a list of which the items are apart has no repeats
+pub without_repeats : {X : Type 0} (d : X) (xs : List X) → AreApart d xs → IsWithoutRepeats xs
+without_repeats d [] apart = tt
+without_repeats d (x ∷ xs) apart = (
+  (λ there.
+      let found = in_at x xs there in
+      let seen = at_slice xs found.0 x d found.1 in
+      let e : 0 ≡ suc found.0 = apart 0 (suc found.0) (omega arith) (omega (arith, seen.0)) (sym seen.1) in
+      omega (arith, e)),
+  without_repeats d xs (λ i j here there alike. (let e = apart (suc i) (suc j) (omega (arith, here)) (omega (arith, there)) alike in omega (arith, e))),
+)
+
+-- the items of a list without repeats are apart
+pub apart : {X : Type 0} (d : X) (xs : List X) → IsWithoutRepeats xs → AreApart d xs
+apart d [] distinct i j here there alike = absurd (omega (arith, here))
+apart d (x ∷ xs) distinct zero zero here there alike = refl
+apart d (x ∷ xs) distinct zero (suc j) here there alike =
+    absurd (distinct.0 (subst (λ y. IsIn y xs) (sym alike) (at_in (get_or xs j d) xs j (slice_get-get_or xs j d (omega (arith, there))))))
+apart d (x ∷ xs) distinct (suc i) zero here there alike =
+    absurd (distinct.0 (subst (λ y. IsIn y xs) alike (at_in (get_or xs i d) xs i (slice_get-get_or xs i d (omega (arith, here))))))
+apart d (x ∷ xs) distinct (suc i) (suc j) here there alike = ap suc (apart d xs distinct.1 i j (omega (arith, here)) (omega (arith, there)) alike)
+
+-- keys of which no two are equal are of distinct meaning
+pub distinct_views : {K X : Type 0} (eq : K → K → Bool) (view : K → X) → ((a b : K) → Decides (eq a b) (view a ≡ view b)) → (d : K) (keys : List K) → IsDistinct eq keys
+    → IsWithoutRepeats (map view keys)
+distinct_views eq view same d keys distinct = without_repeats (view d) (map view keys) (λ i j here there alike.
+    let long = length-map keys view in
+    let i_is = get_or-map view keys i d (view d) (omega (arith, long)) in
+    let j_is = get_or-map view keys j d (view d) (omega (arith, long)) in
+    let views = sym i_is ∙ alike ∙ j_is in
+    elim (cases_lt i j) [
+      | inl less ↦ absurd (true≢false (sym ((same _ _).1 views) ∙ apart_from_distinct eq keys i j d distinct less (omega (arith, long))))
+      | inr no_less ↦ elim (cases_lt j i) [
+        | inl more ↦ absurd (true≢false (sym ((same _ _).1 (sym views)) ∙ apart_from_distinct eq keys j i d distinct more (omega (arith, long))))
+        | inr no_more ↦ omega arith
+      ]
+    ])
+
+-- so are keys that are told apart themselves
+pub distinct_keys : {K : Type 0} (eq : K → K → Bool) → ((a b : K) → Decides (eq a b) (a ≡ b)) → (d : K) (keys : List K) → IsDistinct eq keys → IsWithoutRepeats keys
+distinct_keys eq same d keys distinct = without_repeats d keys (λ i j here there alike.
+    let apart = AllPairs-from_IsDistinct same keys distinct in
+    elim (cases_lt i j) [
+      | inl less ↦ absurd (apart i j d less there alike)
+      | inr no_less ↦ elim (cases_lt j i) [
+        | inl more ↦ absurd (apart j i d more here (sym alike))
+        | inr no_more ↦ omega arith
+      ]
+    ])

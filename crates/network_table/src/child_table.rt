@@ -1,0 +1,66 @@
+//! Nodes by numbers.
+ghost use Rattle.std.specs.Prelude.{◌≡◌, ◌<◌, ◌++◌, ℕ, List, IfOk, OnOk, length, get_or};
+ghost use Rattle.htn_model.specs.Problem as model;
+ghost use Rattle.htn_model.specs.Choice.{child_of};
+ghost use Rattle.htn_ground.specs.Views.{child_view};
+ghost use Rattle.network_table.specs.Children.{AreBounds, AreKept, AreWhole, IsNumber, numbered_children};
+
+use htn_ground::Child;
+use indexmap::IndexSet;
+use std::alloc::{AllocError, Global};
+
+/// The nodes that have numbers, each with a bound from below, which the caller gives.
+#[derive(Drop)]
+pub struct ChildTable {
+    children: IndexSet<Child>,
+    bounds: Vec<u32>,
+}
+
+impl ChildTable {
+    /// No node has a number.
+    pub(crate) fn new(alloc: Global) -> ChildTable
+        ensures whole { AreWhole result }
+        ensures bounds { (measure : model.Child → ℕ) → AreBounds measure result }
+    {
+        ChildTable {
+            children: IndexSet::new(alloc),
+            bounds: Vec::new(alloc),
+        }
+    }
+
+    /// The node of a number.
+    pub fn child(&self, id: u32) -> &Child
+        requires { id < length (numbered_children self.now) }
+        ensures { child_view result.now ≡ child_of (numbered_children self.now) id }
+    {
+        &self.children.as_slice()[id as usize]
+    }
+
+    /// The bound of a number.
+    pub fn bound(&self, id: u32) -> u32
+        requires whole { AreWhole self.now }
+        requires known { id < length (numbered_children self.now) }
+        ensures { result ≡ get_or self.now.bounds.items id 0 }
+    {
+        self.bounds[id as usize]
+    }
+
+    /// The number of a node, which it may get only now, with this bound.
+    pub(crate) fn keep(&mut self, child: Child, bound: u32) -> Result<u32, AllocError>
+        requires { AreWhole self.old }
+        ensures whole { OnOk result (AreWhole self.new) }
+        ensures kept { OnOk result (AreKept self.old self.new) }
+        ensures number { IfOk result (λ id. IsNumber self.new id (child_view child)) }
+        ensures bounds { OnOk result ((measure : model.Child → ℕ) → measure (child_view child) ≡ bound
+            → AreBounds measure self.old → AreBounds measure self.new) }
+    {
+        let (place, is_new) = self.children.insert_full(child)?;
+        if is_new {
+            self.bounds.push(bound)?;
+        }
+        let Ok(id) = u32::try_from(place) else {
+            return Err(AllocError);
+        };
+        Ok(id)
+    }
+}

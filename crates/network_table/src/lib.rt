@@ -1,0 +1,21 @@
+//! Task networks by numbers, and what becomes of each in a search.
+//!
+//! A [`ChildTable`] gives each node a number, and a [`NetworkTable`] each network of such numbers
+//! with its order. With a network's number stand how many nodes it has, the sum of a bound on its
+//! nodes and, once asked for, its [`Expansion`]: the networks in which an instance stands in the
+//! place of the first free compound task or, where none is free, those without one of the free
+//! nodes. What becomes of a network is the same in every state, so it is found once.
+#![tactic(auto)]
+
+mod child_table;
+mod expand;
+mod expansion;
+mod laws;
+mod network;
+mod table;
+
+pub use child_table::ChildTable;
+pub use expansion::{Expansion, Removal};
+pub use laws::{numbers_differ, replaces_as_model};
+pub use network::Network;
+pub use table::NetworkTable;

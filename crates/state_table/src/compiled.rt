@@ -1,0 +1,183 @@
+//! Literals and actions by the numbers of their atoms.
+ghost use Rattle.std.specs.Prelude.{◌≡◌, ◌&&◌, ℕ, List, true, All, IfOk, OnOk};
+ghost use Rattle.htn_model.specs.Literal.{literal_holds, holds, after, Literal as ModelLiteral, Action as ModelAction};
+ghost use Rattle.htn_model.specs.Problem.{AreChanged};
+ghost use Rattle.htn_model.specs.State.{contains};
+ghost use Rattle.htn_state.specs.Views.{literal_of, literals_of};
+ghost use Rattle.std.specs.Bool.{beq};
+ghost use Rattle.state_table.specs.Bits.{has};
+ghost use Rattle.state_table.specs.Table.{Table, IsTable, IsLater, IsSetOf, is_changed, is_fluent, state_of};
+ghost use Rattle.state_table.specs.Compiled.{all_hold, AreCompiled, AreNumbers, IsCompiled};
+
+use crate::atom_table::AtomTable;
+use crate::bit_state::BitState;
+use htn_state::{Action, Atom, Literal};
+use std::alloc::{AllocError, Global};
+
+/// A conjunction of literals by the numbers of its fluent atoms. What static atoms and equalities say is decided.
+#[derive(Drop)]
+pub struct CompiledLiterals {
+    /// Some literal can never hold.
+    is_never: bool,
+    /// The atoms that must be true.
+    positives: Vec<u32>,
+    /// The atoms that must be false.
+    negatives: Vec<u32>,
+}
+
+/// What must hold, and the numbers of the atoms that become false, and then of those that become true.
+#[derive(Drop)]
+pub struct CompiledAction {
+    precondition: CompiledLiterals,
+    deletes: Vec<u32>,
+    adds: Vec<u32>,
+}
+
+impl CompiledLiterals {
+    /// Notes whether a literal of a static atom or an equality holds.
+    fn decide(&mut self, holds: bool)
+        ensures { (words : List ℕ) → all_hold words self.new ≡ (all_hold words self.old && holds) }
+    {
+        if !holds {
+            self.is_never = true;
+        }
+    }
+
+    /// Adds a literal of a fluent atom, by its number.
+    fn add_fluent(&mut self, number: u32, is_positive: bool) -> Result<(), AllocError>
+        ensures { OnOk result ((words : List ℕ)
+            → all_hold words self.new ≡ (all_hold words self.old && beq is_positive (has words number))) }
+    {
+        if is_positive {
+            self.positives.push(number)?;
+        } else {
+            self.negatives.push(number)?;
+        }
+        Ok(())
+    }
+
+    /// Adds a literal of an atom.
+    fn add_atom(
+        &mut self,
+        table: &mut AtomTable,
+        atom: &Atom,
+        is_positive: bool,
+    ) -> Result<(), AllocError>
+        ensures later { OnOk result (IsLater table.old table.new) }
+        ensures holds { OnOk result ((later : Table) → IsLater table.new later → (words : List ℕ)
+            → all_hold words self.new ≡ (all_hold words self.old && beq is_positive (contains (state_of later words) atom.now))) }
+    {
+        let _count = table.len();
+        if table.is_fluent(atom) {
+            let number = table.number(atom)?;
+            self.add_fluent(number, is_positive)?;
+        } else {
+            self.decide(table.is_static(atom) == is_positive);
+        }
+        Ok(())
+    }
+
+    /// Adds a literal.
+    fn add(&mut self, table: &mut AtomTable, literal: &Literal) -> Result<(), AllocError>
+        ensures later { OnOk result (IsLater table.old table.new) }
+        ensures holds { OnOk result ((later : Table) → IsLater table.new later → (words : List ℕ)
+            → all_hold words self.new ≡ (all_hold words self.old && literal_holds (state_of later words) (literal_of literal.now))) }
+    {
+        let _count = table.len();
+        match literal {
+            Literal::Positive(atom) => self.add_atom(table, atom, true)?,
+            Literal::Negative(atom) => self.add_atom(table, atom, false)?,
+            Literal::Same(x, y) => self.decide(x == y),
+            Literal::Different(x, y) => self.decide(x != y),
+        }
+        Ok(())
+    }
+
+    /// Compiles a conjunction, and numbers its fluent atoms.
+    pub fn of(
+        alloc: Global,
+        table: &mut AtomTable,
+        literals: &[Literal],
+    ) -> Result<Self, AllocError>
+        ensures later { OnOk result (IsLater table.old table.new) }
+        ensures compiled { IfOk result (λ c. AreCompiled table.new c (literals_of literals.now)) }
+    {
+        let _count = table.len();
+        let mut compiled = CompiledLiterals {
+            is_never: false,
+            positives: Vec::new(alloc),
+            negatives: Vec::new(alloc),
+        };
+        for literal in literals {
+            compiled.add(table, literal)?;
+        }
+        Ok(compiled)
+    }
+
+    /// Whether all of them hold, bit by bit.
+    fn hold_in(&self, state: &BitState) -> bool
+        ensures { result ≡ all_hold state.now self.now }
+    {
+        !self.is_never && state.has_all(&self.positives) && state.has_none(&self.negatives)
+    }
+
+    /// Whether all of them hold. It takes no memory.
+    pub fn hold(&self, state: &BitState) -> bool
+        ensures { (t : Table) (literals : List ModelLiteral) → IsTable t → AreCompiled t self.now literals
+            → result ≡ holds (state_of t state.now) literals }
+    {
+        self.hold_in(state)
+    }
+}
+
+/// The numbers of fluent atoms, each of which gets one if it has none.
+fn numbers_of(alloc: Global, table: &mut AtomTable, atoms: &[Atom]) -> Result<Vec<u32>, AllocError>
+    requires { All (λ a. is_fluent table.old a ≡ true) atoms.now }
+    ensures later { OnOk result (IsLater table.old table.new) }
+    ensures numbers { IfOk result (λ numbers. AreNumbers table.new numbers.items atoms.now) }
+{
+    let _count = table.len();
+    let mut numbers = Vec::with_capacity(alloc, atoms.len())?;
+    for atom in atoms {
+        numbers.push(table.number(atom)?)?;
+    }
+    Ok(numbers)
+}
+
+impl CompiledAction {
+    /// Compiles an action whose effects are all fluent, and numbers its fluent atoms.
+    pub fn of(alloc: Global, table: &mut AtomTable, action: &Action) -> Result<Self, AllocError>
+        requires deletes { AreChanged (is_changed table.old.fluents) action.now.deletes }
+        requires adds { AreChanged (is_changed table.old.fluents) action.now.adds }
+        ensures later { OnOk result (IsLater table.old table.new) }
+        ensures compiled { IfOk result (λ c. IsCompiled table.new c action.now) }
+    {
+        let precondition = CompiledLiterals::of(alloc, table, action.precondition.as_slice())?;
+        let deletes = numbers_of(alloc, table, action.deletes.atoms())?;
+        let adds = numbers_of(alloc, table, action.adds.atoms())?;
+        Ok(CompiledAction {
+            precondition,
+            deletes,
+            adds,
+        })
+    }
+
+    /// Whether the precondition holds. It takes no memory.
+    pub fn applies(&self, state: &BitState) -> bool
+        ensures { (t : Table) (action : ModelAction) → IsTable t → IsCompiled t self.now action
+            → result ≡ holds (state_of t state.now) action.precondition }
+    {
+        self.precondition.hold(state)
+    }
+
+    /// The state after the effects.
+    pub fn after(&self, state: &BitState) -> Result<BitState, AllocError>
+        ensures state { IfOk result (λ s. (t : Table) (action : ModelAction) → IsTable t → IsCompiled t self.now action
+            → state_of t s ≡ after (state_of t state.now) action) }
+        ensures within { IfOk result (λ s. (t : Table) (action : ModelAction) → IsCompiled t self.now action
+            → IsSetOf t state.now → IsSetOf t s) }
+    {
+        let next = state.changed(&self.deletes, &self.adds)?;
+        Ok(next)
+    }
+}

@@ -1,0 +1,70 @@
+//! States by numbers.
+ghost use Rattle.std.specs.Prelude.{◌≡◌, [], ℕ, slice_get, Some, IfOk, IfSome, IfNone, OnErr, OnOk};
+ghost use Rattle.state_table.specs.Numberings.{IsExtension, IsNumbering};
+
+use crate::bit_state::BitState;
+use indexmap::IndexSet;
+use std::alloc::{AllocError, Global};
+use std::marker::Model;
+
+/// States by number, in the order in which they were kept, none of them twice.
+#[derive(Drop)]
+pub struct StateTable {
+    states: IndexSet<BitState>,
+}
+
+impl Model for StateTable {
+    ghost use Rattle.std.specs.Prelude.{List, ℕ};
+    ghost use Rattle.state_table.specs.Numberings.{IsNumbering};
+
+    ghost Value = { List (List ℕ) };
+
+    ghost view = { λ t. t.states.keys };
+
+    ghost invariant = { λ t. IsNumbering t.states.keys };
+}
+
+impl StateTable {
+    /// A table of no states.
+    pub fn new(alloc: Global) -> Self
+        ensures { result ≡ [] }
+    {
+        StateTable {
+            states: IndexSet::new(alloc),
+        }
+    }
+
+    /// The states by number.
+    pub fn states(&self) -> &[BitState]
+        ensures value { result.now ≡ self.now }
+        ensures numbering { IsNumbering self.now }
+    {
+        self.states.as_slice()
+    }
+
+    /// The number of a state, if it has one.
+    pub fn number_of(&self, state: &BitState) -> Option<u32>
+        ensures some { IfSome result (λ n. slice_get self.now n ≡ Some state.now) }
+        ensures none { IfNone result ((n : ℕ) → slice_get self.now n ≡ Some state.now → ⊥) }
+    {
+        let place = self.states.get_index_of(state)?;
+        Some(place as u32)
+    }
+
+    /// The number of a state, which gets one if it has none.
+    pub fn keep(&mut self, state: BitState) -> Result<u32, AllocError>
+        ensures grown { OnOk result (IsExtension self.old self.new) }
+        ensures number { IfOk result (λ n. slice_get self.new n ≡ Some state) }
+        ensures numbering { IsNumbering self.new }
+        ensures unchanged { OnErr result (self.new ≡ self.old) }
+    {
+        if let Some(number) = self.number_of(&state) {
+            return Ok(number);
+        }
+        let Ok(number) = u32::try_from(self.states.len()) else {
+            return Err(AllocError);
+        };
+        self.states.insert(state)?;
+        Ok(number)
+    }
+}
