@@ -62,12 +62,12 @@ ShowsSolution domain problem plan =
 -- ## Refusals
 
 -- the text holds no file, and this fault stands in it; want of memory is none
-abbrev pub IsUnread : List ℕ → PlanFault → Type 0
-IsUnread plan f = ((file : PlanFile) → FileText file plan → ⊥) × (f ≢ reading.OutOfMemory) × FaultAt f plan
+abbrev pub IsFaultyPlan : List ℕ → PlanFault → Type 0
+IsFaultyPlan plan f = ((file : PlanFile) → FileText file plan → ⊥) × (f ≢ reading.OutOfMemory) × FaultAt f plan
 
 -- why a plan's text has no verdict for a task
 abbrev pub IsUnjudged : List ℕ → RunFault → Type 0
-IsUnjudged plan (fault.Plan f) = IsUnread plan f
+IsUnjudged plan (fault.Plan f) = IsFaultyPlan plan f
 IsUnjudged plan fault.OutOfMemory = ⊤
 IsUnjudged plan _ = ⊥
 
@@ -77,7 +77,7 @@ RefusesPlan domain problem plan (fault.Domain f) = IsFaulty DerivesDomain domain
 RefusesPlan domain problem plan (fault.Problem f) = (d : DomainText) × Spells DerivesDomain domain d × IsFaulty DerivesProblem problem f
 RefusesPlan domain problem plan (fault.Check f) =
     (d : DomainText) × (p : ProblemText) × Spells DerivesDomain domain d × Spells DerivesProblem problem p × FailsAt d p f
-RefusesPlan domain problem plan (fault.Plan f) = (task : Task) × IsTaskOfTexts domain problem task × IsUnread plan f
+RefusesPlan domain problem plan (fault.Plan f) = (task : Task) × IsTaskOfTexts domain problem task × IsFaultyPlan plan f
 RefusesPlan domain problem plan fault.OutOfMemory = ⊤
 RefusesPlan domain problem plan fault.NoThread = ⊥
 RefusesPlan domain problem plan fault.Output = ⊥
