@@ -3,3 +3,13 @@ mod Saying
 mod OneAnswer
 mod Exists
 mod Stopping
+mod Decided
+mod DecidedLines
+mod DecidedRoom
+mod SomeVerdict
+mod OwnWords
+mod SpelledNames
+mod NamedTasks
+mod OneVerdict
+mod ValidPlans
+mod Judging

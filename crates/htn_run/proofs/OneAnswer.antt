@@ -73,6 +73,7 @@ faulty_have_no_answer domain problem bounds (fault.Check f) bound outcome text o
     is.fits f
     (subst (λ x. FailsAt is.domain_tree x f) (problem_laws.one problem p is.problem_tree spelled_too is.problem_spelled)
     (subst (λ x. FailsAt x p f) (domain_laws.one domain d is.domain_tree spelled is.domain_spelled) fails))
+faulty_have_no_answer domain problem bounds (fault.Plan f) bound outcome text of refuses answers = refuses
 faulty_have_no_answer domain problem bounds fault.OutOfMemory bound outcome text of refuses answers = of
 faulty_have_no_answer domain problem bounds fault.NoThread bound outcome text of refuses answers = of
 faulty_have_no_answer domain problem bounds fault.Output bound outcome text of refuses answers = of

@@ -23,6 +23,7 @@ pub want_refuses : (domain problem : List ℕ) (bounds : Bounds) (f : RunFault) 
 want_refuses domain problem bounds (fault.Domain f) h = absurd h
 want_refuses domain problem bounds (fault.Problem f) h = absurd h
 want_refuses domain problem bounds (fault.Check f) h = absurd h
+want_refuses domain problem bounds (fault.Plan f) h = absurd h
 want_refuses domain problem bounds fault.OutOfMemory h = tt
 want_refuses domain problem bounds fault.NoThread h = h
 want_refuses domain problem bounds fault.Output h = absurd h

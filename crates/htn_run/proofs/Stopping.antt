@@ -45,6 +45,7 @@ module _ {O : Type 0} (contents : O → Option (List ℕ)) (has_failed : O → B
       let h = refused (λ e. cc) in let given = texts_given first.now second.now one two in ((d, p, given.0, given.1, h.0), h.1)
   run_stops (Plan first second bounds) (fault.Check f) one two refused cut =
       let h = refused (λ e. cc) in let given = texts_given first.now second.now one two in ((d, p, given.0, given.1, h.0), h.1)
+  run_stops (Plan first second bounds) (fault.Plan f) one two refused cut = absurd (refused (λ e. cc)).0
   run_stops (Plan first second bounds) fault.OutOfMemory one two refused cut = (refused (λ e. cc)).1
   run_stops (Plan first second bounds) fault.NoThread one two refused cut =
       let h = refused (λ e. cc) in let given = texts_given first.now second.now one two in ((d, p, given.0, given.1, h.0), h.1)
@@ -64,6 +65,7 @@ module _ {O : Type 0} (contents : O → Option (List ℕ)) (has_failed : O → B
     at_five (Run (fault.Domain f)) h is = absurd (omega arith)
     at_five (Run (fault.Problem f)) h is = absurd (omega arith)
     at_five (Run (fault.Check f)) h is = absurd (omega arith)
+    at_five (Run (fault.Plan f)) h is = absurd (omega arith)
     at_five (Run fault.OutOfMemory) h is = absurd (omega arith)
     at_five (Run fault.NoThread) h is = absurd (omega arith)
 
@@ -73,5 +75,6 @@ module _ {O : Type 0} (contents : O → Option (List ℕ)) (has_failed : O → B
     at_three (Run (fault.Domain f)) h is = (fault.Domain f, tt, h.0)
     at_three (Run (fault.Problem f)) h is = (fault.Problem f, tt, h.0)
     at_three (Run (fault.Check f)) h is = (fault.Check f, tt, h.0)
+    at_three (Run (fault.Plan f)) h is = (fault.Plan f, tt, h.0)
     at_three (Run fault.OutOfMemory) h is = absurd (omega arith)
     at_three (Run fault.NoThread) h is = absurd (omega arith)

@@ -58,6 +58,7 @@ Refuses domain problem bounds (fault.Domain f) = IsFaulty DerivesDomain domain f
 Refuses domain problem bounds (fault.Problem f) = (d : DomainText) × Spells DerivesDomain domain d × IsFaulty DerivesProblem problem f
 Refuses domain problem bounds (fault.Check f) =
     (d : DomainText) × (p : ProblemText) × Spells DerivesDomain domain d × Spells DerivesProblem problem p × FailsAt d p f
+Refuses domain problem bounds (fault.Plan f) = ⊥
 Refuses domain problem bounds fault.OutOfMemory = ⊤
 Refuses domain problem bounds fault.NoThread = 1 < bounds.workers
 Refuses domain problem bounds fault.Output = ⊥

@@ -1,16 +1,24 @@
--- What follows of what a run answers: the two texts and the bound determine it.
-use Rattle.std.specs.Prelude.{◌≡◌, ℕ, List, ⊤}
+-- What follows of what a run answers: the texts and the bound determine it.
+use Rattle.std.specs.Prelude.{◌≡◌, ◌↔◌, ◌≤◌, ◌<◌, ◌^◌, ℕ, List, Some, codes, length, ⊤}
 use Rattle.hddl_tree.specs.declared.domain.DomainText.{DomainText}
 use Rattle.hddl_tree.specs.declared.problem.ProblemText.{ProblemText}
 use Rattle.hddl_text.specs.Grammar.{DerivesDomain, DerivesProblem}
 use Rattle.hddl_text.specs.Spelling.{Spells}
 use Rattle.hddl_meaning.specs.Items.{IsWellTypedPair}
+use Rattle.htn_model.specs.PlanFile.{PlanFile}
 use Rattle.htn_model.specs.Task.{Task}
+use Rattle.htn_verify.specs.declared.verdict.Verdict.{Verdict}
+use Rattle.htn_verify.specs.declared.verdict.Verdict.TheVariants.{NoInstance, NotExecutable, Valid}
+use Rattle.plan_text.specs.declared.fault.PlanFault.TheVariants.{TooLong}
+use Rattle.plan_text.specs.FileText.{FileText}
+use Rattle.plan_text.specs.Piece.{max_bytes}
 use Rattle.word_machine.specs.declared.bounds.Bounds.{Bounds}
 use Rattle.htn_run.specs.declared.outcome.Outcome.{Outcome}
+use Rattle.htn_run.specs.declared.outcome.Outcome.TheVariants.{Found}
 use Rattle.htn_run.specs.declared.outcome.RunFault.{RunFault}
 use Rattle.htn_run.specs.declared.outcome.RunFault.TheVariants as fault
 use Rattle.htn_run.specs.Headline.{Answers, IsTaskOfTexts, Refuses}
+use Rattle.htn_run.specs.Judgement.{Judges, RefusesPlan, ShowsSolution, verdict_text}
 
 -- two texts have one task at most
 abbrev pub TextsHaveOneTask : Type 0
@@ -39,6 +47,7 @@ abbrev pub IsOfTexts : RunFault → Type 0
 IsOfTexts (fault.Domain f) = ⊤
 IsOfTexts (fault.Problem f) = ⊤
 IsOfTexts (fault.Check f) = ⊤
+IsOfTexts (fault.Plan f) = ⊤
 IsOfTexts _ = ⊥
 
 -- texts that have such a fault have no answer, for any bound
@@ -46,3 +55,50 @@ abbrev pub FaultyHaveNoAnswer : Type 0
 FaultyHaveNoAnswer =
     (domain problem : List ℕ) (bounds : Bounds) (f : RunFault) (bound : ℕ) (outcome : Outcome) (text : List ℕ)
     → IsOfTexts f → Refuses domain problem bounds f → Answers domain problem bound outcome text → ⊥
+
+-- ## Verdicts
+
+-- for three texts there is one verdict at most, and one text that tells it
+abbrev pub VerdictsAreUnique : Type 0
+VerdictsAreUnique =
+    (domain problem plan : List ℕ) (verdict other : Verdict) (text second : List ℕ)
+    → Judges domain problem plan verdict text → Judges domain problem plan other second → (verdict ≡ other) × (text ≡ second)
+
+-- an id in the verdict is one that a plan can have
+abbrev pub HasId : Verdict → Type 0
+HasId (NoInstance (Some id)) = id < 2 ^ 64
+HasId (NotExecutable id) = id < 2 ^ 64
+HasId _ = ⊤
+
+-- different verdicts, with ids as plans have them, are told by different texts
+abbrev pub VerdictsAreTold : Type 0
+VerdictsAreTold = (verdict other : Verdict) → HasId verdict → HasId other → verdict_text verdict ≡ verdict_text other → verdict ≡ other
+
+-- texts that have a task, and a plan's text that holds a file, have a verdict
+abbrev pub VerdictsExist : Type 0
+VerdictsExist =
+    (domain problem plan : List ℕ) (task : Task) (file : PlanFile) → IsTaskOfTexts domain problem task → FileText file plan
+    → (verdict : Verdict) × (text : List ℕ) × Judges domain problem plan verdict text
+
+-- it is `valid` exactly where the plan's text holds the shadow of a solution
+abbrev pub ValidIsSolved : Type 0
+ValidIsSolved =
+    (domain problem plan : List ℕ) (verdict : Verdict) (text : List ℕ) → Judges domain problem plan verdict text → (verdict ≡ Valid) ↔ ShowsSolution domain problem plan
+
+-- texts that have a fault have no verdict
+abbrev pub FaultyHaveNoVerdict : Type 0
+FaultyHaveNoVerdict =
+    (domain problem plan : List ℕ) (f : RunFault) (verdict : Verdict) (text : List ℕ)
+    → IsOfTexts f → RefusesPlan domain problem plan f → Judges domain problem plan verdict text → ⊥
+
+-- the text of a plan that answers two texts, for whatever bound, is valid for them
+abbrev pub PlansAreValid : Type 0
+PlansAreValid =
+    (domain problem : List ℕ) (bound : ℕ) (text : List ℕ) → Answers domain problem bound Found text → length text ≤ max_bytes
+    → Judges domain problem text Valid (codes "valid\n")
+
+-- unless it has more bytes than a text may have, and then it is refused as that
+abbrev pub LongPlansAreRefused : Type 0
+LongPlansAreRefused =
+    (domain problem : List ℕ) (bound : ℕ) (text : List ℕ) → Answers domain problem bound Found text → max_bytes < length text
+    → RefusesPlan domain problem text (fault.Plan (TooLong max_bytes))

@@ -2,6 +2,7 @@ pub mod Ends
 pub mod Faults
 pub mod Files
 pub mod Headline
+pub mod Judgement
 pub mod Laws
 pub mod Process
 pub mod Requests

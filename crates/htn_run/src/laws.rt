@@ -1,5 +1,6 @@
-//! What follows from the definition of an answer. Each function here is a law, with an empty body.
+//! What follows from the definitions of an answer and a verdict. Each function here is a law, with an empty body.
 ghost use Rattle.htn_run.specs.Laws.{AnswersAreUnique, AnswersExist, FaultyHaveNoAnswer, TextsHaveATask, TextsHaveOneTask};
+ghost use Rattle.htn_run.specs.Laws.{FaultyHaveNoVerdict, LongPlansAreRefused, PlansAreValid, ValidIsSolved, VerdictsAreTold, VerdictsAreUnique, VerdictsExist};
 
 /// The two texts and the bound determine the answer: no two outcomes answer them, and no two texts. Texts have one task
 /// at most.
@@ -17,4 +18,30 @@ pub fn answers_exist()
 /// A domain and a problem that are refused for a fault of theirs have no answer, for any bound.
 pub fn faulty_texts_have_no_answer()
     ensures none { FaultyHaveNoAnswer }
+{}
+
+/// The three texts determine the verdict: no two verdicts answer them, and no two texts. Different verdicts are told by
+/// different texts.
+pub fn verdicts_are_unique()
+    ensures verdict { VerdictsAreUnique }
+    ensures told { VerdictsAreTold }
+{}
+
+/// A domain and a problem that fit together, and a plan's text that holds a file, have a verdict. It is `valid` exactly
+/// where the file is the shadow of a solution.
+pub fn verdicts_exist()
+    ensures verdict { VerdictsExist }
+    ensures valid { ValidIsSolved }
+{}
+
+/// A domain, a problem and a plan that are refused for a fault of theirs have no verdict.
+pub fn faulty_texts_have_no_verdict()
+    ensures none { FaultyHaveNoVerdict }
+{}
+
+/// The planner and the verifier agree: the text of a plan that answers a domain and a problem, for whatever bound, is
+/// valid for them. Only where it has more bytes than a text may have is it refused as `TooLong`.
+pub fn plans_are_valid()
+    ensures valid { PlansAreValid }
+    ensures long { LongPlansAreRefused }
 {}

@@ -1,8 +1,9 @@
-//! `htnplan` as a library: from the bytes of a domain and a problem, or from the words of a command line, to the bytes
-//! of the answer.
+//! `htnplan` as a library: from the bytes of a domain and a problem, and of a plan to be verified, or from the words of a
+//! command line, to the bytes of the answer.
 #![tactic(auto)]
 
 mod answer;
+mod judge;
 mod laws;
 mod line;
 mod outcome;
@@ -10,12 +11,19 @@ mod process;
 mod run;
 mod source;
 mod stop;
+#[cfg(test)]
+mod tests;
 mod texts;
+mod verdict;
 mod words;
 
-pub use htn_plan::{Out, Sink};
+pub use htn_plan::{Out, Sink, Verdict};
 pub use htn_search::{Bounds, Gate, NoGate};
-pub use laws::{answers_are_unique, answers_exist, faulty_texts_have_no_answer};
+pub use judge::run_verify;
+pub use laws::{
+    answers_are_unique, answers_exist, faulty_texts_have_no_answer, faulty_texts_have_no_verdict,
+    plans_are_valid, verdicts_are_unique, verdicts_exist,
+};
 pub use outcome::{Outcome, RunFault};
 pub use process::{ProcessFault, flush, words_of};
 pub use run::{run_plan, run_task};

@@ -2,7 +2,7 @@
 
 use hddl_meaning::CheckFault;
 use hddl_text::TextFault;
-use htn_plan::WriteFault;
+use htn_plan::{PlanFault, WriteFault};
 use htn_search::SearchFault;
 use std::alloc::AllocError;
 use thiserror::Error;
@@ -30,6 +30,9 @@ pub enum RunFault {
     /// The domain and the problem don't fit together.
     #[error("{0}")]
     Check(CheckFault),
+    /// The plan's text is refused.
+    #[error("plan: {0}")]
+    Plan(PlanFault),
     /// Memory was refused.
     #[error("OutOfMemory")]
     OutOfMemory,
