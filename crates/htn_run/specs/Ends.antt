@@ -1,12 +1,10 @@
 -- How the run of a command line ends, over what its words ask for and what the files have.
-use Rattle.std.specs.Prelude.{◌≡◌, ◌⊎◌, ℕ, true, List, Option, String, map, string_bytes}
+use Rattle.std.specs.Prelude.{◌⊎◌, ℕ, List, Option, String, map, string_bytes}
 use Rattle.std.specs.Io.KnownBytes.{Appends}
 use Rattle.plan_text.specs.Out.{TakesBeginning}
-use Rattle.htn_command.specs.CommandLine.{HelpIsDue}
-use Rattle.htn_command.specs.Help.{asks_for_help}
+use Rattle.htn_command.specs.Help.{HelpIsAsked, VersionIsAsked}
 use Rattle.htn_command.specs.Request.{AskNothing, IsAskedBy}
 use Rattle.htn_command.specs.declared.request.Request.{Request}
-use Rattle.htn_run.specs.declared.outcome.Outcome.TheVariants.{Found}
 use Rattle.htn_run.specs.Files.{File}
 use Rattle.htn_run.specs.Requests as request
 
@@ -17,18 +15,17 @@ Asked words P = (r : Request) × IsAskedBy (map string_bytes words) r × P r
 abbrev pub NothingIsAsked : {Z : Type 0} → List (String Z) → Type 0
 NothingIsAsked words = AskNothing (map string_bytes words)
 
--- the words ask for help
-abbrev pub HelpIsAsked : {Z : Type 0} → List (String Z) → Type 0
-HelpIsAsked words = HelpIsDue (map string_bytes words) × (asks_for_help words ≡ true)
+-- the words ask for help, or for the version
+abbrev pub TextIsAsked : {Z : Type 0} → List (String Z) → Type 0
+TextIsAsked words = HelpIsAsked words ⊎ VersionIsAsked words
 
--- a plan for the request was added to the output, or help that was asked for
-abbrev pub PrintsPlan : {Z : Type 0} → List (String Z) → (List ℕ → File) → Option (List ℕ) → Option (List ℕ) → Type 0
-PrintsPlan words files old new =
-    Asked words (request.AddsAnswer files old new Found) ⊎ (HelpIsAsked words × ((text : List ℕ) × Appends old new text))
+-- an answer to the request, of this status, was added to the output
+abbrev pub PrintsAnswer : {Z : Type 0} → ℕ → List (String Z) → (List ℕ → File) → Option (List ℕ) → Option (List ℕ) → Type 0
+PrintsAnswer status words files old new = Asked words (request.AddsAnswerWith status files old new)
 
--- `none` or `unsolvable` was, and it is true of the request
-abbrev pub PrintsNoPlan : {Z : Type 0} → List (String Z) → (List ℕ → File) → Option (List ℕ) → Option (List ℕ) → Type 0
-PrintsNoPlan words files old new = Asked words (request.AddsNoPlan files old new)
+-- help or the version was, and it was asked for
+abbrev pub PrintsText : {Z : Type 0} → List (String Z) → Option (List ℕ) → Option (List ℕ) → Type 0
+PrintsText words old new = TextIsAsked words × ((text : List ℕ) × Appends old new text)
 
 -- the texts of the request have a fault
 abbrev pub HasFault : {Z : Type 0} → List (String Z) → (List ℕ → File) → Type 0
@@ -38,7 +35,7 @@ HasFault words files = Asked words (request.HasFault files)
 abbrev pub LacksFile : {Z : Type 0} → List (String Z) → (List ℕ → File) → Type 0
 LacksFile words files = Asked words (request.LacksFile files)
 
--- a beginning of the answer to the request was added to the output, or of help that was asked for
+-- a beginning of the answer to the request was added to the output, or of help or the version that was asked for
 abbrev pub IsCutShort : {Z : Type 0} → List (String Z) → (List ℕ → File) → Option (List ℕ) → Option (List ℕ) → Type 0
 IsCutShort words files old new =
-    Asked words (request.IsCutShort files old new) ⊎ (HelpIsAsked words × ((text : List ℕ) × TakesBeginning old new text))
+    Asked words (request.IsCutShort files old new) ⊎ (TextIsAsked words × ((text : List ℕ) × TakesBeginning old new text))

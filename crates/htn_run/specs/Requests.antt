@@ -2,44 +2,69 @@
 use Rattle.std.specs.Prelude.{◌≡◌, ℕ, ◌⊎◌, List, Option}
 use Rattle.std.specs.Io.KnownBytes.{Appends}
 use Rattle.htn_command.specs.declared.request.Request.{Request}
-use Rattle.htn_command.specs.declared.request.Request.TheVariants.{Plan}
-use Rattle.htn_run.specs.declared.outcome.Outcome.{Outcome}
-use Rattle.htn_run.specs.declared.outcome.Outcome.TheVariants.{NoPlan, Unsolvable}
+use Rattle.htn_command.specs.declared.request.Request.TheVariants.{Plan, Verify}
+use Rattle.htn_verify.specs.declared.verdict.Verdict.TheVariants.{Valid}
+use Rattle.htn_run.specs.declared.outcome.Outcome.TheVariants.{Found}
 use Rattle.htn_run.specs.declared.outcome.RunFault.{RunFault}
+use Rattle.htn_run.specs.declared.reply.Reply.{Reply}
+use Rattle.htn_run.specs.declared.reply.Reply.TheVariants.{Planned, Verified}
 use Rattle.htn_run.specs.Files.{File, MayFail, MayGive}
-use Rattle.htn_run.specs.Headline as texts
+use Rattle.htn_run.specs.Headline as plans
+use Rattle.htn_run.specs.Judgement as verdicts
 use Rattle.htn_run.specs.Laws.{IsOfTexts}
 
 -- what holds of the texts in the files of a domain and a problem
 abbrev pub OfTexts : (List ℕ → File) → List ℕ → List ℕ → (List ℕ → List ℕ → Type 0) → Type 0
 OfTexts files domain problem P = (d : List ℕ) × (p : List ℕ) × MayGive (files domain) d × MayGive (files problem) p × P d p
 
+-- what holds of them and of the text in the file of a plan
+abbrev pub OfThreeTexts : (List ℕ → File) → List ℕ → List ℕ → List ℕ → (List ℕ → List ℕ → List ℕ → Type 0) → Type 0
+OfThreeTexts files domain problem plan P = OfTexts files domain problem (λ d p. (f : List ℕ) × MayGive (files plan) f × P d p f)
+
 -- the text that answers the request
-abbrev pub Answers : (List ℕ → File) → Request → Outcome → List ℕ → Type 0
-Answers files (Plan domain problem bounds) outcome text = OfTexts files domain.now problem.now (λ d p. texts.Answers d p bounds.nodes outcome text)
+abbrev pub Answers : (List ℕ → File) → Request → Reply → List ℕ → Type 0
+Answers files (Plan domain problem bounds) (Planned outcome) text =
+    OfTexts files domain.now problem.now (λ d p. plans.Answers d p bounds.nodes outcome text)
+Answers files (Verify domain problem plan) (Verified verdict) text =
+    OfThreeTexts files domain.now problem.now plan.now (λ d p f. verdicts.Judges d p f verdict text)
+Answers files _ _ text = ⊥
+
+-- the status of an answer: 0 for a plan and for `valid`, and 1 for any other
+abbrev pub status_of : Reply → ℕ
+status_of (Planned Found) = 0
+status_of (Verified Valid) = 0
+status_of _ = 1
 
 -- why the request has no answer
 abbrev pub Refuses : (List ℕ → File) → Request → RunFault → Type 0
-Refuses files (Plan domain problem bounds) fault = OfTexts files domain.now problem.now (λ d p. texts.Refuses d p bounds fault)
+Refuses files (Plan domain problem bounds) fault = OfTexts files domain.now problem.now (λ d p. plans.Refuses d p bounds fault)
+Refuses files (Verify domain problem plan) fault = OfThreeTexts files domain.now problem.now plan.now (λ d p f. verdicts.RefusesPlan d p f fault)
 
 -- a fault of the texts, for which the request has no answer
 abbrev pub HasFault : (List ℕ → File) → Request → Type 0
 HasFault files request = (fault : RunFault) × IsOfTexts fault × Refuses files request fault
 
--- the first file of the request can't be read, or the second after the first was
+-- the first of two files can't be read, or the second after the first was
+abbrev pub LacksText : (List ℕ → File) → List ℕ → List ℕ → Type 0
+LacksText files domain problem = MayFail (files domain) ⊎ ((d : List ℕ) × MayGive (files domain) d × MayFail (files problem))
+
+-- a file of the request can't be read, after those before it were
 abbrev pub LacksFile : (List ℕ → File) → Request → Type 0
-LacksFile files (Plan domain problem bounds) =
-    MayFail (files domain.now) ⊎ ((d : List ℕ) × MayGive (files domain.now) d × MayFail (files problem.now))
+LacksFile files (Plan domain problem bounds) = LacksText files domain.now problem.now
+LacksFile files (Verify domain problem plan) =
+    LacksText files domain.now problem.now ⊎ OfTexts files domain.now problem.now (λ d p. MayFail (files plan.now))
 
 -- the text that answers the request was added to the output
-abbrev pub AddsAnswer : (List ℕ → File) → Option (List ℕ) → Option (List ℕ) → Outcome → Request → Type 0
-AddsAnswer files old new outcome request = (text : List ℕ) × Answers files request outcome text × Appends old new text
+abbrev pub AddsAnswer : (List ℕ → File) → Option (List ℕ) → Option (List ℕ) → Reply → Request → Type 0
+AddsAnswer files old new reply request = (text : List ℕ) × Answers files request reply text × Appends old new text
 
--- the same of an answer that is no plan
-abbrev pub AddsNoPlan : (List ℕ → File) → Option (List ℕ) → Option (List ℕ) → Request → Type 0
-AddsNoPlan files old new request = AddsAnswer files old new NoPlan request ⊎ AddsAnswer files old new Unsolvable request
+-- the same of an answer with this status
+abbrev pub AddsAnswerWith : ℕ → (List ℕ → File) → Option (List ℕ) → Option (List ℕ) → Request → Type 0
+AddsAnswerWith status files old new request = (reply : Reply) × (status_of reply ≡ status) × AddsAnswer files old new reply request
 
 -- a beginning of the text that answers the request was added to the output
 abbrev pub IsCutShort : (List ℕ → File) → Option (List ℕ) → Option (List ℕ) → Request → Type 0
 IsCutShort files old new (Plan domain problem bounds) =
-    OfTexts files domain.now problem.now (λ d p. texts.IsAnswerCutShort d p bounds.nodes old new)
+    OfTexts files domain.now problem.now (λ d p. plans.IsAnswerCutShort d p bounds.nodes old new)
+IsCutShort files old new (Verify domain problem plan) =
+    OfThreeTexts files domain.now problem.now plan.now (λ d p f. verdicts.IsVerdictCutShort d p f old new)

@@ -2,7 +2,7 @@
 use Rattle.std.specs.Prelude.{◌≡◌, ℕ, Bool, true, List, Option}
 use Rattle.htn_command.specs.declared.request.Request.{Request}
 use Rattle.plan_text.specs.Out.{TakesBeginning}
-use Rattle.htn_run.specs.Files.{File, MayFail}
+use Rattle.htn_run.specs.Files.{File}
 use Rattle.htn_run.specs.Requests.{IsCutShort, LacksFile, Refuses}
 use Rattle.htn_run.specs.declared.outcome.RunFault.{RunFault}
 use Rattle.htn_run.specs.declared.outcome.RunFault.TheVariants.{Output, OutOfMemory, NoThread}
@@ -19,10 +19,10 @@ abbrev pub status_of : Stop → ℕ
 status_of (Unreadable text) = 5
 status_of (Run fault) = status_of_fault fault
 
--- why a file was not read
-abbrev pub IsUnread : File → Stop → Type 0
-IsUnread file (Unreadable text) = MayFail file
-IsUnread file (Run fault) = fault ≡ OutOfMemory
+-- why files were not read: one that can't be read lacks, or memory was refused
+abbrev pub IsUnread : Type 0 → Stop → Type 0
+IsUnread Lacks (Unreadable text) = Lacks
+IsUnread Lacks (Run fault) = fault ≡ OutOfMemory
 
 -- the output failed after a beginning of some text, or memory was refused and it is as it was
 abbrev pub CutsShort : {O : Type 0} → (O → Option (List ℕ)) → (O → Bool) → O → O → RunFault → Type 0

@@ -8,6 +8,7 @@ mod laws;
 mod line;
 mod outcome;
 mod process;
+mod reply;
 mod run;
 mod source;
 mod stop;

@@ -1,13 +1,15 @@
 //! The run of a command line.
 ghost use Rattle.std.specs.Prelude.{◌≡◌, ◌≤◌, ◌⊎◌, ℕ, List, true, IfOk, IfErr, OnOk};
 ghost use Rattle.std.specs.Io.KnownBytes.{Appends};
-ghost use Rattle.htn_run.specs.Ends.{HasFault, IsCutShort, LacksFile, NothingIsAsked, PrintsNoPlan, PrintsPlan};
-ghost use Rattle.htn_run.specs.Files.{MayGive};
-ghost use Rattle.htn_run.specs.Requests.{AddsAnswer};
+ghost use Rattle.htn_run.specs.Ends.{HasFault, IsCutShort, LacksFile, NothingIsAsked, PrintsAnswer, PrintsText};
+ghost use Rattle.htn_run.specs.Files.{MayFail, MayGive};
+ghost use Rattle.htn_run.specs.Requests.{AddsAnswer, LacksText};
 ghost use Rattle.htn_run.specs.Stops.{CutsShort, IsUnread, Stops};
 
+use crate::judge::run_verify;
 use crate::line::Line;
-use crate::outcome::{Outcome, RunFault};
+use crate::outcome::RunFault;
+use crate::reply::Reply;
 use crate::run::run_plan;
 use crate::source::{ReadFault, Source};
 use crate::stop::Stop;
@@ -24,8 +26,8 @@ use std::thread::Threads;
 ///
 /// | Status | When | On `err` |
 /// |---|---|---|
-/// | 0 | a plan, or help that was asked for | nothing |
-/// | 1 | `none` or `unsolvable` | nothing |
+/// | 0 | a plan, or `valid`, or help or the version, which was asked for | nothing |
+/// | 1 | `none`, `unsolvable`, or `invalid: ` and why | nothing |
 /// | 2 | the words are refused | the text of `clap` |
 /// | 3 | a text is refused | one line: which text, the fault and its place |
 /// | 4 | want of memory, or no thread | one line |
@@ -42,8 +44,9 @@ pub fn run_words<S: Source, O: Out, E: Out, R: Threads + Wait + Sync>(
     err: &mut E,
 ) -> u8
     ensures status { result ≤ 5 }
-    ensures found { result ≡ 0 → PrintsPlan words.now (S.files files.old) (O.contents out.old) (O.contents out.new) }
-    ensures none { result ≡ 1 → PrintsNoPlan words.now (S.files files.old) (O.contents out.old) (O.contents out.new) }
+    ensures found { result ≡ 0 → PrintsAnswer 0 words.now (S.files files.old) (O.contents out.old) (O.contents out.new)
+        ⊎ PrintsText words.now (O.contents out.old) (O.contents out.new) }
+    ensures none { result ≡ 1 → PrintsAnswer 1 words.now (S.files files.old) (O.contents out.old) (O.contents out.new) }
     ensures works { result ≤ 1 → O.has_failed out.new ≡ O.has_failed out.old }
     ensures quiet { result ≤ 1 → err.new ≡ err.old }
     ensures refused { result ≡ 2 → NothingIsAsked words.now }
@@ -54,12 +57,14 @@ pub fn run_words<S: Source, O: Out, E: Out, R: Threads + Wait + Sync>(
 {
     match parse(alloc, words) {
         Ok(request) => match run_request(rt, alloc, request, files, out) {
-            Ok(Outcome::Found) => 0,
-            Ok(Outcome::NoPlan) => 1,
-            Ok(Outcome::Unsolvable) => 1,
+            Ok(reply) => reply.status(),
             Err(stop) => stop.tell(err),
         },
-        Err(Refusal::Help(help)) => match write_help(alloc, &help, out) {
+        Err(Refusal::Help(help)) => match write_text(alloc, &help, out) {
+            Ok(()) => 0,
+            Err(fault) => Stop::Run(fault).tell(err),
+        },
+        Err(Refusal::Version(version)) => match write_text(alloc, &version, out) {
             Ok(()) => 0,
             Err(fault) => Stop::Run(fault).tell(err),
         },
@@ -71,24 +76,26 @@ pub fn run_words<S: Source, O: Out, E: Out, R: Threads + Wait + Sync>(
     }
 }
 
-fn write_help<O: Out>(alloc: Global, help: &Error, out: &mut O) -> Result<(), RunFault>
+// Writes the text of help, or of the version.
+fn write_text<O: Out>(alloc: Global, shown: &Error, out: &mut O) -> Result<(), RunFault>
     ensures added { OnOk result ((text : List ℕ) × Appends (O.contents out.old) (O.contents out.new) text) }
     ensures works { OnOk result (O.has_failed out.new ≡ O.has_failed out.old) }
     ensures stopped { IfErr result (CutsShort O.contents O.has_failed out.old out.new) }
 {
-    let text = help.to_string(alloc)?;
+    let text = shown.to_string(alloc)?;
     put_all(out, text.as_bytes())?;
     Ok(())
 }
 
+// Reads the files of a request, and answers it.
 fn run_request<S: Source, O: Out, R: Threads + Wait + Sync>(
     rt: &R,
     alloc: Global,
     request: Request<'_>,
     files: &mut S,
     out: &mut O,
-) -> Result<Outcome, Stop>
-    ensures answered { IfOk result (λ outcome. AddsAnswer (S.files files.old) (O.contents out.old) (O.contents out.new) outcome request.entry) }
+) -> Result<Reply, Stop>
+    ensures answered { IfOk result (λ reply. AddsAnswer (S.files files.old) (O.contents out.old) (O.contents out.new) reply request.entry) }
     ensures works { OnOk result (O.has_failed out.new ≡ O.has_failed out.old) }
     ensures stopped { IfErr result (Stops O.contents O.has_failed (S.files files.old) request.entry out.old out.new) }
 {
@@ -97,12 +104,17 @@ fn run_request<S: Source, O: Out, R: Threads + Wait + Sync>(
             domain,
             problem,
             bounds,
-        } => run_files(rt, alloc, domain, problem, bounds, files, out),
+        } => plan_files(rt, alloc, domain, problem, bounds, files, out),
+        Request::Verify {
+            domain,
+            problem,
+            plan,
+        } => verify_files(alloc, domain, problem, plan, files, out),
     }
 }
 
 // The run of a request for a plan.
-fn run_files<S: Source, O: Out, R: Threads + Wait + Sync>(
+fn plan_files<S: Source, O: Out, R: Threads + Wait + Sync>(
     rt: &R,
     alloc: Global,
     domain: &str,
@@ -110,14 +122,13 @@ fn run_files<S: Source, O: Out, R: Threads + Wait + Sync>(
     bounds: Bounds,
     files: &mut S,
     out: &mut O,
-) -> Result<Outcome, Stop>
-    ensures answered { IfOk result (λ outcome. AddsAnswer (S.files files.old) (O.contents out.old) (O.contents out.new) outcome (Request.Plan domain.entry problem.entry bounds)) }
+) -> Result<Reply, Stop>
+    ensures answered { IfOk result (λ reply. AddsAnswer (S.files files.old) (O.contents out.old) (O.contents out.new) reply (Request.Plan domain.entry problem.entry bounds)) }
     ensures works { OnOk result (O.has_failed out.new ≡ O.has_failed out.old) }
     ensures stopped { IfErr result (Stops O.contents O.has_failed (S.files files.old) (Request.Plan domain.entry problem.entry bounds) out.old out.new) }
 {
-    let domain = read_file(alloc, files, "domain", domain)?;
-    let problem = read_file(alloc, files, "problem", problem)?;
-    Ok(run_plan(
+    let (domain, problem) = read_texts(alloc, files, domain, problem)?;
+    let outcome = run_plan(
         rt,
         alloc,
         domain.as_slice(),
@@ -125,7 +136,49 @@ fn run_files<S: Source, O: Out, R: Threads + Wait + Sync>(
         bounds,
         &NoGate,
         out,
-    )?)
+    )?;
+    Ok(Reply::Planned(outcome))
+}
+
+// The run of a request for a verdict.
+fn verify_files<S: Source, O: Out>(
+    alloc: Global,
+    domain: &str,
+    problem: &str,
+    plan: &str,
+    files: &mut S,
+    out: &mut O,
+) -> Result<Reply, Stop>
+    ensures answered { IfOk result (λ reply. AddsAnswer (S.files files.old) (O.contents out.old) (O.contents out.new) reply (Request.Verify domain.entry problem.entry plan.entry)) }
+    ensures works { OnOk result (O.has_failed out.new ≡ O.has_failed out.old) }
+    ensures stopped { IfErr result (Stops O.contents O.has_failed (S.files files.old) (Request.Verify domain.entry problem.entry plan.entry) out.old out.new) }
+{
+    let (domain, problem) = read_texts(alloc, files, domain, problem)?;
+    let plan = read_file(alloc, files, "plan", plan)?;
+    let verdict = run_verify(
+        alloc,
+        domain.as_slice(),
+        problem.as_slice(),
+        plan.as_slice(),
+        out,
+    )?;
+    Ok(Reply::Verified(verdict))
+}
+
+// The bytes of the files of a domain and a problem.
+fn read_texts<S: Source>(
+    alloc: Global,
+    files: &mut S,
+    domain: &str,
+    problem: &str,
+) -> Result<(Vec<u8>, Vec<u8>), Stop>
+    ensures bytes { IfOk result (λ texts. MayGive (S.files files.old domain.now) texts.0.items × MayGive (S.files files.old problem.now) texts.1.items) }
+    ensures unread { IfErr result (IsUnread (LacksText (S.files files.old) domain.now problem.now)) }
+    ensures kept { (other : List ℕ) → S.files files.new other ≡ S.files files.old other }
+{
+    let domain = read_file(alloc, files, "domain", domain)?;
+    let problem = read_file(alloc, files, "problem", problem)?;
+    Ok((domain, problem))
 }
 
 // A file's bytes; `text` says on the standard error which one can't be read.
@@ -136,7 +189,7 @@ fn read_file<S: Source>(
     name: &str,
 ) -> Result<Vec<u8>, Stop>
     ensures bytes { IfOk result (λ bytes. MayGive (S.files files.old name.now) bytes.items) }
-    ensures unread { IfErr result (IsUnread (S.files files.old name.now)) }
+    ensures unread { IfErr result (IsUnread (MayFail (S.files files.old name.now))) }
     ensures kept { (other : List ℕ) → S.files files.new other ≡ S.files files.old other }
 {
     match files.read(alloc, name) {

@@ -1,22 +1,6 @@
-use Rattle.std.proofs.Common.{◌≡◌, ◌∙◌, inl, inr, sym, subst}
-use Rattle.htn_run.specs.Requests.{AddsAnswer}
+use Rattle.std.proofs.Common.{◌∙◌, inl, inr, sym}
 use Rattle.htn_run.proofs.Stopping.{at_five, at_three}
 use Rattle.htn_run.proofs.words.run_words.Goals as goal
-
-pub returns-in-Ok-Found-clause-found : goal.returns-in-Ok-Found-clause-found
-returns-in-Ok-Found-clause-found g c is =
-    let added = rw c.in-Ok-Found.field-0-is at c.in-Ok-Found.ensures.answered in
-    inl (c.in-Ok.request, c.in-Ok.ensures.asked, added)
-
-pub returns-in-Ok-NoPlan-clause-none : goal.returns-in-Ok-NoPlan-clause-none
-returns-in-Ok-NoPlan-clause-none g c is =
-    let added = rw c.in-Ok-NoPlan.field-0-is at c.in-Ok-NoPlan.ensures.answered in
-    (c.in-Ok.request, c.in-Ok.ensures.asked, inl added)
-
-pub returns-in-Ok-Unsolvable-clause-none : goal.returns-in-Ok-Unsolvable-clause-none
-returns-in-Ok-Unsolvable-clause-none g c is =
-    let added = rw c.in-Ok-Unsolvable.field-0-is at c.in-Ok-Unsolvable.ensures.answered in
-    (c.in-Ok.request, c.in-Ok.ensures.asked, inr added)
 
 pub returns-in-Ok-clause-faulty : goal.returns-in-Ok-clause-faulty
 returns-in-Ok-clause-faulty g c is = (
