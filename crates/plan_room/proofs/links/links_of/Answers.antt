@@ -1,4 +1,4 @@
-use Rattle.std.proofs.Common.{◌≡◌, true, false, get_or, length, ◌≤◌, sym, ap, ◌∙◌, subst, arith}
+use Rattle.std.proofs.Common.{◌≡◌, true, false, get_or, length, ◌≤◌, sym, ◌∙◌, subst}
 use Rattle.plan_room.specs.Links.{AreFlagged, place_of}
 use Rattle.plan_room.proofs.Linked.{first_low, linked}
 use Rattle.plan_room.proofs.links.links_of.Goals as goal
