@@ -1,9 +1,8 @@
 -- Two positions that are ordered alike may change their choices, and the room stays.
-use Rattle.std.proofs.Common.{◌≡◌, ℕ, ◌≤◌, ◌<◌, ◌⊎◌, inl, inr, Bool, true, cond, eqb, List, length, get_or, sym, refl, ap, ◌∙◌, subst, arith}
-use Rattle.std.proofs.lemmas.Bool.{cases_lt, cases_eq, eq-eqb, ne_eqb}
+use Rattle.std.proofs.Common.{◌≡◌, ℕ, ◌<◌, ◌⊎◌, inl, inr, true, cond, eqb, length, sym, refl, ap, ◌∙◌, subst}
+use Rattle.std.proofs.lemmas.Bool.{cases_eq, eq-eqb, ne_eqb}
 use Rattle.htn_model.specs.Problem.{Order, is_before}
-use Rattle.plan_room.specs.Placing.{IsSequence}
-use Rattle.plan_room.specs.Matching.{Seating, IsSeating, IsSeated, HasRoomWith, AgreeBelow, AreTwins, IsFixed}
+use Rattle.plan_room.specs.Matching.{Seating, IsSeating, IsSeated, HasRoomWith, AreTwins}
 
 -- ## Two positions changed
 

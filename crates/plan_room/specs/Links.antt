@@ -1,5 +1,5 @@
 -- Which children of a line have the same task, and which positions of a network share choices.
-use Rattle.std.specs.Prelude.{◌≡◌, ℕ, ◌+◌, ◌≤◌, ◌<◌, ◌⊎◌, Bool, true, false, List, length, get_or, Option, Some, None}
+use Rattle.std.specs.Prelude.{◌≡◌, ℕ, ◌≤◌, ◌<◌, ◌⊎◌, Bool, true, false, List, length, get_or, Option, Some, None}
 use Rattle.indexmap.specs.IndexMap.{get}
 use Rattle.htn_model.specs.Problem.{GroundTask, ground_task_eq, Order, is_before, Child, precondition, action, task}
 use Rattle.plan_room.specs.Lines.{Lines, task_of}

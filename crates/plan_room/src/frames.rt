@@ -113,7 +113,7 @@ fn work_of<L: PlanLines>(
     ensures { IfOk result (λ work. IsWork (L.lines lines.now) children.now instance.now.network gap (Some work)) }
 {
     let sequence = sequence(alloc, instance.order())?;
-    let links = links_of(alloc, lines, children, instance, &sequence, gap)?;
+    let links = links_of(alloc, lines, children, instance, &sequence)?;
     let below = Below {
         lines,
         memo,

@@ -193,16 +193,14 @@ pub(crate) fn links_of<L: PlanLines>(
     children: &[usize],
     instance: &Instance,
     sequence: &[usize],
-    gap: usize,
 ) -> Result<Links, AllocError>
     requires lines { AreLines (L.lines lines.now) }
     requires low { (i : ℕ) → i < length children.now → get_or children.now i 0 < (L.lines lines.now).count }
     requires few { length children.now + length instance.now.network.children < 2 ^ 64 }
     requires square { IsSquare (length instance.now.network.children) instance.now.network.order }
     requires sequence { IsSequence instance.now.network.order sequence.now }
-    ensures { IfOk result (AreLinked (seating_of (L.lines lines.now) children.now instance.now.network sequence.now gap) (length children.now)) }
+    ensures { IfOk result (λ links. (gap : ℕ) → AreLinked (seating_of (L.lines lines.now) children.now instance.now.network sequence.now gap) (length children.now) links) }
 {
-    let _gap = gap;
     let mut places = Places::new(alloc);
     let after = next_places(alloc, lines, children, &mut places)?;
     let first = first_places(

@@ -1,8 +1,6 @@
 use Rattle.std.proofs.Common.{Some, sym, subst, ◌∙◌}
 use Rattle.plan_room.specs.Placing.{IsSequence}
 use Rattle.plan_room.specs.Matching.{HasMatchedRoom}
-use Rattle.plan_room.specs.Trials.{IsTried}
-use Rattle.plan_room.specs.Links.{AreLinked}
 use Rattle.plan_room.specs.Seats.{seating_of}
 use Rattle.plan_room.specs.Frames.{IsWork, NetworkHasRoom}
 use Rattle.plan_room.proofs.Joined.{as_many_fit, is_seating, to_fits, from_fits}

@@ -1,4 +1,4 @@
-use Rattle.std.proofs.Common.{◌≡◌, ◌∙◌, suc, ◌-◌, ◌⊎◌, true, false, length, get_or, slice_set, sym, subst, arith}
+use Rattle.std.proofs.Common.{◌≡◌, ◌∙◌, suc, ◌-◌, ◌⊎◌, true, false, length, get_or, sym, subst, arith}
 use Rattle.std.proofs.lemmas.List.{get_or_default, length-set}
 use Rattle.htn_model.specs.Problem.{is_before}
 use Rattle.plan_room.specs.Matching.{AreTwins}

@@ -1,4 +1,4 @@
-use Rattle.std.proofs.Common.{◌≡◌, ◌-◌, ℕ, suc, cond, length, get_or, Some, None, sym, ap, ◌∙◌, subst, arith}
+use Rattle.std.proofs.Common.{◌≡◌, ◌-◌, suc, cond, length, Some, sym, ap, ◌∙◌, subst, arith}
 use Rattle.htn_model.specs.Problem.{GroundTask, ground_task_eq}
 use Rattle.plan_room.specs.Links.{place_of, task_at}
 use Rattle.plan_room.proofs.Linked.{noted_first, none_next, some_next}

@@ -1,4 +1,4 @@
-use Rattle.std.proofs.Common.{◌≡◌, suc, ◌+◌, ◌-◌, ◌<◌, get_or, set, false, length, refl, ap, sym, subst, arith}
+use Rattle.std.proofs.Common.{◌≡◌, suc, ◌-◌, get_or, set, false, length, refl, ap, sym, subst, arith}
 use Rattle.std.proofs.lemmas.List.{get_or_default}
 use Rattle.plan_room.specs.Matching.{IsNextChoice, IsNoted}
 use Rattle.plan_room.proofs.Searched.{over, gone_back, passed}
