@@ -8,3 +8,4 @@ pub mod Gathering
 pub mod Alike
 pub mod Positive
 pub mod Listed
+pub mod Joined

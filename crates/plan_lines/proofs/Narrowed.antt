@@ -89,7 +89,7 @@ narrows_none Before Here After a b c first second parts values h after = let p =
 
 -- ## Terms with the objects beside them
 
-mapped_at : (values : List ℕ) (terms : List RustTerm) (i : ℕ) (d : RustTerm) → i < length terms → get_or (map (value_of values) (terms_of terms)) i 0 ≡ value_of values (term_of (get_or terms i d))
+pub mapped_at : (values : List ℕ) (terms : List RustTerm) (i : ℕ) (d : RustTerm) → i < length terms → get_or (map (value_of values) (terms_of terms)) i 0 ≡ value_of values (term_of (get_or terms i d))
 mapped_at values [] i d h = absurd (omega arith)
 mapped_at values (x ∷ terms) zero d h = refl
 mapped_at values (x ∷ terms) (suc i) d h = mapped_at values terms i d (omega arith)

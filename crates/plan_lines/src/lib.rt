@@ -9,8 +9,10 @@ mod ever;
 mod fitting;
 mod given;
 mod instances;
+mod joining;
 mod matching;
 mod names;
+mod rows;
 mod search;
 
 pub use fitting::{initials_to_fit, instances_to_fit};

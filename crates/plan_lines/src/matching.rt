@@ -6,9 +6,9 @@ ghost use Rattle.plan_lines.specs.Found.{AreAlike, AreFound, AreValuesToFit, May
 ghost use Rattle.plan_lines.specs.Left.{Fill};
 
 use crate::children::Children;
-use crate::completing::push_completions;
 use crate::ever::{Search, is_ruled_out, positive_atoms};
 use crate::instances::references;
+use crate::joining::{open_rows, push_joined};
 use crate::search::{is_used_up, matched, settle};
 use htn_ground::{Conditions, ObjectList, shown_parameters};
 use htn_task::{FormulaList, NetworkSchema, Task, TaskSchema};
@@ -40,7 +40,8 @@ fn push_matching(
         Some(parts) => parts,
         None => {
             if is_used_up(children, &left) {
-                push_completions(alloc, search, given, 0, found)?;
+                let rows = open_rows(alloc, search, given)?;
+                push_joined(alloc, search, &rows, given, found)?;
             }
             return Ok(());
         }

@@ -3,3 +3,4 @@ pub mod Touched
 pub mod Setting
 pub mod Going
 pub mod Running
+pub mod EverTrue

@@ -105,6 +105,20 @@ impl<'a> Turns<'a> {
         }
     }
 
+    /// What is true at first.
+    pub(crate) fn initial(&self) -> &State
+        ensures { result.now ≡ self.now.initial }
+    {
+        self.initial
+    }
+
+    /// The atoms that effects have touched.
+    pub(crate) fn touched(&self) -> &IndexSet<Atom>
+        ensures { result.now.keys ≡ self.now.atoms }
+    {
+        &self.atoms
+    }
+
     /// The place of an atom among those that were touched, where it is put if it isn't there.
     fn touch(&mut self, alloc: Global, atom: &Atom) -> Result<usize, AllocError>
         requires { IsHistory self.old }

@@ -3,6 +3,7 @@
 
 mod course;
 mod history;
+mod known;
 
 pub use course::{Outcome, run};
 pub use history::Turns;
