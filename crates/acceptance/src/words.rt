@@ -1,6 +1,6 @@
 //! Command lines: statuses, and the lines on the standard error.
 
-use crate::pairs::{ROAD, TRIP, text_of};
+use crate::pairs::{ROAD, TRIP, TRIP_SWAPPED, text_of};
 use crate::words_of;
 use crate::writers::Narrow;
 use htn_run::{ReadFault, Sink, Source, run_words};
@@ -10,8 +10,8 @@ use std::sync::Wait;
 use std::test::Fail;
 use std::thread::Threads;
 
-// Files in memory: `d` and `p` are the road's, `full` is refused memory, and no other can be read. Each name that is
-// asked for is noted.
+// Files in memory: `d` and `p` are the road's, `f` is its plan and `g` another plan, `full` is refused memory, and no
+// other can be read. Each name that is asked for is noted.
 #[derive(Drop)]
 struct Shelf {
     asked: String,
@@ -29,6 +29,8 @@ impl Source for Shelf {
         let text = match name {
             "d" => ROAD.domain,
             "p" => ROAD.problem,
+            "f" => TRIP,
+            "g" => TRIP_SWAPPED,
             "full" => return Err(ReadFault::OutOfMemory),
             _ => return Err(ReadFault::Unreadable),
         };
@@ -89,6 +91,36 @@ fn statuses_and_lines(rt: HostRuntime) -> Result<(), Fail> {
         ),
         ("plan d p --nodes 7", 0, "dp||output: cannot be written\n|5"),
         ("--help", 0, "||output: cannot be written\n|5"),
+        ("--version", 5, "|htnpl|output: cannot be written\n|5"),
+        ("--version", 1_000, "|htnplan 0.1.0\n||0"),
+    ];
+    for (line, room, text) in rows {
+        let found = run(&rt, alloc, line, room, 1_000)?;
+        assert_eq!(rt; found.as_str(), text, "{line}");
+    }
+    Ok(())
+}
+
+#[test]
+fn verdicts_and_lines(rt: HostRuntime) -> Result<(), Fail> {
+    let alloc = rt.alloc();
+    let rows = [
+        ("verify d p f", 1_000, "dpf|valid\n||0"),
+        ("verify d p g", 1_000, "dpg|invalid: NotExecutable 1\n||1"),
+        ("verify p d f", 1_000, "pdf||domain: Expected at 9\n|3"),
+        ("verify d d f", 1_000, "ddf||problem: Expected at 9\n|3"),
+        ("verify d p p", 1_000, "dpp||plan: NoStart\n|3"),
+        ("verify x p f", 1_000, "x||domain: cannot be read\n|5"),
+        ("verify d x f", 1_000, "dx||problem: cannot be read\n|5"),
+        ("verify d p x", 1_000, "dpx||plan: cannot be read\n|5"),
+        ("verify p d x", 1_000, "pdx||plan: cannot be read\n|5"),
+        ("verify d p full", 1_000, "dpfull||OutOfMemory\n|4"),
+        ("verify d p f", 3, "dpf|val|output: cannot be written\n|5"),
+        (
+            "verify d p g",
+            10,
+            "dpg|invalid: N|output: cannot be written\n|5",
+        ),
     ];
     for (line, room, text) in rows {
         let found = run(&rt, alloc, line, room, 1_000)?;
@@ -106,6 +138,8 @@ fn a_failed_error_output(rt: HostRuntime) -> Result<(), Fail> {
         ("plan p d", "pd|||3"),
         ("plan full p", "full|||4"),
         ("plan d", "|||2"),
+        ("verify d p x", "dpx|||5"),
+        ("verify d p p", "dpp|||3"),
     ];
     for (line, text) in rows {
         let found = run(&rt, alloc, line, 1_000, 0)?;
@@ -126,7 +160,10 @@ fn refused_command_lines(rt: HostRuntime) -> Result<(), Fail> {
         "plan d p --nodes x",
         "plan d",
         "plan d p f",
-        "verify d p f",
+        "verify d p",
+        "verify d p f g",
+        "verify d p f --nodes 8",
+        "verify --version",
         "paint",
     ];
     for line in rows {
@@ -140,7 +177,7 @@ fn refused_command_lines(rt: HostRuntime) -> Result<(), Fail> {
 #[test]
 fn help_goes_to_the_standard_output(rt: HostRuntime) -> Result<(), Fail> {
     let alloc = rt.alloc();
-    for line in ["--help", "plan --help"] {
+    for line in ["--help", "plan --help", "verify --help", "help verify"] {
         let found = run(&rt, alloc, line, 10_000, 0)?;
         assert!(rt; found.as_str().contains("Usage: htnplan"), "{line}");
         assert!(rt; found.as_str().ends_with("||0"), "{line}");
