@@ -1,4 +1,4 @@
-use Rattle.std.proofs.Common.{◌≡◌, ◌∙◌, Bool, List, not, ap, ap₂}
+use Rattle.std.proofs.Common.{◌≡◌, ◌∙◌, List, not, ap, ap₂}
 use Rattle.hddl_tree.specs.declared.condition.Condition.{Condition}
 use Rattle.hddl_tree.specs.declared.condition.LiteralText.{LiteralText}
 use Rattle.hddl_tree.specs.declared.term.VariableGroup.{VariableGroup}

@@ -1,4 +1,4 @@
-use Rattle.std.proofs.Common.{◌≡◌, ◌∙◌, List, Option, Some, None, ℕ, ap, sym}
+use Rattle.std.proofs.Common.{◌≡◌, ◌∙◌, List, Some, None, ap, sym}
 use Rattle.std.specs.List.{position}
 use Rattle.hddl_meaning.specs.Mentions.{Text, folded}
 use Rattle.hddl_meaning.specs.Names.{number_in, number_or_zero}
