@@ -9,8 +9,8 @@ use Rattle.htn_ground.specs.declared.child.Child.{Child as Node}
 use Rattle.htn_model.specs.Problem.{Child, Network, precondition}
 use Rattle.htn_model.specs.Choice.{child_of}
 use Rattle.network_table.specs.Children.{AreBounds, AreKept, AreNumbers, AreWhole, IsNumber, numbered_children}
-use Rattle.network_table.specs.Numbered.{Numbered, IsWithin, replaced_network}
-use Rattle.network_table.specs.Networks.{bound_of, children, numbered_at, network_at, IsGrown, Knows, IsWhole}
+use Rattle.network_table.specs.Numbered.{Numbered, IsWithin, network_of, replaced_network}
+use Rattle.network_table.specs.Networks.{bound_of, children, numbered_at, network_at, nothing, IsGrown, Knows, IsWhole, NumbersStay}
 use Rattle.network_table.specs.declared.child_table.ChildTable.{ChildTable}
 use Rattle.network_table.specs.Expansions.{IsKnownRemoval, IsExpansion, IsSound, Live, first_free, free_positions, removal_network, position_network}
 use Rattle.network_table.specs.declared.expansion.Removal.{Removal}
@@ -42,6 +42,15 @@ same_bound old new whole kept n within =
     map_all (λ id. id < length (numbered_children old)) f g
     (λ id inside. ap (λ l. get_or l id 0) kept.bounds ∙ get_or_append_left old.bounds.items kept.more_bounds 0 id (omega (arith, inside, whole.bounded))) n.nodes within in
     ap (λ s. min s (2 ^ 64 - 1)) (sym (sum-map f n.nodes) ∙ ap sum each ∙ sum-map g n.nodes)
+
+-- a number stands for the same network in a table that has grown
+pub numbers_stay : NumbersStay
+numbers_stay old new n whole grown known = (
+  omega (arith, known, ap length grown.networks, length-append old.networks.keys grown.more),
+  ap (network_of (children new)) (ap (λ l. get_or l n nothing) grown.networks ∙ get_or_append_left old.networks.keys grown.more nothing n known)
+      ∙ (let same = map_all (λ id. id < length (children old)) (child_of (children new)) (child_of (children old)) (child_kept old.children new.children grown.children) (numbered_at old n).nodes
+      (within_at old n whole known) in ap (λ (l : List Child). record { children = l; order = (numbered_at old n).order }) same),
+)
 
 -- ## What is remembered
 

@@ -33,4 +33,5 @@ AreBounds measure t = t.bounds.items ≡ map measure (numbered_children t)
 
 -- the numbers of these nodes, in their order
 abbrev pub AreNumbers : ChildTable → List ℕ → List model.Child → Type 0
-AreNumbers t ids nodes = All (λ id. id < length (numbered_children t)) ids × (map (child_of (numbered_children t)) ids ≡ nodes)
+AreNumbers t ids nodes =
+    All (λ id. id < length (numbered_children t)) ids × (map (child_of (numbered_children t)) ids ≡ nodes)
