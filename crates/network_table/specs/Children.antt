@@ -1,5 +1,5 @@
 -- The nodes that have numbers.
-use Rattle.std.specs.Prelude.{◌≡◌, ℕ, ◌<◌, ◌++◌, List, map, length}
+use Rattle.std.specs.Prelude.{◌≡◌, ℕ, ◌<◌, ◌++◌, List, map, length, All}
 use Rattle.htn_model.specs.Problem as model
 use Rattle.htn_model.specs.Choice.{child_of}
 use Rattle.htn_model.specs.PlanFile.{IsWithoutRepeats}
@@ -30,3 +30,8 @@ IsNumber t id child = (id < length (numbered_children t)) × (child_of (numbered
 -- the bounds are those of a measure on nodes
 abbrev pub AreBounds : (model.Child → ℕ) → ChildTable → Type 0
 AreBounds measure t = t.bounds.items ≡ map measure (numbered_children t)
+
+-- the numbers of these nodes, in their order
+abbrev pub AreNumbers : ChildTable → List ℕ → List model.Child → Type 0
+AreNumbers t ids nodes =
+    All (λ id. id < length (numbered_children t)) ids × (map (child_of (numbered_children t)) ids ≡ nodes)

@@ -37,7 +37,8 @@ abbrev pub IsKnownRemoval : NetworkTable → Removal → Type 0
 IsKnownRemoval t r = Knows t r.network × (r.node < length (children t))
 
 -- a network for each instance, with the instance in the place of a node, in their order
-pub record AreDecompositions (t : NetworkTable) (n : Numbered) (position : ℕ) (instances : List Numbered) (successors : List ℕ) : Type 0 where
+pub record AreDecompositions (t : NetworkTable) (n : Numbered) (position : ℕ) (instances : List Numbered)
+    (successors : List ℕ) : Type 0 where
   pub known : All (Knows t) successors
   pub each : map (numbered_at t) successors ≡ map (replaced_numbered n position) instances
 
@@ -69,7 +70,8 @@ pub record IsPerformed (t : NetworkTable) (n : ℕ) (removals : List Removal) : 
   pub first : first_free (network_at t n) ≡ None
   pub known : All (IsKnownRemoval t) removals
   pub each : map (removal_network t) removals
-      ≡ map (position_network (network_at t n)) (free_positions (length (network_at t n).children) (network_at t n).order)
+      ≡ map (position_network (network_at t n))
+      (free_positions (length (network_at t n).children) (network_at t n).order)
 
 -- what becomes of a network
 abbrev pub IsExpansion : Live → NetworkTable → ℕ → Expansion → Type 0

@@ -64,6 +64,12 @@ pub record IsGrown (old new : NetworkTable) : Type 0 where
 abbrev pub IsNumberOf : NetworkTable → ℕ → Numbered → Type 0
 IsNumberOf t n x = Knows t n × (numbered_at t n ≡ x)
 
+-- a number stands for what it stood for
+abbrev pub NumbersStay : Type 0
+NumbersStay =
+    (old new : NetworkTable) (n : ℕ) → IsWhole old → IsGrown old new → Knows old n
+    → Knows new n × (network_at new n ≡ network_at old n)
+
 -- no two numbers stand for the same network
 abbrev pub NumbersDiffer : Type 0
 NumbersDiffer =

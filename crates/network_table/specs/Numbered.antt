@@ -73,13 +73,21 @@ IsWithin children n = All (λ id. id < length children) n.nodes
 abbrev pub replaced_numbered : Numbered → ℕ → Numbered → Numbered
 replaced_numbered n i inner =
     let nodes = splice i inner.nodes n.nodes in
-    record { nodes = nodes; order = machine.table (length nodes) (machine.replaced_order n.order i (length inner.nodes) inner.order) }
+    record {
+      nodes = nodes;
+      order = machine.table (length nodes)
+          (machine.replaced_order n.order i (length inner.nodes) inner.order);
+    }
 
 -- by the nodes themselves
 abbrev pub replaced_network : Network → ℕ → Network → Network
 replaced_network n i inner =
     let children = splice i inner.children n.children in
-    record { children = children; order = machine.table (length children) (machine.replaced_order n.order i (length inner.children) inner.order) }
+    record {
+      children = children;
+      order = machine.table (length children)
+          (machine.replaced_order n.order i (length inner.children) inner.order);
+    }
 
 -- the network in a state
 abbrev pub config_at : State → Network → machine.Config

@@ -50,7 +50,8 @@ impl NetworkTable {
         requires whole { IsWhole self.now }
         requires known { Knows self.now number }
         ensures position { result ≡ first_free (network_at self.now number) }
-        ensures goal { IfSome result (λ i. (g : GroundTask) × (child_of (network_at self.now number).children i ≡ task g)) }
+        ensures goal { IfSome result (λ i. (g : GroundTask)
+            × (child_of (network_at self.now number).children i ≡ task g)) }
     {
         let (position, _goal) = self.first_free_task(number)?;
         Some(position)

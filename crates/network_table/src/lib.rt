@@ -16,6 +16,6 @@ mod table;
 
 pub use child_table::ChildTable;
 pub use expansion::{Expansion, Removal};
-pub use laws::{numbers_differ, replaces_as_model};
+pub use laws::{numbers_differ, numbers_stay, replaces_as_model};
 pub use network::Network;
 pub use table::NetworkTable;

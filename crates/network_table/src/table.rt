@@ -1,12 +1,12 @@
 //! Networks by numbers.
-ghost use Rattle.std.specs.Prelude.{◌≡◌, ◌<◌, ◌+◌, ◌-◌, ◌^◌, ℕ, List, IfOk, OnOk, length, min, set, Some};
+ghost use Rattle.std.specs.Prelude.{◌≡◌, ◌<◌, ◌+◌, ◌-◌, ◌^◌, ℕ, List, IfOk, OnOk, length, map, min, set, Some};
 ghost use Rattle.std.specs.List.{sum_by};
 ghost use Rattle.std.specs.Option.{option_map};
 ghost use Rattle.htn_model.specs.Problem as model;
 ghost use Rattle.htn_model.specs.Problem.{is_before, task};
 ghost use Rattle.htn_model.specs.Choice.{child_of, first_free_compound};
-ghost use Rattle.htn_ground.specs.Views.{child_view};
-ghost use Rattle.network_table.specs.Children.{AreBounds, IsNumber};
+ghost use Rattle.htn_ground.specs.Views.{child_view, children_of};
+ghost use Rattle.network_table.specs.Children.{AreBounds, AreNumbers, IsNumber};
 ghost use Rattle.network_table.specs.Numbered.{IsWithin};
 ghost use Rattle.network_table.specs.Networks.{bound_of, children, expansion_at, IsGrown, IsMore, IsNumberOf, IsWhole, Knows, network_at, numbered_at};
 ghost use Rattle.network_table.specs.Expansions.{IsSound, Live};
@@ -140,6 +140,29 @@ impl NetworkTable {
     {
         let id = self.children.keep(child, bound)?;
         Ok(id)
+    }
+
+    /// The numbers of nodes in their order, which they may get only now, each with its bound.
+    pub fn keep_children(
+        &mut self,
+        alloc: Global,
+        nodes: &[Child],
+        bounds: &[u32],
+    ) -> Result<Vec<u32>, AllocError>
+        requires whole { IsWhole self.old }
+        requires bounded { length bounds.now ≡ length nodes.now }
+        ensures whole { OnOk result (IsWhole self.new) }
+        ensures grown { OnOk result (IsGrown self.old self.new) }
+        ensures numbers { IfOk result (λ ids. AreNumbers self.new.children ids.items (children_of nodes.now)) }
+        ensures bounds { OnOk result ((measure : model.Child → ℕ) → bounds.now ≡ map measure (children_of nodes.now)
+            → AreBounds measure self.old.children → AreBounds measure self.new.children) }
+        ensures sound { OnOk result ((live : Live) → IsSound live self.old → IsSound live self.new) }
+    {
+        let mut ids = Vec::with_capacity(alloc, nodes.len())?;
+        for (place, node) in nodes.iter().enumerate() {
+            ids.push(self.keep_child(node.clone()?, bounds[place])?)?;
+        }
+        Ok(ids)
     }
 
     /// Remembers what becomes of the network of a number.

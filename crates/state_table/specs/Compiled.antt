@@ -11,11 +11,13 @@ use Rattle.state_table.specs.declared.compiled.CompiledAction.{CompiledAction}
 
 -- whether the compiled literals hold in a set
 abbrev pub all_hold : List ℕ → CompiledLiterals → Bool
-all_hold words c = not c.is_never && (list_all (has words) c.positives.items && list_all (λ x. not (has words x)) c.negatives.items)
+all_hold words c =
+    not c.is_never && (list_all (has words) c.positives.items && list_all (λ x. not (has words x)) c.negatives.items)
 
 -- they hold in a set where the literals hold in the state that it stands for, by this table and later ones
 abbrev pub AreCompiled : Table → CompiledLiterals → List Literal → Type 0
-AreCompiled t c literals = (later : Table) → IsLater t later → (words : List ℕ) → all_hold words c ≡ holds (state_of later words) literals
+AreCompiled t c literals =
+    (later : Table) → IsLater t later → (words : List ℕ) → all_hold words c ≡ holds (state_of later words) literals
 
 -- the numbers of these atoms, in their order
 abbrev pub AreNumbers : Table → List ℕ → List Atom → Type 0

@@ -14,7 +14,8 @@ pub record Table : Type 0 where
 
 abbrev pub table_code : Coded Table
 table_code =
-    code_by (List Bool × (State × List Atom)) (coded× (coded_list coded_bool) (coded× state_code (coded_list atom_code))) (λ t. (t.fluents, (t.statics, t.atoms)))
+    code_by (List Bool × (State × List Atom))
+    (coded× (coded_list coded_bool) (coded× state_code (coded_list atom_code))) (λ t. (t.fluents, (t.statics, t.atoms)))
     (λ p. record { fluents = p.0; statics = p.1.0; atoms = p.1.1 }) (λ _. refl)
 
 -- whether an effect names a predicate

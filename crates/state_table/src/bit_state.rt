@@ -9,7 +9,8 @@ use std::alloc::{AllocError, Global};
 use std::hash::{Hash, Hasher};
 use std::marker::Model;
 
-/// A set of atom numbers, a bit for each. Contracts see its words of 64 bits, which `has` reads. Equal sets have equal words.
+/// A set of atom numbers, a bit for each. Contracts see its words of 64 bits, which `has` reads.
+/// Equal sets have equal words.
 #[derive(Drop)]
 pub struct BitState {
     words: Words,

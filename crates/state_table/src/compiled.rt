@@ -65,7 +65,8 @@ impl CompiledLiterals {
     ) -> Result<(), AllocError>
         ensures later { OnOk result (IsLater table.old table.new) }
         ensures holds { OnOk result ((later : Table) → IsLater table.new later → (words : List ℕ)
-            → all_hold words self.new ≡ (all_hold words self.old && beq is_positive (contains (state_of later words) atom.now))) }
+            → all_hold words self.new
+            ≡ (all_hold words self.old && beq is_positive (contains (state_of later words) atom.now))) }
     {
         let _count = table.len();
         if table.is_fluent(atom) {
@@ -81,7 +82,8 @@ impl CompiledLiterals {
     fn add(&mut self, table: &mut AtomTable, literal: &Literal) -> Result<(), AllocError>
         ensures later { OnOk result (IsLater table.old table.new) }
         ensures holds { OnOk result ((later : Table) → IsLater table.new later → (words : List ℕ)
-            → all_hold words self.new ≡ (all_hold words self.old && literal_holds (state_of later words) (literal_of literal.now))) }
+            → all_hold words self.new
+            ≡ (all_hold words self.old && literal_holds (state_of later words) (literal_of literal.now))) }
     {
         let _count = table.len();
         match literal {
