@@ -1,10 +1,7 @@
 -- Atoms that agree with the values that are given, and rows of them.
-use Rattle.std.proofs.Common.{◌≡◌, ◌∙◌, ◌+◌, ◌<◌, ◌≤◌, ◌⊎◌, ◌++◌, ◌∷◌, Bor, List, Option, Some, [], ap, arith, get_or, inl, inr, length, map, slice_get, subst, suc, sym, zero, ℕ}
-use Rattle.htn_model.specs.Atom.{Atom}
-use Rattle.htn_model.specs.Instances.{ground_atom, value_of}
+use Rattle.std.proofs.Common.{◌≡◌, ◌∙◌, ◌+◌, ◌<◌, ◌⊎◌, ◌++◌, ◌∷◌, List, Option, Some, [], ap, arith, get_or, inl, inr, length, map, slice_get, subst, suc, sym, zero, ℕ}
+use Rattle.htn_model.specs.Instances.{value_of}
 use Rattle.htn_model.specs.PlanFile.{IsIn}
-use Rattle.htn_model.specs.Schema.{AtomSchema}
-use Rattle.htn_state.specs.declared.atom.Atom as atoms
 use Rattle.htn_task.specs.Views.{term_of, terms_of}
 use Rattle.htn_task.specs.declared.term.Term.{Term as RustTerm}
 use Rattle.plan_lines.specs.declared.rows.Row.{Row}

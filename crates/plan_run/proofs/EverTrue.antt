@@ -6,7 +6,7 @@ use Rattle.std.specs.List.{list_any, position_or_len}
 use Rattle.std.specs.Ordering.{eq_by_cmp}
 use Rattle.std.proofs.lemmas.Bool.Decides.{nat_tests}
 use Rattle.std.proofs.lemmas.List.{get_or_past, map-append}
-use Rattle.std.proofs.lemmas.List.Sums.{passes_at_first, prefix_len-le-length}
+use Rattle.std.proofs.lemmas.List.Sums.{passes_at_first}
 use Rattle.htn_model.specs.Atom.{Atom, atom_cmp, atom_eq}
 use Rattle.htn_model.specs.PlanFile.{IsIn}
 use Rattle.htn_model.specs.State.{State, atoms_of, contains}

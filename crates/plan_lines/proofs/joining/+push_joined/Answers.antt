@@ -9,7 +9,7 @@ use Rattle.htn_task.specs.declared.term.AtomSchema as declared
 use Rattle.plan_lines.specs.declared.rows.Row.{Row}
 use Rattle.plan_lines.specs.Allowed.{IsInstanceWith}
 use Rattle.plan_lines.specs.Found.{AreAlike, AreFound, MayFit}
-use Rattle.plan_lines.specs.Given.{Extends, Narrows}
+use Rattle.plan_lines.specs.Given.{Extends}
 use Rattle.plan_lines.specs.Rows.{AreRows}
 use Rattle.plan_lines.proofs.Gathering.{Tried, tried_all, tried_more, tried_skip}
 use Rattle.plan_lines.proofs.Joined.{in_rows, mapped_get}

@@ -1,4 +1,4 @@
-use Rattle.std.proofs.Common.{◌≡◌, ◌∙◌, ◌+◌, Bor, Global, List, Some, Vec, ap, arith, length, map, refl, slice_get, subst, sym, ℕ}
+use Rattle.std.proofs.Common.{◌≡◌, ◌∙◌, ◌+◌, Bor, Global, Some, Vec, ap, arith, map, refl, slice_get, subst, sym}
 use Rattle.htn_model.specs.Atom.{Atom}
 use Rattle.htn_model.specs.Instances.{ground_atom, value_of}
 use Rattle.htn_state.specs.declared.atom.Atom as declared

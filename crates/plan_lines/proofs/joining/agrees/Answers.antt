@@ -1,4 +1,4 @@
-use Rattle.std.proofs.Common.{◌≡◌, sym}
+use Rattle.std.proofs.Common.{sym}
 use Rattle.htn_task.specs.declared.term.Term.TheVariants.{Parameter}
 use Rattle.plan_lines.proofs.Joined.{differ_at}
 use Rattle.plan_lines.proofs.joining.agrees.Goals as goal

@@ -1,4 +1,4 @@
-use Rattle.std.proofs.Common.{◌≡◌, ◌∙◌, ◌++◌, ◌∷◌, ◌<◌, Bor, Global, List, [], Vec, ap, arith, length, map, subst, sym, ℕ}
+use Rattle.std.proofs.Common.{◌≡◌, Bor, Global, List, Vec, ap, arith, length, map, subst, sym}
 use Rattle.htn_model.specs.Atom.{Atom}
 use Rattle.htn_model.specs.Instances.{ground_atom}
 use Rattle.htn_model.specs.PlanFile.{IsIn}

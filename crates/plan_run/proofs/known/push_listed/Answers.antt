@@ -1,9 +1,7 @@
-use Rattle.std.proofs.Common.{◌≡◌, ◌∙◌, ◌+◌, Bor, Global, List, Some, Vec, ap, arith, false, map, slice_get, subst, sym}
-use Rattle.std.specs.Option.{option_copied}
+use Rattle.std.proofs.Common.{◌≡◌, ◌∙◌, ◌+◌, Bor, Global, List, Some, Vec, ap, arith, map, slice_get, subst, sym}
 use Rattle.std.proofs.lemmas.Option.{slice_get-get_or}
 use Rattle.htn_model.specs.Atom.{Atom}
 use Rattle.htn_model.specs.PlanFile.{IsIn}
-use Rattle.htn_model.specs.State.{contains}
 use Rattle.htn_state.specs.declared.atom.Atom as declared
 use Rattle.plan_run.proofs.EverTrue.{Listed, listed_all, listed_more, listed_none, pushed_kept, pushed_last}
 use Rattle.plan_run.proofs.known.push_listed.Goals as goal

@@ -1,6 +1,5 @@
 use Rattle.std.proofs.Common.{◌≡◌, ◌∙◌, ◌+◌, Bor, Global, List, Some, Vec, ap, arith, false, map, slice_get, subst, sym, true}
 use Rattle.std.specs.Option.{option_copied}
-use Rattle.std.proofs.lemmas.Option.{slice_get-get_or}
 use Rattle.htn_model.specs.Atom.{Atom}
 use Rattle.htn_model.specs.PlanFile.{IsIn}
 use Rattle.htn_model.specs.State.{contains}

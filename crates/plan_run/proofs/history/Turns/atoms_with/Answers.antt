@@ -1,4 +1,4 @@
-use Rattle.std.proofs.Common.{◌⊎◌, ◌∙◌, ap, inl, inr, map, subst, sym, Bor, List}
+use Rattle.std.proofs.Common.{◌∙◌, ap, inl, inr, subst, sym, List}
 use Rattle.htn_model.specs.Atom.{Atom}
 use Rattle.htn_model.specs.PlanFile.{IsIn}
 use Rattle.htn_model.specs.State.{State, atoms_of, contains}
