@@ -1,4 +1,3 @@
-pub mod Cached
 pub mod Chosen
 pub mod Counts
 pub mod Distinct

@@ -5,10 +5,9 @@ ghost use Rattle.htn_model.specs.Grounding.{problem_of};
 ghost use Rattle.htn_model.specs.Instances as model;
 ghost use Rattle.htn_model.specs.Machine.{start};
 ghost use Rattle.htn_model.specs.Task.{IsWellTyped};
-ghost use Rattle.htn_net.specs.Listed.{listing_machine};
 
 use crate::config::Config;
-use htn_ground::{Instance, distinct_initials, initials};
+use htn_ground::{Instance, initials};
 use htn_state::State;
 use htn_task::Task;
 use std::alloc::{AllocError, Global};
@@ -58,16 +57,6 @@ pub fn starts(alloc: Global, task: &Task) -> Result<Vec<Config>, AllocError>
 {
     let state = initial_state(alloc, task)?;
     let instances = initials(alloc, task)?;
-    let found = opened(alloc, &state, &instances)?;
-    Ok(found)
-}
-
-/// The same, without each whose network an earlier one has.
-pub(crate) fn distinct_starts(alloc: Global, task: &Task) -> Result<Vec<Config>, AllocError>
-    ensures { IfOk result (λ v. v.items ≡ (listing_machine task.now).initials) }
-{
-    let state = initial_state(alloc, task)?;
-    let instances = distinct_initials(alloc, task)?;
     let found = opened(alloc, &state, &instances)?;
     Ok(found)
 }

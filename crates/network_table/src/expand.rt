@@ -146,6 +146,9 @@ impl NetworkTable {
         ensures ready { OnOk result (IsSome (expansion_at self.new number)) }
         ensures sound { OnOk result ((live : Live) → AreInstances live self.old number instances.now
             → IsSound live self.old → IsSound live self.new) }
+        // nothing else is found
+        ensures others { OnOk result ((n : ℕ) → (n ≡ number → ⊥)
+            → expansion_at self.new n ≡ expansion_at self.old n) }
     {
         if self.expansion(number).is_some() {
             return Ok(());

@@ -1,0 +1,138 @@
+//! The word machine of a planning task, by numbers.
+ghost use Rattle.std.specs.Prelude.{◌≡◌, IfOk};
+ghost use Rattle.htn_model.specs.Grounding.{problem_of};
+ghost use Rattle.htn_model.specs.Problem.{IsGrounded};
+ghost use Rattle.htn_net.specs.Grounded.{grounded-prop};
+
+use crate::configuration::{Configuration, Reached};
+use crate::tables::Tables;
+use htn_task::Task;
+use std::alloc::{AllocError, Global};
+use word_machine::{Machine, Successor};
+
+/// The word machine of a task as a search takes it: from a configuration a rank leads to the next
+/// one. Of instances with equal networks only the first is listed, and so no number is counted.
+#[derive(Drop)]
+pub struct TaskMachine<'a> {
+    pub task: &'a Task,
+    pub(crate) alloc: Global,
+    ghost grounded: { IsGrounded (problem_of task.now) } by { grounded-prop (problem_of task.now) },
+}
+
+impl<'a> TaskMachine<'a> {
+    /// The word machine of a task.
+    pub fn new(alloc: Global, task: &'a Task) -> TaskMachine<'a>
+        ensures { result.task.now ≡ task.now }
+    {
+        let _initial = task.initial_atoms();
+        TaskMachine { task, alloc }
+    }
+}
+
+impl<'a> Machine for TaskMachine<'a> {
+    ghost use Rattle.std.specs.Prelude.{length, IsSome};
+    ghost use Rattle.std.proofs.Common.{rules};
+    ghost use Rattle.htn_model.specs.Grounding.{problem_of};
+    ghost use Rattle.htn_model.specs.Machine.{Config};
+    ghost use Rattle.htn_answer.specs.Machine.{IsOwn};
+    ghost use Rattle.htn_net.specs.Laws.{listing_lawful};
+    ghost use Rattle.htn_net.specs.Listed.{listing_machine};
+    ghost use Rattle.network_table.specs.Networks.{expansion_at};
+    ghost use Rattle.task_machine.specs.Laws.{bounded, one_to_one};
+    ghost use Rattle.task_machine.specs.Meaning.{meaning};
+    ghost use Rattle.task_machine.specs.Tables.{AreTables};
+
+    type Configuration = Configuration;
+
+    type Reached = Reached;
+
+    type Tables = Tables;
+
+    ghost Point = { Config };
+
+    ghost words = { λ m. listing_machine m.task.now };
+
+    ghost belongs = { λ m c. IsOwn (problem_of m.task.now) c };
+
+    ghost estimate = { λ m c. length c.open_nodes };
+
+    ghost meaning = { λ m t. meaning t };
+
+    ghost owns = { λ m t. AreTables m.task.now t };
+
+    ghost is_ready = { λ m t c. IsSome (expansion_at t.networks c.network) };
+
+    ghost same = { λ c d e. Prim.search rules };
+
+    ghost one_to_one = { λ m t own. one_to_one m.task.now t own };
+
+    ghost lawful = { λ m. listing_lawful m.task.now m.grounded };
+
+    ghost bounded = { λ m. bounded m.task.now m.grounded };
+
+    fn new_tables(&self) -> Result<Tables, AllocError> {
+        Tables::new(self.alloc, self.task)
+    }
+
+    fn initials(&self, tables: &mut Tables) -> Result<Vec<Configuration>, AllocError> {
+        tables.initials(self.alloc, self.task)
+    }
+
+    fn prepare(&self, tables: &mut Tables, at: Configuration) -> Result<(), AllocError> {
+        tables.prepare(self.alloc, self.task, at.network)
+    }
+
+    fn expand(
+        &self,
+        tables: &Tables,
+        rank: usize,
+        from: Configuration,
+        successors: &mut Vec<Successor<Reached>>,
+    ) -> Result<Option<u64>, AllocError> {
+        self.add_successors(tables, rank, from, successors)
+    }
+
+    fn keep(&self, tables: &mut Tables, reached: Reached) -> Result<Configuration, AllocError> {
+        match reached {
+            Reached::Known(known) => Ok(known),
+            Reached::New(state, network) => {
+                let state = tables.states.keep(state)?;
+                Ok(Configuration { state, network })
+            }
+        }
+    }
+
+    fn find(&self, tables: &Tables, reached: &Reached) -> Option<Configuration> {
+        match reached {
+            Reached::Known(known) => Some(*known),
+            Reached::New(state, network) => {
+                let state = tables.states.number_of(state)?;
+                Some(Configuration {
+                    state,
+                    network: *network,
+                })
+            }
+        }
+    }
+
+    fn is_done(&self, tables: &Tables, at: Configuration) -> bool {
+        let states = tables.states.states();
+        tables.is_finished(&states[at.state as usize], at.network)
+    }
+
+    fn open_len(&self, tables: &Tables, at: Configuration) -> u64 {
+        tables.networks.open_len(at.network)
+    }
+
+    fn lower_bound(&self, tables: &Tables, at: Configuration) -> u64 {
+        tables.networks.open_len(at.network)
+    }
+
+    fn open_len_of(&self, tables: &Tables, reached: &Reached) -> u64 {
+        tables.networks.open_len(reached.network())
+    }
+
+    fn lower_bound_of(&self, tables: &Tables, reached: &Reached) -> u64 {
+        tables.networks.open_len(reached.network())
+    }
+}
