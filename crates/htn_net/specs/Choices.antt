@@ -1,12 +1,14 @@
 -- What the program's choices are to the model.
-use Rattle.std.specs.Prelude.{◌≡◌, ℕ, List, Some, length, map}
+use Rattle.std.specs.Prelude.{◌≡◌, ℕ, List, Some, false, length, map, slice_get}
 use Rattle.std.specs.List.{range_with_len}
 use Rattle.std.specs.Arc.{arc_value}
 use Rattle.htn_model.specs.Choice.{first_free_compound, child_of}
+use Rattle.htn_model.specs.Grounding.{problem_of}
 use Rattle.htn_model.specs.Instance.{Instance}
+use Rattle.htn_model.specs.Instances.{methods_of}
 use Rattle.htn_model.specs.Machine as model
 use Rattle.htn_model.specs.Machine.{Config, no_network, choose}
-use Rattle.htn_model.specs.Problem.{GroundTask, Network, Problem, is_before, task}
+use Rattle.htn_model.specs.Problem.{GroundTask, Network, Problem, is_before, is_compound, task}
 use Rattle.htn_model.specs.State.{State}
 use Rattle.htn_model.specs.Task.{Task}
 use Rattle.htn_ground.specs.Distinct.{distinct, live_methods}
@@ -31,8 +33,21 @@ abbrev pub state_then : State → Change → State
 state_then state (Decomposed instance) = state
 state_then state (Performed after) = arc_value after
 
+-- what becomes of the open node at a position
+abbrev pub chosen_of : Config → ℕ × Change → model.Choice
+chosen_of c x = record { position = x.0; network = network_of x.1; state = state_then c.state x.1 }
+
 abbrev pub choice_of : Config → Choice → model.Choice
-choice_of c x = record { position = x.position; network = network_of x.change; state = state_then c.state x.change }
+choice_of c x = chosen_of c (x.position, x.change)
+
+-- the number is that of the instance among all of the compound task at the position; or a step or an action stands there
+abbrev pub IsNumberOf : Task → Config → ℕ → ℕ × Change → Type 0
+IsNumberOf t c number (position, Decomposed instance) = (g : GroundTask) × (child_of c.open_nodes position ≡ task g) × (slice_get (methods_of t g) number ≡ Some instance)
+IsNumberOf t c number (position, Performed after) = is_compound (child_of c.open_nodes position) ≡ false
+
+-- the number chooses this
+abbrev pub IsChosen : Task → Config → ℕ → ℕ × Change → Type 0
+IsChosen t c number x = (choose (problem_of t) c number ≡ Some (chosen_of c x)) × IsNumberOf t c number x
 
 -- the choice is that of its number
 abbrev pub IsChoice : Problem → Config → Choice → Type 0

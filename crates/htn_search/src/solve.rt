@@ -1,6 +1,5 @@
 //! The search of a task.
 ghost use Rattle.std.specs.Prelude.{◌≡◌, ◌<◌, ◌↔◌, IfErr, IfOk, IsTrue};
-ghost use Rattle.htn_answer.specs.Answered.{IsAnswered, IsExact};
 ghost use Rattle.htn_model.specs.Grounding.{problem_of};
 ghost use Rattle.htn_model.specs.Machine.{Finishes};
 ghost use Rattle.htn_net.specs.Listed.{listing_machine};
@@ -9,7 +8,7 @@ ghost use Rattle.word_machine.specs.Answer.{IsAnswer};
 ghost use Rattle.word_machine.specs.declared.found.SearchFault.TheVariants.{NoThread};
 
 use crate::answer::Answer;
-use crate::solution::{rebuild_listed, word_of_ranks};
+use crate::solution::rebuild_listed;
 use htn_ground::{goal_literals, initials};
 use htn_net::{Config, WordMachine};
 use htn_task::Task;
@@ -34,31 +33,8 @@ fn find_ranks<G: Gate, R: Threads + Wait + Sync>(
     Ok(found)
 }
 
-/// The least finishing word of a task, by its steps and then by its numbers; or that no solution is
-/// within the bound, or none at all. `SearchFault::NoThread` never comes with one worker. A number of
-/// the word that doesn't fit 64 bits is refused as memory is.
-pub fn find_word<G: Gate, R: Threads + Wait + Sync>(
-    rt: &R,
-    alloc: Global,
-    task: &Task,
-    bounds: Bounds,
-    gate: &G,
-) -> Result<Found, SearchFault>
-    ensures answered { IfOk result (IsAnswered (problem_of task.now) bounds.nodes) }
-    ensures exact { IfOk result (IsExact (problem_of task.now) bounds.nodes) }
-    ensures no_thread { IfErr result (λ e. e ≡ NoThread → 1 < bounds.workers) }
-{
-    let _typed = task.objects();
-    match find_ranks(rt, alloc, task, bounds, gate)? {
-        Found::Word(ranks) => Ok(Found::Word(word_of_ranks(alloc, task, &ranks)?)),
-        Found::None => Ok(Found::None),
-        Found::Unsolvable => Ok(Found::Unsolvable),
-    }
-}
-
 /// The solution of fewest nodes and then of least code; or that none is within the bound, or none
-/// at all. `SearchFault::NoThread` never comes with one worker. A number of the solution that doesn't
-/// fit 64 bits is refused as memory is.
+/// at all. `SearchFault::NoThread` never comes with one worker. No number of an instance is counted.
 pub fn search<G: Gate, R: Threads + Wait + Sync>(
     rt: &R,
     alloc: Global,
@@ -66,7 +42,7 @@ pub fn search<G: Gate, R: Threads + Wait + Sync>(
     bounds: Bounds,
     gate: &G,
 ) -> Result<Answer, SearchFault>
-    ensures answer { IfOk result (Answers (problem_of task.now) bounds.nodes) }
+    ensures answer { IfOk result (Answers task.now bounds.nodes) }
     ensures no_thread { IfErr result (λ e. e ≡ NoThread → 1 < bounds.workers) }
 {
     let _typed = task.objects();
@@ -93,10 +69,10 @@ pub fn finishes(alloc: Global, task: &Task, word: &[u64]) -> Result<bool, AllocE
     }
     let mut config = Config::start(alloc, task, &instances[place])?;
     for number in numbers {
-        let Some(choice) = config.choose(alloc, task, *number)? else {
+        let Some((position, change)) = config.choose(alloc, task, *number)? else {
             return Ok(false);
         };
-        let next = config.step(alloc, task, &choice)?;
+        let next = config.after(alloc, task, position, &change)?;
         config = next;
     }
     let goal = goal_literals(alloc, task)?;
