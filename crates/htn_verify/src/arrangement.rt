@@ -14,7 +14,7 @@ use htn_ground::GroundTask;
 use htn_task::Task;
 use plan_forest::Forest;
 use plan_room::forest_fits;
-use plan_run::Turns;
+use plan_run::{EverTrue, Turns};
 use plan_text::PlanFile;
 use std::alloc::{AllocError, Global};
 
@@ -36,6 +36,7 @@ pub(crate) fn is_arranged(
     ensures { IfOk result (λ b. IsTrue b ↔ IsAccepted (naming_of task.now) (problem_of task.now) file.now) }
 {
     let _initial = task.initial_atoms();
+    let ever = EverTrue::of(alloc, turns)?;
     let lines = PlacedLines {
         alloc,
         task,
@@ -43,6 +44,7 @@ pub(crate) fn is_arranged(
         forest,
         tasks,
         turns,
+        ever: &ever,
     };
     let fits = forest_fits(alloc, &lines)?;
     Ok(fits)

@@ -9,7 +9,7 @@ use htn_task::Task;
 use plan_forest::Forest;
 use plan_lines::{Names, initials_to_fit, instances_to_fit};
 use plan_room::PlanLines;
-use plan_run::Turns;
+use plan_run::{EverTrue, Turns};
 use plan_text::PlanFile;
 use std::alloc::{AllocError, Global};
 
@@ -38,7 +38,9 @@ pub(crate) struct PlacedLines<'a, 't> {
     pub forest: &'a Forest,
     pub tasks: &'a [GroundTask],
     pub turns: &'a Turns<'t>,
+    pub ever: &'a EverTrue<'t>,
     ghost placed: { ArePlaced task.now file.now forest.now tasks.now turns.now },
+    ghost same: { ever.now ≡ turns.now },
 }
 
 impl PlanLines for PlacedLines<'_, '_> {
@@ -72,14 +74,14 @@ impl PlanLines for PlacedLines<'_, '_> {
         let method = self.file.decompositions()[place].method();
         let children = tasks_of(self.alloc, self.tasks, self.forest.children(place))?;
         let goal = &self.tasks[line];
-        let found = instances_to_fit(self.alloc, &names, self.turns, goal, method, &children)?;
+        let found = instances_to_fit(self.alloc, &names, self.ever, goal, method, &children)?;
         Ok(found)
     }
 
     fn initials(&self) -> Result<Vec<Instance>, AllocError> {
         let names = Names::new(self.task);
         let roots = tasks_of(self.alloc, self.tasks, self.forest.roots())?;
-        let found = initials_to_fit(self.alloc, &names, self.turns, &roots)?;
+        let found = initials_to_fit(self.alloc, &names, self.ever, &roots)?;
         Ok(found)
     }
 

@@ -4,4 +4,3 @@ pub mod Allowed
 pub mod Lines
 pub mod Fitting
 pub mod Found
-pub mod Rows

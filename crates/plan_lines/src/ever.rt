@@ -2,7 +2,6 @@
 ghost use Rattle.std.specs.Prelude.{◌≡◌, ◌↔◌, ℕ, List, IfOk, IsTrue, false, map, true};
 ghost use Rattle.htn_model.specs.PlanFile.{IsIn};
 ghost use Rattle.htn_model.specs.Schema as model;
-ghost use Rattle.plan_run.specs.Turns.{IsHistory};
 ghost use Rattle.plan_lines.specs.Found.{AreEverTrue, MayFit};
 ghost use Rattle.plan_lines.specs.Given.{Extends};
 
@@ -10,19 +9,19 @@ use crate::completion::meets_so_far;
 use crate::given::atom_of;
 use htn_ground::Conditions;
 use htn_task::{AtomSchema, Formula, FormulaList, Task};
-use plan_run::Turns;
+use plan_run::EverTrue;
 use std::alloc::{AllocError, Global};
 
 /// What is asked of the values of an instance, beside its subtasks.
 #[derive(Drop)]
-pub(crate) struct Search<'a> {
+pub(crate) struct Search<'a, 'e> {
     pub(crate) task: &'a Task,
     pub(crate) conditions: &'a Conditions,
     /// The atoms of the step that have to be true.
     pub(crate) atoms: &'a [&'a AtomSchema],
     /// For each parameter whether it stands in the step or in a subtask.
     pub(crate) shown: &'a [bool],
-    pub(crate) turns: &'a Turns<'a>,
+    pub(crate) ever: &'a EverTrue<'e>,
 }
 
 /// The atoms of a precondition, outside every `forall`, that have to be true.
@@ -44,18 +43,17 @@ pub(crate) fn positive_atoms(
 }
 
 /// Whether no atom, so far as all its arguments have objects, is false in every gap.
-fn may_be_true(
+pub(crate) fn may_be_true(
     alloc: Global,
-    turns: &Turns<'_>,
+    ever: &EverTrue<'_>,
     atoms: &[&AtomSchema],
     given: &[Option<u16>],
 ) -> Result<bool, AllocError>
-    requires { IsHistory turns.now }
-    ensures { IfOk result (λ b. b ≡ false → (values : List ℕ) → Extends values given.now → AreEverTrue turns.now (map (λ a. a.now) atoms.now) values → ⊥) }
+    ensures { IfOk result (λ b. b ≡ false → (values : List ℕ) → Extends values given.now → AreEverTrue ever.now (map (λ a. a.now) atoms.now) values → ⊥) }
 {
     for schema in atoms {
         if let Some(atom) = atom_of(alloc, given, schema)? {
-            if !turns.is_ever_true(&atom) {
+            if !ever.has(&atom) {
                 return Ok(false);
             }
         }
@@ -66,16 +64,15 @@ fn may_be_true(
 /// Whether the values that are given are those of no instance that may fit, as far as they tell.
 pub(crate) fn is_ruled_out(
     alloc: Global,
-    search: &Search<'_>,
+    search: &Search<'_, '_>,
     given: &[Option<u16>],
 ) -> Result<bool, AllocError>
-    requires { IsHistory search.now.turns.now }
     ensures { IfOk result (λ b. b ≡ true → (values : List ℕ)
-        → MayFit search.now.task.now search.now.conditions.now search.now.turns.now (map (λ a. a.now) search.now.atoms.now) given.now values → ⊥) }
+        → MayFit search.now.task.now search.now.conditions.now search.now.ever.now (map (λ a. a.now) search.now.atoms.now) given.now values → ⊥) }
 {
     if !meets_so_far(search.task, search.conditions, given) {
         return Ok(true);
     }
-    let may_be = may_be_true(alloc, search.turns, search.atoms, given)?;
+    let may_be = may_be_true(alloc, search.ever, search.atoms, given)?;
     Ok(!may_be)
 }

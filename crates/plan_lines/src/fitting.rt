@@ -1,7 +1,6 @@
 //! The instances of a plan file's lines that may fit into its run.
 ghost use Rattle.std.specs.Prelude.{◌≡◌, ◌++◌, IfOk, OnOk, length, map};
 ghost use Rattle.htn_model.specs.Instances as model;
-ghost use Rattle.plan_run.specs.Turns.{IsHistory};
 ghost use Rattle.plan_lines.specs.Fitting.{AreToFit};
 ghost use Rattle.plan_lines.specs.Found.{AreValuesToFit, IsFor};
 ghost use Rattle.plan_lines.specs.Lines.{IsInitial, IsNamedInstance};
@@ -16,7 +15,7 @@ use htn_ground::{
     method_instance,
 };
 use htn_task::{FormulaList, MethodSchema, Task};
-use plan_run::Turns;
+use plan_run::EverTrue;
 use plan_text::Word;
 use std::alloc::{AllocError, Global};
 
@@ -34,15 +33,14 @@ fn method_number(place: usize) -> Result<u16, AllocError>
 fn method_values(
     alloc: Global,
     task: &Task,
-    turns: &Turns<'_>,
+    ever: &EverTrue<'_>,
     goal: &GroundTask,
     method: &MethodSchema,
     children: &Children,
     counts: &[usize],
 ) -> Result<Vec<ObjectList>, AllocError>
-    requires history { IsHistory turns.now }
     requires counts { length counts.now ≡ length children.now }
-    ensures { IfOk result (λ v. AreValuesToFit task.now turns.now children.now counts.now method.now.precondition method.now.network (IsFor task.now goal.now method.now) v.items) }
+    ensures { IfOk result (λ v. AreValuesToFit task.now ever.now children.now counts.now method.now.precondition method.now.network (IsFor task.now goal.now method.now) v.items) }
 {
     if method.task().name() != goal.name() {
         return Ok(Vec::new(alloc));
@@ -55,7 +53,7 @@ fn method_values(
     let values = values_to_fit(
         alloc,
         task,
-        turns,
+        ever,
         &conditions,
         method.precondition(),
         method.network(),
@@ -88,13 +86,12 @@ fn push_instances(
 pub fn instances_to_fit(
     alloc: Global,
     names: &Names<'_>,
-    turns: &Turns<'_>,
+    ever: &EverTrue<'_>,
     goal: &GroundTask,
     method: &Word,
     children: &[&GroundTask],
 ) -> Result<Vec<Instance>, AllocError>
-    requires { IsHistory turns.now }
-    ensures { IfOk result (λ v. AreToFit turns.now (IsNamedInstance names.now goal.now method.now) (map (λ c. c.now) children.now) (map (λ i. i.network) v.items)) }
+    ensures { IfOk result (λ v. AreToFit ever.now (IsNamedInstance names.now goal.now method.now) (map (λ c. c.now) children.now) (map (λ i. i.network) v.items)) }
 {
     let task = names.task();
     let (tasks, counts) = count_children(alloc, children)?;
@@ -103,7 +100,7 @@ pub fn instances_to_fit(
     for (place, schema) in methods.iter().enumerate() {
         if schema.name().as_bytes() == method.as_bytes() {
             let number = method_number(place)?;
-            let values = method_values(alloc, task, turns, goal, schema, &tasks, &counts)?;
+            let values = method_values(alloc, task, ever, goal, schema, &tasks, &counts)?;
             push_instances(alloc, task, number, schema, &values, &mut found)?;
         }
     }
@@ -114,11 +111,10 @@ pub fn instances_to_fit(
 pub fn initials_to_fit(
     alloc: Global,
     names: &Names<'_>,
-    turns: &Turns<'_>,
+    ever: &EverTrue<'_>,
     roots: &[&GroundTask],
 ) -> Result<Vec<Instance>, AllocError>
-    requires { IsHistory turns.now }
-    ensures { IfOk result (λ v. AreToFit turns.now (IsInitial names.now) (map (λ c. c.now) roots.now) (map (λ i. i.network) v.items)) }
+    ensures { IfOk result (λ v. AreToFit ever.now (IsInitial names.now) (map (λ c. c.now) roots.now) (map (λ i. i.network) v.items)) }
 {
     let task = names.task();
     let (tasks, counts) = count_children(alloc, roots)?;
@@ -129,7 +125,7 @@ pub fn initials_to_fit(
     let values = values_to_fit(
         alloc,
         task,
-        turns,
+        ever,
         &conditions,
         &empty,
         initial.network(),

@@ -12,7 +12,6 @@ mod instances;
 mod joining;
 mod matching;
 mod names;
-mod rows;
 mod search;
 
 pub use fitting::{initials_to_fit, instances_to_fit};

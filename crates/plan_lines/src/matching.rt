@@ -1,6 +1,5 @@
 //! The values of all instances whose subtasks are given tasks and whose step may hold.
 ghost use Rattle.std.specs.Prelude.{◌≡◌, IfOk, OnOk, length, map};
-ghost use Rattle.plan_run.specs.Turns.{IsHistory};
 ghost use Rattle.plan_lines.specs.Allowed.{IsInstanceWith};
 ghost use Rattle.plan_lines.specs.Found.{AreAlike, AreFound, AreValuesToFit, MayFit};
 ghost use Rattle.plan_lines.specs.Left.{Fill};
@@ -8,29 +7,28 @@ ghost use Rattle.plan_lines.specs.Left.{Fill};
 use crate::children::Children;
 use crate::ever::{Search, is_ruled_out, positive_atoms};
 use crate::instances::references;
-use crate::joining::{open_rows, push_joined};
+use crate::joining::push_joined;
 use crate::search::{is_used_up, matched, settle};
 use htn_ground::{Conditions, ObjectList, shown_parameters};
 use htn_task::{FormulaList, NetworkSchema, Task, TaskSchema};
-use plan_run::Turns;
+use plan_run::EverTrue;
 use std::alloc::{AllocError, Global};
 
 /// Appends values of instances, with those that are given, of which the tasks that are left are those of the schemas. It
 /// recurses no deeper than there are parameters.
 fn push_matching(
     alloc: Global,
-    search: &Search<'_>,
+    search: &Search<'_, '_>,
     children: &Children,
     schemas: &[&TaskSchema],
     given: &[Option<u16>],
     mut left: Vec<usize>,
     found: &mut Vec<ObjectList>,
 ) -> Result<(), AllocError>
-    requires history { IsHistory search.now.turns.now }
     requires given { length given.now ≡ length search.now.conditions.now.parameters }
     requires left { length left.items ≡ length children.now }
     ensures { OnOk result (AreFound (AreAlike search.now.shown.now) (IsInstanceWith search.now.task.now search.now.conditions.now given.now)
-        (λ values. MayFit search.now.task.now search.now.conditions.now search.now.turns.now (map (λ a. a.now) search.now.atoms.now) given.now values
+        (λ values. MayFit search.now.task.now search.now.conditions.now search.now.ever.now (map (λ a. a.now) search.now.atoms.now) given.now values
         × Fill children.now left.items (map (λ s. s.now) schemas.now) values) found.old.items found.new.items) }
 {
     let Some(kept) = settle(alloc, children, schemas, given, &mut left)? else {
@@ -40,8 +38,7 @@ fn push_matching(
         Some(parts) => parts,
         None => {
             if is_used_up(children, &left) {
-                let rows = open_rows(alloc, search, given)?;
-                push_joined(alloc, search, &rows, given, found)?;
+                push_joined(alloc, search, search.atoms, given, found)?;
             }
             return Ok(());
         }
@@ -62,7 +59,7 @@ fn push_matching(
 pub(crate) fn values_to_fit(
     alloc: Global,
     task: &Task,
-    turns: &Turns<'_>,
+    ever: &EverTrue<'_>,
     conditions: &Conditions,
     precondition: &FormulaList,
     network: &NetworkSchema,
@@ -70,10 +67,9 @@ pub(crate) fn values_to_fit(
     counts: &[usize],
     given: &[Option<u16>],
 ) -> Result<Vec<ObjectList>, AllocError>
-    requires history { IsHistory turns.now }
     requires given { length given.now ≡ length conditions.now.parameters }
     requires counts { length counts.now ≡ length children.now }
-    ensures { IfOk result (λ v. AreValuesToFit task.now turns.now children.now counts.now precondition.now network.now (IsInstanceWith task.now conditions.now given.now) v.items) }
+    ensures { IfOk result (λ v. AreValuesToFit task.now ever.now children.now counts.now precondition.now network.now (IsInstanceWith task.now conditions.now given.now) v.items) }
 {
     let atoms = positive_atoms(alloc, precondition)?;
     let shown = shown_parameters(alloc, precondition, network, given.len())?;
@@ -82,7 +78,7 @@ pub(crate) fn values_to_fit(
         conditions,
         atoms: &atoms,
         shown: &shown,
-        turns,
+        ever,
     };
     let mut found = Vec::new(alloc);
     if is_ruled_out(alloc, &search, given)? {

@@ -3,4 +3,6 @@ pub mod Touched
 pub mod Setting
 pub mod Going
 pub mod Running
-pub mod EverTrue
+pub mod Listing
+pub mod Seeded
+pub mod Slotted

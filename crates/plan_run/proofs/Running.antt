@@ -8,7 +8,7 @@ use Rattle.htn_model.specs.State.{State, contains}
 use Rattle.htn_model.specs.Literal.{Action, Literal, after, holds}
 use Rattle.htn_model.specs.Problem.{GroundTask, Problem, perform_action}
 use Rattle.htn_model.proofs.Sets.{contains-after}
-use Rattle.plan_run.specs.Turns.{History, IsHistory, literals_truth, truth, IsApplied}
+use Rattle.plan_run.specs.Turns.{History, IsHistory, IsStart, is_true_in, literals_truth, truth, IsApplied}
 use Rattle.plan_run.specs.Run.{run_tasks, IsHistoryOf, IsFailing}
 use Rattle.plan_run.proofs.Going.{same_literals}
 
@@ -36,13 +36,16 @@ nothing_taken zero tasks none = refl
 nothing_taken (suc k) tasks none = ap (take (suc k)) none
 
 -- the run begins
-pub begun : (problem : Problem) (initial : State) → initial ≡ problem.initial_state
-    → IsHistoryOf problem [] (record { initial = initial; last = 0; atoms = []; turns = [] })
-begun problem initial is = record {
-  history = record { as_many = refl; rising = λ i. record { rising = λ j k h l. absurd (omega arith); low = λ j l. absurd (omega arith) } };
-  initial = is;
-  last = refl;
-  each = λ k l. (problem.initial_state, ap (run_tasks problem problem.initial_state) (nothing_taken k [] refl), (λ a. ap (λ s. contains s a) (sym is)));
+pub begun : (problem : Problem) (initial : State) (h : History) → initial ≡ problem.initial_state → IsStart initial h → IsHistoryOf problem [] h
+begun problem initial h is start = record {
+  history = start.history;
+  initial = start.initial_is ∙ is;
+  last = start.last;
+  each = λ k l. (
+    problem.initial_state,
+    ap (run_tasks problem problem.initial_state) (nothing_taken k [] refl),
+    (λ a. ap (λ s. contains s a) (sym (start.initial_is ∙ is)) ∙ sym (ap (λ ts. is_true_in (contains h.initial a) ts k) (start.unturned a))),
+  );
 }
 
 module _ (problem : Problem) (tasks : List GroundTask) (g : GroundTask) (old : History) (run : IsHistoryOf problem tasks old) where

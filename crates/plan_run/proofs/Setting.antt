@@ -1,5 +1,5 @@
 -- Atoms that are made true or false in the last gap.
-use Rattle.std.proofs.Common.{◌≡◌, ℕ, zero, suc, ◌<◌, Bool, true, false, not, ◌||◌, ◌&&◌, List, [], ◌∷◌, ◌++◌, length, get_or, set, ◌⊎◌, inl, inr, refl, sym, ap, ap₂, ◌∙◌, subst, arith}
+use Rattle.std.proofs.Common.{◌≡◌, ℕ, zero, suc, ◌<◌, Bool, true, false, not, ◌||◌, ◌&&◌, List, [], ◌∷◌, ◌++◌, length, get_or, ltb, set, ◌⊎◌, inl, inr, refl, sym, ap, ap₂, ◌∙◌, subst, arith}
 use Rattle.std.specs.List.{position_or_len}
 use Rattle.std.proofs.lemmas.Bool.{both_ways}
 use Rattle.htn_model.specs.Atom.{Atom, atom_eq}
@@ -78,7 +78,7 @@ module _ (old mid : History) (a : Atom) (value : Bool) (touched : IsTouched old 
     -- or it is turned over
     pub turns_over : IsHistory new × AreTurned old new (a ∷ []) value
     turns_over = (
-      set_history mid new place turns touched.history last atoms are over.rising,
+      set_history mid new place turns touched.history initial last atoms are over.rising,
       record {
         past = record {
           initial = initial ∙ touched.initial;
@@ -144,6 +144,8 @@ next_history old next is n = record {
   as_many = ap length n.turns ∙ is.as_many ∙ sym (ap length n.atoms);
   rising = λ i. let r = is.rising i in let e = n.last in
       subst (IsRising next.last) (sym (ap (λ ls. get_or ls i []) n.turns)) (record { rising = r.rising; low = λ j l. (let h = r.low j l in omega arith) });
+  many = (let m = is.many in let i = ap (λ s. length (atoms_of s)) n.initial in let k = ap length n.atoms in omega (arith, m, i, k));
+  first = λ b. ap (λ s. contains s b) n.initial ∙ is.first b ∙ sym (ap₂ (λ xs s. ltb (position_or_len (atom_eq b) xs) (length (atoms_of s))) n.atoms n.initial);
 }
 
 -- the turns of each atom
@@ -162,7 +164,7 @@ settled old next is n b =
     ∙ sym (split_truth (contains old.initial b) (turns_of old b) old.last (length (turns_of old b)) (all_passed old.last (turns_of old b) old.last (is.rising _) (omega arith)))
 
 -- a true atom is among those of the state
-in_state : (s : State) (b : Atom) → contains s b ≡ true → IsIn b (atoms_of s)
+pub in_state : (s : State) (b : Atom) → contains s b ≡ true → IsIn b (atoms_of s)
 in_state s b h =
     let (i, low, is) = (set_of-Contains (atoms_of s) b).0 (ap (λ t. contains t b) (set_of-atoms_of s) ∙ h) in
     at_index (atoms_of s) i b low is
@@ -173,7 +175,7 @@ in_state s b h =
     at_index (x ∷ xs) (suc i) b l e = inr (at_index xs i b (omega arith) e)
 
 -- a false one is not
-not_in_state : (s : State) (b : Atom) → contains s b ≡ false → IsIn b (atoms_of s) → ⊥
+pub not_in_state : (s : State) (b : Atom) → contains s b ≡ false → IsIn b (atoms_of s) → ⊥
 not_in_state s b h i =
     let (k, low, is) = index_of (atoms_of s) i in
     both_ways _ h (sym (ap (λ t. contains t b) (set_of-atoms_of s)) ∙ (set_of-Contains (atoms_of s) b).1 (k, low, is))

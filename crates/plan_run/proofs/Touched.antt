@@ -1,13 +1,14 @@
 -- Atoms that are touched, and their places.
-use Rattle.std.proofs.Common.{◌≡◌, ℕ, zero, suc, ◌+◌, ◌<◌, ◌≤◌, Bool, true, false, not, cond, eqb, ltb, List, [], ◌∷◌, ◌++◌, length, get_or, set, map, Some, None, Vec, position, if◌then◌else◌, ◌⊎◌, inl, inr, refl, sym, ap, ◌∙◌, subst, arith}
+use Rattle.std.proofs.Common.{◌≡◌, ℕ, zero, suc, ◌+◌, ◌<◌, ◌≤◌, Bool, true, false, not, cond, eqb, ltb, List, [], ◌∷◌, ◌++◌, length, get_or, set, map, Some, None, Vec, position, if◌then◌else◌, ◌⊎◌, inl, inr, refl, sym, ap, ap₂, ◌∙◌, subst, arith}
 use Rattle.std.specs.List.{list_any, position_or_len}
-use Rattle.std.proofs.lemmas.Bool.{cases_eq, cases_lt, eqb-true, eq-eqb, ltb-true, ltb-false}
+use Rattle.std.proofs.lemmas.Bool.{cases_eq, cases_lt, eqb-true, eq-eqb, le-ltb, ltb-true, ltb-false}
 use Rattle.std.proofs.lemmas.List.{length-append, length-set, get_or_past, get_or-set_same, get_or-set_other, set_past}
 use Rattle.std.proofs.lemmas.List.Folds.{position_or_len_push}
 use Rattle.std.proofs.lemmas.List.Sums.{passes_at_first, prefix_len-le-length}
 use Rattle.indexmap.specs.IndexSet.{insert_key}
 use Rattle.htn_model.specs.Atom.{Atom, atom_eq}
 use Rattle.htn_model.specs.AtomOrder.{atom_eq-decides}
+use Rattle.htn_model.specs.State.{atoms_of, contains}
 use Rattle.plan_run.specs.Turns.{History, IsHistory, IsRising}
 
 -- equal atoms are the same
@@ -41,26 +42,42 @@ no_place p xs found = when (ltb (position_or_len p xs) (length xs))
     (λ outside. let most = prefix_len-le-length (λ x. not (p x)) xs in let least = ltb-false (position_or_len p xs) (length xs) outside in omega arith)
 
 -- a list of lists with an empty one more is the same at every place
-pub one_empty : (lists : List (List ℕ)) (i : ℕ) → get_or (lists ++ [] ∷ []) i [] ≡ get_or lists i []
+pub one_empty : {Y : Type 0} (lists : List (List Y)) (i : ℕ) → get_or (lists ++ [] ∷ []) i [] ≡ get_or lists i []
 one_empty [] zero = refl
 one_empty [] (suc i) = refl
 one_empty (ts ∷ lists) zero = refl
 one_empty (ts ∷ lists) (suc i) = one_empty lists i
 
--- past the end there are no turns
-past : (lists : List (List ℕ)) (i j : ℕ) → length lists ≤ i → length lists ≤ j → get_or lists i [] ≡ get_or lists j []
+-- past the end there is nothing
+past : {Y : Type 0} (lists : List (List Y)) (i j : ℕ) → length lists ≤ i → length lists ≤ j → get_or lists i [] ≡ get_or lists j []
 past lists i j h l = get_or_past lists i [] h ∙ sym (get_or_past lists j [] l)
+
+-- a key more, with an empty list, changes no key's list
+pub grown_same : {X Y : Type 0} (eq : X → X → Bool) (keys : List X) (lists : List (List Y)) (a b : X) → length lists ≡ length keys
+    → get_or (lists ++ [] ∷ []) (position_or_len (eq b) (keys ++ a ∷ [])) [] ≡ get_or lists (position_or_len (eq b) keys) []
+grown_same eq keys lists a b long =
+    one_empty lists (position_or_len (eq b) (keys ++ a ∷ [])) ∙ ap (λ i. get_or lists i []) (position_or_len_push (eq b) keys a)
+    ∙ by (eqb (position_or_len (eq b) keys) (length keys)) refl
+  where
+    by : (e : Bool) → eqb (position_or_len (eq b) keys) (length keys) ≡ e
+        → get_or lists (cond e (length keys + cond (eq b a) 0 1) (position_or_len (eq b) keys)) [] ≡ get_or lists (position_or_len (eq b) keys) []
+    by true h = let same = eqb-true (position_or_len (eq b) keys) (length keys) h in past lists _ _ (omega arith) (omega arith)
+    by false h = refl
 
 -- an atom more, with no turns, changes no atom's turns
 pub touched_same : (atoms : List Atom) (lists : List (List ℕ)) (a b : Atom) → length lists ≡ length atoms
     → get_or (lists ++ [] ∷ []) (position_or_len (atom_eq b) (atoms ++ a ∷ [])) [] ≡ get_or lists (position_or_len (atom_eq b) atoms) []
-touched_same atoms lists a b long =
-    one_empty lists (position_or_len (atom_eq b) (atoms ++ a ∷ [])) ∙ ap (λ i. get_or lists i []) (position_or_len_push (atom_eq b) atoms a)
-    ∙ by (eqb (position_or_len (atom_eq b) atoms) (length atoms)) refl
+touched_same atoms lists a b long = grown_same atom_eq atoms lists a b long
+
+-- which atoms come among the first so many stays
+first_same : (atoms : List Atom) (a b : Atom) (n : ℕ) → n ≤ length atoms → ltb (position_or_len (atom_eq b) (atoms ++ a ∷ [])) n ≡ ltb (position_or_len (atom_eq b) atoms) n
+first_same atoms a b n few = ap (λ k. ltb k n) (position_or_len_push (atom_eq b) atoms a) ∙ by (eqb (position_or_len (atom_eq b) atoms) (length atoms)) refl
   where
     by : (e : Bool) → eqb (position_or_len (atom_eq b) atoms) (length atoms) ≡ e
-        → get_or lists (cond e (length atoms + cond (atom_eq b a) 0 1) (position_or_len (atom_eq b) atoms)) [] ≡ get_or lists (position_or_len (atom_eq b) atoms) []
-    by true h = let same = eqb-true (position_or_len (atom_eq b) atoms) (length atoms) h in past lists _ _ (omega arith) (omega arith)
+        → ltb (cond e (length atoms + cond (atom_eq b a) 0 1) (position_or_len (atom_eq b) atoms)) n ≡ ltb (position_or_len (atom_eq b) atoms) n
+    by true h =
+        let same = eqb-true (position_or_len (atom_eq b) atoms) (length atoms) h in
+        le-ltb (length atoms + cond (atom_eq b a) 0 1) n (omega (arith, few)) ∙ sym (le-ltb (position_or_len (atom_eq b) atoms) n (omega (arith, few, same)))
     by false h = refl
 
 -- and its place is the end
@@ -95,17 +112,23 @@ set_there atoms lists a b turns long low other =
 -- ## Histories
 
 -- a touched atom more
-pub touched_history : (old new : History) (a : Atom) → IsHistory old → new.last ≡ old.last → new.atoms ≡ old.atoms ++ a ∷ [] → new.turns ≡ old.turns ++ [] ∷ [] → IsHistory new
-touched_history old new a is last atoms turns = record {
+pub touched_history : (old new : History) (a : Atom) → IsHistory old → new.initial ≡ old.initial → new.last ≡ old.last → new.atoms ≡ old.atoms ++ a ∷ [] → new.turns ≡ old.turns ++ [] ∷ []
+    → IsHistory new
+touched_history old new a is initial last atoms turns = record {
   as_many = ap length turns ∙ length-append old.turns ([] ∷ []) ∙ ap (λ n. n + 1) is.as_many ∙ sym (ap length atoms ∙ length-append old.atoms (a ∷ []));
   rising = λ i. subst (λ n. IsRising n (get_or new.turns i [])) (sym last) (subst (IsRising old.last) (sym (ap (λ ls. get_or ls i []) turns ∙ one_empty old.turns i)) (is.rising i));
+  many = (let m = is.many in let n = ap (λ s. length (atoms_of s)) initial in let k = ap length atoms ∙ length-append old.atoms (a ∷ []) in omega (arith, m, n, k));
+  first = λ b. ap (λ s. contains s b) initial ∙ is.first b ∙ sym (first_same old.atoms a b (length (atoms_of old.initial)) is.many)
+      ∙ sym (ap₂ (λ xs s. ltb (position_or_len (atom_eq b) xs) (length (atoms_of s))) atoms initial);
 }
 
 -- other turns at a place
-pub set_history : (old new : History) (place : ℕ) (turns : List ℕ) → IsHistory old → new.last ≡ old.last → new.atoms ≡ old.atoms → new.turns ≡ set old.turns place turns
+pub set_history : (old new : History) (place : ℕ) (turns : List ℕ) → IsHistory old → new.initial ≡ old.initial → new.last ≡ old.last → new.atoms ≡ old.atoms → new.turns ≡ set old.turns place turns
     → IsRising old.last turns → IsHistory new
-set_history old new place turns is last atoms are rising = record {
+set_history old new place turns is initial last atoms are rising = record {
   as_many = ap length are ∙ length-set old.turns place turns ∙ is.as_many ∙ sym (ap length atoms);
+  many = (let m = is.many in let n = ap (λ s. length (atoms_of s)) initial in let k = ap length atoms in omega (arith, m, n, k));
+  first = λ b. ap (λ s. contains s b) initial ∙ is.first b ∙ sym (ap₂ (λ xs s. ltb (position_or_len (atom_eq b) xs) (length (atoms_of s))) atoms initial);
   rising = λ i. subst (λ n. IsRising n (get_or new.turns i [])) (sym last) (subst (IsRising old.last) (sym (ap (λ ls. get_or ls i []) are)) (by i (cases_eq i place)));
 }
   where

@@ -1,2 +1,4 @@
 pub mod Turns
 pub mod Run
+pub mod EverTrue
+pub mod Slots

@@ -3,7 +3,7 @@ use Rattle.std.specs.Prelude.{◌≡◌, ℕ, zero, suc, ◌≤◌, ◌<◌, Lis
 use Rattle.std.specs.Coded.{Coded, code_by, coded×, coded_ℕ, coded_list}
 use Rattle.std.specs.List.{list_all, position_or_len}
 use Rattle.htn_model.specs.Atom.{Atom, atom_code, atom_eq}
-use Rattle.htn_model.specs.State.{State, state_code, contains}
+use Rattle.htn_model.specs.State.{State, state_code, contains, atoms_of}
 use Rattle.htn_model.specs.Literal.{Literal, atom, equality, Action}
 use Rattle.htn_model.specs.PlanFile.{IsIn}
 
@@ -55,9 +55,19 @@ turns_of h a = get_or h.turns (position_or_len (atom_eq a) h.atoms) []
 abbrev pub truth : History → Atom → ℕ → Bool
 truth h a k = is_true_in (contains h.initial a) (turns_of h a) k
 
+-- the atoms that are true at first come first, and each atom has its turns, ascending
 pub record IsHistory (h : History) : Type 0 where
   pub as_many : length h.turns ≡ length h.atoms
   pub rising : (i : ℕ) → IsRising h.last (get_or h.turns i [])
+  pub many : length (atoms_of h.initial) ≤ length h.atoms
+  pub first : (a : Atom) → contains h.initial a ≡ ltb (position_or_len (atom_eq a) h.atoms) (length (atoms_of h.initial))
+
+-- no atom has turned yet
+pub record IsStart (initial : State) (h : History) : Type 0 where
+  pub history : IsHistory h
+  pub initial_is : h.initial ≡ initial
+  pub last : h.last ≡ 0
+  pub unturned : (a : Atom) → turns_of h a ≡ []
 
 -- the atom is true in some gap
 abbrev pub IsEverTrue : History → Atom → Type 0

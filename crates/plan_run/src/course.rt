@@ -25,7 +25,7 @@ pub fn run<'a>(
 ) -> Result<Outcome<'a>, AllocError>
     ensures { IfOk result (IsOutcome (problem_of task.now) tasks.now) }
 {
-    let mut turns = Turns::new(alloc, task.initial_atoms());
+    let mut turns = Turns::new(alloc, task.initial_atoms())?;
     for (line, goal) in tasks.iter().enumerate() {
         let Some(action) = action_of(alloc, task, goal)? else {
             return Ok(Outcome::Fails(line));

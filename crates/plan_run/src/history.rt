@@ -1,11 +1,14 @@
 //! The gaps at which atoms turn true or false.
-ghost use Rattle.std.specs.Prelude.{◌≡◌, ◌<◌, ◌≤◌, ◌+◌, ◌∷◌, ◌++◌, ◌^◌, ◌↔◌, [], IfOk, IsTrue, List, OnOk, ℕ, length};
+ghost use Rattle.std.specs.Prelude.{◌≡◌, ◌<◌, ◌≤◌, ◌+◌, ◌∷◌, ◌++◌, ◌^◌, ◌↔◌, [], IfOk, IsTrue, List, OnOk, ℕ, length, get_or, ltb, map};
 ghost use Rattle.std.specs.Bool.{beq};
 ghost use Rattle.std.specs.List.{position_or_len};
+ghost use Rattle.std.specs.List.Sorted.{IsStrictlySortedBy};
 ghost use Rattle.htn_model.specs.Atom as model;
+ghost use Rattle.htn_model.specs.Atom.{atom_cmp};
+ghost use Rattle.htn_model.specs.State.{atoms_of, contains};
 ghost use Rattle.htn_state.specs.Views.{literal_of, literals_of};
 ghost use Rattle.plan_run.specs.Turns as spec;
-ghost use Rattle.plan_run.specs.Turns.{AreTurned, IsApplied, IsEverTrue, IsHistory, IsNextGap, IsOnward, IsRising, IsTurnedOver, IsWithin, Splits, is_true_in, literal_truth, literals_truth, truth, turns_of};
+ghost use Rattle.plan_run.specs.Turns.{AreTurned, IsApplied, IsEverTrue, IsHistory, IsNextGap, IsOnward, IsStart, IsRising, IsTurnedOver, IsWithin, Splits, is_true_in, literal_truth, literals_truth, truth, turns_of};
 
 use htn_state::{Action, Atom, Literal, State};
 use indexmap::IndexSet;
@@ -92,31 +95,58 @@ fn turn_over(turns: &mut Vec<usize>, gap: usize) -> Result<(), AllocError>
     Ok(())
 }
 
+/// A set of atoms that ascend.
+fn set_of(alloc: Global, atoms: &[Atom]) -> Result<IndexSet<Atom>, AllocError>
+    requires { IsStrictlySortedBy atom_cmp atoms.now }
+    ensures { IfOk result (λ set. set.keys ≡ atoms.now) }
+{
+    let mut set = IndexSet::new(alloc);
+    for atom in atoms {
+        let _ = set.insert(atom.clone()?)?;
+    }
+    Ok(set)
+}
+
+/// So many lists of no turns.
+fn no_turns(alloc: Global, count: usize) -> Result<Vec<Vec<usize>>, AllocError>
+    ensures many { IfOk result (λ v. length v.items ≡ count) }
+    ensures none { IfOk result (λ v. (i : ℕ) → get_or (map (λ turns. turns.items) v.items) i [] ≡ []) }
+{
+    let mut all = Vec::with_capacity(alloc, count)?;
+    for place in 0..count {
+        let _ = place;
+        all.push(Vec::new(alloc))?;
+    }
+    Ok(all)
+}
+
 impl<'a> Turns<'a> {
     /// Nothing has turned in the gap before all lines.
-    pub(crate) fn new(alloc: Global, initial: &'a State) -> Turns<'a>
-        ensures { result ≡ record { initial = initial.now; last = 0; atoms = []; turns = [] } }
+    pub(crate) fn new(alloc: Global, initial: &'a State) -> Result<Turns<'a>, AllocError>
+        ensures { IfOk result (IsStart initial.now) }
     {
-        Turns {
+        let atoms = set_of(alloc, initial.atoms())?;
+        let turns = no_turns(alloc, atoms.len())?;
+        Ok(Turns {
             initial,
             last: 0,
-            atoms: IndexSet::new(alloc),
-            turns: Vec::new(alloc),
-        }
+            atoms,
+            turns,
+        })
     }
 
-    /// What is true at first.
-    pub(crate) fn initial(&self) -> &State
-        ensures { result.now ≡ self.now.initial }
-    {
-        self.initial
-    }
-
-    /// The atoms that effects have touched.
-    pub(crate) fn touched(&self) -> &IndexSet<Atom>
+    /// The atoms that are true at first, and then those that effects have touched besides.
+    pub(crate) fn atoms(&self) -> &IndexSet<Atom>
         ensures { result.now.keys ≡ self.now.atoms }
     {
         &self.atoms
+    }
+
+    /// Whether the atom at a place is true at first.
+    fn is_first(&self, place: usize) -> bool
+        ensures { result ≡ ltb place (length (atoms_of self.now.initial)) }
+    {
+        place < self.initial.atoms().len()
     }
 
     /// The place of an atom among those that were touched, where it is put if it isn't there.
@@ -145,7 +175,7 @@ impl<'a> Turns<'a> {
         ensures turned { OnOk result (AreTurned self.old self.new (atom.now ∷ []) value) }
     {
         let place = self.touch(alloc, atom)?;
-        let first = self.initial.contains(atom);
+        let first = self.is_first(place);
         if is_turned(first, self.turns[place].len()) != value {
             turn_over(&mut self.turns[place], self.last)?;
         }
@@ -177,14 +207,15 @@ impl<'a> Turns<'a> {
         Ok(())
     }
 
-    /// The gaps at which an atom turned.
-    fn turns_of(&self, atom: &Atom) -> &[usize]
+    /// Whether an atom is true at first, and the gaps at which it turned.
+    fn course_of(&self, atom: &Atom) -> (bool, &[usize])
         requires { IsHistory self.now }
-        ensures { result.now ≡ turns_of self.now atom.now }
+        ensures first { result.0 ≡ contains self.now.initial atom.now }
+        ensures turns { result.1.now ≡ turns_of self.now atom.now }
     {
         match self.atoms.get_index_of(atom) {
-            Some(place) => self.turns[place].as_slice(),
-            None => &[],
+            Some(place) => (self.is_first(place), self.turns[place].as_slice()),
+            None => (false, &[]),
         }
     }
 
@@ -194,16 +225,12 @@ impl<'a> Turns<'a> {
         ensures next { IsNextGap (λ k. beq (truth self.now atom.now k) wanted) from result }
         ensures within { IsWithin self.now.last from result }
     {
-        next_wanted(
-            self.initial.contains(atom),
-            self.turns_of(atom),
-            wanted,
-            from,
-        )
+        let (first, turns) = self.course_of(atom);
+        next_wanted(first, turns, wanted, from)
     }
 
     /// Whether an atom is true in some gap.
-    pub fn is_ever_true(&self, atom: &Atom) -> bool
+    pub(crate) fn is_ever_true(&self, atom: &Atom) -> bool
         requires { IsHistory self.now }
         ensures { IsTrue result ↔ IsEverTrue self.now atom.now }
     {

@@ -5,7 +5,11 @@ use Rattle.htn_verify.proofs.arrangement.is_arranged.Goals as goal
 pub invariant_of-lines : goal.invariant_of-lines
 invariant_of-lines c = record {
   placed = are_placed c.args.task.now c.args.file.now c.args.forest.now c.args.tasks.now c.requires.forest c.requires.tasks c.requires.count c.requires.ends c.args.turns.now c.requires.history;
+  same = c.in_ok-ever.ensures;
 }
+
+pub of-requires : goal.of-requires
+of-requires c = c.requires.history.history
 
 pub forest_fits-requires : goal.forest_fits-requires
 forest_fits-requires c =

@@ -11,5 +11,5 @@ decreases-push_completions l = length l.given.now - l.from
 abbrev pub invariant-loop-object : goal.invariant-loop-object
 invariant-loop-object l =
     AreFound (AreAlike l.search.shown.now) (IsInstanceWith l.search.task.now l.search.conditions.now l.given)
-    (Tried (MayFit l.search.task.now l.search.conditions.now l.search.turns.now (map (λ a. a.now) l.search.atoms.now) l.given)
+    (Tried (MayFit l.search.task.now l.search.conditions.now l.search.ever.now (map (λ a. a.now) l.search.atoms.now) l.given)
     (λ values j. get_or values l.from 0 ≡ get_or l.objects j 0) l.object-index) l.initial.found.items l.found.items

@@ -15,7 +15,7 @@ use Rattle.plan_lines.proofs.fitting.initials_to_fit.Goals as goal
 pub returns : goal.returns
 returns c =
     let t = c.task-task.result.now in
-    let h = c.args.turns.now in
+    let h = c.args.ever.now in
     let initial = t.initial_network in
     let roots = map (λ (r : Bor declared.GroundTask). r.now) c.args.roots.now in
     let tasks = c.in_ok-tasks.tasks in

@@ -19,7 +19,7 @@ differ e = cc
 pub loop-place-preserved : goal.loop-place-preserved
 loop-place-preserved c =
     let t = c.task-task.result.now in
-    let h = c.args.turns.now in
+    let h = c.args.ever.now in
     let g = c.args.goal.now in
     let children = map (λ (r : Bor declared.GroundTask). r.now) c.args.children.now in
     let tasks = c.in_ok-tasks.tasks in
@@ -58,5 +58,5 @@ returns c =
     let children = map (λ (r : Bor declared.GroundTask). r.now) c.args.children.now in
     let networks = map (λ (k : Instance). k.network) c.loop-place.found.items in
     let long : length t.methods ≡ length c.methods-methods.result.now = ap (λ (l : List MethodSchema). length l) (sym c.methods-methods.ensures.value) in
-    subst (λ (u : Task). AreToFit c.args.turns.now (IsNamedInstance u c.args.goal.now c.args.method.now) children networks) c.task-task.ensures
-    (fit_all t c.args.turns.now c.args.goal.now c.args.method.now children networks c.loop-place.place (omega (arith, long, c.loop-place-test.false)) c.loop-place.invariant)
+    subst (λ (u : Task). AreToFit c.args.ever.now (IsNamedInstance u c.args.goal.now c.args.method.now) children networks) c.task-task.ensures
+    (fit_all t c.args.ever.now c.args.goal.now c.args.method.now children networks c.loop-place.place (omega (arith, long, c.loop-place-test.false)) c.loop-place.invariant)

@@ -12,7 +12,7 @@ use Rattle.plan_lines.specs.Left.{Fill, left_of, once}
 use Rattle.plan_lines.proofs.Gathering.{Tried, found_as, found_none, tried_all, tried_more, tried_skip}
 use Rattle.plan_lines.proofs.Searched.{first_left, first_there, if_none, if_some, no_items, placed}
 use Rattle.plan_lines.proofs.matching.+push_matching.Goals as goal
-use Rattle.plan_lines.proofs.matching.+push_matching.Goals.{then-is_used_up+in_ok-rows-in-None+in_ok-push_joined-in-None, else-is_used_up}
+use Rattle.plan_lines.proofs.matching.+push_matching.Goals.{then-is_used_up+in_ok-push_joined-in-None, else-is_used_up}
 use Rattle.plan_lines.proofs.matching.+push_matching.Goals.{in-Some-2+in_ok-is_ruled_out, then-not-branch+in_ok-push_matching, else-not-branch, in_default-2}
 
 abbrev at : Bor declared.TaskSchema → TaskSchema
@@ -32,7 +32,7 @@ returns-in-None t c =
     let new = c.settle.new.left.items in
     let Alike = AreAlike s.shown.now in
     let A : List ℕ → Type 0 = IsInstanceWith s.task.now s.conditions.now given in
-    let M : List ℕ → Type 0 = MayFit s.task.now s.conditions.now s.turns.now (map atom_at s.atoms.now) given in
+    let M : List ℕ → Type 0 = MayFit s.task.now s.conditions.now s.ever.now (map atom_at s.atoms.now) given in
     let W : List ℕ → Type 0 = λ values. M values × Fill tasks c.args.left.items (map at c.args.schemas.now) values in
     let same = if_some
     (λ (k : Vec (Bor declared.TaskSchema) Global). (values : List ℕ) → Extends values given
@@ -40,7 +40,7 @@ returns-in-None t c =
     c.in_ok-kept.field-0 c.in-Some.kept c.in-Some.is c.in_ok-kept.ensures.kept in
     let empty : c.in-Some.kept.items ≡ [] = sym c.deref.ensures.value ∙ no_items c.deref.result.now c.in-None.ensures.cases in
     elim c.if-is_used_up.branch [
-      | then-is_used_up+in_ok-rows-in-None+in_ok-push_joined-in-None w ↦
+      | then-is_used_up+in_ok-push_joined-in-None w ↦
           subst (λ (v : Vec ObjectList Global). AreFound Alike A W c.args.found.now.items v.items) (sym w.found-is)
           (found_as Alike A W A M c.args.found.now.items w.push_joined.new.found.items w.in_ok-push_joined-in-None.ensures (λ values a. a) (λ values m. m.0))
       | else-is_used_up w ↦
@@ -56,7 +56,7 @@ loop-number-preserved t c =
     let s = c.args.search.now in
     let task = s.task.now in
     let conditions = s.conditions.now in
-    let h = s.turns.now in
+    let h = s.ever.now in
     let wanted = map atom_at s.atoms.now in
     let given = c.args.given.now in
     let tasks = c.args.children.now in
@@ -79,7 +79,7 @@ loop-number-preserved t c =
     ∙ if_some
     (λ (q : Next). (k y : GroundTask) → slice_get tasks n ≡ Some y → left_of tasks c.deref-in-loop-number.result.now k ≡ once (ground_task_eq k y) + left_of tasks q.1.items k)
     c.in_ok-next.field-0 p is c.in_ok-next.ensures.left g x e in
-    elim c.match-branch-6.branch [
+    elim c.match-branch-5.branch [
       | in-Some-2+in_ok-is_ruled_out w ↦
           let next = w.in-Some-2.next in
           let fits : (values : List ℕ) → W values → At values n → MayFit task conditions h wanted next.0.items values × Fill tasks next.1.items (map at rest) values =
@@ -127,7 +127,7 @@ returns t c =
     let rest = c.in-Some-split_first.parts.1.now in
     let Alike = AreAlike s.shown.now in
     let A : List ℕ → Type 0 = IsInstanceWith s.task.now s.conditions.now given in
-    let M : List ℕ → Type 0 = MayFit s.task.now s.conditions.now s.turns.now (map atom_at s.atoms.now) given in
+    let M : List ℕ → Type 0 = MayFit s.task.now s.conditions.now s.ever.now (map atom_at s.atoms.now) given in
     let V : List ℕ → Type 0 = λ values. M values × Fill tasks new (first.now ∷ map at rest) values in
     let W : List ℕ → Type 0 = λ values. M values × Fill tasks c.args.left.items (map at c.args.schemas.now) values in
     let same = if_some

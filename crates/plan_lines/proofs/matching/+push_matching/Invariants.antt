@@ -14,6 +14,6 @@ abbrev pub invariant-loop-number : goal.invariant-loop-number
 invariant-loop-number l =
     AreFound (AreAlike l.search.shown.now) (IsInstanceWith l.search.task.now l.search.conditions.now l.given)
     (Tried
-    (λ values. MayFit l.search.task.now l.search.conditions.now l.search.turns.now (map (λ a. a.now) l.search.atoms.now) l.given values
+    (λ values. MayFit l.search.task.now l.search.conditions.now l.search.ever.now (map (λ a. a.now) l.search.atoms.now) l.given values
     × Fill l.children l.left.items (l.first.now ∷ map (λ s. s.now) l.rest) values)
     (λ values j. slice_get l.children j ≡ Some (ground_task values l.first.now)) l.number) l.initial.found.items l.found.items

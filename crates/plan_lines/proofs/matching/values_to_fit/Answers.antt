@@ -22,7 +22,7 @@ task_at r = r.now
 pub returns-then-branch : goal.returns-then-branch
 returns-then-branch c =
     let t = c.args.task.now in
-    let h = c.args.turns.now in
+    let h = c.args.ever.now in
     let pre = c.args.precondition.now in
     let n = c.args.network.now in
     let tasks = c.args.children.now in
@@ -39,7 +39,7 @@ returns-then-branch c =
 pub returns : goal.returns
 returns c =
     let t = c.args.task.now in
-    let h = c.args.turns.now in
+    let h = c.args.ever.now in
     let pre = c.args.precondition.now in
     let n = c.args.network.now in
     let tasks = c.args.children.now in

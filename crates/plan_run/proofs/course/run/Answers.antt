@@ -8,8 +8,7 @@ use Rattle.plan_run.proofs.Running.{begun, fails_at, no_action, not_ready, goes_
 use Rattle.plan_run.proofs.course.run.Goals as goal
 
 pub loop-line-init : goal.loop-line-init
-loop-line-init c =
-    subst (IsHistoryOf (problem_of c.args.task.now) []) (sym c.new-turns.ensures) (begun (problem_of c.args.task.now) c.initial_atoms.result.now c.initial_atoms.ensures.value)
+loop-line-init c = begun (problem_of c.args.task.now) c.initial_atoms.result.now _ c.initial_atoms.ensures.value c.in_ok-turns.ensures
 
 pub returns-in_default : goal.returns-in_default
 returns-in_default c =

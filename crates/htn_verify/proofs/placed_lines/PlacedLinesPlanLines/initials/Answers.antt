@@ -14,4 +14,5 @@ returns c =
     ap (map (λ (r : Bor declared.GroundTask). r.now)) c.deref.ensures.value ∙ c.in_ok-roots.ensures ∙ ap (map (task_at s.tasks.now)) c.roots.ensures in
     initial_candidates s.task.now s.file.now s.forest.now s.tasks.now s.turns.now s.placed networks
     (subst (λ t. AreToFit s.turns.now (IsInitial t) (map (task_at s.tasks.now) s.forest.now.roots) networks) c.new-names.ensures
-    (subst (λ ts. AreToFit s.turns.now (IsInitial c.new-names.result) ts networks) tasks_are c.in_ok-found.ensures))
+    (subst (λ ts. AreToFit s.turns.now (IsInitial c.new-names.result) ts networks) tasks_are
+    (subst (λ h. AreToFit h (IsInitial c.new-names.result) (map (λ (r : Bor declared.GroundTask). r.now) c.deref.result.now) networks) s.same c.in_ok-found.ensures)))

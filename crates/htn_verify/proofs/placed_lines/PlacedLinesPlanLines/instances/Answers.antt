@@ -37,4 +37,6 @@ returns c =
     (subst (λ t. AreToFit s.turns.now (IsNamedInstance t (task_at s.tasks.now i) (method_at s.file.now i)) (map (task_at s.tasks.now) children) networks) c.new-names.ensures
     (subst (λ g. AreToFit s.turns.now (IsNamedInstance c.new-names.result g (method_at s.file.now i)) (map (task_at s.tasks.now) children) networks) goal_is
     (subst (λ m. AreToFit s.turns.now (IsNamedInstance c.new-names.result goal_read m) (map (task_at s.tasks.now) children) networks) method_is
-    (subst (λ ts. AreToFit s.turns.now (IsNamedInstance c.new-names.result goal_read c.method-method.result.now) ts networks) tasks_are c.in_ok-found.ensures))))
+    (subst (λ ts. AreToFit s.turns.now (IsNamedInstance c.new-names.result goal_read c.method-method.result.now) ts networks) tasks_are
+    (subst (λ h. AreToFit h (IsNamedInstance c.new-names.result goal_read c.method-method.result.now) (map (λ (r : Bor declared.GroundTask). r.now) c.deref.result.now) networks) s.same
+    c.in_ok-found.ensures)))))

@@ -1,8 +1,8 @@
-use Rattle.std.proofs.Common.{◌≡◌, ◌<◌, ap, ap₂, sym, subst, ◌∙◌, arith, length, get_or, map, set, []}
+use Rattle.std.proofs.Common.{◌≡◌, ◌<◌, ap, ap₂, sym, subst, ◌∙◌, arith, length, get_or, ltb, map, set, []}
 use Rattle.std.specs.List.{position_or_len}
 use Rattle.std.proofs.lemmas.List.{length-map, map-set}
 use Rattle.htn_model.specs.Atom.{atom_eq}
-use Rattle.htn_model.specs.State.{contains}
+use Rattle.htn_model.specs.State.{atoms_of, contains}
 use Rattle.plan_run.specs.Turns.{History, IsTurnedOver, is_turned, turns_of}
 use Rattle.plan_run.proofs.Setting.{IsTouched, stays, turns_over}
 use Rattle.plan_run.proofs.Touched.{items_at}
@@ -34,7 +34,7 @@ returns-in_ok-turn_over c =
     items_at c.self.inside.turns.items place c.index_mut.result.now low c.index_mut.ensures.value ∙ ap₂ (λ ls n. get_or ls n []) lists is_place in
     let now : c.is_turned.result ≡ is_turned (contains mid.initial a) (length (turns_of mid a)) =
     c.is_turned.ensures
-    ∙ ap₂ is_turned (c.contains-first.ensures ∙ ap (λ (h : History). contains h.initial a) c.self.view_is) (c.len.ensures ∙ c.index.result.now.ok.0 ∙ ap length its) in
+    ∙ ap₂ is_turned (c.is_first-first.ensures ∙ ap (λ n. ltb n (length (atoms_of mid.initial))) is_place ∙ sym (c.in_ok-place.ensures.history.first a)) (c.len.ensures ∙ c.index.result.now.ok.0 ∙ ap length its) in
     let turns = c.turn_over.new.turns.items in
     let over : IsTurnedOver (turns_of mid a) turns mid.last =
     subst (IsTurnedOver (turns_of mid a) turns) (ap (λ (h : History). h.last) c.self.view_is) (subst (λ ts. IsTurnedOver ts turns c.self.inside.last) its_own c.in_ok-turn_over.ensures) in
@@ -73,5 +73,5 @@ returns-else-is_turned-value-clause-turned c =
     items_at c.self.inside.turns.items place c.index.result.now low c.index.ensures ∙ ap₂ (λ ls n. get_or ls n []) lists is_place in
     let now : c.is_turned.result ≡ is_turned (contains mid.initial a) (length (turns_of mid a)) =
     c.is_turned.ensures
-    ∙ ap₂ is_turned (c.contains-first.ensures ∙ ap (λ (h : History). contains h.initial a) c.self.view_is) (c.len.ensures ∙ c.index.result.now.ok.0 ∙ ap length its) in
+    ∙ ap₂ is_turned (c.is_first-first.ensures ∙ ap (λ n. ltb n (length (atoms_of mid.initial))) is_place ∙ sym (c.in_ok-place.ensures.history.first a)) (c.len.ensures ∙ c.index.result.now.ok.0 ∙ ap length its) in
     stays old mid a c.args.value touched (sym now ∙ beq_same c.is_turned.result c.args.value (not_false _ c.if-is_turned-value.false))
