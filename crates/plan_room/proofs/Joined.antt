@@ -87,12 +87,14 @@ module _ (l : Lines) (children : List ℕ) (network : Network) (sequence : List 
   abbrev StepAt : ℕ → ℕ → Type 0
   StepAt a c = (c ≡ k + a) × ((literals : List Literal) × (slice_get network.children a ≡ Some (precondition literals)))
 
-  suited_child : (a c : ℕ) → ChildAt a c → suits_at l children network a c ≡ true
+  -- the child at a position suits it
+  pub suited_child : (a c : ℕ) → ChildAt a c → suits_at l children network a c ≡ true
   suited_child a c (low, is) =
       subst (λ b. cond b (is_child_at (slice_get network.children a) (child_of (l.plan_of (get_or children c 0)))) (is_step_at (slice_get network.children a) && eqb c (k + a)) ≡ true)
       (sym (lt-ltb c k low)) (subst (λ o. is_child_at o (child_of (l.plan_of (get_or children c 0))) ≡ true) (sym is) ((child_eq-decides (child_of (l.plan_of (get_or children c 0))) (child_of (l.plan_of (get_or children c 0)))).1 refl))
 
-  suited_step : (a c : ℕ) → StepAt a c → suits_at l children network a c ≡ true
+  -- and so does its step
+  pub suited_step : (a c : ℕ) → StepAt a c → suits_at l children network a c ≡ true
   suited_step a c (e, (literals, is)) =
       subst (λ b. cond b (is_child_at (slice_get network.children a) (child_of (l.plan_of (get_or children c 0)))) (is_step_at (slice_get network.children a) && eqb c (k + a)) ≡ true)
       (sym (le-ltb c k (omega arith))) (subst (λ o. (is_step_at o && eqb c (k + a)) ≡ true) (sym is) (eq-eqb c (k + a) e))
@@ -369,7 +371,6 @@ is_seating l children network sequence gap square many is_sequence small = recor
     (λ past. let (forward, (literals, is, (at, from, to, there))) = room.1 past in
         ((let f = forward in omega arith), (literals, is, (at, (let f = from in omega arith), to, there)))),
   );
-  bound = λ h room. (let spans = room.2.2.spans in let f = spans.from 0 in let e = spans.forward 0 in let t = spans.to 0 in omega arith);
   used = λ m seated a c low less is. used_so l children network sequence gap square many m seated a c low is;
   alike = alike_so l children network sequence gap;
 }

@@ -15,3 +15,5 @@ pub mod Ranked
 pub mod Subtasks
 pub mod Answered
 pub mod Suited
+pub mod Reordered
+pub mod Listed

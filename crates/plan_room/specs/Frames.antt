@@ -1,11 +1,12 @@
 -- Lines whose finish is asked: how far their networks are tried, and how they stand above one another.
-use Rattle.std.specs.Prelude.{◌≡◌, ℕ, zero, suc, ◌+◌, ◌≤◌, ◌<◌, Bool, true, false, ltb, List, [], ◌∷◌, length, Option, Some, None, slice_get, ⊤}
+use Rattle.std.specs.Prelude.{◌≡◌, ℕ, zero, suc, ◌+◌, ◌≤◌, ◌<◌, Bool, true, false, ltb, List, [], ◌∷◌, length, Option, Some, None, slice_get, IsPermutation, ⊤}
 use Rattle.htn_model.specs.Instance.{Instance}
 use Rattle.htn_model.specs.Problem.{Network}
 use Rattle.htn_model.specs.Fits.{PlanTree, action_at, decomposition, PlanTrees, no_plans, plan, NetworkFits}
 use Rattle.plan_room.specs.Placing.{IsSequence}
 use Rattle.plan_room.specs.Matching.{IsBeaten, IsFound}
 use Rattle.plan_room.specs.Trials.{IsTried}
+use Rattle.plan_room.specs.Bound.{IsLower}
 use Rattle.plan_room.specs.Lines.{Lines, AreCandidates, networks_of, plans_of}
 use Rattle.plan_room.specs.Seats.{children_of, AreAsMany, IsOneOf, seating_of}
 use Rattle.plan_room.specs.Links.{AreLinked}
@@ -22,11 +23,13 @@ IsLine l i = (l.actions ≤ i) × (i ≤ l.count)
 abbrev pub NetworkHasRoom : Lines → List ℕ → Network → ℕ → ℕ → Type 0
 NetworkHasRoom l children network g h = NetworkFits l.naming l.problem l.states network (plans_of l.plan_of children) g h
 
--- how far the matchings of a network are tried
+-- how far the matchings of a network are tried, with the children in some order
 abbrev pub IsWork : Lines → List ℕ → Network → ℕ → Option Work → Type 0
 IsWork l children network gap None = ⊤
-IsWork l children network gap (Some work) = AreAsMany l children network × IsSequence network.order work.sequence.items
-    × AreLinked (seating_of l children network work.sequence.items gap) (length children) work.links × IsTried (seating_of l children network work.sequence.items gap) work.trial
+IsWork l children network gap (Some work) = IsPermutation children work.children.items × IsLower l children gap work.bound.end
+    × AreAsMany l work.children.items network × IsSequence network.order work.sequence.items
+    × AreLinked (seating_of l work.children.items network work.sequence.items gap) (length work.children.items) work.links
+    × IsTried (seating_of l work.children.items network work.sequence.items gap) work.trial
 
 -- one of the first networks has room up to gap h
 abbrev pub SomeFits : Lines → List ℕ → List Instance → ℕ → ℕ → ℕ → Type 0

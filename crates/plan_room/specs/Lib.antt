@@ -9,3 +9,4 @@ pub mod Links
 pub mod Ranks
 pub mod Frames
 pub mod Steps
+pub mod Bound

@@ -10,8 +10,6 @@ pub record Seating : Type 1 where
   -- the network may start at this gap
   pub gap : ℕ
   pub last : ℕ
-  -- and cannot have finished before this one
-  pub bound : ℕ
   pub count : ℕ
   pub suits : ℕ → ℕ → Bool
   pub room : Room
@@ -41,7 +39,6 @@ pub record IsSeating (w : Seating) : Type 0 where
   pub within : w.gap ≤ w.last
   pub forward : (c x y : ℕ) → w.room c x y → x ≤ y
   pub sooner : (c x y x' : ℕ) → x' ≤ x → w.room c x y → w.room c x' y
-  pub bound : (h : ℕ) → HasMatchedRoom w h → w.bound ≤ h
   pub used : (m : ℕ → ℕ) → IsSeated w m → (a c : ℕ) → a < length w.order → c < w.count → w.suits a c ≡ true → (b : ℕ) × (b < length w.order) × (m b ≡ c)
   pub alike : (a b c d : ℕ) → w.suits a c ≡ true → w.suits b c ≡ true → w.suits a d ≡ true → w.suits b d ≡ true
 

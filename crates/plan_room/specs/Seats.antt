@@ -63,7 +63,6 @@ module _ (l : Lines) (children : List ℕ) (network : Network) where
     sequence = sequence;
     gap = gap;
     last = l.actions;
-    bound = gap;
     count = length children + length network.children;
     suits = suits_at;
     room = ChoiceRoom;

@@ -20,7 +20,7 @@ use htn_ground::{Child, GroundTask, Instance};
 use htn_state::LiteralList;
 
 /// How early everything below a line can have finished.
-fn line_finish<L: PlanLines>(lines: &L, memo: &Memo, line: usize, start: usize) -> Finish
+pub(crate) fn line_finish<L: PlanLines>(lines: &L, memo: &Memo, line: usize, start: usize) -> Finish
     requires lines { AreLines (L.lines lines.now) }
     requires memo { IsMemo (L.lines lines.now) memo.now }
     requires low { line < (L.lines lines.now).count }
@@ -120,10 +120,12 @@ pub(crate) struct Below<'a, L: PlanLines> {
     pub sequence: &'a [usize],
     pub links: &'a Links,
     pub gap: usize,
+    pub bound: usize,
 }
 
 impl<L: PlanLines> Choices for Below<'_, L> {
-    ghost use Rattle.std.specs.Prelude.{◌+◌, ◌^◌, ◌<◌, length};
+    ghost use Rattle.std.specs.Prelude.{◌+◌, ◌^◌, ◌<◌, ◌≤◌, ℕ, length};
+    ghost use Rattle.plan_room.specs.Matching.{HasMatchedRoom};
     ghost use Rattle.plan_room.specs.Seats.{seating_of, AreBelow};
     ghost use Rattle.plan_room.specs.Links.{AreLinked};
     ghost use Rattle.plan_room.specs.Memo.{IsMemo, IsOpenBelow};
@@ -133,7 +135,8 @@ impl<L: PlanLines> Choices for Below<'_, L> {
     ghost asks = { λ b. IsOpenBelow (L.lines b.lines.now) b.memo.now b.children.now };
 
     ghost is_sound = { λ b. AreBelow (L.lines b.lines.now) b.children.now b.instance.now.network × IsMemo (L.lines b.lines.now) b.memo.now
-        × AreLinked (seating_of (L.lines b.lines.now) b.children.now b.instance.now.network b.sequence.now b.gap) (length b.children.now) b.links.now };
+        × AreLinked (seating_of (L.lines b.lines.now) b.children.now b.instance.now.network b.sequence.now b.gap) (length b.children.now) b.links.now
+        × ((h : ℕ) → HasMatchedRoom (seating_of (L.lines b.lines.now) b.children.now b.instance.now.network b.sequence.now b.gap) h → b.bound ≤ h) };
 
     fn size(&self) -> usize {
         self.instance.order().size()
@@ -152,7 +155,7 @@ impl<L: PlanLines> Choices for Below<'_, L> {
     }
 
     fn bound(&self) -> usize {
-        self.gap
+        self.bound
     }
 
     fn count(&self) -> usize {

@@ -1,7 +1,8 @@
 //! A line whose finish is asked, with how far its networks are tried.
-ghost use Rattle.std.specs.Prelude.{◌≡◌, ◌≤◌, ◌<◌, ◌+◌, ◌^◌, ℕ, Some, IfOk, get_or, length};
+ghost use Rattle.std.specs.Prelude.{◌≡◌, ◌≤◌, ◌<◌, ◌+◌, ◌^◌, ℕ, Some, IfOk, IsPermutation, get_or, length};
 ghost use Rattle.htn_model.specs.Fits.{subtask_positions};
 ghost use Rattle.htn_model.specs.Problem.{IsClosed, IsSquare};
+ghost use Rattle.plan_room.specs.Bound.{IsLower};
 ghost use Rattle.plan_room.specs.Frames.{IsFrame, IsLine, IsWork, NetworkHasRoom};
 ghost use Rattle.plan_room.specs.Lines.{AreLines};
 ghost use Rattle.plan_room.specs.Memo.{IsMemo, IsOpenBelow};
@@ -10,6 +11,8 @@ ghost use Rattle.plan_room.specs.Seats.{AreAsMany, AreBelow, LineFits, children_
 ghost use Rattle.plan_room.specs.Trials.{IsAsked};
 
 use crate::below::Below;
+use crate::bound::{Bound, raise_bound};
+use crate::guess::guessed_children;
 use crate::lines::PlanLines;
 use crate::links::{Links, links_of};
 use crate::matching::{Trial, best_matching, is_beaten, start};
@@ -22,9 +25,14 @@ use std::alloc::{AllocError, Global};
 /// How far the matchings of one network are tried.
 #[derive(Drop)]
 pub(crate) struct Work {
+    /// The children in the order in which they are tried.
+    children: Vec<usize>,
     sequence: Vec<usize>,
     links: Links,
     trial: Trial,
+    bound: Bound,
+    /// Whether each position can do with the first free choice, or the children's order was guessed.
+    is_settled: bool,
 }
 
 /// A line whose finish is asked, with the networks that may fit it.
@@ -94,41 +102,134 @@ fn subtask_count(instance: &Instance) -> usize
     count
 }
 
-/// The search among the matchings of a network before its first step.
+/// The search among the matchings of a network before its first step, with the children in some order.
 fn work_of<L: PlanLines>(
+    alloc: Global,
+    lines: &L,
+    memo: &Memo,
+    listed: &[usize],
+    children: Vec<usize>,
+    instance: &Instance,
+    gap: usize,
+    bound: Bound,
+    is_guessed: bool,
+) -> Result<Work, AllocError>
+    requires lines { AreLines (L.lines lines.now) }
+    requires memo { IsMemo (L.lines lines.now) memo.now }
+    requires same { IsPermutation listed.now children.items }
+    requires low { (i : ℕ) → i < length children.items → get_or children.items i 0 < (L.lines lines.now).count }
+    requires few { length children.items + length instance.now.network.children < 2 ^ 64 }
+    requires square { IsSquare (length instance.now.network.children) instance.now.network.order }
+    requires many { AreAsMany (L.lines lines.now) children.items instance.now.network }
+    requires within { gap ≤ (L.lines lines.now).actions }
+    requires lower { IsLower (L.lines lines.now) listed.now gap bound.end }
+    ensures { IfOk result (λ work. IsWork (L.lines lines.now) listed.now instance.now.network gap (Some work)) }
+{
+    let sequence = sequence(alloc, instance.order())?;
+    let links = links_of(alloc, lines, &children, instance, &sequence)?;
+    let below = Below {
+        lines,
+        memo,
+        children: &children,
+        instance,
+        sequence: &sequence,
+        links: &links,
+        gap,
+        bound: gap,
+    };
+    let trial = start(alloc, &below)?;
+    let is_settled = is_guessed || links.fixed.iter().all(|fixed| *fixed);
+    Ok(Work {
+        children,
+        sequence,
+        links,
+        trial,
+        bound,
+        is_settled,
+    })
+}
+
+/// The same search from its start, with the children in an order that is guessed.
+fn guessed_work<L: PlanLines>(
     alloc: Global,
     lines: &L,
     memo: &Memo,
     children: &[usize],
     instance: &Instance,
     gap: usize,
+    current: Work,
 ) -> Result<Work, AllocError>
     requires lines { AreLines (L.lines lines.now) }
     requires memo { IsMemo (L.lines lines.now) memo.now }
     requires low { (i : ℕ) → i < length children.now → get_or children.now i 0 < (L.lines lines.now).count }
     requires few { length children.now + length instance.now.network.children < 2 ^ 64 }
     requires square { IsSquare (length instance.now.network.children) instance.now.network.order }
-    requires many { AreAsMany (L.lines lines.now) children.now instance.now.network }
     requires within { gap ≤ (L.lines lines.now).actions }
+    requires work { IsWork (L.lines lines.now) children.now instance.now.network gap (Some current) }
     ensures { IfOk result (λ work. IsWork (L.lines lines.now) children.now instance.now.network gap (Some work)) }
 {
-    let sequence = sequence(alloc, instance.order())?;
-    let links = links_of(alloc, lines, children, instance, &sequence)?;
+    let Work {
+        sequence,
+        links,
+        bound,
+        ..
+    } = current;
+    let order = instance.order();
+    let guessed = guessed_children(alloc, lines, memo, children, order, &sequence, &links, gap)?;
+    let work = work_of(
+        alloc, lines, memo, children, guessed, instance, gap, bound, true,
+    )?;
+    Ok(work)
+}
+
+/// Goes on with the matchings. It stops where the finish of a child has to be known first.
+fn try_matchings<L: PlanLines>(
+    lines: &L,
+    memo: &Memo,
+    listed: &[usize],
+    instance: &Instance,
+    gap: usize,
+    current: Work,
+) -> (Finish, Work)
+    requires lines { AreLines (L.lines lines.now) }
+    requires memo { IsMemo (L.lines lines.now) memo.now }
+    requires low { (i : ℕ) → i < length listed.now → get_or listed.now i 0 < (L.lines lines.now).count }
+    requires few { length listed.now + length instance.now.network.children < 2 ^ 64 }
+    requires square { IsSquare (length instance.now.network.children) instance.now.network.order }
+    requires within { gap ≤ (L.lines lines.now).actions }
+    requires work { IsWork (L.lines lines.now) listed.now instance.now.network gap (Some current) }
+    ensures work { IsWork (L.lines lines.now) listed.now instance.now.network gap (Some result.1) }
+    ensures finish { IsFinish (NetworkHasRoom (L.lines lines.now) listed.now instance.now.network gap) (L.lines lines.now).actions result.0 }
+    ensures asked { IsAsked (IsOpenBelow (L.lines lines.now) memo.now listed.now) result.0 }
+{
+    let Work {
+        children,
+        sequence,
+        links,
+        mut trial,
+        bound,
+        is_settled,
+    } = current;
     let below = Below {
         lines,
         memo,
-        children,
+        children: &children,
         instance,
         sequence: &sequence,
         links: &links,
         gap,
+        bound: bound.end,
     };
-    let trial = start(alloc, &below)?;
-    Ok(Work {
+    let finish = best_matching(&mut trial, &below);
+    let work = Work {
+        children,
         sequence,
         links,
         trial,
-    })
+        bound,
+        is_settled,
+    };
+    (finish, work)
 }
 
 /// Goes on matching a network's positions to the children. It stops where the finish of one of them
@@ -155,35 +256,32 @@ fn try_network<L: PlanLines>(
     let Some(_) = children.len().checked_add(instance.children().len()) else {
         return Err(AllocError);
     };
-    let current = match work.take() {
+    let mut current = match work.take() {
         Some(current) => current,
         None => {
             if subtask_count(instance) != children.len() {
                 return Ok(Finish::Never);
             }
-            work_of(alloc, lines, memo, children, instance, gap)?
+            let bound = Bound { end: gap, seen: 0 };
+            let list = children.to_vec(alloc)?;
+            work_of(
+                alloc, lines, memo, children, list, instance, gap, bound, false,
+            )?
         }
     };
-    let Work {
-        sequence,
-        links,
-        mut trial,
-    } = current;
-    let below = Below {
-        lines,
-        memo,
-        children,
-        instance,
-        sequence: &sequence,
-        links: &links,
-        gap,
-    };
-    let finish = best_matching(&mut trial, &below);
-    *work = Some(Work {
-        sequence,
-        links,
-        trial,
-    });
+    if !current.is_settled {
+        match raise_bound(lines, memo, children, gap, &mut current.bound) {
+            Finish::Unknown(question) => {
+                *work = Some(current);
+                return Ok(Finish::Unknown(question));
+            }
+            Finish::Never => return Ok(Finish::Never),
+            Finish::At(_) => {}
+        }
+        current = guessed_work(alloc, lines, memo, children, instance, gap, current)?;
+    }
+    let (finish, next) = try_matchings(lines, memo, children, instance, gap, current);
+    *work = Some(next);
     Ok(finish)
 }
 

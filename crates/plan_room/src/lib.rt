@@ -2,8 +2,10 @@
 #![tactic(auto)]
 
 mod below;
+mod bound;
 mod fits;
 mod frames;
+mod guess;
 mod lines;
 mod links;
 mod matching;

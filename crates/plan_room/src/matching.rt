@@ -11,7 +11,7 @@ use std::alloc::{AllocError, Global};
 /// What can stand at the positions of a network, by number: a line for a subtask, and one choice of
 /// its own for a step.
 pub trait Choices {
-    ghost use Rattle.plan_room.specs.Matching.{IsFixed, Seating};
+    ghost use Rattle.plan_room.specs.Matching.{HasMatchedRoom, IsFixed, Seating};
     ghost use Rattle.plan_room.specs.declared.rooms.Question.{Question};
 
     // The network, and which choices have room where.
@@ -41,7 +41,8 @@ pub trait Choices {
 
     /// A gap before which it cannot have finished.
     fn bound(&self) -> usize
-        ensures { result ≡ (seating self.now).bound };
+        requires { is_sound self.now }
+        ensures { (h : ℕ) → HasMatchedRoom (seating self.now) h → result ≤ h };
 
     /// How many choices there are.
     fn count(&self) -> usize

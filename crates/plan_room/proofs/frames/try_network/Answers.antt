@@ -1,19 +1,16 @@
 use Rattle.std.proofs.Common.{Some, sym, subst, ◌∙◌}
-use Rattle.plan_room.specs.Placing.{IsSequence}
-use Rattle.plan_room.specs.Matching.{HasMatchedRoom}
-use Rattle.plan_room.specs.Seats.{seating_of}
-use Rattle.plan_room.specs.Frames.{IsWork, NetworkHasRoom}
-use Rattle.plan_room.proofs.Joined.{as_many_fit, is_seating, to_fits, from_fits}
-use Rattle.plan_room.proofs.Suited.{finish_so}
+use Rattle.plan_room.specs.Frames.{IsWork}
+use Rattle.plan_room.proofs.Joined.{as_many_fit}
+use Rattle.plan_room.proofs.Reordered.{all_end}
 use Rattle.plan_room.proofs.frames.try_network.Goals as goal
-use Rattle.plan_room.proofs.frames.try_network.Goals.{in-Some-take, in-None+else-subtask_count-children+in_ok-current-in-None}
+use Rattle.plan_room.proofs.frames.try_network.Goals.{in-Some-take, in-None+else-subtask_count-children+in_ok-list-in-None+in_ok-current-in-None, then-not-current+in-At+in_ok-current, else-not-current}
 
 pub returns-then-subtask_count-children-clause-finish : goal.returns-then-subtask_count-children-clause-finish
 returns-then-subtask_count-children-clause-finish g c k low room =
     c.if-subtask_count-children.true (c.subtask_count.ensures ∙ as_many_fit (g.L.PlanLines.lines c.args.lines.now) c.args.children.now c.args.instance.now.network c.args.gap k room)
 
-pub best_matching-finish-requires-clause-seating : goal.best_matching-finish-requires-clause-seating
-best_matching-finish-requires-clause-seating g c =
+pub raise_bound-requires-clause-lower : goal.raise_bound-requires-clause-lower
+raise_bound-requires-clause-lower g c =
     let l = g.L.PlanLines.lines c.args.lines.now in
     let children = c.args.children.now in
     let network = c.args.instance.now.network in
@@ -21,23 +18,52 @@ best_matching-finish-requires-clause-seating g c =
     let worked : IsWork l children network gap (Some c.match-take.current) = elim c.match-take.branch [
       | in-Some-take w ↦ subst (λ x. IsWork l children network gap (Some x)) (sym w.current-is)
           (subst (IsWork l children network gap) (sym c.take.ensures.value ∙ w.in-Some-take.is) c.requires.work)
-      | in-None+else-subtask_count-children+in_ok-current-in-None w ↦ subst (λ x. IsWork l children network gap (Some x)) (sym w.current-is) w.in_ok-current-in-None.ensures
+      | in-None+else-subtask_count-children+in_ok-list-in-None+in_ok-current-in-None w ↦ subst (λ x. IsWork l children network gap (Some x)) (sym w.current-is) w.in_ok-current-in-None.ensures
     ] in
-    is_seating l children network c.deref.result.now gap c.requires.square worked.0 (subst (IsSequence network.order) (sym c.deref.ensures.value) worked.1) c.requires.within
+    worked.1
 
-pub returns-clause-finish : goal.returns-clause-finish
-returns-clause-finish g c =
+pub returns-in-Unknown-clause-work : goal.returns-in-Unknown-clause-work
+returns-in-Unknown-clause-work g c =
     let l = g.L.PlanLines.lines c.args.lines.now in
     let children = c.args.children.now in
     let network = c.args.instance.now.network in
     let gap = c.args.gap in
-    let sequence = c.deref.result.now in
     let worked : IsWork l children network gap (Some c.match-take.current) = elim c.match-take.branch [
       | in-Some-take w ↦ subst (λ x. IsWork l children network gap (Some x)) (sym w.current-is)
           (subst (IsWork l children network gap) (sym c.take.ensures.value ∙ w.in-Some-take.is) c.requires.work)
-      | in-None+else-subtask_count-children+in_ok-current-in-None w ↦ subst (λ x. IsWork l children network gap (Some x)) (sym w.current-is) w.in_ok-current-in-None.ensures
+      | in-None+else-subtask_count-children+in_ok-list-in-None+in_ok-current-in-None w ↦ subst (λ x. IsWork l children network gap (Some x)) (sym w.current-is) w.in_ok-current-in-None.ensures
     ] in
-    finish_so (HasMatchedRoom (seating_of l children network sequence gap)) (NetworkHasRoom l children network gap) l.actions c.best_matching-finish.result
-    (λ k room. to_fits l children network sequence gap c.requires.square worked.0 room.0 room.1 k room.2.0 room.2.1 room.2.2)
-    (λ k fits. from_fits l children network sequence gap c.requires.square k fits)
-    c.best_matching-finish.ensures.finish
+    (worked.0, c.in-Unknown.ensures.lower, worked.2, worked.3, worked.4, worked.5)
+
+pub returns-in-Never-clause-finish : goal.returns-in-Never-clause-finish
+returns-in-Never-clause-finish g c k low room =
+    c.in-Never.ensures.never k low (all_end (g.L.PlanLines.lines c.args.lines.now) c.args.children.now c.args.instance.now.network c.args.gap k room)
+
+pub guessed_work-requires-clause-work : goal.guessed_work-requires-clause-work
+guessed_work-requires-clause-work g c =
+    let l = g.L.PlanLines.lines c.args.lines.now in
+    let children = c.args.children.now in
+    let network = c.args.instance.now.network in
+    let gap = c.args.gap in
+    let worked : IsWork l children network gap (Some c.match-take.current) = elim c.match-take.branch [
+      | in-Some-take w ↦ subst (λ x. IsWork l children network gap (Some x)) (sym w.current-is)
+          (subst (IsWork l children network gap) (sym c.take.ensures.value ∙ w.in-Some-take.is) c.requires.work)
+      | in-None+else-subtask_count-children+in_ok-list-in-None+in_ok-current-in-None w ↦ subst (λ x. IsWork l children network gap (Some x)) (sym w.current-is) w.in_ok-current-in-None.ensures
+    ] in
+    (worked.0, c.in-At.ensures.lower, worked.2, worked.3, worked.4, worked.5)
+
+pub try_matchings-finish-requires-clause-work : goal.try_matchings-finish-requires-clause-work
+try_matchings-finish-requires-clause-work g c =
+    let l = g.L.PlanLines.lines c.args.lines.now in
+    let children = c.args.children.now in
+    let network = c.args.instance.now.network in
+    let gap = c.args.gap in
+    let worked : IsWork l children network gap (Some c.match-take.current) = elim c.match-take.branch [
+      | in-Some-take w ↦ subst (λ x. IsWork l children network gap (Some x)) (sym w.current-is)
+          (subst (IsWork l children network gap) (sym c.take.ensures.value ∙ w.in-Some-take.is) c.requires.work)
+      | in-None+else-subtask_count-children+in_ok-list-in-None+in_ok-current-in-None w ↦ subst (λ x. IsWork l children network gap (Some x)) (sym w.current-is) w.in_ok-current-in-None.ensures
+    ] in
+    elim c.if-not-current.branch [
+      | then-not-current+in-At+in_ok-current w ↦ subst (λ x. IsWork l children network gap (Some x)) (sym w.current-is) w.in_ok-current.ensures
+      | else-not-current w ↦ subst (λ x. IsWork l children network gap (Some x)) (sym w.current-is) worked
+    ]

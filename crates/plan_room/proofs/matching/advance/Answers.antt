@@ -8,7 +8,7 @@ use Rattle.plan_room.proofs.matching.advance.Goals as goal
 
 pub returns-then-is_beaten-clause-step : goal.returns-then-is_beaten-clause-step
 returns-then-is_beaten-clause-step g c m seated h low have =
-    beaten_later c.args.trial.now.best (c.if-is_beaten.ensures.0 refl) (let e = c.bound.ensures in let b = c.requires.seating.bound h (m, seated, have) in omega arith)
+    beaten_later c.args.trial.now.best (c.if-is_beaten.ensures.0 refl) (c.bound.ensures h (m, seated, have))
 
 pub back-requires-clause-dismissed : goal.back-requires-clause-dismissed
 back-requires-clause-dismissed g c m seated h low have agree later =
