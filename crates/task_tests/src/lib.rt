@@ -12,6 +12,8 @@ mod plans;
 #[cfg(test)]
 mod searches;
 #[cfg(test)]
+mod sizes;
+#[cfg(test)]
 mod steps;
 #[cfg(test)]
 mod verdicts;

@@ -1,0 +1,5 @@
+pub mod Lasting
+pub mod Bounded
+pub mod Numbers
+pub mod Listed
+pub mod Measured

@@ -1,0 +1,66 @@
+-- Bounds from below on the numbers that a word must still have, by a measure on the open nodes.
+use Rattle.std.specs.Prelude.{◌≡◌, ◌↔◌, ℕ, ◌+◌, ◌≤◌, Bool, true, false, not, cond, List, [], length, max, min, Option, None, Some, slice_get}
+use Rattle.std.specs.FinMap.{retain_keys}
+use Rattle.std.specs.List.{list_any, sum_by}
+use Rattle.htn_model.specs.Atom.{Atom}
+use Rattle.htn_model.specs.State.{State, contains, state_eq}
+use Rattle.htn_model.specs.Literal.{Literal, Action}
+use Rattle.htn_model.specs.Problem.{Child, precondition, action, task, GroundTask, IsGrounded, Network, Problem}
+use Rattle.htn_model.specs.Machine.{Config, IsDone}
+use Rattle.htn_model.specs.Exhaustion.{is_dead, is_dead_literal, live_step, LeadsLive}
+
+-- no instance, or one that needs a literal that stays false
+abbrev pub is_barred_by : Problem → Option Action → Bool
+is_barred_by problem None = true
+is_barred_by problem (Some a) = list_any (is_dead_literal problem) a.precondition
+
+-- whether an action is never carried out
+abbrev pub is_barred : Problem → GroundTask → Bool
+is_barred problem g = is_barred_by problem (problem.action_of g)
+
+-- a node takes a number itself, and a compound task no more than that and what the nodes of any of its instances take, dead ones apart
+pub record IsLowerMeasure (problem : Problem) (size : Child → ℕ) : Type 0 where
+  pub positive : (x : Child) → 1 ≤ size x
+  pub step : (literals : List Literal) → size (precondition literals) ≤ 1
+  pub action : (g : GroundTask) → is_barred problem g ≡ false → size (action g) ≤ 1
+  pub task : (g : GroundTask) (number : ℕ) (network : Network) → slice_get (problem.methods_of g) number ≡ Some network
+      → is_dead problem network ≡ false → size (task g) ≤ 1 + sum_by size network.children
+
+-- ## States that are reached
+
+-- the true atoms whose predicate no effect names
+abbrev pub lasting : Problem → State → State
+lasting problem state = retain_keys state (λ a. not (problem.is_changed a.predicate))
+
+-- whether these are as at first
+abbrev pub is_as_at_first : Problem → State → Bool
+is_as_at_first problem state = state_eq (lasting problem state) (lasting problem problem.initial_state)
+
+-- the test says just that; and it is passed at first, and after each live step by what passed it
+pub record StatesLast (problem : Problem) : Type 0 where
+  pub told : (state : State)
+      → (is_as_at_first problem state ≡ true) ↔ ((a : Atom) → problem.is_changed a.predicate ≡ false → contains state a ≡ contains problem.initial_state a)
+  pub first : is_as_at_first problem problem.initial_state ≡ true
+  pub stays : (c d : Config) (number : ℕ) → live_step problem c number ≡ Some d → is_as_at_first problem c.state ≡ true → is_as_at_first problem d.state ≡ true
+
+-- ## Bounds
+
+-- what the open nodes take together, as far as the cap; and at least one number each
+abbrev pub estimate : (Child → ℕ) → ℕ → Config → ℕ
+estimate size cap c = max (length c.open_nodes) (min (sum_by size c.open_nodes) cap)
+
+-- the same, but in a state that is never reached no more than the open nodes
+abbrev pub lower_bound : Problem → (Child → ℕ) → ℕ → Config → ℕ
+lower_bound problem size cap c = cond (is_as_at_first problem c.state) (estimate size cap c) (length c.open_nodes)
+
+-- at least the open nodes, nothing where none is open, and a step lowers it by one at most; so no word without dead numbers that finishes is shorter
+pub record IsLowerBound (problem : Problem) (low : Config → ℕ) : Type 0 where
+  pub above_open : (c : Config) → length c.open_nodes ≤ low c
+  pub closed_zero : (c : Config) → c.open_nodes ≡ [] → low c ≡ 0
+  pub lowers_one : (c d : Config) (number : ℕ) → live_step problem c number ≡ Some d → low c ≤ low d + 1
+  pub shortest : (word : List ℕ) (c last : Config) → LeadsLive problem word c last → IsDone problem last → low c ≤ length word
+
+-- the bounds by a lower measure are such, whatever the cap
+abbrev pub MeasuresAreBounds : Type 0
+MeasuresAreBounds =
+    (problem : Problem) (size : Child → ℕ) (cap : ℕ) → IsGrounded problem → IsLowerMeasure problem size → IsLowerBound problem (lower_bound problem size cap)

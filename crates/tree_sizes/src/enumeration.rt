@@ -1,0 +1,124 @@
+//! The ground tasks that decompositions of the initial network reach, and their instances.
+ghost use Rattle.std.specs.Prelude.{◌≡◌, ◌≤◌, [], ℕ, Some, IfOk, OnOk, slice_get};
+ghost use Rattle.htn_ground.specs.Views.{children_of};
+ghost use Rattle.htn_model.specs.Instance as instance;
+ghost use Rattle.tree_sizes.specs.Enumerated.{IsCovered, IsEnumeration, IsMore};
+
+use crate::barred::Actions;
+use crate::parts::{Parts, compound_of, number_for, parts_of};
+use htn_ground::{Child, GroundTask, Instance, distinct_initials, distinct_live_methods_of};
+use htn_task::Task;
+use indexmap::IndexSet;
+use std::alloc::{AllocError, Global};
+
+/// Ground tasks by number, those that were expanded first, and the instances of these, apart from those with an
+/// action that is never carried out.
+#[derive(Drop)]
+pub(crate) struct Enumeration {
+    pub(crate) tasks: IndexSet<GroundTask>,
+    pub(crate) actions: Actions,
+    pub(crate) expanded: usize,
+    pub(crate) instances: Vec<Parts>,
+}
+
+/// The compound tasks of the initial networks.
+fn initial_tasks(alloc: Global, task: &Task) -> Result<IndexSet<GroundTask>, AllocError> {
+    let mut tasks = IndexSet::new(alloc);
+    for initial in &distinct_initials(alloc, task)? {
+        for child in initial.children().as_slice() {
+            if let Some(goal) = compound_of(child) {
+                let _ = number_for(&mut tasks, goal)?;
+            }
+        }
+    }
+    Ok(tasks)
+}
+
+/// How much is kept of a task with these instances: one for the task, one for each instance, and one for each
+/// of their nodes.
+fn cost_of(instances: &[Instance]) -> u64
+    ensures { 1 ≤ result }
+{
+    let mut cost = 1u64;
+    for instance in instances {
+        cost = cost
+            .saturating_add(1)
+            .saturating_add(instance.children().len() as u64);
+    }
+    cost
+}
+
+impl Enumeration {
+    /// The compound tasks of the initial networks, none of them expanded.
+    fn new(alloc: Global, task: &Task) -> Result<Enumeration, AllocError>
+        ensures expanded { IfOk result (λ e. e.expanded ≡ 0) }
+        ensures actions { IfOk result (λ e. e.actions.barred.keys ≡ []) }
+    {
+        Ok(Enumeration {
+            tasks: initial_tasks(alloc, task)?,
+            actions: Actions::new(alloc),
+            expanded: 0,
+            instances: Vec::new(alloc),
+        })
+    }
+
+    /// Adds the parts of an instance of the task of a number, unless one of its actions is never carried out.
+    fn push_instance(
+        &mut self,
+        alloc: Global,
+        task: &Task,
+        number: u32,
+        children: &[Child],
+    ) -> Result<(), AllocError>
+        ensures more { OnOk result (IsMore task.now self.old self.new) }
+        ensures covered { OnOk result (IsCovered self.new number (children_of children.now)) }
+    {
+        if self.actions.has_barred(alloc, task, children)? {
+            return Ok(());
+        }
+        let parts = parts_of(alloc, number, children, &mut self.tasks)?;
+        self.instances.push(parts)?;
+        Ok(())
+    }
+
+    /// Adds the parts of instances of the task of a number.
+    fn push_instances(
+        &mut self,
+        alloc: Global,
+        task: &Task,
+        number: u32,
+        instances: &[Instance],
+    ) -> Result<(), AllocError>
+        ensures more { OnOk result (IsMore task.now self.old self.new) }
+        ensures covered { OnOk result ((k : ℕ) (x : instance.Instance) → slice_get instances.now k ≡ Some x
+            → IsCovered self.new number x.network.children) }
+    {
+        for instance in instances {
+            self.push_instance(alloc, task, number, instance.children().as_slice())?;
+        }
+        Ok(())
+    }
+}
+
+/// The ground tasks that the initial network reaches, in the order in which they are found, with the instances
+/// that are listed for them, until these would cost more than the limit.
+pub(crate) fn enumerate(alloc: Global, task: &Task, limit: u64) -> Result<Enumeration, AllocError>
+    ensures { IfOk result (λ e. IsEnumeration task.now e) }
+{
+    let mut found = Enumeration::new(alloc, task)?;
+    let mut left = limit;
+    while let Some(goal) = found.tasks.get_index(found.expanded) {
+        let listed = distinct_live_methods_of(alloc, task, goal)?;
+        let cost = cost_of(&listed);
+        let Ok(number) = u32::try_from(found.expanded) else {
+            break;
+        };
+        if cost > left {
+            break;
+        }
+        left -= cost;
+        found.push_instances(alloc, task, number, &listed)?;
+        found.expanded += 1;
+    }
+    Ok(found)
+}

@@ -1,0 +1,67 @@
+//! What instances are made of, as far as sizes go.
+ghost use Rattle.std.specs.Prelude.{◌≡◌, Some, IfOk, OnOk};
+ghost use Rattle.std.specs.Option.{option_map};
+ghost use Rattle.htn_ground.specs.Views.{child_view, children_of};
+ghost use Rattle.tree_sizes.specs.Numbers.{AreParts, IsGrown, compound_of, number_of};
+
+use htn_ground::{Child, GroundTask};
+use indexmap::IndexSet;
+use std::alloc::{AllocError, Global};
+
+/// The nodes of an instance of a ground task: how many of them are no compound tasks, and the numbers of the
+/// others.
+#[derive(Drop)]
+pub(crate) struct Parts {
+    pub(crate) task: u32,
+    pub(crate) steps: usize,
+    pub(crate) subtasks: Vec<u32>,
+}
+
+/// The compound task that a node is, if it is one.
+pub(crate) fn compound_of(child: &Child) -> Option<&GroundTask>
+    ensures { option_map (λ g. g.now) result ≡ compound_of (child_view child.now) }
+{
+    match child {
+        Child::Task(goal) => Some(goal),
+        Child::Precondition(_) | Child::Action(_) => None,
+    }
+}
+
+/// The number of a ground task, which it may get only now.
+pub(crate) fn number_for(
+    tasks: &mut IndexSet<GroundTask>,
+    goal: &GroundTask,
+) -> Result<u32, AllocError>
+    ensures grown { OnOk result (IsGrown tasks.old.keys tasks.new.keys) }
+    ensures number { IfOk result (λ n. number_of tasks.new.keys goal.now ≡ Some n) }
+{
+    let (place, _) = tasks.insert_full(goal.clone()?)?;
+    let Ok(number) = u32::try_from(place) else {
+        return Err(AllocError);
+    };
+    Ok(number)
+}
+
+/// The parts of an instance of the task of a number, whose compound tasks may get numbers only now.
+pub(crate) fn parts_of(
+    alloc: Global,
+    number: u32,
+    children: &[Child],
+    tasks: &mut IndexSet<GroundTask>,
+) -> Result<Parts, AllocError>
+    ensures grown { OnOk result (IsGrown tasks.old.keys tasks.new.keys) }
+    ensures parts { IfOk result (λ p. AreParts tasks.new.keys number (children_of children.now) p) }
+{
+    let mut subtasks = Vec::new(alloc);
+    for child in children {
+        if let Some(goal) = compound_of(child) {
+            subtasks.push(number_for(tasks, goal)?)?;
+        }
+    }
+    let steps = children.len() - subtasks.len();
+    Ok(Parts {
+        task: number,
+        steps,
+        subtasks,
+    })
+}
