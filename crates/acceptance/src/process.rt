@@ -67,7 +67,7 @@ fn faults_have_a_line_and_a_status(rt: HostRuntime) -> Result<(), Fail> {
         (ProcessFault::Output, "output: cannot be written\n", 5),
     ];
     for (fault, line, status) in rows {
-        let mut err = Sink::new(Vec::new(alloc));
+        let mut err = Sink::new(Vec::with_capacity(alloc, 100)?);
         assert_eq!(rt; fault.tell(&mut err), status);
         let told = text_of(alloc, err.into_inner().as_slice())?;
         assert_eq!(rt; told.as_str(), line);
@@ -100,12 +100,12 @@ fn an_answer_that_is_not_flushed(rt: HostRuntime) -> Result<(), Fail> {
         (3, 3, ""),
         (5, 5, ""),
     ] {
-        let mut err = Sink::new(Vec::new(alloc));
+        let mut err = Sink::new(Vec::with_capacity(alloc, 100)?);
         assert_eq!(rt; flush(status, Sink::new(Stuck), &mut err), found);
         let told = text_of(alloc, err.into_inner().as_slice())?;
         assert_eq!(rt; told.as_str(), text, "status {status}");
     }
-    let mut err = Sink::new(Vec::new(alloc));
+    let mut err = Sink::new(Vec::with_capacity(alloc, 100)?);
     assert_eq!(rt; flush(0, Sink::new(Vec::new(alloc)), &mut err), 0);
     assert!(rt; err.into_inner().is_empty());
     Ok(())

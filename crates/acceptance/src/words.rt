@@ -168,8 +168,8 @@ fn refused_command_lines(rt: HostRuntime) -> Result<(), Fail> {
     ];
     for line in rows {
         let found = run(&rt, alloc, line, 1_000, 10_000)?;
-        assert!(rt; found.as_str().starts_with("||error: "), "{line}");
-        assert!(rt; found.as_str().ends_with("|2"), "{line}");
+        assert!(rt; found.as_str().starts_with("||error: "), "{line}: {found}");
+        assert!(rt; found.as_str().ends_with("|2"), "{line}: {found}");
     }
     Ok(())
 }
@@ -179,8 +179,11 @@ fn help_goes_to_the_standard_output(rt: HostRuntime) -> Result<(), Fail> {
     let alloc = rt.alloc();
     for line in ["--help", "plan --help", "verify --help", "help verify"] {
         let found = run(&rt, alloc, line, 10_000, 0)?;
-        assert!(rt; found.as_str().contains("Usage: htnplan"), "{line}");
-        assert!(rt; found.as_str().ends_with("||0"), "{line}");
+        assert!(rt;
+            found.as_str().contains("Usage: htnplan"),
+            "{line}: {found}"
+        );
+        assert!(rt; found.as_str().ends_with("||0"), "{line}: {found}");
     }
     Ok(())
 }

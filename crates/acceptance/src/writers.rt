@@ -54,7 +54,7 @@ fn expect_room<R: Threads + Wait + Sync + Abort>(
         } else {
             Err(RunFault::Output)
         };
-        assert!(rt; outcome == expected, "room for {room} bytes");
+        assert!(rt; outcome == expected, "room for {room} bytes: {outcome:?}");
         assert_eq!(rt; out.has_failed(), !whole);
         assert!(rt;
             out.into_inner().taken.as_slice() == &text.as_bytes()[..room],

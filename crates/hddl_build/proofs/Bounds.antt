@@ -19,32 +19,41 @@ use Rattle.hddl_meaning.proofs.Listed.{at_head, at_tail, in_left, in_right}
 use Rattle.hddl_meaning.proofs.Limits.{action_parameters_limit, action_schema, method_parameters_limit, method_schema, network_parameters_limit, variables_limit}
 use Rattle.hddl_build.specs.InForce.{IsBounded, all_fit, fits, fits_step, most_in_force}
 
+-- a typed list has as many texts as variables
 count_of : (groups : List VariableGroup) → length (variables_of groups) ≡ length (typed_variables groups)
 count_of groups = length-map (mentions_of (typed_variables groups)) (λ m. m.text) ∙ length-map (typed_variables groups) (λ t. t.mention)
 
+-- with the variables of a `forall` there are so many more in force
 count_with : (variables : List Variable) (groups : List VariableGroup) → length (variables ++ quantified_of groups) ≡ length variables + length (variables_of groups)
 count_with variables groups =
     length-append variables (quantified_of groups)
     ∙ ap (λ n. length variables + n) (length-map (typed_variables groups) (λ t. record { typed = t; is_quantified = true }) ∙ sym (count_of groups))
 
+-- each `forall` in a condition
 abbrev quantifiers_of : Condition → List Variable → List Quantifier
 quantifiers_of = fold-Condition (List Variable → List Quantifier) quantifiers_step
 
+-- whether a condition fits where so many are in force
 abbrev fold_fits : Condition → ℕ → Bool
 fold_fits = fold-Condition (ℕ → Bool) fits_step
 
+-- at a `forall` no more than 65,535 variables are in force
 abbrev IsSmall : Quantifier → Type 0
 IsSmall q = length q.around + length (typed_variables q.own) ≤ 65535
 
+-- a condition each of whose `forall`s is small fits
 abbrev Fits : Condition → Type 0
 Fits c = (variables : List Variable) → ((q : Quantifier) → IsIn q (quantifiers_of c variables) → IsSmall q) → fits (length variables) c ≡ true
 
+-- a condition that fits so
 abbrev Part : Type 0
 Part = (c : Condition) × Fits c
 
+-- the conditions of such parts
 abbrev conditions_in : List Part → List Condition
 conditions_in parts = map (λ e. e.0) parts
 
+-- the body of a `forall` fits if its parts do
 body_fits : (parts : List Part) (variables : List Variable)
     → ((q : Quantifier) → IsIn q (flat_map (λ part. part variables) (map quantifiers_of (conditions_in parts))) → IsSmall q)
     → list_all (λ part. part (length variables)) (map fold_fits (conditions_in parts)) ≡ true
@@ -54,13 +63,16 @@ body_fits (part ∷ parts) variables small =
     ap₂ (λ x y. x && y) (part.1 variables (λ q h. small q (in_left q (quantifiers_of part.0 variables) later h)))
     (body_fits parts variables (λ q h. small q (in_right q (quantifiers_of part.0 variables) later h)))
 
+-- whether a condition fits is told by its outermost layer
 fits_at : (x : Condition-F Condition) (n : ℕ) → fits n (roll-Condition x) ≡ fits_step (map-Condition Condition (ℕ → Bool) fold_fits x) n
 fits_at x n = ap (λ f. f n) (fold-roll-Condition (ℕ → Bool) fits_step x)
 
+-- each `forall` of a condition is told by its outermost layer
 quantifiers_at : (x : Condition-F Condition) (variables : List Variable)
     → quantifiers_of (roll-Condition x) variables ≡ quantifiers_step (map-Condition Condition (List Variable → List Quantifier) quantifiers_of x) variables
 quantifiers_at x variables = ap (λ f. f variables) (fold-roll-Condition (List Variable → List Quantifier) quantifiers_step x)
 
+-- a condition whose parts fit fits
 layer_fits : (y : Condition-F Part) → Fits (roll-Condition (map-Condition Part Condition (λ e. e.0) y))
 layer_fits (Condition-F.Literal l) variables small = fits_at (Condition-F.Literal l) (length variables)
 layer_fits (Condition-F.Equality e) variables small = fits_at (Condition-F.Equality e) (length variables)
@@ -77,9 +89,11 @@ layer_fits (Condition-F.Forall groups body) variables small =
     ∙ ap₂ (λ p q. p && q) (le-leb (length variables + length (variables_of groups)) 65536 few)
     (ap (λ n. list_all (λ part. part n) (map fold_fits (conditions_in body))) (sym (count_with variables groups)) ∙ rest)
 
+-- each condition fits where its `forall`s are small
 condition_fits : (c : Condition) → Fits c
 condition_fits = ind-Condition Fits (λ x y is. subst (λ z. Fits (roll-Condition z)) is (layer_fits y))
 
+-- conditions fit where their `forall`s are small
 conditions_fit : (conditions : List Condition) (variables : List Variable) → ((q : Quantifier) → IsIn q (quantifiers_in variables conditions) → IsSmall q)
     → all_fit (length variables) conditions ≡ true
 conditions_fit [] variables small = refl
@@ -87,9 +101,11 @@ conditions_fit (c ∷ conditions) variables small =
     ap₂ (λ x y. x && y) (condition_fits c variables (λ q h. small q (in_left q (quantifiers_of c variables) (quantifiers_in variables conditions) h)))
     (conditions_fit conditions variables (λ q h. small q (in_right q (quantifiers_of c variables) (quantifiers_in variables conditions) h)))
 
+-- there are as many parameters in force as a typed list has
 count_of_parameters : (groups : List VariableGroup) → length (parameters_of groups) ≡ length (variables_of groups)
 count_of_parameters groups = length-map (typed_variables groups) (λ t. record { typed = t; is_quantified = false }) ∙ sym (count_of groups)
 
+-- conditions under at most 32 parameters, with small `forall`s, are bounded
 bounded : (groups : List VariableGroup) (conditions : List Condition) → length (typed_variables groups) ≤ 32
     → ((q : Quantifier) → IsIn q (quantifiers_in (parameters_of groups) conditions) → IsSmall q) → IsBounded groups conditions
 bounded groups conditions few small = record {
@@ -98,6 +114,7 @@ bounded groups conditions few small = record {
 }
 
 module _ (d : DomainText) (p : ProblemText) (fits : IsWellTypedPair d p) where
+  -- the methods of a pair that fits together are bounded
   pub methods_bounded : All (λ m. IsBounded m.parameters m.precondition) d.methods
   methods_bounded k e h =
       let m = get_or d.methods k e in
@@ -105,6 +122,7 @@ module _ (d : DomainText) (p : ProblemText) (fits : IsWellTypedPair d p) where
       bounded m.parameters m.precondition (method_parameters_limit d p fits m there)
       (λ q in_it. variables_limit d p fits source.Domain (schema_of_method m) q (method_schema d p fits m there) in_it)
 
+  -- the actions of a pair that fits together are bounded
   pub actions_bounded : All (λ a. IsBounded a.parameters a.precondition) d.actions
   actions_bounded k e h =
       let a = get_or d.actions k e in
@@ -112,9 +130,11 @@ module _ (d : DomainText) (p : ProblemText) (fits : IsWellTypedPair d p) where
       bounded a.parameters a.precondition (action_parameters_limit d p fits a there)
       (λ q in_it. variables_limit d p fits source.Domain (schema_of_action a) q (action_schema d p fits a there) in_it)
 
+  -- the parameters of the initial network are few enough
   pub initial_bounded : length (variables_of p.htn.parameters) ≤ most_in_force
   initial_bounded = omega (arith, count_of p.htn.parameters, network_parameters_limit d p fits)
 
+  -- the goal of a pair that fits together fits
   pub goal_bounded : all_fit 0 p.goal ≡ true
   goal_bounded =
       conditions_fit p.goal []

@@ -13,30 +13,37 @@ use Rattle.hddl_meaning.proofs.Listed.{texts_decide}
 use Rattle.hddl_build.specs.Labels.{first_of, position_in}
 use Rattle.hddl_build.specs.declared.labels.Labels.{Labels}
 
+-- the first of two that may be there, with a test before them
 first_step : (b : Bool) (x : ℕ) (l m o : Option ℕ) → m ≡ first_of l o → cond b (Some x) m ≡ first_of (cond b (Some x) l) o
 first_step true x l m o e = refl
 first_step false x l m o e = e
 
+-- a key is looked up in a table with one entry more at its end
 pub lookup_push : {K : Type 0} (t : K → Bool) (es : List (K × ℕ)) (k : K) (v : ℕ) → lookup t (es ++ (k, v) ∷ []) ≡ first_of (lookup t es) (cond (t k) (Some v) None)
 lookup_push t [] k v = refl
 lookup_push t (e ∷ es) k v = first_step (t e.0) e.1 (lookup t es) (lookup t (es ++ (k, v) ∷ [])) (cond (t k) (Some v) None) (lookup_push t es k v)
 
+-- a search for the first place, one value further
 found_step : (n m : ℕ) (b : Bool) → n ≤ m
     → cond (nat_lt (cond (eqb n m) (m + cond b 0 1) n) (m + 1)) (Some (cond (eqb n m) (m + cond b 0 1) n)) None ≡ first_of (cond (nat_lt n m) (Some n) None) (cond b (Some m) None)
 found_step n m true h = grind (arith, common_steps)
 found_step n m false h = grind (arith, common_steps)
 
+-- nothing after it changes nothing
 pub none_more : (o : Option ℕ) → first_of o None ≡ o
 none_more None = refl
 none_more (Some n) = refl
 
+-- what is there comes first
 known_first : (o : Option ℕ) (n : ℕ) → is_some o ≡ true → o ≡ first_of o (Some n)
 known_first None n h = absurd cc
 known_first (Some k) n h = refl
 
+-- one value more makes a list longer by one
 push_size : {X : Type 0} (xs : List X) (y : X) → length (xs ++ y ∷ []) ≡ length xs + 1
 push_size xs y = grind (arith, common_steps)
 
+-- the first place that passes, in a list with one value more at its end
 pub position_push : {X : Type 0} (p : X → Bool) (xs : List X) (y : X) → position p (xs ++ y ∷ []) ≡ first_of (position p xs) (cond (p y) (Some (length xs)) None)
 position_push p xs y =
     ap₂ (λ k n. cond (nat_lt k n) (Some k) None) (position_or_len_push p xs y) (push_size xs y)
@@ -60,6 +67,7 @@ position_step p xs i x h at =
     ap (λ n. first_of (position p (take i xs)) (cond (p x) (Some n) None)) (sym (length-take-le i xs (omega arith))) ∙ sym (position_push p (take i xs) x)
     ∙ ap (λ l. position p l) (ap (λ y. take i xs ++ y ∷ []) at ∙ sym (take_more xs i x h))
 
+-- what isn't there is none
 pub not_some : {X : Type 0} (o : Option X) → is_some o ≡ false → o ≡ None
 not_some None h = refl
 not_some (Some x) h = absurd cc

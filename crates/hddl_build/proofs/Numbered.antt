@@ -11,6 +11,7 @@ use Rattle.hddl_meaning.proofs.Limits.{types_limit, objects_limit, predicate_nam
 use Rattle.std.proofs.lemmas.List.Elements.{All-contains_itself}
 use Rattle.hddl_build.specs.Vocabularies.{IsNumbered}
 
+-- in a pair that fits together the names of each kind have numbers that fit
 pub numbered : (d : DomainText) (p : ProblemText) (v : Vocabulary) → IsWellTypedPair d p → v ≡ vocabulary_of d p → IsNumbered v
 numbered d p v fits same = subst IsNumbered (sym same) (record {
   types = omega (arith, types_limit d p fits);
@@ -19,5 +20,6 @@ numbered d p v fits same = subst IsNumbered (sym same) (record {
   tasks = omega (arith, task_names_limit d p fits);
 })
 
+-- in a pair that fits together the orderings of methods have no cycle
 pub methods_acyclic : (d : DomainText) (p : ProblemText) → IsWellTypedPair d p → All (λ m. IsAcyclic (order_pairs m.network)) d.methods
 methods_acyclic d p fits k m h = method_order_acyclic d p fits (get_or d.methods k m) (All-contains_itself d.methods k m h)

@@ -29,11 +29,13 @@ below_length xs k x h = by (nat_lt k (length xs)) refl
     by false past = absurd (let wrong : slice_get xs k ≡ None = slice_get_past xs k (ltb-false k (length xs) past) in cc)
 
 module _ (t : model.Task) (lists : List (List ℕ)) (same : map (λ x. x.objects) t.types ≡ lists) where
+  -- the list of a type has its objects
   list_at : (k : ℕ) (type : model.ObjectType) → slice_get t.types k ≡ Some type → get_or lists k [] ≡ type.objects
   list_at k type h =
       get_or_from_slice_get lists k type.objects []
       (ap (λ l. slice_get l k) (sym same) ∙ slice_get-map (λ x. x.objects) t.types k ∙ ap (option_map (λ x. x.objects)) h)
 
+  -- an object has a type exactly where the type's list has it
   tested : (k o : ℕ) → (model.has_type t k o ≡ true) ↔ Contains (get_or lists k []) o
   tested k o =
       let as_list : model.has_type t k o ≡ list_any (nat_eq o) (get_or lists k []) = ap (λ l. list_any (nat_eq o) (get_or l k [])) same in
@@ -41,9 +43,11 @@ module _ (t : model.Task) (lists : List (List ℕ)) (same : map (λ x. x.objects
 
   module _ (d : DomainText) (p : ProblemText) (named : List ℕ) (names : map (λ x. x.name) t.types ≡ type_names d) (objects : t.objects ≡ object_names d p)
       (listed : named ≡ model.named_types t) (are : AreNamedMembersOf d p named lists) where
+    -- the objects of a type ascend
     pub ascends : (k : ℕ) (type : model.ObjectType) → slice_get t.types k ≡ Some type → IsStrictlySortedBy nat_cmp type.objects
     ascends k type h = subst (IsStrictlySortedBy nat_cmp) (list_at k type h) (are.ascending k)
 
+    -- an object has a type that the task names exactly where it is declared to have it
     pub has_members : (k o : ℕ) (type : model.ObjectType) (name : Text) → slice_get t.types k ≡ Some type → slice_get t.objects o ≡ Some name
         → (model.has_type t k o ≡ true) ↔ (Contains (model.named_types t) k × HasType d p name type.name)
     has_members k o type name h j =
@@ -57,5 +61,6 @@ module _ (t : model.Task) (lists : List (List ℕ)) (same : map (λ x. x.objects
           λ (there, typed). (tested k o).1 (are_members.1 (subst (λ (l : List ℕ). Contains l k) (sym listed) there, subst (λ (X : Type 0). X) (sym words) typed)),
         )
 
+    -- what has a type is an object
     pub lies_within : (k o : ℕ) → model.has_type t k o ≡ true → o < length t.objects
     lies_within k o has = subst (λ (l : List Text). o < length l) (sym objects) (are.within k o ((tested k o).0 has))

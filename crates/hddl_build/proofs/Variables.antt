@@ -10,10 +10,12 @@ use Rattle.hddl_meaning.specs.Uses.{Variable, parameters_of, quantified_of}
 use Rattle.hddl_scope.specs.Scopes.{has_text}
 use Rattle.hddl_build.specs.Scopes.{texts_of}
 
+-- a place in the mapped list is that in the list
 position_or_len-map : {X Y : Type 0} (p : Y → Bool) (f : X → Y) (xs : List X) → position_or_len p (map f xs) ≡ position_or_len (λ x. p (f x)) xs
 position_or_len-map p f [] = refl
 position_or_len-map p f (x ∷ xs) = ap (λ n. cond (not (p (f x))) (1 + n) 0) (position_or_len-map p f xs)
 
+-- the same where there may be no place
 position-map : {X Y : Type 0} (p : Y → Bool) (f : X → Y) (xs : List X) → position p (map f xs) ≡ position (λ x. p (f x)) xs
 position-map p f xs = ap₂ (λ k n. cond (nat_lt k n) (Some k) None) (position_or_len-map p f xs) (length-map xs f)
 
@@ -22,9 +24,11 @@ typed_texts : (quantified : Bool) (ts : List Typed) → texts_of (map (λ t. rec
 typed_texts quantified [] = refl
 typed_texts quantified (t ∷ ts) = ap (λ (l : List Text). t.mention.text ∷ l) (typed_texts quantified ts)
 
+-- the texts of parameters in force are those of the typed list
 pub parameter_texts : (groups : List VariableGroup) → texts_of (parameters_of groups) ≡ variables_of groups
 parameter_texts groups = typed_texts false (typed_variables groups)
 
+-- the texts of a `forall`'s variables in force are those of the typed list
 pub quantified_texts : (groups : List VariableGroup) → texts_of (quantified_of groups) ≡ variables_of groups
 quantified_texts groups = typed_texts true (typed_variables groups)
 
@@ -32,6 +36,7 @@ quantified_texts groups = typed_texts true (typed_variables groups)
 pub texts_around : (vs : List Variable) (groups : List VariableGroup) → texts_of (vs ++ quantified_of groups) ≡ texts_of vs ++ variables_of groups
 texts_around vs groups = map-append (λ (v : Variable). v.typed.mention.text) vs (quantified_of groups) ∙ ap (λ (l : List Text). texts_of vs ++ l) (quantified_texts groups)
 
+-- the texts of the first variables are the first texts
 pub texts_taken : (n : ℕ) (vs : List Variable) → texts_of (take n vs) ≡ take n (texts_of vs)
 texts_taken zero vs = refl
 texts_taken (suc n) [] = refl

@@ -17,9 +17,11 @@ fits_step (Condition-F.Equality e) n = true
 fits_step (Condition-F.Forall groups body) n =
     nat_le (n + length (variables_of groups)) most_in_force && list_all (λ part. part (n + length (variables_of groups))) body
 
+-- no more variables than the limit are in force anywhere in a condition, where there are n around it
 abbrev pub fits : ℕ → Condition → Bool
 fits n c = fold-Condition (ℕ → Bool) fits_step c n
 
+-- the same for all conditions
 abbrev pub all_fit : ℕ → List Condition → Bool
 all_fit n conditions = list_all (fits n) conditions
 

@@ -14,9 +14,11 @@ use Rattle.hddl_check.specs.Cycles.{IsCycleFault, PairFails}
 use Rattle.hddl_scope.specs.Findings.{Finds}
 use Rattle.hddl_scope.proofs.Finding.{Finds-none, Finds-some}
 
+-- a cycle of types at a place of the domain
 abbrev pub fault_at : ℕ → CheckFault
 fault_at place = fault.TypeCycle (record { source = source.Domain; place = place })
 
+-- the place of the first cycle is the fault that is found, and none where there is no cycle
 pub finds_cycle : (d : DomainText) (place : Option ℕ) → MatchOption place (HasNoCycle d) (IsFirstCycle d) → Finds (IsCycleFault d) (option_map fault_at place)
 finds_cycle d None none = Finds-none (λ f (at, is, (text, t, m, in', on, here, same)). none t in' on)
 finds_cycle d (Some place) first =

@@ -18,18 +18,22 @@ use Rattle.hddl_uses.proofs.TypeNames.{is_type_number}
 
 -- ## A type by its number
 
+-- a type with a number is declared
 pub declared_type : (d : DomainText) (t : Text) (o : Option ℕ) → o ≡ position (is_same_text t) (type_names d) → is_some o ≡ true → IsDeclaredType d t
 declared_type d t o e some = (is_type_number d t).0 (sym (ap is_some e) ∙ some)
 
+-- a type without a number isn't declared
 pub undeclared_type : (d : DomainText) (t : Text) (o : Option ℕ) → o ≡ position (is_same_text t) (type_names d) → is_some o ≡ false → IsDeclaredType d t → ⊥
 undeclared_type d t o e none h = true≢false (sym (ap is_some e ∙ (is_type_number d t).1 h) ∙ none)
 
 -- ## Group by group
 
 module _ (of_type : Option Name) where
+  -- a name of the group with the group's type
   abbrev typed_name : Name → Typed
   typed_name x = record { mention = mention_of x; of_type = option_map mention_of of_type }
 
+  -- where the type of a group is declared, each of its names has a declared type
   typed_all : (d : DomainText) (xs : List Name) → IsDeclaredType d (text_or_object (option_map mention_of of_type)) → AllTyped d (map typed_name xs)
   typed_all d [] declared t at = absurd (in_nothing t at)
   typed_all d (x ∷ xs) declared t at = elim (in_cases (typed_name x) t (map typed_name xs) at) [
@@ -37,12 +41,15 @@ module _ (of_type : Option Name) where
     | inr rest ↦ typed_all d xs declared t rest
   ]
 
+-- the names of a group with its type
 abbrev pub of_group : NameGroup → List Typed
 of_group g = map (typed_name g.of_type) g.names
 
+-- the same of a whole group
 pub group_typed : (d : DomainText) (g : NameGroup) → IsDeclaredType d (text_or_object (option_map mention_of g.of_type)) → AllTyped d (of_group g)
 group_typed d g declared = typed_all g.of_type d g.names declared
 
+-- a group without names has none without a declared type
 pub empty_typed : (d : DomainText) (g : NameGroup) → g.names ≡ [] → AllTyped d (of_group g)
 empty_typed d g e t at = absurd (in_nothing t (subst (λ xs. IsIn t (map (typed_name g.of_type) xs)) e at))
 
@@ -70,12 +77,15 @@ type_of_group d gs k g lt is some all = by g.names refl
 
 -- ## Constants and objects
 
+-- where all is typed, the constants are
 pub typed_constants : (d : DomainText) (p : ProblemText) → AreTyped d p → AllTyped d (typed_names d.constants)
 typed_constants d p all t at = all t (in_left t (typed_names d.constants) (typed_names p.objects) at)
 
+-- where all is typed, the objects are
 pub typed_objects : (d : DomainText) (p : ProblemText) → AreTyped d p → AllTyped d (typed_names p.objects)
 typed_objects d p all t at = all t (in_right t (typed_names d.constants) (typed_names p.objects) at)
 
+-- where constants and objects are typed, all is
 pub typed_both : (d : DomainText) (p : ProblemText) → AllTyped d (typed_names d.constants) → AllTyped d (typed_names p.objects) → AreTyped d p
 typed_both d p constants objects t at = elim (Contains-append_cases (typed_names d.constants) (typed_names p.objects) t at) [
   | inl first ↦ constants t first

@@ -22,9 +22,11 @@ limit_in gs =
     at_tail (Different ms) limit (limit ∷ type_parts (typed_variables gs)) (at_head limit (type_parts (typed_variables gs)))
 
 module _ {X : Type 0} where
+  -- four lists joined are grouped otherwise
   regrouped : (a q s r : List X) → (a ++ (q ++ s)) ++ r ≡ a ++ (q ++ (s ++ r))
   regrouped a q s r = append_assoc a (q ++ s) r ∙ ap (λ l. a ++ l) (append_assoc q s r)
 
+  -- a value of three joined lists is in them with the last two changed round
   swapped : (a r e : List X) (x : X) → IsIn x ((a ++ r) ++ e) → IsIn x ((a ++ e) ++ r)
   swapped a r e x at =
       elim (Contains-append_cases (a ++ r) e x at) [
@@ -36,15 +38,18 @@ module _ {X : Type 0} where
       ]
 
 module _ (m : MethodText) where
+  -- the parameters of the method in force
   abbrev variables : List Variable
   variables = parameters_of m.parameters
 
+  -- what has to fit inside a method, as it is looked at
   abbrev pub method_inner : List Part
   method_inner =
       conditions_parts variables m.precondition
       ++ (map Side (constraints_in variables m.network)
       ++ (Decomposed (record { variables = variables; atom = m.task }) ∷ map Subtask (subtasks_in variables m.network)))
 
+  -- it is what has to fit inside the method's schema
   pub method_is : method_inner ≡ inner_parts (schema_of_method m)
   method_is =
       let atoms : List Part = map Atom (atoms_in variables m.precondition) in
@@ -57,40 +62,52 @@ module _ (m : MethodText) where
       (sym (append_assoc sides constraints tasks) ∙ ap (λ l. l ++ tasks) (sym (map-append Side (sides_in variables m.precondition) (constraints_in variables m.network))))
 
 module _ (a : ActionText) where
+  -- the parameters of the action in force
   abbrev action_variables : List Variable
   action_variables = parameters_of a.parameters
 
+  -- the atoms of an action's effects
   abbrev effects : List Use
   effects = map (λ l. record { variables = action_variables; atom = l.atom }) a.effect
 
+  -- what has to fit inside an action, as it is looked at
   abbrev pub action_inner : List Part
   action_inner = conditions_parts action_variables a.precondition ++ map Atom effects
 
+  -- what has to fit at the atoms of its precondition
   abbrev atoms : List Part
   atoms = map Atom (atoms_in action_variables a.precondition)
 
+  -- what has to fit at the `forall`s of its precondition
   abbrev quantifiers : List Part
   quantifiers = flat_map quantifier_parts (quantifiers_in action_variables a.precondition)
 
+  -- what has to fit at the equalities of its precondition
   abbrev sides : List Part
   sides = map Side (sides_in action_variables a.precondition)
 
+  -- by kind, it is what has to fit inside the action's schema
   action_is : (atoms ++ map Atom effects) ++ (quantifiers ++ sides) ≡ inner_parts (schema_of_action a)
   action_is i = sym (map-append Atom (atoms_in action_variables a.precondition) effects) i ++ (quantifiers ++ sym (append-nil sides) i)
 
+  -- what is looked at has to fit inside the action's schema
   pub to_action : (x : Part) → IsIn x action_inner → IsIn x (inner_parts (schema_of_action a))
   to_action x at = subst (IsIn x) action_is (swapped atoms (quantifiers ++ sides) (map Atom effects) x at)
 
+  -- what has to fit inside the action's schema is looked at
   pub from_action : (x : Part) → IsIn x (inner_parts (schema_of_action a)) → IsIn x action_inner
   from_action x at = swapped atoms (map Atom effects) (quantifiers ++ sides) x (subst (IsIn x) (sym action_is) at)
 
 module _ (p : ProblemText) where
+  -- the initial atoms, with no variable in force
   abbrev initial : List Use
   initial = map (λ a. record { variables = []; atom = a }) p.init
 
+  -- what has to fit in the initial state and the goal, as it is looked at
   abbrev pub states_inner : List Part
   states_inner = map Atom initial ++ conditions_parts [] p.goal
 
+  -- it is what has to fit in their schema
   pub states_are : states_inner ≡ inner_parts (schema_of_states p)
   states_are =
       let goal : List Part = map Atom (atoms_in [] p.goal) in

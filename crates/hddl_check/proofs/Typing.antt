@@ -73,6 +73,7 @@ few_after first (m ∷ ms) low none =
 -- ## Types
 
 module _ (d : DomainText) (p : ProblemText) (types : (at : At) → IsUnknownType d p at → ⊥) where
+  -- a type that a text uses is declared
   declared_type : (text : Source) (m : Mention) → IsIn m (type_uses d p text) → IsDeclaredType d m.text
   declared_type text m at = by (is_some (position (is_same_text m.text) (type_names d))) refl
     where
@@ -81,6 +82,7 @@ module _ (d : DomainText) (p : ProblemText) (types : (at : At) → IsUnknownType
       by false e =
           absurd (types (record { source = text; place = m.place }) (m, at, (λ h. true≢false (sym ((is_type_number d m.text).1 h) ∙ e)), refl))
 
+  -- a name whose type, if it has one, is declared is of a declared type
   typed_by : (mention : Mention) (o : Option Mention)
       → ((m : Mention) → IsIn m (type_of (record { mention = mention; of_type = o })) → IsDeclaredType d m.text) → IsDeclaredType d (text_or_object o)
   typed_by mention None f = inl refl
@@ -92,9 +94,11 @@ module _ (d : DomainText) (p : ProblemText) (types : (at : At) → IsUnknownType
       flat_map (λ x. typed_variables x.parameters) d.predicates ++ flat_map (λ x. typed_variables x.parameters) d.tasks
   declared_parameters source.Problem = []
 
+  -- the typed variables of a schema, its parameters first
   abbrev typed_of : Schema → List Typed
   typed_of s = typed_variables s.parameters ++ flat_map (λ q. typed_variables q.own) s.quantifiers
 
+  -- what is typed before the schemas: objects and declared parameters
   abbrev before_schemas : Source → List Typed
   before_schemas text = declared_objects d p text ++ declared_parameters text
 
@@ -102,14 +106,17 @@ module _ (d : DomainText) (p : ProblemText) (types : (at : At) → IsUnknownType
   abbrev named_in : Source → List Typed
   named_in text = before_schemas text ++ flat_map typed_of (schemas_in d p text)
 
+  -- the types of what is typed in a text are those that it uses
   named_types : (text : Source) → flat_map type_of (named_in text) ≡ type_uses d p text
   named_types source.Domain = refl
   named_types source.Problem = refl
 
+  -- all that is typed in a text has a declared type
   all_typed : (text : Source) (t : Typed) → IsIn t (named_in text) → IsTyped d t
   all_typed text t at =
       typed_by t.mention t.of_type (λ m is. declared_type text m (subst (IsIn m) (named_types text) (in_flat_map type_of t m (named_in text) at is)))
 
+  -- each object of a text has a declared type
   object_typed : (text : Source) (t : Typed) → IsIn t (declared_objects d p text) → IsTyped d t
   object_typed text t at =
       all_typed text t
@@ -118,20 +125,24 @@ module _ (d : DomainText) (p : ProblemText) (types : (at : At) → IsUnknownType
   -- ### The objects are known
 
   module _ (many : (at : At) → IsTooMany d p at → ⊥) where
+    -- the mentions of a text's objects
     abbrev object_mentions : Source → List Mention
     object_mentions text = mentions_of (declared_objects d p text)
 
+    -- the constants are few enough
     few_constants : length (distinct (texts (object_mentions source.Domain))) ≤ 65535
     few_constants =
         few_after [] (object_mentions source.Domain) (omega arith)
         (λ place past. many (record { source = source.Domain; place = place }) (inr (inl past)))
 
+    -- the objects are few enough
     few_objects : length (object_names d p) ≤ 65535
     few_objects =
         subst (λ (l : List Mention). length (distinct (texts l)) ≤ 65535) (sym (map-append (λ t. t.mention) (typed_names d.constants) (typed_names p.objects)))
         (few_after (object_mentions source.Domain) (object_mentions source.Problem) few_constants
         (λ place past. many (record { source = source.Problem; place = place }) (inr (inl past))))
 
+    -- the objects are known
     pub objects_known : AreKnown d p
     objects_known = record {
       typed = λ t at. elim (Contains-append_cases (typed_names d.constants) (typed_names p.objects) t at) [

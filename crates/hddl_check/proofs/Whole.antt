@@ -31,17 +31,21 @@ module _ (d : DomainText) (p : ProblemText) where
   -- ## A part that fails is a fault
 
   module _ (text : Source) where
+    -- a place in the text
     abbrev at_place : ℕ → At
     at_place place = record { source = text; place = place }
 
+    -- equal faults fail alike
     fails_by : (f g : CheckFault) → f ≡ g → FailsAt d p g → FailsAt d p f
     fails_by f g e h = subst (FailsAt d p) (sym e) h
 
+    -- a network that fails is a fault of the pair
     network_fails : (at : ℕ) (n : NetworkText) (f : CheckFault) → IsPart d p text (Network at n) → FailsIn d p text (Network at n) f → FailsAt d p f
     network_fails at n f in' (inl (place, e, (a, cycle, is))) = fails_by f (fault.OrderCycle (at_place place)) e ((at, n), a, in', cycle, is)
     network_fails at n f in' (inr (place, e, (name, named, missing))) =
         fails_by f (fault.UnknownSubtask (at_place place)) e ((at, n), name, in', named, missing)
 
+    -- a list past its limit is a fault of the pair
     limited_fails : (n : ℕ) (m : List Mention) (f : CheckFault) → IsLimited d p text n m → FailsIn d p text (Limited n m) f → FailsAt d p f
     limited_fails n m f (inl (limit, in')) (place, e, past) =
         fails_by f (fault.TooMany (at_place place)) e (inr (inr (inl (m, in', subst (λ k. IsPast k m place) limit past))))
@@ -53,6 +57,7 @@ module _ (d : DomainText) (p : ProblemText) where
         fails_by f (fault.TooMany (at_place place)) e
         (inr (inr (inr (inr (inr (w, in', subst (λ l. IsPast most_subtasks l place) is (subst (λ k. IsPast k m place) limit past)))))))
 
+    -- types past their limit are a fault of the pair
     types_fail : (f : CheckFault) → text ≡ source.Domain → FailsIn d p text Types f → FailsAt d p f
     types_fail f is (place, e, past) = fails_by f (fault.TooMany (at_place place)) e (inl (is, past))
 
@@ -67,6 +72,7 @@ module _ (d : DomainText) (p : ProblemText) where
     task_in : (s : Schema) (u : Use) → IsIn s (schemas_in d p text) → IsIn u (tasks_in s) → IsIn u (flattened tasks_in (schemas_in d p text))
     task_in s u has in' = in_flat_map tasks_in s u (schemas_in d p text) has in'
 
+    -- a use that fails is a fault of the pair, if each way in which it may is
     use_fails : (names : List Text) (signatures : List Signature) (u : Use) (f : CheckFault)
         → ((place : ℕ) → IsMissing names u.atom.name place → IsUnknownName d p (at_place place))
         → ((t : TermUse) → IsIn t (arguments_of u) → IsIn t (flattened terms_in (schemas_in d p text)))
@@ -78,6 +84,7 @@ module _ (d : DomainText) (p : ProblemText) where
     use_fails names signatures u f missing argument count clash (inr (inr (inl (place, e, h)))) = fails_by f (fault.Arity (at_place place)) e (count place h)
     use_fails names signatures u f missing argument count clash (inr (inr (inr (place, e, h)))) = fails_by f (fault.TypeClash (at_place place)) e (clash place h)
 
+    -- an atom that fails is a fault of the pair
     atom_fails : (u : Use) (f : CheckFault) → IsPart d p text (Atom u) → FailsIn d p text (Atom u) f → FailsAt d p f
     atom_fails u f in' h =
         let (s, has, at) = flat_mapped (λ s. s.atoms) (schemas_in d p text) u in' in
@@ -86,6 +93,7 @@ module _ (d : DomainText) (p : ProblemText) where
         (λ place (x, e, wrong, is). inl (u, x, in', e, wrong, is))
         (λ place (x, argument, of_place, e, among, known). inl (u, x, argument, of_place, in', e, among, known.clash)) h
 
+    -- the task of a method that fails is a fault of the pair
     decomposed_fails : (u : Use) (f : CheckFault) → IsPart d p text (Decomposed u) → FailsIn d p text (Decomposed u) f → FailsAt d p f
     decomposed_fails u f in' h =
         let (s, has, at) = flat_mapped (λ s. s.decomposed) (schemas_in d p text) u in' in
@@ -95,6 +103,7 @@ module _ (d : DomainText) (p : ProblemText) where
         (λ place (x, e, wrong, is). inr (u, x, task, e, wrong, is))
         (λ place (x, argument, of_place, e, among, known). inr (u, x, argument, of_place, task, e, among, known.clash)) h
 
+    -- a subtask that fails is a fault of the pair
     subtask_fails : (u : Use) (f : CheckFault) → IsPart d p text (Subtask u) → FailsIn d p text (Subtask u) f → FailsAt d p f
     subtask_fails u f in' h =
         let (s, has, at) = flat_mapped (λ s. s.subtasks) (schemas_in d p text) u in' in
@@ -104,6 +113,7 @@ module _ (d : DomainText) (p : ProblemText) where
         (λ place (x, e, wrong, is). inr (u, x, task, e, wrong, is))
         (λ place (x, argument, of_place, e, among, known). inr (u, x, argument, of_place, task, e, among, known.clash)) h
 
+    -- a side of an equality that fails is a fault of the pair
     side_fails : (t : TermUse) (f : CheckFault) → IsPart d p text (Side t) → FailsIn d p text (Side t) f → FailsAt d p f
     side_fails t f in' (place, e, unknown) =
         let (s, has, at) = flat_mapped (λ s. s.sides) (schemas_in d p text) t in' in
@@ -114,6 +124,7 @@ module _ (d : DomainText) (p : ProblemText) where
           unknown,
         ))))
 
+    -- whatever fails of a text is a fault of the pair
     part_fails : (x : Part) (f : CheckFault) → IsPart d p text x → FailsIn d p text x f → FailsAt d p f
     part_fails (Different g) f in' (place, e, (before, first, middle, second, after, whole, same, is)) =
         fails_by f (fault.Duplicate (at_place place)) e (g, before, first, middle, second, after, in', whole, same, is)
@@ -129,15 +140,18 @@ module _ (d : DomainText) (p : ProblemText) where
 
   -- ## The parts fail only where the items do
 
+  -- what fails of one of the texts is a fault of the pair
   parts_sound : (f : CheckFault) → PartFails d p f → FailsAt d p f
   parts_sound f (inl (x, at, fails)) = part_fails source.Domain x f (is_part d p source.Domain x at) fails
   parts_sound f (inr (x, at, fails)) = part_fails source.Problem x f (is_part d p source.Problem x at) fails
 
   -- ## A fault is a part that fails, or a cycle of types
 
+  -- something of one of the texts fails so
   abbrev Failing : CheckFault → Type 0
   Failing f = (text : Source) × (x : Part) × IsPart d p text x × FailsIn d p text x f
 
+  -- too many of a kind fail by the list that is past its limit
   many_failing : (text : Source) (place : ℕ) → IsTooMany d p (at_place text place) → Failing (fault.TooMany (at_place text place))
   many_failing text place (inl (is, past)) = (text, Types, is, (place, refl, past))
   many_failing text place (inr (inl past)) = (text, Objects, tt, (place, refl, past))
@@ -147,16 +161,19 @@ module _ (d : DomainText) (p : ProblemText) where
   many_failing text place (inr (inr (inr (inr (inr (w, in', past)))))) =
       (text, Limited most_subtasks (subtask_mentions w.1), inr (inr (inr (refl, (w, in', refl)))), (place, refl, past))
 
+  -- what fails of a text fails among what has to fit in it
   failing_part : (f : CheckFault) (text : Source) (x : Part) → IsPart d p text x → FailsIn d p text x f → PartFails d p f
   failing_part f source.Domain x is fails = inl (x, has_part d p source.Domain x is, fails)
   failing_part f source.Problem x is fails = inr (x, has_part d p source.Problem x is, fails)
 
   -- ### Types and limits
 
+  -- an unknown type fails in one of the texts
   type_faults : (at : At) → IsUnknownType d p at → PartFails d p (fault.UnknownType at)
   type_faults at (m, in', undeclared, is) =
       failing_part (fault.UnknownType at) at.source (TypeName m) in' (at.place, refl, (undeclared, is))
 
+  -- too many of a kind fail in one of the texts
   many_faults : (at : At) → IsTooMany d p at → PartFails d p (fault.TooMany at)
   many_faults at h = let (text, x, is, fails) = many_failing at.source at.place h in failing_part (fault.TooMany at) text x is fails
 
@@ -180,6 +197,7 @@ module _ (d : DomainText) (p : ProblemText) where
         | inr is ↦ failing_part f text (Subtask u) is (fails (task_names d))
       ]
 
+  -- an argument that fails does so in one of the texts
   argument_faults : (text : Source) (s : Schema) (u : Use) (f : CheckFault) → IsIn s (schemas_in d p text) → IsIn u (s.atoms ++ s.decomposed ++ s.subtasks)
       → ((names : List Text) (signatures : List Signature) → UseFails d p text names signatures u f) → PartFails d p f
   argument_faults text s u f has in' fails =
@@ -191,6 +209,7 @@ module _ (d : DomainText) (p : ProblemText) where
         | inr i ↦ failing_part f text (Subtask u) (in_flat_map (λ s. s.subtasks) s u (schemas_in d p text) has i) (fails (task_names d) (task_signatures d))
       ]
 
+  -- an unknown term fails in one of the texts
   term_faults : (at : At) (t : TermUse) → IsIn t (flattened terms_in (schemas_in d p at.source)) → items.IsUnknownTerm (object_names d p) t at.place
       → PartFails d p (fault.UnknownName at)
   term_faults at t in' unknown =
@@ -202,12 +221,14 @@ module _ (d : DomainText) (p : ProblemText) where
         | inr i ↦ failing_part f at.source (Side t) (in_flat_map (λ s. s.sides) s t (schemas_in d p at.source) has i) (at.place, refl, unknown)
       ]
 
+  -- an unknown name fails in one of the texts
   name_faults : (at : At) → IsUnknownName d p at → PartFails d p (fault.UnknownName at)
   name_faults at (inl (u, in', missing)) = failing_part (fault.UnknownName at) at.source (Atom u) in' (inl (at.place, refl, missing))
   name_faults at (inr (inl (u, in', missing))) = failing_part (fault.UnknownName at) at.source (Decomposed u) in' (inl (at.place, refl, missing))
   name_faults at (inr (inr (inl (u, in', missing)))) = failing_part (fault.UnknownName at) at.source (Subtask u) in' (inl (at.place, refl, missing))
   name_faults at (inr (inr (inr (t, in', unknown)))) = term_faults at t in' unknown
 
+  -- a wrong number of arguments fails in one of the texts
   count_faults : (at : At) → IsWrongArity d p at → PartFails d p (fault.Arity at)
   count_faults at (inl (u, s, in', e, wrong, is)) =
       failing_part (fault.Arity at) at.source (Atom u) in' (inr (inr (inl (at.place, refl, (s, e, wrong, is)))))
@@ -216,10 +237,12 @@ module _ (d : DomainText) (p : ProblemText) where
 
   -- the objects are known
   module _ (known : AreKnown d p) where
+    -- of each argument what its place asks is known
     is_known : (argument : Term) → IsKnown d p argument
     is_known (term.Variable x) = tt
     is_known (term.Object x) = ∣ known ∣₁
 
+    -- a clash fails in one of the texts
     clash_faults : (at : At) → IsTypeClash d p at → PartFails d p (fault.TypeClash at)
     clash_faults at (inl (u, s, argument, of_place, in', e, among, clash)) =
         failing_part (fault.TypeClash at) at.source (Atom u) in'
@@ -228,6 +251,7 @@ module _ (d : DomainText) (p : ProblemText) where
         task_faults at.source u (fault.TypeClash at) in'
         (λ names. inr (inr (inr (at.place, refl, (s, argument, of_place, e, among, record { clash = clash; known = is_known argument })))))
 
+    -- each fault of the pair is a cycle of types or fails in one of the texts
     pub faults_complete : (f : CheckFault) → FailsAt d p f → IsCycleFault d f ⊎ PartFails d p f
     faults_complete (fault.Duplicate at) (g, before, first, middle, second, after, in', whole, same, is) =
         inr (failing_part (fault.Duplicate at) at.source (Different g) in' (at.place, refl, (before, first, middle, second, after, whole, same, is)))
@@ -243,6 +267,7 @@ module _ (d : DomainText) (p : ProblemText) where
     faults_complete (fault.TooMany at) h = inr (many_faults at h)
     faults_complete fault.OutOfMemory h = absurd h
 
+  -- a cycle of types, and what fails in one of the texts, is a fault of the pair
   pub faults_sound : (f : CheckFault) → IsCycleFault d f ⊎ PartFails d p f → FailsAt d p f
   faults_sound f (inl (at, is, cycle)) = subst (FailsAt d p) (sym is) cycle
   faults_sound f (inr fails) = parts_sound f fails
@@ -250,9 +275,11 @@ module _ (d : DomainText) (p : ProblemText) where
   -- ## Where no part fails
 
   module _ (none : (f : CheckFault) → IsCycleFault d f ⊎ PartFails d p f → ⊥) where
+    -- no type is unknown
     no_type_fault : (at : At) → IsUnknownType d p at → ⊥
     no_type_fault at h = none (fault.UnknownType at) (inr (type_faults at h))
 
+    -- the objects are known
     pub are_known : AreKnown d p
     are_known = objects_known d p no_type_fault (λ at h. none (fault.TooMany at) (inr (many_faults at h)))
 

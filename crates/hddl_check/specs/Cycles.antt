@@ -8,6 +8,7 @@ use Rattle.hddl_meaning.specs.declared.fault.CheckFault.{CheckFault}
 use Rattle.hddl_meaning.specs.declared.fault.CheckFault.TheVariants as fault
 use Rattle.hddl_check.specs.TextParts.{PartFails}
 
+-- a fault that names a cycle of types at its place
 abbrev pub IsCycleFault : DomainText → CheckFault → Type 0
 IsCycleFault d f = (at : At) × (f ≡ fault.TypeCycle at) × IsTypeCycle d at
 

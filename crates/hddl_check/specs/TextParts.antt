@@ -16,6 +16,7 @@ use Rattle.hddl_meaning.specs.declared.fault.CheckFault.{CheckFault}
 use Rattle.hddl_scope.specs.Findings.{AnyOf}
 use Rattle.hddl_uses.specs.Parts.{Part, FailsIn, Different, Limited, Atom, Decomposed, Subtask, Side, Types, Objects, type_parts, quantifier_parts, network_parts}
 
+-- what has to fit in parameters: they differ, are few enough, and have declared types
 abbrev pub parameter_parts : List VariableGroup → List Part
 parameter_parts groups =
     let mentions = mentions_of (typed_variables groups) in
@@ -26,21 +27,27 @@ abbrev pub inner_parts : Schema → List Part
 inner_parts s =
     map Atom s.atoms ++ (flat_map quantifier_parts s.quantifiers ++ (map Side s.sides ++ (map Decomposed s.decomposed ++ map Subtask s.subtasks)))
 
+-- what has to fit in a method, an action or the initial network: parameters, and what stands inside
 abbrev pub schema_parts : Schema → List Part
 schema_parts s = parameter_parts s.parameters ++ inner_parts s
 
+-- what has to fit in the network of a method
 abbrev pub method_network_parts : MethodText → List Part
 method_network_parts m = network_parts m.place m.network
 
+-- what has to fit in a method apart from its network
 abbrev pub method_parts : MethodText → List Part
 method_parts m = schema_parts (schema_of_method m)
 
+-- what has to fit in an action
 abbrev pub action_parts : ActionText → List Part
 action_parts a = schema_parts (schema_of_action a)
 
+-- what has to fit in the declaration of a predicate: parameters that are few enough, with declared types
 abbrev pub predicate_parts : PredicateText → List Part
 predicate_parts x = Limited items.most_parameters (mentions_of (typed_variables x.parameters)) ∷ type_parts (typed_variables x.parameters)
 
+-- what has to fit in the declaration of a task: declared types of parameters
 abbrev pub task_parts : TaskText → List Part
 task_parts x = type_parts (typed_variables x.parameters)
 
@@ -61,11 +68,13 @@ declared_parts d =
     Types ∷ Objects ∷ (type_parts (typed_names d.constants)
     ++ (name_parts (map (λ x. mention_of x.name) d.predicates) ++ (name_parts (map (λ x. mention_of x.name) d.methods) ++ task_name_parts d)))
 
+-- what has to fit in the predicates, tasks, methods and actions of a domain
 abbrev pub body_parts : DomainText → List Part
 body_parts d =
     flat_map predicate_parts d.predicates ++ (flat_map task_parts d.tasks ++ (flat_map method_parts d.methods ++ (flat_map method_network_parts d.methods
     ++ flat_map action_parts d.actions)))
 
+-- all that has to fit in a domain
 abbrev pub domain_parts : DomainText → List Part
 domain_parts d = declared_parts d ++ body_parts d
 

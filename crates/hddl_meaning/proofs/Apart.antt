@@ -83,6 +83,7 @@ module _ (d : DomainText) (p : ProblemText) (t : Task) (is : IsTaskOf d p t) whe
       ap₂ (λ xs ys. map (λ x. x.name) xs ++ map (λ a. a.name) ys) is.tasks is.actions
       ∙ ap₂ ◌++◌ (map-map (λ x. x.name) (compound_of (vocabulary_of d p)) d.tasks) (map-map (λ a. a.name) (action_of (vocabulary_of d p)) d.actions)
 
+  -- the names of each kind differ
   pub names_apart : IsWellTypedPair d p → HasDistinctNames t
   names_apart fits = record {
     objects = subst IsWithoutRepeats (sym is.objects) (distinct_apart (texts (mentions_of (object_declarations d p))));

@@ -24,6 +24,7 @@ one_atom : (a : AtomText) (variables : List Variable) → atoms_in variables (at
 one_atom a variables =
     ap (λ f. f variables ++ []) (fold-roll-Condition (List Variable → List Use) atoms_step (Condition-F.Literal (record { is_positive = true; atom = a })))
 
+-- an atom where no variable is in force
 abbrev use_of : AtomText → Use
 use_of a = record { variables = []; atom = a }
 
@@ -32,12 +33,15 @@ only_atom : (name : ℕ) (a : AtomText) → IsIn (use_of a) (schema_of_action (a
 only_atom name a =
     in_left (use_of a) (atoms_in [] (atom a ∷ [])) [] (subst (IsIn (use_of a)) (sym (one_atom a [])) (at_head (use_of a) []))
 
+-- a text that no search finds isn't among the others
 pub absent : (t : Text) (ts : List Text) → list_any (is_same_text t) ts ≡ false → IsIn t ts → ⊥
 absent t ts h k = both_ways _ h (found t ts k)
 
+-- texts that the test tells apart differ
 pub differ : (t u : Text) → is_same_text t u ≡ false → t ≡ u → ⊥
 differ t u h e = both_ways _ h ((texts_decide t u).1 e)
 
+-- the type `t` isn't declared
 not_declared : IsDeclaredType no_type (codes "t") → ⊥
 not_declared (inl e) = differ (codes "t") object refl e
 not_declared (inr h) = absent (codes "t") [] refl h
@@ -47,18 +51,22 @@ pub last_of : (pairs : List (Text × Text)) (t u : Text) → Leads pairs t u →
 last_of pairs t u (Direct x y h) = (x, h)
 last_of pairs t u (Through x y z h more) = last_of pairs y z more
 
+-- the second of each pair
 abbrev seconds : List (Text × Text) → List Text
 seconds pairs = map (λ (pair : Text × Text). pair.1) pairs
 
+-- `can` isn't below `box`
 not_below : IsBelow no_box (codes "can") (codes "box") → ⊥
 not_below (inl e) = differ (codes "can") (codes "box") refl e
 not_below (inr leads) =
     let end = last_of (parent_pairs no_box) (codes "can") (codes "box") leads in
     absent (codes "box") (seconds (parent_pairs no_box)) refl (in_map (λ (pair : Text × Text). pair.1) (end.0, codes "box") (parent_pairs no_box) end.1)
 
+-- the object `c`, a `can`
 abbrev the_can : Typed
 the_can = record { mention = mention_of (called 48 (codes "c")); of_type = Some (mention_of (called 52 (codes "can"))) }
 
+-- the object `c` is no `box`
 no_type_box : HasType no_box empty_problem (codes "c") (codes "box") → ⊥
 no_type_box h =
     elim (in_cases the_can h.0 [] h.1) [
@@ -74,6 +82,7 @@ can_declared t at is =
       | inr k ↦ absurd (in_nothing t k)
     ]
 
+-- each kind of fault holds at its place
 pub faults : FaultsHavePlaces
 faults = record {
   duplicate = (
@@ -131,6 +140,7 @@ faults = record {
       inr (inr (inr (inl (replicate 33 m, (0, omega arith, refl), (replicate 32 m, m, [], refl, refl, refl)))));
 }
 
+-- the small trees mean what they should
 pub meanings : TreesHaveMeanings
 meanings = record {
   types = refl;

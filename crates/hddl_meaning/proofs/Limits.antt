@@ -33,6 +33,7 @@ pub record Split (limit : ℕ) (mentions : List Mention) : Type 0 where
   pub whole : mentions ≡ before ++ m ∷ after
   pub long : length before ≡ limit
 
+-- a list past its limit has a mention that is the first past it
 split : (limit : ℕ) (mentions : List Mention) → limit < length mentions → Split limit mentions
 split limit [] h = absurd (omega arith)
 split zero (m ∷ mentions) h = record { before = []; m = m; after = mentions; whole = refl; long = refl }
@@ -49,13 +50,16 @@ pub record SplitDistinct (limit : ℕ) (first mentions : List Mention) : Type 0 
   pub long : length (distinct (texts (first ++ before))) ≡ limit
   pub new : IsIn m.text (texts (first ++ before)) → ⊥
 
+-- the texts of mentions with one more
 texts_push : (first : List Mention) (m : Mention) → texts (first ++ m ∷ []) ≡ texts first ++ m.text ∷ []
 texts_push [] m = refl
 texts_push (x ∷ first) m = ap (λ xs. x.text ∷ xs) (texts_push first m)
 
+-- the distinct names with one mention more
 one_further : (first : List Mention) (m : Mention) → distinct (texts (first ++ m ∷ [])) ≡ with_name (distinct (texts first)) m.text
 one_further first m = ap distinct (texts_push first m) ∙ distinct_push (texts first) m.text
 
+-- names that go past the limit with these mentions do so at one of them
 abbrev Further : ℕ → List Mention → List Mention → Type 0
 Further limit first mentions =
     length (distinct (texts first)) ≤ limit → limit < length (distinct (texts (first ++ mentions))) → SplitDistinct limit first mentions
@@ -75,13 +79,16 @@ pass limit first m mentions again high fits =
       new = subst (λ xs. IsIn s.m.text (texts xs) → ⊥) same s.new;
     }
 
+-- a name that isn't among the distinct ones isn't among the mentions
 unnamed : (first : List Mention) (m : Mention) → list_any (is_same_text m.text) (distinct (texts first)) ≡ false → IsIn m.text (texts (first ++ [])) → ⊥
 unnamed first m e h = both_ways _ e (in_distinct (texts first) m.text (subst (λ xs. IsIn m.text (texts xs)) (append-nil first) h))
 
+-- one mention more makes one name more, or none
 grown : (first : List Mention) (m : Mention) (b : Bool) → list_any (is_same_text m.text) (distinct (texts first)) ≡ b
     → length (distinct (texts (first ++ m ∷ []))) ≡ length (cond b (distinct (texts first)) (distinct (texts first) ++ m.text ∷ []))
 grown first m b e = ap length (one_further first m) ∙ ap (λ b. length (cond b (distinct (texts first)) (distinct (texts first) ++ m.text ∷ []))) e
 
+-- names that go past the limit do so at this mention or after it
 split_by : (limit : ℕ) (first : List Mention) (m : Mention) (mentions : List Mention) (b : Bool) → list_any (is_same_text m.text) (distinct (texts first)) ≡ b
     → Further limit (first ++ m ∷ []) mentions → Further limit first (m ∷ mentions)
 split_by limit first m mentions true e again low high =
@@ -103,6 +110,7 @@ split_by limit first m mentions false e again low high =
       | inr (inr over) ↦ absurd (omega arith)
     ]
 
+-- names that go past the limit do so at some mention
 split_distinct : (limit : ℕ) (first mentions : List Mention) → Further limit first mentions
 split_distinct limit first [] low high =
     let same : length (distinct (texts (first ++ []))) ≡ length (distinct (texts first)) = ap (λ xs. length (distinct (texts xs))) (append-nil first) in
@@ -113,20 +121,25 @@ split_distinct limit first (m ∷ mentions) low high =
 -- ## What is within a limit
 
 module _ (d : DomainText) (p : ProblemText) (fits : IsWellTypedPair d p) where
+  -- in a pair that fits together nothing is past its limit
   none_too_many : (at : At) → IsTooMany d p at → ⊥
   none_too_many at h = fits (fault.TooMany at) h
 
+  -- a place in a text
   abbrev at_place : Source → ℕ → At
   at_place text place = record { source = text; place = place }
 
+  -- the schema of a method is one of the domain
   pub method_schema : (m : MethodText) → IsIn m d.methods → IsIn (schema_of_method m) (domain_schemas d)
   method_schema m h = in_left (schema_of_method m) (map schema_of_method d.methods) (map schema_of_action d.actions) (in_map schema_of_method m d.methods h)
 
+  -- the schema of an action is one of the domain
   pub action_schema : (a : ActionText) → IsIn a d.actions → IsIn (schema_of_action a) (domain_schemas d)
   action_schema a h = in_right (schema_of_action a) (map schema_of_method d.methods) (map schema_of_action d.actions) (in_map schema_of_action a d.actions h)
 
   -- ### Names
 
+  -- there are at most 65,536 types, `object` among them
   pub types_limit : length (type_names d) ≤ 65536
   types_limit =
       elim (cases_order (length (distinct (texts (type_mentions d)))) most_declarations) [
@@ -137,9 +150,11 @@ module _ (d : DomainText) (p : ProblemText) (fits : IsWellTypedPair d p) where
             absurd (none_too_many (at_place source.Domain s.m.place) (inl (refl, (s.before, s.m, s.after, s.whole, s.long, s.new, refl))))
       ]
 
+  -- the mentions of a text's objects
   abbrev object_mentions : Source → List Mention
   object_mentions text = mentions_of (declared_objects d p text)
 
+  -- the constants are few enough
   domain_objects : length (distinct (texts (object_mentions source.Domain))) ≤ most_declarations
   domain_objects =
       elim (cases_order (length (distinct (texts (object_mentions source.Domain)))) most_declarations) [
@@ -150,9 +165,11 @@ module _ (d : DomainText) (p : ProblemText) (fits : IsWellTypedPair d p) where
             absurd (none_too_many (at_place source.Domain s.m.place) (inr (inl (s.before, s.m, s.after, s.whole, s.long, s.new, refl))))
       ]
 
+  -- the objects are the constants and then the problem's
   both_objects : texts (object_mentions source.Domain ++ object_mentions source.Problem) ≡ texts (mentions_of (object_declarations d p))
   both_objects = sym (ap texts (map-append (λ t. t.mention) (typed_names d.constants) (typed_names p.objects)))
 
+  -- there are at most 65,535 objects
   pub objects_limit : length (object_names d p) ≤ 65535
   objects_limit =
       subst (λ xs. length (distinct xs) ≤ most_declarations) both_objects
@@ -166,9 +183,11 @@ module _ (d : DomainText) (p : ProblemText) (fits : IsWellTypedPair d p) where
 
   -- ### Lists of declarations, parameters, variables and subtasks
 
+  -- there are no more mentions than the limit
   abbrev Limited : ℕ → List Mention → Type 0
   Limited limit mentions = length mentions ≤ limit
 
+  -- a list that has none past the limit is no longer
   limited : (limit : ℕ) (mentions : List Mention) → ((s : Split limit mentions) → ⊥) → length mentions ≤ limit
   limited limit mentions none =
       elim (cases_order (length mentions) limit) [
@@ -177,19 +196,23 @@ module _ (d : DomainText) (p : ProblemText) (fits : IsWellTypedPair d p) where
         | inr (inr above) ↦ absurd (none (split limit mentions above))
       ]
 
+  -- the first past the limit is one
   is_past : (limit : ℕ) (mentions : List Mention) (s : Split limit mentions) → IsPast limit mentions s.m.place
   is_past limit mentions s = (s.before, s.m, s.after, s.whole, s.long, refl)
 
+  -- names that are declared are few enough
   declarations_in : (mentions : List Mention) → IsIn mentions (declaration_lists d source.Domain) → length mentions ≤ 65535
   declarations_in mentions h =
       limited most_declarations mentions
       (λ s. none_too_many (at_place source.Domain s.m.place) (inr (inr (inl (mentions, h, is_past most_declarations mentions s)))))
 
+  -- parameters are few enough
   parameters_in : (text : Source) (mentions : List Mention) → IsIn mentions (parameter_lists d p text) → length mentions ≤ 32
   parameters_in text mentions h =
       limited most_parameters mentions
       (λ s. none_too_many (at_place text s.m.place) (inr (inr (inr (inl (mentions, h, is_past most_parameters mentions s))))))
 
+  -- variables in force are few enough
   variables_in : (text : Source) (mentions : List Mention) → IsIn mentions (variable_lists d p text) → length mentions ≤ 65535
   variables_in text mentions h =
       limited most_variables mentions
@@ -203,30 +226,36 @@ module _ (d : DomainText) (p : ProblemText) (fits : IsWellTypedPair d p) where
       let same : length (subtask_mentions n.1) ≡ length n.1.subtasks = length-map n.1.subtasks (λ s. record { text = folded s.task.name.text; place = place_of s }) in
       omega arith
 
+  -- a method has few enough subtasks
   pub method_subtasks_limit : (m : MethodText) → IsIn m d.methods → length m.network.subtasks ≤ 10000
   method_subtasks_limit m h = subtasks_limit source.Domain (m.place, m.network) (in_map (λ x. (x.place, x.network)) m d.methods h)
 
+  -- the initial network has few enough subtasks
   pub initial_subtasks_limit : length p.htn.network.subtasks ≤ 10000
   initial_subtasks_limit = subtasks_limit source.Problem (p.htn.place, p.htn.network) (at_head (p.htn.place, p.htn.network) [])
 
+  -- the predicates are few enough
   pub predicates_limit : length d.predicates ≤ 65535
   predicates_limit =
       let most = declarations_in (map (λ x. mention_of x.name) d.predicates) (0, omega arith, refl) in
       let same : length (map (λ x. mention_of x.name) d.predicates) ≡ length d.predicates = length-map d.predicates (λ x. mention_of x.name) in
       omega arith
 
+  -- the compound tasks are few enough
   pub tasks_limit : length d.tasks ≤ 65535
   tasks_limit =
       let most = declarations_in (map (λ x. mention_of x.name) d.tasks) (1, omega arith, refl) in
       let same : length (map (λ x. mention_of x.name) d.tasks) ≡ length d.tasks = length-map d.tasks (λ x. mention_of x.name) in
       omega arith
 
+  -- the methods are few enough
   pub methods_limit : length d.methods ≤ 65535
   methods_limit =
       let most = declarations_in (map (λ x. mention_of x.name) d.methods) (2, omega arith, refl) in
       let same : length (map (λ x. mention_of x.name) d.methods) ≡ length d.methods = length-map d.methods (λ x. mention_of x.name) in
       omega arith
 
+  -- the actions are few enough
   pub actions_limit : length d.actions ≤ 65535
   actions_limit =
       let most = declarations_in (map (λ x. mention_of x.name) d.actions) (3, omega arith, refl) in
@@ -239,6 +268,7 @@ module _ (d : DomainText) (p : ProblemText) (fits : IsWellTypedPair d p) where
       let same : length (distinct (predicate_names d)) ≡ length d.predicates = ap length (distinct_predicates d p fits) ∙ length-map d.predicates (λ x. folded x.name.text) in
       omega (arith, predicates_limit)
 
+  -- tasks and actions are few enough together
   pub task_names_limit : length (distinct (task_names d)) ≤ 131070
   task_names_limit =
       let actions : List Text = map (λ x. folded x.name.text) d.actions in
@@ -247,6 +277,7 @@ module _ (d : DomainText) (p : ProblemText) (fits : IsWellTypedPair d p) where
       let second : length actions ≡ length d.actions = length-map d.actions (λ x. folded x.name.text) in
       omega (arith, tasks_limit, actions_limit)
 
+  -- typed variables that are counted are few enough
   typed_limit : (text : Source) (ts : List Typed) → IsIn (mentions_of ts) (parameter_lists d p text) → length ts ≤ 32
   typed_limit text ts h =
       let most = parameters_in text (mentions_of ts) h in
@@ -257,11 +288,13 @@ module _ (d : DomainText) (p : ProblemText) (fits : IsWellTypedPair d p) where
   abbrev lists_of : Schema → List (List Mention)
   lists_of s = mentions_of (typed_variables s.parameters) ∷ map (λ q. mentions_of (typed_variables q.own)) s.quantifiers
 
+  -- the lists of variables of a schema are counted
   in_schemas : (text : Source) (s : Schema) (mentions : List Mention) → IsIn s (schemas_in d p text) → IsIn mentions (lists_of s)
       → IsIn mentions (parameter_lists d p text)
   in_schemas text s mentions h g =
       in_right mentions (predicate_parameters d text) (flat_map lists_of (schemas_in d p text)) (in_flat_map lists_of s mentions (schemas_in d p text) h g)
 
+  -- a predicate has few enough parameters
   pub predicate_parameters_limit : (x : PredicateText) → IsIn x d.predicates → length (typed_variables x.parameters) ≤ 32
   predicate_parameters_limit x h =
       typed_limit source.Domain (typed_variables x.parameters)
@@ -273,12 +306,15 @@ module _ (d : DomainText) (p : ProblemText) (fits : IsWellTypedPair d p) where
       typed_limit text (typed_variables s.parameters)
       (in_schemas text s (mentions_of (typed_variables s.parameters)) h (0, omega arith, refl))
 
+  -- a method has few enough parameters
   pub method_parameters_limit : (m : MethodText) → IsIn m d.methods → length (typed_variables m.parameters) ≤ 32
   method_parameters_limit m h = schema_parameters_limit source.Domain (schema_of_method m) (method_schema m h)
 
+  -- an action has few enough parameters
   pub action_parameters_limit : (a : ActionText) → IsIn a d.actions → length (typed_variables a.parameters) ≤ 32
   action_parameters_limit a h = schema_parameters_limit source.Domain (schema_of_action a) (action_schema a h)
 
+  -- the initial network has few enough parameters
   pub network_parameters_limit : length (typed_variables p.htn.parameters) ≤ 32
   network_parameters_limit = schema_parameters_limit source.Problem (schema_of_network p) (0, omega arith, refl)
 
@@ -310,8 +346,10 @@ module _ (d : DomainText) (p : ProblemText) (fits : IsWellTypedPair d p) where
   pub order_acyclic : (text : Source) (n : ℕ × NetworkText) → IsIn n (networks_in d p text) → IsAcyclic (order_pairs n.1)
   order_acyclic text n h a cycle = fits (fault.OrderCycle (at_place text n.0)) (n, a, h, cycle, refl)
 
+  -- the orderings of a method have no cycle
   pub method_order_acyclic : (m : MethodText) → IsIn m d.methods → IsAcyclic (order_pairs m.network)
   method_order_acyclic m h = order_acyclic source.Domain (m.place, m.network) (in_map (λ x. (x.place, x.network)) m d.methods h)
 
+  -- the orderings of the initial network have no cycle
   pub initial_order_acyclic : IsAcyclic (order_pairs p.htn.network)
   initial_order_acyclic = order_acyclic source.Problem (p.htn.place, p.htn.network) (at_head (p.htn.place, p.htn.network) [])

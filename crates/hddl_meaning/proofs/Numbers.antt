@@ -13,6 +13,7 @@ use Rattle.hddl_meaning.proofs.Listed.{found}
 -- ## Positions
 
 module _ {X : Type 0} (test : X → Bool) where
+  -- a value that passes has its first place in the list, whether it is first or not
   first_below_by : (x : X) (xs : List X) (b : Bool) → (b || list_any test xs) ≡ true → (list_any test xs ≡ true → position_or_len test xs < length xs)
       → cond (not b) (1 + position_or_len test xs) 0 < suc (length xs)
   first_below_by x xs true h later = omega arith
@@ -23,24 +24,29 @@ module _ {X : Type 0} (test : X → Bool) where
   first_below [] h = absurd cc
   first_below (x ∷ xs) h = first_below_by x xs (test x) h (first_below xs)
 
+  -- the same with more behind it
   first_within_by : (x : X) (xs ys : List X) (b : Bool) → (b || list_any test xs) ≡ true → (list_any test xs ≡ true → position_or_len test (xs ++ ys) < length xs)
       → cond (not b) (1 + position_or_len test (xs ++ ys)) 0 < suc (length xs)
   first_within_by x xs ys true h later = omega arith
   first_within_by x xs ys false h later = let below = later h in omega arith
 
+  -- a first place in the list is the same with more behind it
   pub first_within : (xs ys : List X) → list_any test xs ≡ true → position_or_len test (xs ++ ys) < length xs
   first_within [] ys h = absurd cc
   first_within (x ∷ xs) ys h = first_within_by x xs ys (test x) h (first_within xs ys)
 
 module _ {X Y : Type 0} (test : Y → Bool) (f : X → Y) where
+  -- a first place in the mapped list is that in the list
   pub first_mapped : (xs : List X) → position_or_len test (map f xs) ≡ position_or_len (λ x. test (f x)) xs
   first_mapped [] = refl
   first_mapped (x ∷ xs) = ap (λ n. cond (not (test (f x))) (1 + n) 0) (first_mapped xs)
 
+  -- one passes in the mapped list where one does by its image
   pub any_mapped : (xs : List X) → list_any test (map f xs) ≡ list_any (λ x. test (f x)) xs
   any_mapped [] = refl
   any_mapped (x ∷ xs) = ap (λ b. test (f x) || b) (any_mapped xs)
 
+-- a list in which one passes has a length
 pub some_pass : {X : Type 0} (test : X → Bool) (xs : List X) → list_any test xs ≡ true → 0 < length xs
 some_pass test xs h = let k = first_below test xs h in omega arith
 
@@ -54,6 +60,7 @@ is_named t names h = by (list_any (is_same_text t) names) refl
     by true e = refl
     by false e = absurd (h (λ is_in. let named : list_any (is_same_text t) names ≡ true = found t names is_in in absurd cc))
 
+-- a number that is found is below the count
 within_by : (t : Text) (names : List Text) (b : Bool) → nat_lt (position_or_len (is_same_text t) names) (length names) ≡ b → 0 < length names
     → number_or_zero (cond b (Some (position_or_len (is_same_text t) names)) None) < length names
 within_by t names true e some = (Decides-ltb (position_or_len (is_same_text t) names) (length names)).0 e
@@ -71,6 +78,7 @@ number_is names t h =
 
 -- ## Signatures
 
+-- the names of the declarations
 abbrev pub names_in : List Signature → List Text
 names_in signatures = map (λ s. s.name) signatures
 
@@ -81,6 +89,7 @@ pub record Declared (signatures : List Signature) (t : Text) : Type 0 where
   pub below : number_in (names_in signatures) t < length signatures
   pub at : (f : Signature → List ℕ) → get_or (map f signatures) (number_in (names_in signatures) t) [] ≡ f declaration
 
+-- a name that is declared has a declaration, the one at its number
 pub declared : (signatures : List Signature) (t : Text) → list_any (is_same_text t) (names_in signatures) ≡ true → Declared signatures t
 declared signatures t h =
     let test : Signature → Bool = λ s. is_same_text t s.name in

@@ -25,9 +25,11 @@ use Rattle.hddl_meaning.specs.Agreement.{TasksAreUnique}
 
 -- ## Lists of numbers that ascend
 
+-- a number below all of a list
 abbrev IsBelowAll : ℕ → List ℕ → Type 0
 IsBelowAll x xs = AllByRecursion (λ y. nat_cmp x y ≡ Less) xs
 
+-- what compares as less is less
 below : (x y : ℕ) → nat_cmp x y ≡ Less → x < y
 below x y h = by (nat_lt x y) (nat_eq x y) refl h
   where
@@ -36,6 +38,7 @@ below x y h = by (nat_lt x y) (nat_eq x y) refl h
     by false true e g = absurd cc
     by false false e g = absurd cc
 
+-- a smaller number isn't equal
 differ : (x y : ℕ) → x < y → nat_eq x y ≡ false
 differ x y lt = by (nat_eq x y) refl
   where
@@ -50,6 +53,7 @@ not_among o x (y ∷ ys) low all =
     let lt : x < y = below x y all.0 in
     ap (λ b. b || list_any (nat_eq o) ys) (differ o y (omega arith)) ∙ not_among o x ys low all.1
 
+-- the first number is among its list
 among : (x : ℕ) (xs : List ℕ) → list_any (nat_eq x) (x ∷ xs) ≡ true
 among x xs = ap (λ b. b || list_any (nat_eq x) xs) (eq-eqb x x refl)
 
@@ -57,9 +61,11 @@ among x xs = ap (λ b. b || list_any (nat_eq x) xs) (eq-eqb x x refl)
 less_than_first : (o x : ℕ) (xs : List ℕ) → o < x → IsBelowAll x xs → list_any (nat_eq o) (x ∷ xs) ≡ false
 less_than_first o x xs lt all = ap (λ b. b || list_any (nat_eq o) xs) (differ o x lt) ∙ not_among o x xs (omega arith) all
 
+-- two lists have the same numbers
 abbrev AreAlike : List ℕ → List ℕ → Type 0
 AreAlike xs ys = (o : ℕ) → list_any (nat_eq o) xs ≡ list_any (nat_eq o) ys
 
+-- ascending lists with the same numbers and the same first have the same rest
 tails_alike : (x : ℕ) (xs ys : List ℕ) → IsBelowAll x xs → IsBelowAll x ys → AreAlike (x ∷ xs) (x ∷ ys) → AreAlike xs ys
 tails_alike x xs ys p q alike o = by (nat_eq o x) refl (alike o)
   where
@@ -84,14 +90,17 @@ same_ascending (x ∷ xs) (y ∷ ys) p q alike = by (cases_order x y) (same_asce
 
 -- ## Networks and methods
 
+-- a network has one order
 orders_agree : (n : NetworkText) (r s : Order) → IsOrderOf n r → IsOrderOf n s → r ≡ s
 orders_agree n r s p q =
     same_order (length n.subtasks) r s p.square q.square
     (λ a b. cmp.both_ways (is_before r a b) (is_before s a b) (λ h. (q.closure a b).1 ((p.closure a b).0 h)) (λ h. (p.closure a b).1 ((q.closure a b).0 h)))
 
+-- a network is one schema
 networks_agree : (v : Vocabulary) (variables : List Text) (n : NetworkText) (a b : model.NetworkSchema) → IsNetworkOf v variables n a → IsNetworkOf v variables n b → a ≡ b
 networks_agree v variables n a b p q = λ i. record { subtasks = (p.subtasks ∙ sym q.subtasks) i; order = orders_agree n a.order b.order p.order q.order i }
 
+-- a method is one schema
 methods_agree : (v : Vocabulary) (x : MethodText) (a b : MethodSchema) → IsMethodOf v x a → IsMethodOf v x b → a ≡ b
 methods_agree v x a b p q = λ i. record {
   name = (p.name ∙ sym q.name) i;
@@ -102,6 +111,7 @@ methods_agree v x a b p q = λ i. record {
   network = networks_agree v _ x.network a.network b.network p.network q.network i;
 }
 
+-- lists that correspond to one list in a way that leaves no choice are equal
 zipped_agree : {X Y : Type 0} (R : X → Y → Type 0) (xs : List X) (ys zs : List Y) → AllZip R xs ys → AllZip R xs zs → ((x : X) (y z : Y) → R x y → R x z → y ≡ z) → ys ≡ zs
 zipped_agree R [] [] [] p q same = refl
 zipped_agree R [] [] (z ∷ zs) p q same = absurd q
@@ -110,18 +120,22 @@ zipped_agree R (x ∷ xs) [] zs p q same = absurd p
 zipped_agree R (x ∷ xs) (y ∷ ys) [] p q same = absurd q
 zipped_agree R (x ∷ xs) (y ∷ ys) (z ∷ zs) p q same = ap₂ ◌∷◌ (same x y z p.0 q.0) (zipped_agree R xs ys zs p.1 q.1 same)
 
+-- two tasks of a pair have the same methods
 all_methods_agree : (d : DomainText) (p : ProblemText) (t u : Task) → IsTaskOf d p t → IsTaskOf d p u → t.methods ≡ u.methods
 all_methods_agree d p t u is also = zipped_agree (IsMethodOf (vocabulary_of d p)) d.methods t.methods u.methods is.methods also.methods (methods_agree (vocabulary_of d p))
 
 -- ## Types of objects
 
+-- a type that stands where there is none
 abbrev nobody : ObjectType
 nobody = record { name = []; objects = [] }
 
 module _ (d : DomainText) (p : ProblemText) where
+  -- two tasks of a pair have the same names of types
   names_agree : (t u : Task) → IsTaskOf d p t → IsTaskOf d p u → map (λ x. x.name) t.types ≡ map (λ x. x.name) u.types
   names_agree t u is also = is.types ∙ sym also.types
 
+  -- two tasks of a pair have as many types
   types_long : (t u : Task) → IsTaskOf d p t → IsTaskOf d p u → length t.types ≡ length u.types
   types_long t u is also = sym (length-map t.types (λ x. x.name)) ∙ ap length (names_agree t u is also) ∙ length-map u.types (λ x. x.name)
 
@@ -161,6 +175,7 @@ module _ (d : DomainText) (p : ProblemText) where
       (also.members k o other name (slice_get-get_or u.types k nobody high) there).1
       (subst (λ (l : List ℕ). Contains l k) (named_agree t u is also) has.0, subst (HasType d p name) (name_at t u is also k low high) has.1)
 
+  -- each type has the same objects in both
   members_agree : (t u : Task) → IsTaskOf d p t → IsTaskOf d p u → (k : ℕ) → k < length t.types → k < length u.types
       → (get_or t.types k nobody).objects ≡ (get_or u.types k nobody).objects
   members_agree t u is also k low high =
@@ -174,6 +189,7 @@ module _ (d : DomainText) (p : ProblemText) where
       ∙ cmp.both_ways (has_type t k o) (has_type u k o) (keeps t u is also k o low high) (keeps u t also is k o high low)
       ∙ ap (list_any (nat_eq o)) second)
 
+  -- two tasks of a pair have the same types
   types_agree : (t u : Task) → IsTaskOf d p t → IsTaskOf d p u → t.types ≡ u.types
   types_agree t u is also =
       let long : length t.types ≡ length u.types = types_long t u is also in
@@ -184,6 +200,7 @@ module _ (d : DomainText) (p : ProblemText) where
 
 -- ## Tasks
 
+-- a pair has one task
 pub tasks_are_unique : TasksAreUnique
 tasks_are_unique d p t u is also = λ i. record {
   objects = (is.objects ∙ sym also.objects) i;

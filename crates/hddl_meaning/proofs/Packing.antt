@@ -36,19 +36,23 @@ use Rattle.hddl_meaning.proofs.Examples.{absent, differ}
 
 -- ## What holds of each element
 
+-- what holds of all of a list holds of each value in it
 pub member : {X : Type 0} (P : X → Type 0) (xs : List X) → AllByRecursion P xs → (x : X) → IsIn x xs → P x
 member P xs all x h = subst P h.2 (All-from_recursion P xs all h.0 x h.1)
 
+-- what holds of all of a list holds of the value at a place
 member_at : {X : Type 0} (P : X → Type 0) (xs : List X) → AllByRecursion P xs → (k : ℕ) (x : X) → slice_get xs k ≡ Some x → P x
 member_at P [] all k x e = absurd cc
 member_at P (y ∷ xs) all zero x e = let same : y ≡ x = cc in subst P same all.0
 member_at P (y ∷ xs) all (suc k) x e = member_at P xs all.1 k x e
 
+-- a place in a text
 abbrev at : Source → ℕ → At
 at text place = record { source = text; place = place }
 
 -- ## 1.
 
+-- in a list of different texts no two places have the same
 two_differ : (before : List Mention) (first : Mention) (middle : List Mention) (second : Mention) (after : List Mention)
     → AreDifferent (texts (before ++ first ∷ middle ++ second ∷ after)) → first.text ≡ second.text → ⊥
 two_differ [] first middle second after different same =
@@ -57,12 +61,14 @@ two_differ [] first middle second after different same =
     (in_map (λ m. m.text) second (middle ++ second ∷ after) (in_right second middle (second ∷ after) (at_head second after))))
 two_differ (x ∷ before) first middle second after different same = two_differ before first middle second after different.1 same
 
+-- the names of each group differ
 group_differs : (text : Source) → AllByRecursion (λ group. AreDifferent (texts group)) (groups packing one_box text)
 group_differs source.Domain =
     let one : (t : Text) → AreDifferent (t ∷ []) = λ t. (in_nothing t, tt) in
     (one (codes "done"), (one (codes "m"), ((absent (codes "pack") (codes "mark" ∷ []) refl, one (codes "mark")), (one (codes "?b"), (one (codes "?b"), (tt, tt))))))
 group_differs source.Problem = (tt, (tt, (tt, tt)))
 
+-- no name stands twice
 no_duplicate : (text : Source) (place : ℕ) → IsDuplicate packing one_box (at text place) → ⊥
 no_duplicate text place (group, before, first, middle, second, after, h, e, same, _) =
     two_differ before first middle second after
@@ -70,17 +76,20 @@ no_duplicate text place (group, before, first, middle, second, after, h, e, same
 
 -- ## 2.
 
+-- each type that is used is declared
 types_declared : (text : Source) → AllByRecursion (λ m. IsDeclaredType packing m.text) (type_uses packing one_box text)
 types_declared source.Domain =
     let box : IsDeclaredType packing (codes "box") = inr (0, omega arith, refl) in
     (box, (box, (box, (box, tt))))
 types_declared source.Problem = (inr (0, omega arith, refl), tt)
 
+-- no type is unknown
 no_unknown_type : (text : Source) (place : ℕ) → IsUnknownType packing one_box (at text place) → ⊥
 no_unknown_type text place (m, h, missing, _) = missing (member (λ m. IsDeclaredType packing m.text) (type_uses packing one_box text) (types_declared text) m h)
 
 -- ## 3.
 
+-- a way along pairs begins with a pair
 first_of : (pairs : List (Text × Text)) (t u : Text) → Leads pairs t u → (w : Text) × IsIn (t, w) pairs
 first_of pairs t u (Direct x y h) = (y, h)
 first_of pairs t u (Through x y z h more) = (y, h)
@@ -98,25 +107,31 @@ no_type_cycle place (_, t, _, in', on, _, _) = member (λ t. IsOnCycle packing t
 
 -- ## 4.
 
+-- each predicate that is used is declared
 atoms_named : (text : Source) → AllByRecursion (λ u. IsIn (folded u.atom.name.text) (predicate_names packing)) (flattened (λ s. s.atoms) (schemas_in packing one_box text))
 atoms_named source.Domain = ((0, omega arith, refl), tt)
 atoms_named source.Problem = tt
 
+-- each task that a method decomposes is declared
 decomposed_named : (text : Source) → AllByRecursion (λ u. IsIn (folded u.atom.name.text) (compound_names packing)) (flattened (λ s. s.decomposed) (schemas_in packing one_box text))
 decomposed_named source.Domain = ((0, omega arith, refl), tt)
 decomposed_named source.Problem = tt
 
+-- each subtask names a task or an action
 subtasks_named : (text : Source) → AllByRecursion (λ u. IsIn (folded u.atom.name.text) (task_names packing)) (flattened (λ s. s.subtasks) (schemas_in packing one_box text))
 subtasks_named source.Domain = ((1, omega arith, refl), tt)
 subtasks_named source.Problem = ((0, omega arith, refl), tt)
 
+-- a term is a variable in force or an object
 abbrev IsKnown : TermUse → Type 0
 IsKnown x = (place : ℕ) → IsUnknownTerm (object_names packing one_box) x place → ⊥
 
+-- each term is so
 terms_known : (text : Source) → AllByRecursion IsKnown (flattened terms_in (schemas_in packing one_box text))
 terms_known source.Domain = ((λ place h. h.0 (0, omega arith, refl)), ((λ place h. h.0 (0, omega arith, refl)), ((λ place h. h.0 (0, omega arith, refl)), tt)))
 terms_known source.Problem = ((λ place h. h.0 (0, omega arith, refl)), tt)
 
+-- no name is unknown
 no_unknown_name : (text : Source) (place : ℕ) → IsUnknownName packing one_box (at text place) → ⊥
 no_unknown_name text place (inl (u, h, missing)) =
     missing.0 (member (λ u. IsIn (folded u.atom.name.text) (predicate_names packing)) (flattened (λ s. s.atoms) (schemas_in packing one_box text)) (atoms_named text) u h)
@@ -128,20 +143,25 @@ no_unknown_name text place (inr (inr (inr (u, h, unknown)))) = member IsKnown (f
 
 -- ## 5.
 
+-- a use has as many arguments as its declaration
 abbrev HasArguments : List Signature → Use → Type 0
 HasArguments signatures u = (s : Signature) → declaration_in signatures u.atom.name ≡ Some s → length u.atom.terms ≡ length s.places
 
+-- a declaration of one place has one
 one_place : (s x : Signature) → length s.places ≡ 1 → Some s ≡ Some x → 1 ≡ length x.places
 one_place s x one e = let same : s ≡ x = cc in sym (ap (λ (z : Signature). length z.places) (sym same) ∙ one)
 
+-- each atom has its arguments
 atoms_filled : (text : Source) → AllByRecursion (HasArguments (predicate_signatures packing)) (flattened (λ s. s.atoms) (schemas_in packing one_box text))
 atoms_filled source.Domain = ((λ s e. one_place _ s refl e), tt)
 atoms_filled source.Problem = tt
 
+-- each task has its arguments
 tasks_filled : (text : Source) → AllByRecursion (HasArguments (task_signatures packing)) (flattened tasks_in (schemas_in packing one_box text))
 tasks_filled source.Domain = ((λ s e. one_place _ s refl e), ((λ s e. one_place _ s refl e), tt))
 tasks_filled source.Problem = ((λ s e. one_place _ s refl e), tt)
 
+-- no number of arguments is wrong
 no_wrong_arity : (text : Source) (place : ℕ) → IsWrongArity packing one_box (at text place) → ⊥
 no_wrong_arity text place (inl (u, s, h, e, wrong, _)) =
     wrong (member (HasArguments (predicate_signatures packing)) (flattened (λ s. s.atoms) (schemas_in packing one_box text)) (atoms_filled text) u h s e)
@@ -150,14 +170,17 @@ no_wrong_arity text place (inr (u, s, h, e, wrong, _)) =
 
 -- ## 6.
 
+-- the object `B1`, a `box`
 abbrev the_box : Typed
 the_box = record { mention = mention_of (called 42 (codes "B1")); of_type = Some (mention_of (called 47 (codes "box"))) }
 
+-- no argument of a use clashes with its place
 abbrev Fits : List Signature → Use → Type 0
 Fits signatures u =
     (s : Signature) (argument : Term) (at_place : Typed) → declaration_in signatures u.atom.name ≡ Some s → IsIn (argument, at_place) (zip u.atom.terms s.places)
     → (place : ℕ) → IsClash packing one_box u.variables argument at_place place → ⊥
 
+-- what is there twice alike is the same
 same_some : {X : Type 0} (x y : X) → Some x ≡ Some y → x ≡ y
 same_some x y e = cc
 
@@ -176,18 +199,22 @@ one_fits d p variables x only none first s places e argument at_place h place cl
 abbrev boxed : ℕ → Typed
 boxed place = record { mention = variable_mention (variable place (codes "?b")); of_type = Some (mention_of (called (place + 5) (codes "box"))) }
 
+-- the parameter `?b` in force
 abbrev parameter : ℕ → List Variable
 parameter place = record { typed = boxed place; is_quantified = false } ∷ []
 
+-- the parameter fits a place of type `box`
 box_fits : (declared used at_place place : ℕ) → IsClash packing one_box (parameter declared) (term.Variable (variable used (codes "?b"))) (boxed at_place) place → ⊥
 box_fits declared used at_place place (_, (v, e, _, clash, _)) =
     clash
     (subst (λ w. MayStand packing w (codes "box")) (same_some (record { typed = boxed declared; is_quantified = false }) v e) (codes "box", inr (0, omega arith, refl), inl refl, inl refl))
 
+-- the arguments of each atom fit
 atoms_fit : (text : Source) → AllByRecursion (Fits (predicate_signatures packing)) (flattened (λ s. s.atoms) (schemas_in packing one_box text))
 atoms_fit source.Domain = ((λ s argument at_place e h place clash. one_fits packing one_box (parameter 204) _ (boxed 51) (box_fits 204 228 51) _ s refl e argument at_place h place clash), tt)
 atoms_fit source.Problem = tt
 
+-- the arguments of each task fit
 tasks_fit : (text : Source) → AllByRecursion (Fits (task_signatures packing)) (flattened tasks_in (schemas_in packing one_box text))
 tasks_fit source.Domain = (
   (λ s argument at_place e h place clash. one_fits packing one_box (parameter 122) _ (boxed 87) (box_fits 122 144 87) _ s refl e argument at_place h place clash),
@@ -199,6 +226,7 @@ tasks_fit source.Problem = (
   tt,
 )
 
+-- no types clash
 no_clash : (text : Source) (place : ℕ) → IsTypeClash packing one_box (at text place) → ⊥
 no_clash text place (inl (u, s, argument, at_place, h, e, g, clash)) =
     member (Fits (predicate_signatures packing)) (flattened (λ s. s.atoms) (schemas_in packing one_box text)) (atoms_fit text) u h s argument at_place e g place clash
@@ -207,31 +235,38 @@ no_clash text place (inr (u, s, argument, at_place, h, e, g, clash)) =
 
 -- ## 7. and 8.
 
+-- no pairs lead anywhere
 nowhere : (a b : ℕ) → Precedes [] a b → ⊥
 nowhere a b (closure.Direct x y h) = in_nothing (x, y) h
 nowhere a b (closure.Through x y z h more) = in_nothing (x, y) h
 
+-- no network has a cycle
 no_pairs : (text : Source) → AllByRecursion (λ n. (a : ℕ) → Precedes (order_pairs n.1) a a → ⊥) (networks_in packing one_box text)
 no_pairs source.Domain = ((λ a h. nowhere a a h), tt)
 no_pairs source.Problem = ((λ a h. nowhere a a h), tt)
 
+-- no orderings have a cycle
 no_order_cycle : (text : Source) (place : ℕ) → IsOrderCycle packing one_box (at text place) → ⊥
 no_order_cycle text place (n, a, h, cycle, _) = member (λ n. (a : ℕ) → Precedes (order_pairs n.1) a a → ⊥) (networks_in packing one_box text) (no_pairs text) n h a cycle
 
+-- no ordering names a subtask
 no_names : (text : Source) → AllByRecursion (λ n. (name : Name) → IsIn name (ordering_names n.1) → ⊥) (networks_in packing one_box text)
 no_names source.Domain = ((λ name h. in_nothing name h), tt)
 no_names source.Problem = ((λ name h. in_nothing name h), tt)
 
+-- no subtask is unknown
 no_unknown_subtask : (text : Source) (place : ℕ) → IsUnknownSubtask packing one_box (at text place) → ⊥
 no_unknown_subtask text place (n, name, h, g, _) =
     member (λ n. (name : Name) → IsIn name (ordering_names n.1) → ⊥) (networks_in packing one_box text) (no_names text) n h name g
 
 -- ## 9.
 
+-- one text more makes at most one name more
 with_short : (names : List Text) (t : Text) (b : Bool) → length (cond b names (names ++ t ∷ [])) ≤ length names + 1
 with_short names t true = omega arith
 with_short names t false = let long : length (names ++ t ∷ []) ≡ length names + 1 = length_push names t in omega arith
 
+-- there are at most as many names as texts
 fold_short : (names ts : List Text) → length (fold with_name names ts) ≤ length names + length ts
 fold_short names [] = omega arith
 fold_short names (t ∷ ts) =
@@ -239,6 +274,7 @@ fold_short names (t ∷ ts) =
     let step : length (with_name names t) ≤ length names + 1 = with_short names t (list_any (is_same_text t) names) in
     omega arith
 
+-- what stands before a mention is shorter than the list
 past_within : (limit : ℕ) (before : List Mention) (m : Mention) (after mentions : List Mention) → mentions ≡ before ++ m ∷ after → length before < length mentions
 past_within limit before m after mentions e =
     let long : length mentions ≡ length before + length (m ∷ after) = ap length e ∙ length-append before (m ∷ after) in
@@ -252,36 +288,44 @@ distinct_within first before =
     let both : length (first ++ before) ≡ length first + length before = length-append first before in
     omega arith
 
+-- a list within its limit has none past it
 not_past : (limit : ℕ) (mentions : List Mention) (place : ℕ) → length mentions ≤ limit → IsPast limit mentions place → ⊥
 not_past limit mentions place short (before, m, after, e, long, _) =
     let within : length before < length mentions = past_within limit before m after mentions e in
     omega arith
 
+-- the same of distinct names
 not_past_distinct : (limit : ℕ) (mentions : List Mention) (place : ℕ) → length mentions ≤ limit → IsPastDistinct limit mentions place → ⊥
 not_past_distinct limit mentions place short (before, m, after, e, long, _, _) =
     let within : length before < length mentions = past_within limit before m after mentions e in
     let names : length (distinct (texts before)) ≤ 0 + length before = distinct_within [] before in
     omega arith
 
+-- a list is within a limit
 abbrev IsShort : ℕ → List Mention → Type 0
 IsShort limit mentions = length mentions ≤ limit
 
+-- names that are declared are few enough
 few_declarations : (text : Source) → AllByRecursion (IsShort 65535) (declaration_lists packing text)
 few_declarations source.Domain = (omega arith, (omega arith, (omega arith, (omega arith, tt))))
 few_declarations source.Problem = tt
 
+-- parameters are few enough
 few_parameters : (text : Source) → AllByRecursion (IsShort 32) (parameter_lists packing one_box text)
 few_parameters source.Domain = (omega arith, (omega arith, (omega arith, tt)))
 few_parameters source.Problem = (omega arith, (omega arith, tt))
 
+-- variables in force are few enough
 few_variables : (text : Source) → AllByRecursion (IsShort 65535) (variable_lists packing one_box text)
 few_variables source.Domain = tt
 few_variables source.Problem = tt
 
+-- subtasks are few enough
 few_subtasks : (text : Source) → AllByRecursion (λ n. length (subtask_mentions n.1) ≤ 10000) (networks_in packing one_box text)
 few_subtasks source.Domain = (omega arith, tt)
 few_subtasks source.Problem = (omega arith, tt)
 
+-- objects are few enough
 few_objects : (text : Source) (place : ℕ) → IsPastObjects packing one_box (at text place) → ⊥
 few_objects source.Domain place past = not_past_distinct 65535 [] place (omega arith) past
 few_objects source.Problem place (before, m, after, e, long, _, _) =
@@ -289,6 +333,7 @@ few_objects source.Problem place (before, m, after, e, long, _, _) =
     let names : length (distinct (texts before)) ≤ 0 + length before = distinct_within [] before in
     omega arith
 
+-- nothing is past its limit
 not_too_many : (text : Source) (place : ℕ) → IsTooMany packing one_box (at text place) → ⊥
 not_too_many text place (inl h) = not_past_distinct 65535 (type_mentions packing) place (omega arith) h.1
 not_too_many text place (inr (inl h)) = few_objects text place h
@@ -300,6 +345,7 @@ not_too_many text place (inr (inr (inr (inr (inr (n, h, past)))))) =
 
 -- ## All
 
+-- the pair fits together
 fits_together : IsWellTypedPair packing one_box
 fits_together (fault.Duplicate place) h = no_duplicate place.source place.place h
 fits_together (fault.UnknownType place) h = no_unknown_type place.source place.place h
@@ -319,33 +365,41 @@ has_box : (o : ℕ) → o < 1 → has_type packing_task 1 o ≡ true
 has_box zero h = refl
 has_box (suc o) h = absurd (omega arith)
 
+-- the only number in the list is 0
 only_zero : (o : ℕ) → list_any (nat_eq o) (0 ∷ []) ≡ true → o < 1
 only_zero o h = elim (or_cases (nat_eq o 0) false h) [ inl e ↦ let same : o ≡ 0 = (unsigned_Decides o 0).0 e in omega arith | inr e ↦ absurd cc ]
 
+-- what has a type is the one object
 has_within : (k o : ℕ) → has_type packing_task k o ≡ true → o < 1
 has_within zero o h = absurd cc
 has_within (suc zero) o h = only_zero o h
 has_within (suc (suc k)) o h = absurd cc
 
+-- a list of one object ascends
 one_ascends : IsStrictlySortedBy nat_cmp (0 ∷ [])
 unfolding IsStrictlySortedBy
 one_ascends = (tt, tt)
 
+-- an empty list ascends
 none_ascends : IsStrictlySortedBy nat_cmp []
 unfolding IsStrictlySortedBy
 none_ascends = tt
 
+-- the objects of each type ascend
 ascends : (k : ℕ) (type : ObjectType) → slice_get packing_task.types k ≡ Some type → IsStrictlySortedBy nat_cmp type.objects
 ascends k type e = member_at (λ (x : ObjectType). IsStrictlySortedBy nat_cmp x.objects) packing_task.types (none_ascends, (one_ascends, tt)) k type e
 
+-- `b1` has each type of the task
 is_a : (k : ℕ) (type : ObjectType) → slice_get packing_task.types k ≡ Some type → HasType packing one_box (codes "b1") type.name
 is_a k type e =
     member_at (λ (x : ObjectType). HasType packing one_box (codes "b1") x.name) packing_task.types
     ((the_box, (0, omega arith, refl), refl, inr (Direct (codes "box") object (0, omega arith, refl))), ((the_box, (0, omega arith, refl), refl, inl refl), tt)) k type e
 
+-- `object` isn't named
 object_unnamed : Contains (named_types packing_task) 0 → ⊥
 object_unnamed h = let among : list_any (nat_eq 0) (named_types packing_task) ≡ true = list_any-from_Contains nat_eq_equiv 0 (named_types packing_task) h in cc
 
+-- the one object has the types that are named and that it is declared to have
 members : (k o : ℕ) (type : ObjectType) (name : Text) → slice_get packing_task.types k ≡ Some type → slice_get packing_task.objects o ≡ Some name
     → (has_type packing_task k o ≡ true) ↔ (Contains (named_types packing_task) k × HasType packing one_box name type.name)
 members zero o type name e g = (λ h. absurd cc, λ h. absurd (object_unnamed h.0))
@@ -365,6 +419,7 @@ one_alone a b = (λ h. absurd (never a b h), λ h. absurd (nowhere a b h))
     never zero (suc b) h = absurd cc
     never (suc a) b h = absurd cc
 
+-- the task is that of the pair
 task_is : IsTaskOf packing one_box packing_task
 task_is = record {
   objects = refl;
@@ -393,5 +448,6 @@ task_is = record {
   goal = refl;
 }
 
+-- the pair fits together, and the task is its own
 pub packing_is_a_task : PackingIsATask
 packing_is_a_task = record { fits = fits_together; task = task_is }

@@ -16,6 +16,7 @@ use Rattle.hddl_meaning.proofs.Listed.{in_map, in_nothing}
 use Rattle.hddl_meaning.proofs.Examples.{absent, differ, last_of}
 use Rattle.hddl_meaning.proofs.Packing.{member, one_fits}
 
+-- a name at a place with a type at a place
 abbrev typed : ℕ → List ℕ → ℕ → List ℕ → Typed
 typed at name above type = record { mention = mention_of (called at name); of_type = Some (mention_of (called above type)) }
 
@@ -28,6 +29,7 @@ other_places : (d : DomainText) (place at above : ℕ) (name type : List ℕ) �
 other_places d place at above name type not_child not_parent _ m in' is =
     member (λ (m : Mention). place ≡ m.place → ⊥) (mention_of (called at name) ∷ mention_of (called above type) ∷ []) (not_child, (not_parent, tt)) m in' is
 
+-- `a` isn't below `c`
 not_above : IsBelow below_a_cycle (codes "a") (codes "c") → ⊥
 not_above (inl e) = differ (codes "a") (codes "c") refl e
 not_above (inr leads) =
@@ -35,6 +37,7 @@ not_above (inr leads) =
     let end = last_of pairs (codes "a") (codes "c") leads in
     absent (codes "c") (map (λ (pair : Text × Text). pair.1) pairs) refl (in_map (λ (pair : Text × Text). pair.1) (end.0, codes "c") pairs end.1)
 
+-- the type `u` isn't declared
 u_missing : IsDeclaredType one_place (codes "u") → ⊥
 u_missing (inl e) = differ (codes "u") object refl e
 u_missing (inr h) = absent (codes "u") [] refl h
@@ -43,22 +46,27 @@ u_missing (inr h) = absent (codes "u") [] refl h
 abbrev o_used : Term
 o_used = term.Object (called 59 (codes "o"))
 
+-- the argument of the use clashes with no place
 abbrev Fits : Use → Type 0
 Fits u =
     (s : Signature) (argument : Term) (at_place : Typed) → declaration_in (predicate_signatures one_place) u.atom.name ≡ Some s
     → IsIn (argument, at_place) (zip u.atom.terms s.places) → (place : ℕ) → IsClash one_place of_no_type u.variables argument at_place place → ⊥
 
+-- the object `o` clashes with no place
 o_fits : (place : ℕ) → IsClash one_place of_no_type [] o_used (record { mention = variable_mention (variable 35 (codes "?x")); of_type = None }) place → ⊥
 o_fits place clash = u_missing (clash.1.1 (typed 42 (codes "o") 46 (codes "u")) (0, omega arith, refl) refl)
 
+-- the arguments of all atoms fit
 atoms_fit : AllByRecursion Fits (flattened (λ s. s.atoms) (schemas_in one_place of_no_type source.Problem))
 atoms_fit = ((λ s argument at_place e h place clash. one_fits one_place of_no_type [] o_used _ o_fits _ s refl e argument at_place h place clash), tt)
 
+-- no types clash
 no_clash : FailsAt one_place of_no_type (fault.TypeClash (in_problem 59)) → ⊥
 no_clash (inl (u, s, argument, at_place, h, e, g, clash)) =
     member Fits (flattened (λ s. s.atoms) (schemas_in one_place of_no_type source.Problem)) atoms_fit u h s argument at_place e g 59 clash
 no_clash (inr (u, s, argument, at_place, h, e, g, clash)) = in_nothing u h
 
+-- each of the faults has its reason
 pub reasons : FaultsHaveReasons
 reasons = record {
   ignored = λ (_, t, m, in', on, at, place).

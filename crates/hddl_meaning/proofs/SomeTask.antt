@@ -40,27 +40,33 @@ use Rattle.hddl_meaning.proofs.Listed.{at_head, at_tail, in_cases, in_nothing, t
 
 -- ## What is decided
 
+-- what was decided, as a test
 abbrev is_so : {P : Type 0} → P ⊎ (P → ⊥) → Bool
 is_so (inl h) = true
 is_so (inr none) = false
 
+-- the test holds exactly where what was decided does
 so : {P : Type 0} (x : P ⊎ (P → ⊥)) → (is_so x ≡ true) ↔ P
 so (inl h) = (λ e. h, λ g. refl)
 so (inr none) = (λ e. absurd cc, λ g. absurd (none g))
 
+-- where two things can be decided, so can both together
 both : {P Q : Type 0} → P ⊎ (P → ⊥) → Q ⊎ (Q → ⊥) → (P × Q) ⊎ ((P × Q) → ⊥)
 both (inl p) (inl q) = inl (p, q)
 both (inl p) (inr none) = inr (λ h. none h.1)
 both (inr none) q = inr (λ h. none h.0)
 
+-- where two things can be decided, so can either
 either : {P Q : Type 0} → P ⊎ (P → ⊥) → Q ⊎ (Q → ⊥) → (P ⊎ Q) ⊎ ((P ⊎ Q) → ⊥)
 either (inl p) q = inl (inl p)
 either (inr none) (inl q) = inl (inr q)
 either (inr none) (inr never) = inr (λ h. elim h [ inl p ↦ none p | inr q ↦ never q ])
 
+-- something holds of one of a list
 abbrev HasSome : {X : Type 0} → (X → Type 0) → List X → Type 0
 HasSome {X = X} P xs = (x : X) × IsIn x xs × P x
 
+-- whether something holds of one of a list can be decided if it can of each
 some : {X : Type 0} (P : X → Type 0) → ((x : X) → P x ⊎ (P x → ⊥)) → (xs : List X) → HasSome P xs ⊎ (HasSome P xs → ⊥)
 some P decided [] = inr (λ h. in_nothing h.0 h.1)
 some P decided (x ∷ xs) = by (decided x) (some P decided xs)
@@ -70,6 +76,7 @@ some P decided (x ∷ xs) = by (decided x) (some P decided xs)
     by (inr none) (inl h) = inl (h.0, at_tail x h.0 xs h.1, h.2)
     by (inr none) (inr no_more) = inr (λ h. elim (in_cases x h.0 xs h.1) [ inl e ↦ none (subst P (sym e) h.2) | inr later ↦ no_more (h.0, later, h.2) ])
 
+-- whether two texts are the same can be decided
 same_text : (t u : Text) → (t ≡ u) ⊎ (t ≡ u → ⊥)
 same_text t u = by (is_same_text t u) refl
   where
@@ -77,6 +84,7 @@ same_text t u = by (is_same_text t u) refl
     by true e = inl ((texts_decide t u).0 e)
     by false e = inr (λ h. both_ways (is_same_text t u) e ((texts_decide t u).1 h))
 
+-- whether two numbers are the same can be decided
 same_number : (a b : ℕ) → (a ≡ b) ⊎ (a ≡ b → ⊥)
 same_number a b = by (cases_order a b)
   where
@@ -87,26 +95,32 @@ same_number a b = by (cases_order a b)
 
 -- ## Where pairs lead
 
+-- pairs lead from a value to another
 data Goes (X : Type 0) (pairs : List (X × X)) : X → X → Type 0 where
   Once : (t u : X) → Contains pairs (t, u) → Goes X pairs t u
   More : (t u v : X) → Contains pairs (t, u) → Goes X pairs u v → Goes X pairs t v
 
 module _ (X : Type 0) where
+  -- pairs lead from a value to another, or it is that
   abbrev Arrives : List (X × X) → X → X → Type 0
   Arrives ps x y = (x ≡ y) ⊎ Goes X ps x y
 
+  -- no pairs lead anywhere
   nowhere : (t u : X) → Goes X [] t u → ⊥
   nowhere t u (Once x y h) = in_nothing {X = X × X} (x, y) h
   nowhere t u (More x y z h more) = in_nothing {X = X × X} (x, y) h
 
+  -- a way is one with a pair more
   weaken : (p : X × X) (ps : List (X × X)) (t u : X) → Goes X ps t u → Goes X (p ∷ ps) t u
   weaken p ps t u (Once x y h) = Once x y (at_tail p (x, y) ps h)
   weaken p ps t u (More x y z h more) = More x y z (at_tail p (x, y) ps h) (weaken p ps y z more)
 
+  -- a way and another from its end are one way
   further : (ps : List (X × X)) (a b c : X) → Goes X ps a b → Goes X ps b c → Goes X ps a c
   further ps a b c (Once x y h) on = More x y c h on
   further ps a b c (More x y z h more) on = More x y c h (further ps y z c more on)
 
+  -- a pair and then a way from its second arrive there
   step_first : (ps : List (X × X)) (t m a : X) → Contains ps (t, m) → Arrives ps m a → Arrives ps t a
   step_first ps t m a h (inl e) = inr (Once t a (subst (λ x. Contains ps (t, x)) e h))
   step_first ps t m a h (inr g) = inr (More t m a h g)
@@ -115,6 +129,7 @@ module _ (X : Type 0) where
   abbrev Split : X × X → List (X × X) → X → X → Type 0
   Split p ps t u = Goes X ps t u ⊎ (Arrives ps t p.0 × Arrives ps p.1 u)
 
+  -- a way with a pair more is one without it, or goes through it
   split : (p : X × X) (ps : List (X × X)) (t u : X) → Goes X (p ∷ ps) t u → Split p ps t u
   split p ps t u (Once x y h) = by (in_cases p (x, y) ps h)
     where
@@ -129,6 +144,7 @@ module _ (X : Type 0) where
       by (inl e) (inl g) = inr (inl (sym (ap (λ (q : X × X). q.0) e)), inr (subst (λ w. Goes X ps w z) (sym (ap (λ (q : X × X). q.1) e)) g))
       by (inl e) (inr r) = inr (inl (sym (ap (λ (q : X × X). q.0) e)), r.1)
 
+  -- what arrives at a pair's first, and on from its second, goes through it
   join : (p : X × X) (ps : List (X × X)) (t u : X) → Arrives ps t p.0 → Arrives ps p.1 u → Goes X (p ∷ ps) t u
   join p ps t u a b = before a (after b)
     where
@@ -140,6 +156,7 @@ module _ (X : Type 0) where
       before (inl e) on = subst (λ w. Goes X (p ∷ ps) w u) (sym e) on
       before (inr g) on = further (p ∷ ps) t p.0 u (weaken p ps t p.0 g) on
 
+  -- whether pairs lead somewhere can be decided
   goes_or_not : ((x y : X) → (x ≡ y) ⊎ (x ≡ y → ⊥)) → (ps : List (X × X)) (t u : X) → Goes X ps t u ⊎ (Goes X ps t u → ⊥)
   goes_or_not same [] t u = inr (nowhere t u)
   goes_or_not same (p ∷ ps) t u =
@@ -152,40 +169,50 @@ module _ (X : Type 0) where
       by (inr none) (inr never) b = inr (λ h. elim (split p ps t u h) [ inl g ↦ none g | inr r ↦ never r.0 ])
       by (inr none) (inl a) (inr never) = inr (λ h. elim (split p ps t u h) [ inl g ↦ none g | inr r ↦ never r.1 ])
 
+-- a way by name is one along the pairs
 from_leads : (ps : List (Text × Text)) (t u : Text) → Leads ps t u → Goes Text ps t u
 from_leads ps t u (leads.Direct x y h) = Once x y h
 from_leads ps t u (leads.Through x y z h more) = More x y z h (from_leads ps y z more)
 
+-- a way along the pairs is one by name
 to_leads : (ps : List (Text × Text)) (t u : Text) → Goes Text ps t u → Leads ps t u
 to_leads ps t u (Once x y h) = leads.Direct x y h
 to_leads ps t u (More x y z h more) = leads.Through x y z h (to_leads ps y z more)
 
+-- a way by number is one along the pairs
 from_precedes : (ps : List (ℕ × ℕ)) (a b : ℕ) → Precedes ps a b → Goes ℕ ps a b
 from_precedes ps a b (closure.Direct x y h) = Once x y h
 from_precedes ps a b (closure.Through x y z h more) = More x y z h (from_precedes ps y z more)
 
+-- a way along the pairs is one by number
 to_precedes : (ps : List (ℕ × ℕ)) (a b : ℕ) → Goes ℕ ps a b → Precedes ps a b
 to_precedes ps a b (Once x y h) = closure.Direct x y h
 to_precedes ps a b (More x y z h more) = closure.Through x y z h (to_precedes ps y z more)
 
 -- ## Orders
 
+-- both numbers of each pair are below n
 abbrev AreInside : ℕ → List (ℕ × ℕ) → Type 0
 AreInside n ps = (q : ℕ × ℕ) → IsIn q ps → (q.0 < n) × (q.1 < n)
 
+-- a way along pairs below n is below n
 goes_inside : (n : ℕ) (ps : List (ℕ × ℕ)) (a b : ℕ) → AreInside n ps → Goes ℕ ps a b → (a < n) × (b < n)
 goes_inside n ps a b inside (Once x y h) = inside (x, y) h
 goes_inside n ps a b inside (More x y z h more) = ((inside (x, y) h).0, (goes_inside n ps y z inside more).1)
 
+-- joined pairs are below n if both are
 join_inside : (n : ℕ) (ps qs : List (ℕ × ℕ)) → AreInside n ps → AreInside n qs → AreInside n (ps ++ qs)
 join_inside n ps qs p q r h = elim (Contains-append_cases ps qs r h) [ inl k ↦ p r k | inr k ↦ q r k ]
 
+-- a position with the next
 abbrev next : ℕ → ℕ × ℕ
 next k = (k, k + 1)
 
+-- two positions
 abbrev pair : ℕ → ℕ → ℕ × ℕ
 pair a b = (a, b)
 
+-- each position with the next is below n
 map_inside : (n m : ℕ) (ks : List ℕ) → m + 1 ≤ n → ((k : ℕ) → IsIn k ks → k < m) → AreInside n (map next ks)
 map_inside n m [] fit low q h = absurd (in_nothing q h)
 map_inside n m (k ∷ ks) fit low q h = by (in_cases (next k) q (map next ks) h) (map_inside n m ks fit (λ x g. low x (at_tail k x ks g)) q)
@@ -198,6 +225,7 @@ map_inside n m (k ∷ ks) fit low q h = by (in_cases (next k) q (map next ks) h)
         (omega arith, omega arith)
     by (inr later) others = others later
 
+-- a number of the range is below its end
 in_range : (n k : ℕ) → IsIn k (range_with_len 0 n) → k < n
 in_range n k h =
     let lt : h.0 < length (range_with_len 0 n) = h.1 in
@@ -206,17 +234,21 @@ in_range n k h =
     let is : get_or (range_with_len 0 n) h.0 k ≡ k = h.2 in
     omega arith
 
+-- no pairs are below n
 no_pairs : (n : ℕ) → AreInside n []
 no_pairs n q h = absurd (in_nothing q h)
 
+-- the pairs of a sequence are below its length
 successors_inside : (n : ℕ) → AreInside n (successors n)
 successors_inside zero = no_pairs zero
 successors_inside (suc n) = map_inside (suc n) (suc n - 1) (range_with_len 0 (suc n - 1)) (omega arith) (in_range (suc n - 1))
 
+-- so they are where there is a sequence only if a test holds
 chain_inside : (b : Bool) (n : ℕ) → AreInside n (cond b (successors n) [])
 chain_inside true n = successors_inside n
 chain_inside false n = no_pairs n
 
+-- a pair that is there only if both numbers are is below n if they are
 pair_inside : (n : ℕ) (a b : Option ℕ) → ((k : ℕ) → a ≡ Some k → k < n) → ((k : ℕ) → b ≡ Some k → k < n) → AreInside n (pair_of a b)
 pair_inside n (Some a) (Some b) p q r h =
     elim (in_cases (pair a b) r [] h) [
@@ -226,6 +258,7 @@ pair_inside n (Some a) (Some b) p q r h =
 pair_inside n (Some a) None p q r h = absurd (in_nothing r h)
 pair_inside n None b p q r h = absurd (in_nothing r h)
 
+-- a label's position is that of a subtask
 labelled_below : (n : NetworkText) (name : Name) (k : ℕ) → labelled n name ≡ Some k → k < length n.subtasks
 labelled_below n name k e = within n.subtasks e
   where
@@ -233,26 +266,32 @@ labelled_below n name k e = within n.subtasks e
     within [] e = absurd cc
     within (x ∷ xs) e = (position-Some (λ (s : SubtaskText). is_text (folded name.text) s.label) (x ∷ xs) k x e).0
 
+-- the written orderings pair positions of subtasks
 each_inside : (n : NetworkText) (os : List OrderingText) → AreInside (length n.subtasks) (flat_map (λ o. pair_of (labelled n o.before) (labelled n o.after)) os)
 each_inside n [] = no_pairs (length n.subtasks)
 each_inside n (o ∷ os) =
     join_inside (length n.subtasks) (pair_of (labelled n o.before) (labelled n o.after)) (flat_map (λ o. pair_of (labelled n o.before) (labelled n o.after)) os)
     (pair_inside (length n.subtasks) (labelled n o.before) (labelled n o.after) (labelled_below n o.before) (labelled_below n o.after)) (each_inside n os)
 
+-- so do all orderings of a network
 order_inside : (n : NetworkText) → AreInside (length n.subtasks) (order_pairs n)
 order_inside n =
     join_inside (length n.subtasks) (cond n.is_ordered (successors (length n.subtasks)) []) (written_pairs n) (chain_inside n.is_ordered (length n.subtasks)) (each_inside n n.orderings)
 
+-- whether pairs lead from one number to another, as a test
 leads_to : (ps : List (ℕ × ℕ)) → ℕ → ℕ → Bool
 leads_to ps a b = is_so (goes_or_not ℕ same_number ps a b)
 
+-- the order of a network, as a table of that test
 order_of : NetworkText → Order
 order_of n = table (length n.subtasks) (leads_to (order_pairs n))
 
+-- the test holds exactly where the pairs lead there
 leads_so : (ps : List (ℕ × ℕ)) (a b : ℕ) → (leads_to ps a b ≡ true) ↔ Goes ℕ ps a b
 unfolding leads_to
 leads_so ps a b = so (goes_or_not ℕ same_number ps a b)
 
+-- the table is the order of the network
 order_is : (n : NetworkText) → IsOrderOf n (order_of n)
 unfolding order_of
 order_is n = record { square = table_square (length n.subtasks) (leads_to (order_pairs n)); closure = λ a b. (to a b, from a b) }
@@ -287,6 +326,7 @@ order_is n = record { square = table_square (length n.subtasks) (leads_to (order
 
 -- ## Types of objects
 
+-- whether a type is below another can be decided
 below_or_not : (d : DomainText) (t u : Text) → IsBelow d t u ⊎ (IsBelow d t u → ⊥)
 below_or_not d t u = either (same_text t u) (by (goes_or_not Text same_text (parent_pairs d) t u))
   where
@@ -295,9 +335,11 @@ below_or_not d t u = either (same_text t u) (by (goes_or_not Text same_text (par
     by (inr none) = inr (λ h. none (from_leads (parent_pairs d) t u h))
 
 module _ (d : DomainText) (p : ProblemText) where
+  -- a typed name declares an object with a type
   abbrev Declares : Text → Text → Typed → Type 0
   Declares name type x = (x.mention.text ≡ name) × IsBelow d (text_or_object x.of_type) type
 
+  -- whether an object has a type can be decided
   type_or_not : (name type : Text) → HasType d p name type ⊎ (HasType d p name type → ⊥)
   type_or_not name type =
       by (some (λ x. Declares name type x) (λ x. both (same_text x.mention.text name) (below_or_not d (text_or_object x.of_type) type)) (object_declarations d p))
@@ -307,21 +349,26 @@ module _ (d : DomainText) (p : ProblemText) where
       by (inl h) = inl (h.0, h.1, h.2.0, h.2.1)
       by (inr none) = inr (λ h. none (h.0, h.1, (h.2, h.3)))
 
+  -- whether the object of a number has a type, as a test
   has : Text → ℕ → Bool
   has type o = is_so (type_or_not (get_or (object_names d p) o []) type)
 
+  -- the test holds exactly where the object has the type
   has_so : (type name : Text) (o : ℕ) → get_or (object_names d p) o [] ≡ name → (has type o ≡ true) ↔ HasType d p name type
   unfolding has
   has_so type name o e = subst (λ x. (is_so (type_or_not (get_or (object_names d p) o []) type) ≡ true) ↔ HasType d p x type) e (so (type_or_not (get_or (object_names d p) o []) type))
 
+-- where two tests hold together, the first does
 and_left : (a b : Bool) → (a && b) ≡ true → a ≡ true
 and_left true b h = refl
 and_left false b h = absurd cc
 
+-- where two tests hold together, the second does
 and_right : (a b : Bool) → (a && b) ≡ true → b ≡ true
 and_right true b h = h
 and_right false b h = absurd cc
 
+-- together with what holds, a test is itself
 and_true : (a b : Bool) → b ≡ true → (a && b) ≡ a
 and_true true b h = h
 and_true false b h = refl
@@ -332,6 +379,7 @@ module _ (d : DomainText) (p : ProblemText) (listed : List ℕ) where
   lists : ℕ → Text → ℕ → Bool
   lists k type o = list_any (nat_eq k) listed && has d p type o
 
+  -- an object is listed exactly where the type is and the object has it
   lists_so : (k : ℕ) (type name : Text) (o : ℕ) → get_or (object_names d p) o [] ≡ name → (lists k type o ≡ true) ↔ (Contains listed k × HasType d p name type)
   unfolding lists
   lists_so k type name o e =
@@ -343,20 +391,25 @@ module _ (d : DomainText) (p : ProblemText) (listed : List ℕ) where
         λ (among, typed). and_true (list_any (nat_eq k) listed) (has d p type o) (is.1 typed) ∙ list_any-from_Contains nat_eq_equiv k listed among,
       )
 
+  -- the numbers of the objects that a type lists, ascending
   abbrev numbers_of : ℕ → Text → List ℕ
   numbers_of k type = filter (lists k type) (range_with_len 0 (length (object_names d p)))
 
+  -- a type with its objects
   abbrev type_of : ℕ → Text → ObjectType
   type_of k type = record { name = type; objects = numbers_of k type }
 
+  -- the types of these names, numbered from k on
   abbrev types_from : ℕ → List Text → List ObjectType
   types_from k [] = []
   types_from k (name ∷ names) = type_of k name ∷ types_from (suc k) names
 
+  -- they have these names
   named : (k : ℕ) (names : List Text) → map (λ x. x.name) (types_from k names) ≡ names
   named k [] = refl
   named k (name ∷ names) = ap (λ xs. name ∷ xs) (named (suc k) names)
 
+  -- the type at a place has the objects of its number and name
   type_at : (a : ℕ) (names : List Text) (k : ℕ) (type : ObjectType) → slice_get (types_from a names) k ≡ Some type → type ≡ type_of (a + k) type.name
   type_at a [] k type h = absurd cc
   type_at a (name ∷ names) zero type h =
@@ -367,9 +420,11 @@ module _ (d : DomainText) (p : ProblemText) (listed : List ℕ) where
       let next : suc a + k ≡ a + suc k = omega arith in
       type_at (suc a) names k type h ∙ ap (λ n. type_of n type.name) next
 
+  -- a smaller number compares as less
   less : (x y : ℕ) → x < y → nat_cmp x y ≡ Less
   less x y lt = ap (λ b. cond b Less (cond (nat_eq x y) Equal Greater)) (lt-ltb x y lt)
 
+  -- a smaller number is below all that are filtered from a range
   above : (test : ℕ → Bool) (x a n : ℕ) → x < a → AllByRecursion (λ y. nat_cmp x y ≡ Less) (filter test (range_with_len a n))
   above test x a zero lt = tt
   above test x a (suc n) lt = by (test a) (above test x (a + 1) n (omega arith))
@@ -379,6 +434,7 @@ module _ (d : DomainText) (p : ProblemText) (listed : List ℕ) where
       by true all = (less x a lt, all)
       by false all = all
 
+  -- what is filtered from a range ascends
   ascends : (test : ℕ → Bool) (a n : ℕ) → IsStrictlySortedBy nat_cmp (filter test (range_with_len a n))
   unfolding IsStrictlySortedBy
   ascends test a zero = tt
@@ -389,27 +445,32 @@ module _ (d : DomainText) (p : ProblemText) (listed : List ℕ) where
       by true all rest = (all, rest)
       by false all rest = rest
 
+  -- a number below the end is in the range
   any_range : (n o : ℕ) → o < n → list_any (nat_eq o) (range_with_len 0 n) ≡ true
   any_range n o lt =
       let long : length (range_with_len 0 n) ≡ n = length-range_with_len 0 n in
       let at : get_or (range_with_len 0 n) o 0 ≡ 0 + o = get_or-range_with_len 0 n o 0 lt in
       list_any_at (nat_eq o) (range_with_len 0 n) o 0 (omega arith) (eq-eqb o (get_or (range_with_len 0 n) o 0) (omega arith))
 
+  -- an object is among the type's numbers exactly where it is listed and is one
   any_numbers : (k : ℕ) (type : Text) (o : ℕ) → list_any (nat_eq o) (numbers_of k type) ≡ (lists k type o && list_any (nat_eq o) (range_with_len 0 (length (object_names d p))))
   any_numbers k type o =
       any-filter_same (nat_eq o) (lists k type) (lists k type o) (λ n e. let same : o ≡ n = eqb-true o n e in ap (lists k type) (sym same)) (range_with_len 0 (length (object_names d p)))
 
+  -- what a type lists is an object
   numbers_within : (k : ℕ) (type : Text) (o : ℕ) → list_any (nat_eq o) (numbers_of k type) ≡ true → o < length (object_names d p)
   numbers_within k type o h =
       in_range (length (object_names d p)) o
       (Contains-from_any eqb-true o (range_with_len 0 (length (object_names d p)))
       (and_right (lists k type o) (list_any (nat_eq o) (range_with_len 0 (length (object_names d p)))) (sym (any_numbers k type o) ∙ h)))
 
+  -- so it is for each of the types
   types_within : (a : ℕ) (names : List Text) (k o : ℕ) → list_any (nat_eq o) (get_or (map (λ x. x.objects) (types_from a names)) k []) ≡ true → o < length (object_names d p)
   types_within a [] k o h = absurd cc
   types_within a (name ∷ names) zero o h = numbers_within a name o h
   types_within a (name ∷ names) (suc k) o h = types_within (suc a) names k o h
 
+  -- the objects at a place are those of the type there
   objects_at : (names : List Text) (k : ℕ) (type : ObjectType) → slice_get (types_from 0 names) k ≡ Some type
       → get_or (map (λ x. x.objects) (types_from 0 names)) k [] ≡ numbers_of k type.name
   objects_at names k type h =
@@ -417,6 +478,7 @@ module _ (d : DomainText) (p : ProblemText) (listed : List ℕ) where
       get_or-map (λ x. x.objects) (types_from 0 names) k type [] (slice_get_within (types_from 0 names) k type h)
       ∙ ap (λ (x : ObjectType). x.objects) (get_or_from_slice_get (types_from 0 names) k type type h ∙ type_at 0 names k type h ∙ ap (λ n. type_of n type.name) same)
 
+  -- an object is at a place exactly where the type there is listed and the object has it
   member : (names : List Text) (k o : ℕ) (type : ObjectType) (name : Text) → slice_get (types_from 0 names) k ≡ Some type → slice_get (object_names d p) o ≡ Some name
       → list_any (nat_eq o) (get_or (map (λ x. x.objects) (types_from 0 names)) k []) ≡ lists k type.name o
   member names k o type name h g =
@@ -427,12 +489,15 @@ module _ (d : DomainText) (p : ProblemText) (listed : List ℕ) where
 
 -- ## The task
 
+-- a network as a schema
 abbrev network_of : Vocabulary → List Text → NetworkText → model.NetworkSchema
 network_of v variables n = record { subtasks = map (λ s. subtask_of v variables s.task) n.subtasks; order = order_of n }
 
+-- it is the schema of the network
 network_is : (v : Vocabulary) (variables : List Text) (n : NetworkText) → IsNetworkOf v variables n (network_of v variables n)
 network_is v variables n = record { subtasks = refl; order = order_is n }
 
+-- a method as a schema
 abbrev method_of : Vocabulary → MethodText → MethodSchema
 method_of v x = record {
   name = folded x.name.text;
@@ -443,6 +508,7 @@ method_of v x = record {
   network = network_of v (variables_of x.parameters) x.network;
 }
 
+-- it is the schema of the method
 method_is : (v : Vocabulary) (x : MethodText) → IsMethodOf v x (method_of v x)
 method_is v x = record {
   name = refl;
@@ -453,6 +519,7 @@ method_is v x = record {
   network = network_is v (variables_of x.parameters) x.network;
 }
 
+-- so are those of all methods
 methods_are : (v : Vocabulary) (xs : List MethodText) → AllZip (IsMethodOf v) xs (map (method_of v) xs)
 methods_are v [] = tt
 methods_are v (x ∷ xs) = (method_is v x, methods_are v xs)
@@ -481,9 +548,11 @@ task_with d p types =
 abbrev named_in : DomainText → ProblemText → List ℕ
 named_in d p = named_types (task_with d p [])
 
+-- the task of a pair
 abbrev task_of : DomainText → ProblemText → Task
 task_of d p = task_with d p (types_from d p (named_in d p) 0 (type_names d))
 
+-- each pair has a task
 pub tasks_exist : TasksExist
 tasks_exist d p = (
   task_of d p,

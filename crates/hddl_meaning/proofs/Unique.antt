@@ -20,6 +20,7 @@ record Mentioned (t : Text) (mentions : List Mention) : Type 0 where
   pub whole : mentions ≡ before ++ m ∷ after
   pub same : t ≡ m.text
 
+-- a text among mentions is that of one
 mentioned : (t : Text) (mentions : List Mention) → IsIn t (texts mentions) → Mentioned t mentions
 mentioned t [] h = absurd (in_nothing t h)
 mentioned t (m ∷ mentions) h =
@@ -36,6 +37,7 @@ HasNoTwo group =
     (before : List Mention) (first : Mention) (middle : List Mention) (second : Mention) (after : List Mention)
     → group ≡ before ++ first ∷ middle ++ second ∷ after → first.text ≡ second.text → ⊥
 
+-- mentions of which no two have one name differ
 different : (group : List Mention) → HasNoTwo group → AreDifferent (texts group)
 different [] none = tt
 different (m ∷ group) none = (
@@ -51,17 +53,21 @@ module _ (d : DomainText) (p : ProblemText) (fits : IsWellTypedPair d p) where
       (λ before first middle second after e same.
       fits (fault.Duplicate (record { source = text; place = max first.place second.place })) (group, before, first, middle, second, after, h, e, same, refl))
 
+  -- declared names that must differ do
   declared_differ : (group : List Mention) → IsIn group (declaration_groups d source.Domain) → AreDifferent (texts group)
   declared_differ group h = different_in source.Domain group (in_left group (declaration_groups d source.Domain) _ h)
 
+  -- the names of predicates differ
   pub predicates_differ : AreDifferent (predicate_names d)
   predicates_differ =
       subst AreDifferent (map-map (λ m. m.text) (λ x. mention_of x.name) d.predicates) (declared_differ (map (λ x. mention_of x.name) d.predicates) (0, omega arith, refl))
 
+  -- the names of methods differ
   pub methods_differ : AreDifferent (map (λ x. folded x.name.text) d.methods)
   methods_differ =
       subst AreDifferent (map-map (λ m. m.text) (λ x. mention_of x.name) d.methods) (declared_differ (map (λ x. mention_of x.name) d.methods) (1, omega arith, refl))
 
+  -- the names of tasks and actions differ
   pub tasks_differ : AreDifferent (task_names d)
   tasks_differ =
       subst AreDifferent
@@ -70,8 +76,10 @@ module _ (d : DomainText) (p : ProblemText) (fits : IsWellTypedPair d p) where
       ∙ ap (λ xs. compound_names d ++ xs) (map-map (λ m. m.text) (λ x. mention_of x.name) d.actions))
       (declared_differ (map (λ x. mention_of x.name) d.tasks ++ map (λ x. mention_of x.name) d.actions) (2, omega arith, refl))
 
+  -- so the distinct names of predicates are all of them
   pub distinct_predicates : distinct (predicate_names d) ≡ predicate_names d
   distinct_predicates = distinct_itself (predicate_names d) predicates_differ
 
+  -- so are the distinct names of tasks and actions
   pub distinct_tasks : distinct (task_names d) ≡ task_names d
   distinct_tasks = distinct_itself (task_names d) tasks_differ

@@ -49,6 +49,7 @@ use Rattle.hddl_meaning.proofs.Conditions.{atoms_of, formula_typed, length-types
 
 -- ## Lists
 
+-- what is in the filtered list is in the list
 in_filter : {X : Type 0} (test : X → Bool) (x : X) (xs : List X) → IsIn x (filter test xs) → IsIn x xs
 in_filter test x [] h = h
 in_filter test x (y ∷ xs) h = by (test y) h (in_filter test x xs)
@@ -63,6 +64,7 @@ record Source_of {X Y : Type 0} (f : X → Y) (xs : List X) (y : Y) : Type 0 whe
   pub is_in : IsIn x xs
   pub same : f x ≡ y
 
+-- what is in the mapped list is an image
 in_mapped : {X Y : Type 0} (f : X → Y) (xs : List X) (y : Y) → IsIn y (map f xs) → Source_of f xs y
 in_mapped f [] y h = absurd (in_nothing y h)
 in_mapped f (x ∷ xs) y h =
@@ -71,12 +73,14 @@ in_mapped f (x ∷ xs) y h =
       | inr later ↦ let from = in_mapped f xs y later in record { x = from.x; is_in = at_tail x from.x xs from.is_in; same = from.same }
     ]
 
+-- what holds of all that corresponds to a list holds of the other list
 zipped : {X Y : Type 0} (R : X → Y → Type 0) (P : Y → Type 0) (xs : List X) (ys : List Y) → AllZip R xs ys → ((x : X) (y : Y) → IsIn x xs → R x y → P y) → AllByRecursion P ys
 zipped R P [] [] all f = tt
 zipped R P [] (y ∷ ys) all f = absurd all
 zipped R P (x ∷ xs) [] all f = tt
 zipped R P (x ∷ xs) (y ∷ ys) all f = (f x y (at_head x xs) all.0, zipped R P xs ys all.1 (λ z w h r. f z w (at_tail x z xs h) r))
 
+-- numbers that can't differ are equal
 same_number : (a b : ℕ) → ((a ≡ b → ⊥) → ⊥) → a ≡ b
 same_number a b h =
     elim (cases_order a b) [
@@ -87,10 +91,12 @@ same_number a b h =
 
 -- ## Orders
 
+-- a way and another from its end are one way
 precedes_on : (pairs : List (ℕ × ℕ)) (a b c : ℕ) → Precedes pairs a b → Precedes pairs b c → Precedes pairs a c
 precedes_on pairs a b c (Direct x y h) further = Through x y c h further
 precedes_on pairs a b c (Through x y z h more) further = Through x y c h (precedes_on pairs y z c more further)
 
+-- the closure of pairs without a cycle is a closed order
 order_closed : (pairs : List (ℕ × ℕ)) (order : Order) → IsClosureOf pairs order → IsAcyclic pairs → IsClosed order
 order_closed pairs order closure acyclic = record {
   irreflexive = λ a. none a (is_before order a a) refl;
@@ -103,22 +109,27 @@ order_closed pairs order closure acyclic = record {
 
 -- ## What is known of a use
 
+-- a term isn't unknown
 abbrev KnowsTerm : DomainText → ProblemText → TermUse → Type 0
 KnowsTerm d p x = (place : ℕ) → IsUnknownTerm (object_names d p) x place → ⊥
 
+-- a use isn't unknown, has its number of arguments, and its arguments are known
 record Knows (d : DomainText) (p : ProblemText) (names : List Text) (signatures : List Signature) (u : Use) : Type 0 where
   pub named : (IsIn (folded u.atom.name.text) names → ⊥) → ⊥
   pub arity : (s : Signature) → declaration_in signatures u.atom.name ≡ Some s → (length u.atom.terms ≡ length s.places → ⊥) → ⊥
   pub terms : (x : Term) → IsIn x u.atom.terms → KnowsTerm d p (record { variables = u.variables; term = x })
 
 module _ (d : DomainText) (p : ProblemText) (fits : IsWellTypedPair d p) (text : Source) (s : Schema) (is_in : IsIn s (schemas_in d p text)) where
+  -- each term of a schema is known
   known_term : (x : TermUse) → IsIn x (terms_in s) → KnowsTerm d p x
   known_term x h place unknown =
       fits (fault.UnknownName (record { source = text; place = place })) (inr (inr (inr (x, in_flat_map terms_in s x (schemas_in d p text) is_in h, unknown))))
 
+  -- each side of an equality is known
   known_side : (x : TermUse) → IsIn x s.sides → KnowsTerm d p x
   known_side x h = known_term x (in_right x (flat_map arguments_of (s.atoms ++ s.decomposed ++ s.subtasks)) s.sides h)
 
+  -- each argument of a use is known
   known_argument : (u : Use) (x : Term) → IsIn u (s.atoms ++ s.decomposed ++ s.subtasks) → IsIn x u.atom.terms → KnowsTerm d p (record { variables = u.variables; term = x })
   known_argument u x h g =
       let argument : TermUse = record { variables = u.variables; term = x } in
@@ -126,6 +137,7 @@ module _ (d : DomainText) (p : ProblemText) (fits : IsWellTypedPair d p) (text :
       (in_left argument (flat_map arguments_of (s.atoms ++ s.decomposed ++ s.subtasks)) s.sides
       (in_flat_map arguments_of u argument (s.atoms ++ s.decomposed ++ s.subtasks) h (in_map (λ x. record { variables = u.variables; term = x }) x u.atom.terms g)))
 
+  -- each atom is known
   known_atom : (u : Use) → IsIn u s.atoms → Knows d p (predicate_names d) (predicate_signatures d) u
   known_atom u h =
       let place = u.atom.name.place in
@@ -136,10 +148,12 @@ module _ (d : DomainText) (p : ProblemText) (fits : IsWellTypedPair d p) (text :
         terms = λ x g. known_argument u x (in_left u (s.atoms ++ s.decomposed) s.subtasks (in_left u s.atoms s.decomposed h)) g;
       }
 
+  -- each task has its number of arguments
   task_arity : (u : Use) → IsIn u (tasks_in s) → (x : Signature) → declaration_in (task_signatures d) u.atom.name ≡ Some x → (length u.atom.terms ≡ length x.places → ⊥) → ⊥
   task_arity u h x e wrong =
       fits (fault.Arity (record { source = text; place = u.atom.name.place })) (inr (u, x, in_flat_map tasks_in s u (schemas_in d p text) is_in h, e, wrong, refl))
 
+  -- the task that a method decomposes is known
   known_decomposed : (u : Use) → IsIn u s.decomposed → Knows d p (compound_names d) (task_signatures d) u
   known_decomposed u h =
       let inside : IsIn u (flat_map (λ s. s.decomposed) (schemas_in d p text)) = in_flat_map (λ s. s.decomposed) s u (schemas_in d p text) is_in h in
@@ -149,6 +163,7 @@ module _ (d : DomainText) (p : ProblemText) (fits : IsWellTypedPair d p) (text :
         terms = λ x g. known_argument u x (in_left u (s.atoms ++ s.decomposed) s.subtasks (in_right u s.atoms s.decomposed h)) g;
       }
 
+  -- each subtask is known
   known_subtask : (u : Use) → IsIn u s.subtasks → Knows d p (task_names d) (task_signatures d) u
   known_subtask u h =
       let inside : IsIn u (flat_map (λ s. s.subtasks) (schemas_in d p text)) = in_flat_map (λ s. s.subtasks) s u (schemas_in d p text) is_in h in
@@ -161,23 +176,29 @@ module _ (d : DomainText) (p : ProblemText) (fits : IsWellTypedPair d p) (text :
 -- ## The task
 
 module _ (d : DomainText) (p : ProblemText) (t : Task) (fits : IsWellTypedPair d p) (is : IsTaskOf d p t) where
+  -- the names that the pair declares
   abbrev v : Vocabulary
   v = vocabulary_of d p
 
+  -- there are as many types as names of them
   many_types : length t.types ≡ length (type_names d)
   many_types = sym (length-map t.types (λ x. x.name)) ∙ ap length is.types
 
+  -- there are as many predicates as are declared
   many_predicates : length t.predicates ≡ length d.predicates
   many_predicates = ap length is.predicates ∙ length-map d.predicates (predicate_of v)
 
+  -- there are as many tasks as are declared
   many_tasks : length t.tasks ≡ length d.tasks
   many_tasks = ap length is.tasks ∙ length-map d.tasks (compound_of v)
 
+  -- there are as many actions as are declared
   many_actions : length t.actions ≡ length d.actions
   many_actions = ap length is.actions ∙ length-map d.actions (action_of v)
 
   -- ### Types
 
+  -- the types of a typed list are types of the task
   types_typed : (groups : List VariableGroup) → AreTypes t (types_of v groups)
   types_typed groups =
       let some : 0 < length (type_names d) =
@@ -187,9 +208,11 @@ module _ (d : DomainText) (p : ProblemText) (t : Task) (fits : IsWellTypedPair d
 
   -- ### Terms
 
+  -- a name that is declared has a number below the count
   named_within : (names : List Text) (x : Text) → ((IsIn x names → ⊥) → ⊥) → number_in names x < length names
   named_within names x h = number_within names x (some_pass (is_same_text x) names (is_named x names h))
 
+  -- a term that is known is one of the task, wherever it stands
   term_at : (variables : List Variable) (x : Term) → KnowsTerm d p (record { variables = variables; term = x }) → IsTerm t (length variables) (term_of v (names_of variables) x)
   term_at variables (term.Variable x) known =
       subst (λ n. number_in (names_of variables) (folded x.text) < n) (length-map variables (λ w. w.typed.mention.text))
@@ -198,9 +221,11 @@ module _ (d : DomainText) (p : ProblemText) (t : Task) (fits : IsWellTypedPair d
       subst (λ n. number_in v.objects (folded x.text) < n) (sym (ap length is.objects))
       (named_within (object_names d p) (folded x.text) (λ missing. known x.place (missing, refl)))
 
+  -- a term that is known is one of the task
   term_typed : (x : TermUse) → KnowsTerm d p x → IsTerm t (length x.variables) (term_of v (names_of x.variables) x.term)
   term_typed x known = term_at x.variables x.term known
 
+  -- so are the arguments of a use
   terms_typed : (u : Use) → ((x : Term) → IsIn x u.atom.terms → KnowsTerm d p (record { variables = u.variables; term = x }))
       → All (IsTerm t (length u.variables)) (map (term_of v (names_of u.variables)) u.atom.terms)
   terms_typed u known = each_mapped (IsTerm t (length u.variables)) (term_of v (names_of u.variables)) u.atom.terms (λ x h. term_at u.variables x (known x h))
@@ -226,17 +251,21 @@ module _ (d : DomainText) (p : ProblemText) (t : Task) (fits : IsWellTypedPair d
       ∙ sym (length-map first.declaration.places (λ x. number_in v.types (text_or_object x.of_type)))
       ∙ sym (ap length at)
 
+  -- the declarations of predicates have their names
   predicate_names_are : names_in (predicate_signatures d) ≡ predicate_names d
   predicate_names_are = map-map (λ s. s.name) (λ x. signature x.name x.parameters) d.predicates
 
+  -- the types of predicates are those of their declarations
   predicate_types_are : map (λ x. x.types) t.predicates ≡ map places_of (predicate_signatures d)
   predicate_types_are =
       ap (λ xs. map (λ x. x.types) xs) is.predicates ∙ map-map (λ x. x.types) (predicate_of v) d.predicates
       ∙ sym (map-map places_of (λ x. signature x.name x.parameters) d.predicates)
 
+  -- a name among different ones has a number below their count
   number_below : (names : List Text) (x : Text) → distinct names ≡ names → list_any (is_same_text x) names ≡ true → number_in (distinct names) x < length names
   number_below names x same h = subst (λ xs. number_in xs x < length names) (sym same) (number_within names x (some_pass (is_same_text x) names h))
 
+  -- an atom that is known is well typed
   atom_typed : (u : Use) → Knows d p (predicate_names d) (predicate_signatures d) u → IsAtomSchema t (length u.variables) (atom_of v (names_of u.variables) u.atom)
   atom_typed u known =
       let name : Text = folded u.atom.name.text in
@@ -252,12 +281,14 @@ module _ (d : DomainText) (p : ProblemText) (t : Task) (fits : IsWellTypedPair d
         arguments = terms_typed u known.terms;
       }
 
+  -- the declarations of tasks and actions have their names
   task_names_are : names_in (task_signatures d) ≡ task_names d
   task_names_are =
       map-append (λ s. s.name) (map (λ x. signature x.name x.parameters) d.tasks) (map (λ x. signature x.name x.parameters) d.actions)
       ∙ ap (λ xs. xs ++ names_in (map (λ x. signature x.name x.parameters) d.actions)) (map-map (λ s. s.name) (λ x. signature x.name x.parameters) d.tasks)
       ∙ ap (λ xs. compound_names d ++ xs) (map-map (λ s. s.name) (λ x. signature x.name x.parameters) d.actions)
 
+  -- the types of tasks and actions are those of their declarations
   task_types_are : map (λ x. x.types) t.tasks ++ map (λ x. x.parameters) t.actions ≡ map places_of (task_signatures d)
   task_types_are =
       ap (λ xs. xs ++ map (λ x. x.parameters) t.actions)
@@ -266,6 +297,7 @@ module _ (d : DomainText) (p : ProblemText) (t : Task) (fits : IsWellTypedPair d
       (ap (λ xs. map (λ x. x.parameters) xs) is.actions ∙ map-map (λ x. x.parameters) (action_of v) d.actions ∙ sym (map-map places_of (λ x. signature x.name x.parameters) d.actions))
       ∙ sym (map-append places_of (map (λ x. signature x.name x.parameters) d.tasks) (map (λ x. signature x.name x.parameters) d.actions))
 
+  -- there are as many names as tasks and actions
   many_names : length (task_names d) ≡ length t.tasks + length t.actions
   many_names =
       let both : length (task_names d) ≡ length (compound_names d) + length (map (λ x. folded x.name.text) d.actions) = length-append (compound_names d) (map (λ x. folded x.name.text) d.actions) in
@@ -273,6 +305,7 @@ module _ (d : DomainText) (p : ProblemText) (t : Task) (fits : IsWellTypedPair d
       let actions : length (map (λ x. folded x.name.text) d.actions) ≡ length d.actions = length-map d.actions (λ x. folded x.name.text) in
       omega (arith, both, compound, actions, many_tasks, many_actions)
 
+  -- a task that is declared with so many arguments is well typed
   task_typed : (u : Use) → list_any (is_same_text (folded u.atom.name.text)) (task_names d) ≡ true
       → ((s : Signature) → declaration_in (task_signatures d) u.atom.name ≡ Some s → (length u.atom.terms ≡ length s.places → ⊥) → ⊥)
       → ((x : Term) → IsIn x u.atom.terms → KnowsTerm d p (record { variables = u.variables; term = x }))
@@ -288,12 +321,15 @@ module _ (d : DomainText) (p : ProblemText) (t : Task) (fits : IsWellTypedPair d
         arguments = terms_typed u terms;
       }
 
+  -- a subtask that is known is well typed
   subtask_typed : (u : Use) → Knows d p (task_names d) (task_signatures d) u → IsTaskSchema t (length u.variables) (subtask_of v (names_of u.variables) u.atom)
   subtask_typed u known = task_typed u (is_named (folded u.atom.name.text) (task_names d) known.named) known.arity known.terms
 
+  -- the task that a method decomposes is a compound one
   named_compound : (u : Use) → Knows d p (compound_names d) (task_signatures d) u → list_any (is_same_text (folded u.atom.name.text)) (compound_names d) ≡ true
   named_compound u known = is_named (folded u.atom.name.text) (compound_names d) known.named
 
+  -- the task that a method decomposes is well typed
   decomposed_typed : (u : Use) → Knows d p (compound_names d) (task_signatures d) u → IsTaskSchema t (length u.variables) (subtask_of v (names_of u.variables) u.atom)
   decomposed_typed u known =
       let test : Text → Bool = is_same_text (folded u.atom.name.text) in
@@ -315,6 +351,7 @@ module _ (d : DomainText) (p : ProblemText) (t : Task) (fits : IsWellTypedPair d
 
   -- ### Conditions and networks, under variables in force
 
+  -- the formulas of conditions are well typed
   formulas_typed : (variables : List Variable) (conditions : List Condition)
       → ((u : Use) → IsIn u (atoms_in variables conditions) → Knows d p (predicate_names d) (predicate_signatures d) u)
       → ((x : TermUse) → IsIn x (sides_in variables conditions) → KnowsTerm d p x)
@@ -326,6 +363,7 @@ module _ (d : DomainText) (p : ProblemText) (t : Task) (fits : IsWellTypedPair d
       (λ u g. atoms u (in_flat_map (λ c. atoms_of c variables) c u conditions h g))
       (λ x g. terms x (in_flat_map (λ c. sides_of c variables) c x conditions h g)))
 
+  -- an equality is well typed
   equality_typed : (variables : List Variable) (e : EqualityText) → ((x : TermUse) → IsIn x (sides variables e) → KnowsTerm d p x)
       → IsEqualitySchema t (length variables) (equality_of v (names_of variables) e)
   equality_typed variables e known =
@@ -333,12 +371,14 @@ module _ (d : DomainText) (p : ProblemText) (t : Task) (fits : IsWellTypedPair d
       let right : TermUse = record { variables = variables; term = e.right } in
       (term_typed left (known left (at_head left (right ∷ []))), term_typed right (known right (at_tail left right (right ∷ []) (at_head right []))))
 
+  -- the constraints of a network are well typed
   constraints_typed : (variables : List Variable) (n : NetworkText) → ((x : TermUse) → IsIn x (constraints_in variables n) → KnowsTerm d p x)
       → All (IsEqualitySchema t (length variables)) (map (equality_of v (names_of variables)) n.constraints)
   constraints_typed variables n known =
       each_mapped (IsEqualitySchema t (length variables)) (equality_of v (names_of variables)) n.constraints
       (λ e h. equality_typed variables e (λ x g. known x (in_flat_map (sides variables) e x n.constraints h g)))
 
+  -- a network is well typed
   network_typed : (variables : List Variable) (n : NetworkText) (network : model.NetworkSchema) → IsNetworkOf v (names_of variables) n network
       → ((u : Use) → IsIn u (subtasks_in variables n) → Knows d p (task_names d) (task_signatures d) u) → IsAcyclic (order_pairs n) → IsNetworkSchema t (length variables) network
   network_typed variables n network of known acyclic =
@@ -364,6 +404,7 @@ module _ (d : DomainText) (p : ProblemText) (t : Task) (fits : IsWellTypedPair d
 
   -- ### Methods, actions and the initial network
 
+  -- a method is well typed
   method_typed : (x : MethodText) → IsIn x d.methods → (m : model_task.MethodSchema) → IsMethodOf v x m → IsMethodSchema t m
   method_typed x h m of =
       let s : Schema = schema_of_method x in
@@ -394,6 +435,7 @@ module _ (d : DomainText) (p : ProblemText) (t : Task) (fits : IsWellTypedPair d
             of.network;
       }
 
+  -- an effect is well typed
   effects_typed : (variables : List Variable) (kept : Bool → Bool) (effect : List LiteralText)
       → ((u : Use) → IsIn u (map (λ l. record { variables = variables; atom = l.atom }) effect) → Knows d p (predicate_names d) (predicate_signatures d) u)
       → All (IsAtomSchema t (length variables)) (effects_of v (names_of variables) kept effect)
@@ -404,6 +446,7 @@ module _ (d : DomainText) (p : ProblemText) (t : Task) (fits : IsWellTypedPair d
       (known (record { variables = variables; atom = l.atom })
       (in_map (λ l. record { variables = variables; atom = l.atom }) l effect (in_filter (λ l. kept l.is_positive) l effect h))))
 
+  -- an action is well typed
   action_typed : (x : ActionText) → IsIn x d.actions → IsActionSchema t (action_of v x)
   action_typed x h =
       let s : Schema = schema_of_action x in
@@ -425,6 +468,7 @@ module _ (d : DomainText) (p : ProblemText) (t : Task) (fits : IsWellTypedPair d
         adds = of_effect (λ b. b);
       }
 
+  -- the initial network is well typed
   initial_typed : IsInitialSchema t t.initial_network
   initial_typed =
       let s : Schema = schema_of_network p in
@@ -447,9 +491,11 @@ module _ (d : DomainText) (p : ProblemText) (t : Task) (fits : IsWellTypedPair d
 
   -- ### The states
 
+  -- the initial state and the goal are a schema of the problem
   states_in : IsIn (schema_of_states p) (schemas_in d p source.Problem)
   states_in = (1, omega arith, refl)
 
+  -- the goal is well typed
   goal_typed : All (IsFormula t 0) t.goal
   goal_typed =
       let s : Schema = schema_of_states p in
@@ -463,6 +509,7 @@ module _ (d : DomainText) (p : ProblemText) (t : Task) (fits : IsWellTypedPair d
   ground_term (model.parameter k) h = absurd (omega arith)
   ground_term (model.object o) h = h
 
+  -- a well typed atom without parameters is a ground atom
   ground_typed : (a : model.AtomSchema) → IsAtomSchema t 0 a → IsGroundAtom t (ground_atom [] a)
   ground_typed a typed = record {
     declared = typed.declared;
@@ -470,6 +517,7 @@ module _ (d : DomainText) (p : ProblemText) (t : Task) (fits : IsWellTypedPair d
     arguments = each_mapped (λ o. o < length t.objects) (value_of []) a.arguments (λ x h. ground_term x (subst (IsTerm t 0) h.2 (typed.arguments h.0 x h.1)));
   }
 
+  -- each initial atom is a ground atom
   initial_atom : (a : AtomText) → IsIn a p.init → IsGroundAtom t (ground_atom [] (atom_of v [] a))
   initial_atom a h =
       let s : Schema = schema_of_states p in
@@ -479,6 +527,7 @@ module _ (d : DomainText) (p : ProblemText) (t : Task) (fits : IsWellTypedPair d
       (known_atom d p fits source.Problem s states_in here
       (in_left here (map (λ a. record { variables = []; atom = a }) p.init) (atoms_in [] p.goal) (in_map (λ a. record { variables = []; atom = a }) a p.init h))))
 
+  -- so are those of the initial state
   initial_atoms_typed : (a : Atom) → contains t.initial_atoms a ≡ true → IsGroundAtom t a
   initial_atoms_typed a h =
       let atoms : List Atom = map (λ x. ground_atom [] (atom_of v [] x)) p.init in
@@ -487,6 +536,7 @@ module _ (d : DomainText) (p : ProblemText) (t : Task) (fits : IsWellTypedPair d
 
   -- ### Types of objects
 
+  -- each type has ascending objects of the task
   object_type_typed : (k : ℕ) (type : model_task.ObjectType) → k < length t.types → IsObjectType t (get_or t.types k type)
   object_type_typed k type within =
       let here : model_task.ObjectType = get_or t.types k type in
@@ -499,6 +549,7 @@ module _ (d : DomainText) (p : ProblemText) (t : Task) (fits : IsWellTypedPair d
             (ap (list_any (nat_eq number)) same ∙ list_any_at (nat_eq number) here.objects j o lt ((unsigned_Decides number number).1 refl));
       }
 
+  -- the task is well typed
   well_typed : IsWellTyped t
   well_typed = record {
     names = names_apart d p t is fits;
@@ -513,5 +564,6 @@ module _ (d : DomainText) (p : ProblemText) (t : Task) (fits : IsWellTypedPair d
     goal = goal_typed;
   }
 
+-- the task of a pair that fits together is well typed
 pub tasks_are_well_typed : TasksAreWellTyped
 tasks_are_well_typed d p t fits is = well_typed d p t fits is

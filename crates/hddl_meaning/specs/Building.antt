@@ -34,6 +34,7 @@ pub record Vocabulary : Type 0 where
   pub predicates : List Text
   pub tasks : List Text
 
+-- the names of each kind that a pair declares, each once
 abbrev pub vocabulary_of : DomainText → ProblemText → Vocabulary
 vocabulary_of d p =
     record { types = type_names d; objects = object_names d p; predicates = distinct (predicate_names d); tasks = distinct (task_names d) }
@@ -44,19 +45,24 @@ vocabulary_of d p =
 abbrev pub types_of : Vocabulary → List VariableGroup → List ℕ
 types_of v groups = map (λ t. number_in v.types (text_or_object t.of_type)) (typed_variables groups)
 
+-- the texts of the variables of a typed list
 abbrev pub variables_of : List VariableGroup → List Text
 variables_of groups = texts (mentions_of (typed_variables groups))
 
+-- a term by number: a variable by its place among those in force, an object by its name
 abbrev pub term_of : Vocabulary → List Text → Term → model.Term
 term_of v variables (term.Variable x) = model.parameter (number_in variables (folded x.text))
 term_of v variables (term.Object x) = model.object (number_in v.objects (folded x.text))
 
+-- an atom with its predicate and its terms by number
 abbrev pub atom_of : Vocabulary → List Text → AtomText → model.AtomSchema
 atom_of v variables a = record { predicate = number_in v.predicates (folded a.name.text); arguments = map (term_of v variables) a.terms }
 
+-- a subtask with its task and its terms by number
 abbrev pub subtask_of : Vocabulary → List Text → AtomText → model.TaskSchema
 subtask_of v variables a = record { name = number_in v.tasks (folded a.name.text); arguments = map (term_of v variables) a.terms }
 
+-- an equality with its sides by number
 abbrev pub equality_of : Vocabulary → List Text → EqualityText → model.EqualitySchema
 equality_of v variables e = record { is_positive = e.is_positive; left = term_of v variables e.left; right = term_of v variables e.right }
 
@@ -67,23 +73,29 @@ formula_step v (Condition-F.Equality e) variables = model.equation (equality_of 
 formula_step v (Condition-F.Forall groups body) variables =
     model.for_all (types_of v groups) (model.formulas_of (map (λ f. f (variables ++ variables_of groups)) body))
 
+-- a condition by number, given the variables in force
 abbrev pub formula_of : Vocabulary → Condition → List Text → model.Formula
 formula_of v = fold-Condition (List Text → model.Formula) (formula_step v)
 
+-- each condition by number
 abbrev pub formulas_of : Vocabulary → List Text → List Condition → List model.Formula
 formulas_of v variables conditions = map (λ c. formula_of v c variables) conditions
 
+-- the atoms of an effect by number, of the literals with the sign that is kept
 abbrev pub effects_of : Vocabulary → List Text → (Bool → Bool) → List LiteralText → List model.AtomSchema
 effects_of v variables kept effect = map (λ l. atom_of v variables l.atom) (filter (λ l. kept l.is_positive) effect)
 
 -- ## Parts
 
+-- the declaration of a predicate: its name and the types of its parameters
 abbrev pub predicate_of : Vocabulary → PredicateText → model_task.Declaration
 predicate_of v x = record { name = folded x.name.text; types = types_of v x.parameters }
 
+-- the declaration of a compound task: its name and the types of its parameters
 abbrev pub compound_of : Vocabulary → TaskText → model_task.Declaration
 compound_of v x = record { name = folded x.name.text; types = types_of v x.parameters }
 
+-- an action by number, with what it deletes and adds apart
 abbrev pub action_of : Vocabulary → ActionText → model_task.ActionSchema
 action_of v x =
     let variables = variables_of x.parameters in
@@ -100,6 +112,7 @@ pub record IsNetworkOf (v : Vocabulary) (variables : List Text) (text : NetworkT
   pub subtasks : network.subtasks ≡ map (λ s. subtask_of v variables s.task) text.subtasks
   pub order : IsOrderOf text network.order
 
+-- a method by number, part by part
 pub record IsMethodOf (v : Vocabulary) (x : MethodText) (m : model_task.MethodSchema) : Type 0 where
   pub name : m.name ≡ folded x.name.text
   pub parameters : m.parameters ≡ types_of v x.parameters

@@ -26,12 +26,15 @@ use Rattle.hddl_meaning.specs.declared.fault.CheckFault.TheVariants as fault
 
 -- ## Parts
 
+-- a name at a place
 abbrev pub called : ℕ → List ℕ → Name
 called place text = record { place = place; text = text }
 
+-- a variable at a place
 abbrev pub variable : ℕ → List ℕ → Variable
 variable place text = record { place = place; text = text }
 
+-- an atom with these terms
 abbrev pub at_terms : Name → List Term → AtomText
 at_terms name terms = record { name = name; terms = terms }
 
@@ -39,21 +42,27 @@ at_terms name terms = record { name = name; terms = terms }
 abbrev pub typed_as : Variable → Name → List VariableGroup
 typed_as x type = record { variables = x ∷ []; of_type = Some type } ∷ []
 
+-- one variable without a type
 abbrev pub untyped : Variable → List VariableGroup
 untyped x = record { variables = x ∷ []; of_type = None } ∷ []
 
+-- a predicate with these parameters
 abbrev pub predicate : Name → List VariableGroup → PredicateText
 predicate name parameters = record { name = name; parameters = parameters }
 
+-- an action without an effect
 abbrev pub action : Name → List VariableGroup → List Condition → ActionText
 action name parameters precondition = record { name = name; parameters = parameters; precondition = precondition; effect = [] }
 
+-- an atom as a condition
 abbrev pub atom : AtomText → Condition
 atom a = roll-Condition (Condition-F.Literal (record { is_positive = true; atom = a }))
 
+-- a condition for all objects of the groups
 abbrev pub for_all : List VariableGroup → List Condition → Condition
 for_all groups body = roll-Condition (Condition-F.Forall groups body)
 
+-- a network without subtasks
 abbrev pub no_network : NetworkText
 no_network = record { is_ordered = true; subtasks = []; orderings = []; constraints = [] }
 
@@ -82,9 +91,11 @@ empty_problem = record {
   htn = record { place = 32; parameters = []; network = no_network };
 }
 
+-- a place in the domain's text
 abbrev pub in_domain : ℕ → At
 in_domain place = record { source = source.Domain; place = place }
 
+-- a place in the problem's text
 abbrev pub in_problem : ℕ → At
 in_problem place = record { source = source.Problem; place = place }
 
@@ -126,6 +137,7 @@ no_box = record empty_domain {
   actions = action (called 93 (codes "a")) [] (atom (at_terms (called 110 (codes "p")) (term.Object (called 112 (codes "c")) ∷ [])) ∷ []) ∷ [];
 }
 
+-- a subtask without terms, with a label
 abbrev pub labelled : Name → Name → SubtaskText
 labelled label task = record { label = Some label; task = at_terms task [] }
 
@@ -142,6 +154,7 @@ two_ways = record {
 abbrev pub no_subtask : NetworkText
 no_subtask = record two_ways { orderings = record { before = called 93 (codes "S2"); after = called 96 (codes "s3") } ∷ [] }
 
+-- the empty problem with this initial network
 abbrev pub problem_of : NetworkText → ProblemText
 problem_of network = record empty_problem { htn = record { place = 32; parameters = []; network = network } }
 
@@ -149,6 +162,7 @@ problem_of network = record empty_problem { htn = record { place = 32; parameter
 abbrev pub many_places : DomainText
 many_places = record empty_domain { predicates = predicate (called 33 (codes "p")) (record { variables = replicate 33 (variable 35 (codes "?x")); of_type = None } ∷ []) ∷ [] }
 
+-- each kind of fault holds at a place of a small pair
 pub record FaultsHavePlaces : Type 0 where
   pub duplicate : FailsAt two_predicates empty_problem (fault.Duplicate (in_domain 37))
   pub unknown_type : FailsAt no_type empty_problem (fault.UnknownType (in_domain 40))
@@ -188,6 +202,7 @@ of_no_type = record empty_problem {
   init = at_terms (called 57 (codes "p")) (term.Object (called 59 (codes "o")) ∷ []) ∷ [];
 }
 
+-- a cycle needs a way back other than `object - object`, and a clash needs two declared types
 pub record FaultsHaveReasons : Type 0 where
   -- `object` below itself is ignored, and `object` below another type is on a cycle, with both names
   pub ignored : FailsAt object_above_itself empty_problem (fault.TypeCycle (in_domain 27)) → ⊥
@@ -206,6 +221,7 @@ quantified =
     for_all (typed_as (variable 0 (codes "?c")) (called 0 (codes "CAN")))
     (atom (at_terms (called 0 (codes "p")) (term.Variable (variable 0 (codes "?c")) ∷ term.Variable (variable 0 (codes "?B")) ∷ [])) ∷ [])
 
+-- what small conditions, networks and types mean
 pub record TreesHaveMeanings : Type 0 where
   -- `object` first, then each type where it is first named
   pub types : type_names two_types ≡ codes "object" ∷ codes "a" ∷ codes "b" ∷ []
@@ -293,6 +309,7 @@ packing_task = record {
   goal = [];
 }
 
+-- the pair of packing fits together, and its task is the one written out
 pub record PackingIsATask : Type 0 where
   pub fits : IsWellTypedPair packing one_box
   pub task : IsTaskOf packing one_box packing_task

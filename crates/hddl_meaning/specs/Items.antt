@@ -23,6 +23,7 @@ use Rattle.hddl_meaning.specs.Uses.{Variable, Use, TermUse, Schema, domain_schem
 
 -- ## By the text
 
+-- what the methods and actions of the domain, or the problem, use
 abbrev pub schemas_in : DomainText → ProblemText → Source → List Schema
 schemas_in d p source.Domain = domain_schemas d
 schemas_in d p source.Problem = problem_schemas p
@@ -32,24 +33,29 @@ abbrev pub networks_in : DomainText → ProblemText → Source → List (ℕ × 
 networks_in d p source.Domain = map (λ m. (m.place, m.network)) d.methods
 networks_in d p source.Problem = (p.htn.place, p.htn.network) ∷ []
 
+-- the constants of the domain, or the objects of the problem
 abbrev pub declared_objects : DomainText → ProblemText → Source → List Typed
 declared_objects d p source.Domain = typed_names d.constants
 declared_objects d p source.Problem = typed_names p.objects
 
 -- ## 1. Names that must differ
 
+-- the mentions of variables in force
 abbrev pub variable_mentions : List Variable → List Mention
 variable_mentions variables = map (λ v. v.typed.mention) variables
 
+-- the labels of the subtasks of a network
 abbrev pub label_mentions : NetworkText → List Mention
 label_mentions n = flat_map (λ s. optional_mention s.label) n.subtasks
 
+-- names that must differ: predicates; methods; tasks and actions together
 abbrev pub declaration_groups : DomainText → Source → List (List Mention)
 declaration_groups d source.Domain =
     map (λ x. mention_of x.name) d.predicates ∷ map (λ x. mention_of x.name) d.methods
     ∷ (map (λ x. mention_of x.name) d.tasks ++ map (λ x. mention_of x.name) d.actions) ∷ []
 declaration_groups d source.Problem = []
 
+-- variables that must differ: parameters, and those of a `forall` with those in force around it
 abbrev pub schema_groups : Schema → List (List Mention)
 schema_groups s =
     mentions_of (typed_variables s.parameters)
@@ -70,6 +76,7 @@ IsDuplicate d p at =
 
 -- ## 2. Types that are named
 
+-- the type that a typed name has, if one stands there
 abbrev pub type_of : Typed → List Mention
 type_of t = by t.of_type
   where
@@ -89,9 +96,11 @@ type_uses d p text =
         flat_map (λ x. typed_variables x.parameters) d.predicates ++ flat_map (λ x. typed_variables x.parameters) d.tasks
     declaration_parameters d source.Problem = []
 
+-- a type is `object` or stands in `:types`
 abbrev pub IsDeclaredType : DomainText → Text → Type 0
 IsDeclaredType d text = (text ≡ object) ⊎ IsIn text (texts (type_mentions d))
 
+-- a type that is used and isn't declared, at its place
 abbrev pub IsUnknownType : DomainText → ProblemText → At → Type 0
 IsUnknownType d p at =
     (m : Mention) × IsIn m (type_uses d p at.source) × (IsDeclaredType d m.text → ⊥) × (at.place ≡ m.place)
@@ -106,6 +115,7 @@ IsTypeCycle d at =
 
 -- ## 4. Names that are used
 
+-- a part of all schemas, one after the other
 abbrev pub flattened : {X : Type 0} → (Schema → List X) → List Schema → List X
 flattened part schemas = flat_map part schemas
 
@@ -113,6 +123,7 @@ flattened part schemas = flat_map part schemas
 abbrev pub IsMissing : List Text → Name → ℕ → Type 0
 IsMissing names name place = (IsIn (folded name.text) names → ⊥) × (place ≡ name.place)
 
+-- one of the uses has a name that isn't among these, at its place
 abbrev pub AreMissing : List Text → List Use → ℕ → Type 0
 AreMissing names uses place = (u : Use) × IsIn u uses × IsMissing names u.atom.name place
 
@@ -128,9 +139,11 @@ IsUnknownTerm objects u place = by u.term
 abbrev pub arguments_of : Use → List TermUse
 arguments_of u = map (λ x. record { variables = u.variables; term = x }) u.atom.terms
 
+-- all terms of a schema: arguments of its uses, and sides of its equalities
 abbrev pub terms_in : Schema → List TermUse
 terms_in s = flat_map arguments_of (s.atoms ++ s.decomposed ++ s.subtasks) ++ s.sides
 
+-- a name of a predicate, a task or a term that isn't declared, at its place
 abbrev pub IsUnknownName : DomainText → ProblemText → At → Type 0
 IsUnknownName d p at =
     let schemas = schemas_in d p at.source in
@@ -146,12 +159,15 @@ pub record Signature : Type 0 where
   pub name : Text
   pub places : List Typed
 
+-- a declared name with its typed parameters
 abbrev pub signature : Name → List VariableGroup → Signature
 signature name parameters = record { name = folded name.text; places = typed_variables parameters }
 
+-- the declarations of all predicates
 abbrev pub predicate_signatures : DomainText → List Signature
 predicate_signatures d = map (λ x. signature x.name x.parameters) d.predicates
 
+-- the declarations of all tasks and all actions
 abbrev pub task_signatures : DomainText → List Signature
 task_signatures d = map (λ x. signature x.name x.parameters) d.tasks ++ map (λ x. signature x.name x.parameters) d.actions
 
@@ -159,6 +175,7 @@ task_signatures d = map (λ x. signature x.name x.parameters) d.tasks ++ map (λ
 abbrev pub declaration_in : List Signature → Name → Option Signature
 declaration_in signatures name = find (λ s. is_same_text (folded name.text) s.name) signatures
 
+-- one of the uses has another number of arguments than its declaration, at the place of its name
 abbrev pub HasWrongArity : List Signature → List Use → ℕ → Type 0
 HasWrongArity signatures uses place =
     (u : Use) × (s : Signature) × IsIn u uses × (declaration_in signatures u.atom.name ≡ Some s)
@@ -168,6 +185,7 @@ HasWrongArity signatures uses place =
 abbrev pub tasks_in : Schema → List Use
 tasks_in s = s.decomposed ++ s.subtasks
 
+-- a use of a predicate, a task or an action with a wrong number of arguments
 abbrev pub IsWrongArity : DomainText → ProblemText → At → Type 0
 IsWrongArity d p at =
     let schemas = schemas_in d p at.source in
@@ -216,11 +234,13 @@ IsClash d p variables argument at_place place = IsType d type × by argument
         IsIn (folded x.text) (object_names d p) × HasDeclaredTypes d p (folded x.text) × (HasType d p (folded x.text) type → ⊥)
         × (place ≡ x.place)
 
+-- an argument of one of the uses clashes with the type that is declared at its place
 abbrev pub HasClash : DomainText → ProblemText → List Signature → List Use → ℕ → Type 0
 HasClash d p signatures uses place =
     (u : Use) × (s : Signature) × (argument : Term) × (at_place : Typed) × IsIn u uses × (declaration_in signatures u.atom.name ≡ Some s)
     × IsIn (argument, at_place) (zip u.atom.terms s.places) × IsClash d p u.variables argument at_place place
 
+-- an argument of a predicate, a task or an action clashes with the type that is declared at its place
 abbrev pub IsTypeClash : DomainText → ProblemText → At → Type 0
 IsTypeClash d p at =
     let schemas = schemas_in d p at.source in
@@ -229,6 +249,7 @@ IsTypeClash d p at =
 
 -- ## 7. and 8. Orders
 
+-- the orderings of a network lead from a subtask to itself, at the place of the network
 abbrev pub IsOrderCycle : DomainText → ProblemText → At → Type 0
 IsOrderCycle d p at =
     (n : ℕ × NetworkText) × (a : ℕ) × IsIn n (networks_in d p at.source) × Precedes (order_pairs n.1) a a × (at.place ≡ n.0)
@@ -237,6 +258,7 @@ IsOrderCycle d p at =
 abbrev pub ordering_names : NetworkText → List Name
 ordering_names n = flat_map (λ o. o.before ∷ o.after ∷ []) n.orderings
 
+-- a name in an ordering that is no label of the network, at its place
 abbrev pub IsUnknownSubtask : DomainText → ProblemText → At → Type 0
 IsUnknownSubtask d p at =
     (n : ℕ × NetworkText) × (name : Name) × IsIn n (networks_in d p at.source) × IsIn name (ordering_names n.1)
@@ -271,16 +293,19 @@ most_variables = 65535
 abbrev pub most_subtasks : ℕ
 most_subtasks = 10000
 
+-- declared names that are counted: predicates, tasks, methods and actions
 abbrev pub declaration_lists : DomainText → Source → List (List Mention)
 declaration_lists d source.Domain =
     map (λ x. mention_of x.name) d.predicates ∷ map (λ x. mention_of x.name) d.tasks ∷ map (λ x. mention_of x.name) d.methods
     ∷ map (λ x. mention_of x.name) d.actions ∷ []
 declaration_lists d source.Problem = []
 
+-- the parameters of each predicate
 abbrev pub predicate_parameters : DomainText → Source → List (List Mention)
 predicate_parameters d source.Domain = map (λ x. mentions_of (typed_variables x.parameters)) d.predicates
 predicate_parameters d source.Problem = []
 
+-- parameters that are counted: those of predicates, methods, actions and the initial network, and of each `forall`
 abbrev pub parameter_lists : DomainText → ProblemText → Source → List (List Mention)
 parameter_lists d p text =
     predicate_parameters d text
@@ -288,6 +313,7 @@ parameter_lists d p text =
     (λ s. mentions_of (typed_variables s.parameters) ∷ map (λ q. mentions_of (typed_variables q.own)) s.quantifiers)
     (schemas_in d p text)
 
+-- variables in force that are counted, at each `forall`
 abbrev pub variable_lists : DomainText → ProblemText → Source → List (List Mention)
 variable_lists d p text =
     flat_map (λ s. map (λ q. variable_mentions q.around ++ mentions_of (typed_variables q.own)) s.quantifiers) (schemas_in d p text)
@@ -310,6 +336,7 @@ IsPastObjects d p at = by at.source
         × (length (distinct (texts (mentions source.Domain ++ before))) ≡ most_declarations)
         × (IsIn m.text (texts (mentions source.Domain ++ before)) → ⊥) × (at.place ≡ m.place)
 
+-- a declaration, a parameter, a variable or a subtask past its limit, at its place
 abbrev pub IsTooMany : DomainText → ProblemText → At → Type 0
 IsTooMany d p at =
     ((at.source ≡ source.Domain) × IsPastDistinct most_declarations (type_mentions d) at.place)
@@ -321,6 +348,7 @@ IsTooMany d p at =
 
 -- ## All
 
+-- a fault holds at its place, by what its kind says
 abbrev pub FailsAt : DomainText → ProblemText → CheckFault → Type 0
 FailsAt d p (fault.Duplicate at) = IsDuplicate d p at
 FailsAt d p (fault.UnknownType at) = IsUnknownType d p at

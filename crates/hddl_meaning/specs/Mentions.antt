@@ -10,16 +10,20 @@ use Rattle.hddl_tree.specs.declared.term.VariableGroup.{VariableGroup}
 abbrev pub Text : Type 0
 Text = List ℕ
 
+-- bytes in lower case
 abbrev pub folded : List ℕ → Text
 folded bytes = map to_ascii_lowercase bytes
 
+-- a name in lower case, with its place
 pub record Mention : Type 0 where
   pub text : Text
   pub place : ℕ
 
+-- the mention of a name
 abbrev pub mention_of : Name → Mention
 mention_of x = record { text = folded x.text; place = x.place }
 
+-- the mention of a variable
 abbrev pub variable_mention : Variable → Mention
 variable_mention x = record { text = folded x.text; place = x.place }
 
@@ -28,17 +32,22 @@ pub record Typed : Type 0 where
   pub mention : Mention
   pub of_type : Option Mention
 
+-- each name of a typed list with the type of its group
 abbrev pub typed_names : List NameGroup → List Typed
 typed_names groups = flat_map (λ g. map (λ x. record { mention = mention_of x; of_type = option_map mention_of g.of_type }) g.names) groups
 
+-- each variable of a typed list with the type of its group
 abbrev pub typed_variables : List VariableGroup → List Typed
 typed_variables groups = flat_map (λ g. map (λ x. record { mention = variable_mention x; of_type = option_map mention_of g.of_type }) g.variables) groups
 
+-- the mentions of typed names, without types
 abbrev pub mentions_of : List Typed → List Mention
 mentions_of ts = map (λ t. t.mention) ts
 
+-- the texts of mentions, without places
 abbrev pub texts : List Mention → List Text
 texts mentions = map (λ m. m.text) mentions
 
+-- a value stands in a list
 abbrev pub IsIn : {X : Type 0} → X → List X → Type 0
 IsIn x xs = Contains xs x

@@ -7,6 +7,7 @@ use Rattle.hddl_tree.specs.declared.problem.ProblemText.{ProblemText}
 use Rattle.hddl_words.specs.Names.{Name}
 use Rattle.hddl_meaning.specs.Mentions.{Text, Mention, Typed, folded, mention_of, mentions_of, texts, typed_names}
 
+-- whether two texts have the same bytes
 abbrev pub is_same_text : Text → Text → Bool
 is_same_text = pointwise nat_eq
 
@@ -18,6 +19,7 @@ with_name names text = cond (list_any (is_same_text text) names) names (names ++
 abbrev pub distinct : List Text → List Text
 distinct all = fold with_name [] all
 
+-- a number, or 0 where there is none
 abbrev pub number_or_zero : Option ℕ → ℕ
 number_or_zero None = 0
 number_or_zero (Some number) = number
@@ -30,6 +32,7 @@ number_in names text = number_or_zero (position (is_same_text text) names)
 abbrev pub object : Text
 object = codes "object"
 
+-- the mention of a name, if there is one
 abbrev pub optional_mention : Option Name → List Mention
 optional_mention None = []
 optional_mention (Some x) = mention_of x ∷ []
@@ -46,12 +49,15 @@ type_names d = distinct (object ∷ texts (type_mentions d))
 abbrev pub object_declarations : DomainText → ProblemText → List Typed
 object_declarations d p = typed_names d.constants ++ typed_names p.objects
 
+-- the names of constants and objects, each once
 abbrev pub object_names : DomainText → ProblemText → List Text
 object_names d p = distinct (texts (mentions_of (object_declarations d p)))
 
+-- the names of the predicates
 abbrev pub predicate_names : DomainText → List Text
 predicate_names d = map (λ x. folded x.name.text) d.predicates
 
+-- the names of the compound tasks
 abbrev pub compound_names : DomainText → List Text
 compound_names d = map (λ x. folded x.name.text) d.tasks
 

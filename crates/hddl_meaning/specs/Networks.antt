@@ -8,6 +8,7 @@ use Rattle.htn_order.specs.Closure.{IsClosureOf, successors}
 use Rattle.hddl_meaning.specs.Mentions.{Text, folded}
 use Rattle.hddl_meaning.specs.Names.{is_same_text}
 
+-- whether a label is there and has that text
 abbrev pub is_text : Text → Option Name → Bool
 is_text text None = false
 is_text text (Some label) = is_same_text text (folded label.text)
@@ -16,6 +17,7 @@ is_text text (Some label) = is_same_text text (folded label.text)
 abbrev pub labelled : NetworkText → Name → Option ℕ
 labelled n name = position (λ s. is_text (folded name.text) s.label) n.subtasks
 
+-- the pair of two numbers, if both are there
 abbrev pub pair_of : Option ℕ → Option ℕ → List (ℕ × ℕ)
 pair_of (Some a) (Some b) = (a, b) ∷ []
 pair_of (Some a) None = []

@@ -10,6 +10,7 @@ pub data Leads (pairs : List (Text × Text)) : Text → Text → Type 0 where
   Direct : (t u : Text) → Contains pairs (t, u) → Leads pairs t u
   Through : (t u v : Text) → Contains pairs (t, u) → Leads pairs u v → Leads pairs t v
 
+-- the text of a type, and `object` where none stands
 abbrev pub text_or_object : Option Mention → Text
 text_or_object None = object
 text_or_object (Some m) = m.text
@@ -18,9 +19,11 @@ text_or_object (Some m) = m.text
 abbrev pub declared_pair : Typed → Text × Text
 declared_pair t = (t.mention.text, text_or_object t.of_type)
 
+-- each declared type with its parent
 abbrev pub declared_pairs : DomainText → List (Text × Text)
 declared_pairs d = map declared_pair (typed_names d.types)
 
+-- whether a pair is `object` with itself
 abbrev pub is_object_pair : Text × Text → Bool
 is_object_pair pair = is_same_text pair.0 object && is_same_text pair.1 object
 

@@ -19,9 +19,11 @@ pub record Variable : Type 0 where
   pub typed : Typed
   pub is_quantified : Bool
 
+-- parameters as variables in force
 abbrev pub parameters_of : List VariableGroup → List Variable
 parameters_of groups = map (λ t. record { typed = t; is_quantified = false }) (typed_variables groups)
 
+-- the variables of a `forall` as variables in force
 abbrev pub quantified_of : List VariableGroup → List Variable
 quantified_of groups = map (λ t. record { typed = t; is_quantified = true }) (typed_variables groups)
 
@@ -30,6 +32,7 @@ pub record Use : Type 0 where
   pub variables : List Variable
   pub atom : AtomText
 
+-- a term with the variables in force at it
 pub record TermUse : Type 0 where
   pub variables : List Variable
   pub term : Term
@@ -45,6 +48,7 @@ pub record Quantifier : Type 0 where
 abbrev pub under : {X : Type 0} → List Variable → List VariableGroup → List (List Variable → List X) → List X
 under variables groups body = flat_map (λ part. part (variables ++ quantified_of groups)) body
 
+-- the atom of a literal, and those in the body of a `forall`
 abbrev pub atoms_step : Condition-F (List Variable → List Use) → List Variable → List Use
 atoms_step (Condition-F.Literal l) variables = record { variables = variables; atom = l.atom } ∷ []
 atoms_step (Condition-F.Equality e) variables = []
@@ -54,9 +58,11 @@ atoms_step (Condition-F.Forall groups body) variables = under variables groups b
 abbrev pub atoms_in : List Variable → List Condition → List Use
 atoms_in variables conditions = flat_map (λ c. fold-Condition (List Variable → List Use) atoms_step c variables) conditions
 
+-- both sides of an equality
 abbrev pub sides : List Variable → EqualityText → List TermUse
 sides variables e = record { variables = variables; term = e.left } ∷ record { variables = variables; term = e.right } ∷ []
 
+-- the sides of an equality, and those in the body of a `forall`
 abbrev pub sides_step : Condition-F (List Variable → List TermUse) → List Variable → List TermUse
 sides_step (Condition-F.Literal l) variables = []
 sides_step (Condition-F.Equality e) variables = sides variables e
@@ -66,11 +72,13 @@ sides_step (Condition-F.Forall groups body) variables = under variables groups b
 abbrev pub sides_in : List Variable → List Condition → List TermUse
 sides_in variables conditions = flat_map (λ c. fold-Condition (List Variable → List TermUse) sides_step c variables) conditions
 
+-- a `forall`, and those in its body
 abbrev pub quantifiers_step : Condition-F (List Variable → List Quantifier) → List Variable → List Quantifier
 quantifiers_step (Condition-F.Literal l) variables = []
 quantifiers_step (Condition-F.Equality e) variables = []
 quantifiers_step (Condition-F.Forall groups body) variables = record { around = variables; own = groups } ∷ under variables groups body
 
+-- each `forall` in the conditions
 abbrev pub quantifiers_in : List Variable → List Condition → List Quantifier
 quantifiers_in variables conditions = flat_map (λ c. fold-Condition (List Variable → List Quantifier) quantifiers_step c variables) conditions
 
@@ -89,12 +97,15 @@ pub record Schema : Type 0 where
   pub sides : List TermUse
   pub quantifiers : List Quantifier
 
+-- the subtasks of a network, each as a use
 abbrev pub subtasks_in : List Variable → NetworkText → List Use
 subtasks_in variables n = map (λ s. record { variables = variables; atom = s.task }) n.subtasks
 
+-- the sides of all constraints of a network
 abbrev pub constraints_in : List Variable → NetworkText → List TermUse
 constraints_in variables n = flat_map (sides variables) n.constraints
 
+-- what a method uses and declares
 abbrev pub schema_of_method : MethodText → Schema
 schema_of_method m =
     let variables = parameters_of m.parameters in
@@ -107,6 +118,7 @@ schema_of_method m =
       quantifiers = quantifiers_in variables m.precondition;
     }
 
+-- what an action uses and declares
 abbrev pub schema_of_action : ActionText → Schema
 schema_of_action a =
     let variables = parameters_of a.parameters in
@@ -119,6 +131,7 @@ schema_of_action a =
       quantifiers = quantifiers_in variables a.precondition;
     }
 
+-- what the initial network uses and declares
 abbrev pub schema_of_network : ProblemText → Schema
 schema_of_network p =
     let variables = parameters_of p.htn.parameters in
@@ -142,8 +155,10 @@ schema_of_states p = record {
   quantifiers = quantifiers_in [] p.goal;
 }
 
+-- what each method and each action of a domain uses and declares
 abbrev pub domain_schemas : DomainText → List Schema
 domain_schemas d = map schema_of_method d.methods ++ map schema_of_action d.actions
 
+-- what the initial network, and the initial state with the goal, use and declare
 abbrev pub problem_schemas : ProblemText → List Schema
 problem_schemas p = schema_of_network p ∷ schema_of_states p ∷ []

@@ -11,7 +11,8 @@ ghost use Rattle.hddl_meaning.specs.Examples.{FaultsHavePlaces, FaultsHaveReason
 
 pub use fault::{At, CheckFault, Source};
 
-/// A domain and a problem have one task at most: two that are theirs are equal, also where the pair doesn't fit together.
+/// A domain and a problem have one task at most: two that are theirs are equal, also where the pair doesn't fit
+/// together.
 pub fn pairs_have_one_task()
     ensures unique { TasksAreUnique }
 {}
@@ -21,14 +22,15 @@ pub fn pairs_have_a_task()
     ensures exist { TasksExist }
 {}
 
-/// The task of a domain and a problem that fit together is well typed: each number in it is that of something declared, each
-/// atom and each task has as many arguments as its declaration has places, and orders are closed and have no cycle.
+/// The task of a domain and a problem that fit together is well typed: each number in it is that of something declared,
+/// each atom and each task has as many arguments as its declaration has places, and orders are closed and have no
+/// cycle.
 pub fn tasks_are_well_typed()
     ensures typed { TasksAreWellTyped }
 {}
 
-/// Small trees: one that fails in the way of each fault, at that fault's place, what some parts mean, a pair that fits together
-/// with its task, and where types are on no cycle and clash with none.
+/// Small trees: one that fails in the way of each fault, at that fault's place, what some parts mean, a pair that fits
+/// together with its task, and where types are on no cycle and clash with none.
 pub fn worked_examples_hold()
     ensures faults { FaultsHavePlaces }
     ensures meanings { TreesHaveMeanings }

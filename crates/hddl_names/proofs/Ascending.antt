@@ -30,9 +30,11 @@ not-before xs i different lt = ⊎_elim (λ e. absurd (twice (Contains-from_any 
         let less : j < i = omega (arith, below, len, lt) in
         AllPairs-from_IsDistinct unsigned_Decides xs different j i 0 less lt (sym (get_or-take i xs j 0 less) ∙ get_or_default (take i xs) j 0 (get_or xs i 0) below ∙ is)
 
+-- whether a number is among the first ones, with one more of them
 pub any-more : (k : ℕ) (xs : List ℕ) (i : ℕ) → i < length xs → list_any (nat_eq k) (take (i + 1) xs) ≡ (list_any (nat_eq k) (take i xs) || (nat_eq k (get_or xs i 0) || false))
 any-more k xs i lt = ap (list_any (nat_eq k)) (take_more xs i 0 lt) ∙ list_any-append (nat_eq k) (take i xs) (get_or xs i 0 ∷ [])
 
+-- one of the types more has the object at the end of its list
 pub pushed-more : (start now new : List (List ℕ)) (types : List ℕ) (i o : ℕ) → IsDistinct nat_eq types → i < length types → get_or types i 0 < length now
     → new ≡ set now (get_or types i 0) (get_or now (get_or types i 0) [] ++ o ∷ [])
     → ((k : ℕ) → get_or now k [] ≡ get_or start k [] ++ cond (list_any (nat_eq k) (take i types)) (o ∷ []) [])
@@ -73,23 +75,28 @@ pushed-more start now new types i o different lt small is before k = ⊎_elim sa
 
 -- ## The lists
 
+-- a smaller number compares as less
 less : (x y : ℕ) → x < y → nat_cmp x y ≡ Less
 less x y lt = ap (λ b. cond b Less (cond (nat_eq x y) Equal Greater)) (lt-ltb x y lt)
 
+-- a number less than all of a list and one more is less than all of both
 all-push : (x y : ℕ) (xs : List ℕ) → AllByRecursion (λ z. nat_cmp x z ≡ Less) xs → nat_cmp x y ≡ Less → AllByRecursion (λ z. nat_cmp x z ≡ Less) (xs ++ y ∷ [])
 all-push x y [] all lt = (lt, tt)
 all-push x y (z ∷ zs) all lt = (all.0, all-push x y zs all.1 lt)
 
+-- a number greater than all of an ascending list may be put at its end
 pub sorted-push : (xs : List ℕ) (y : ℕ) → IsStrictlySortedBy nat_cmp xs → ((x : ℕ) → Contains xs x → x < y) → IsStrictlySortedBy nat_cmp (xs ++ y ∷ [])
 unfolding IsStrictlySortedBy
 sorted-push [] y sorted below = (tt, tt)
 sorted-push (x ∷ xs) y sorted below =
     (all-push x y xs sorted.0 (less x y (below x (first x xs))), sorted-push xs y sorted.1 (λ z h. below z (Contains-append_right (x ∷ []) xs z h)))
 
+-- an empty list ascends
 sorted-none : IsStrictlySortedBy nat_cmp []
 unfolding IsStrictlySortedBy
 sorted-none = tt
 
+-- before the first object all lists are empty
 pub filled-start : (pairs : List (ℕ × ℕ)) (declared : List (List ℕ)) (flags : List Bool) (n : ℕ) (lists : List (List ℕ)) → lists ≡ replicate n [] → AreFilled pairs declared flags n 0 lists
 filled-start pairs declared flags n lists is =
     subst (AreFilled pairs declared flags n 0) (sym is)
@@ -110,6 +117,7 @@ Has pairs declared k o = (t : ℕ) × Contains (get_or declared o []) t × Reach
 abbrev IsListed : List (ℕ × ℕ) → List (List ℕ) → List Bool → ℕ → ℕ → ℕ → Type 0
 IsListed pairs declared flags m k o = (o < m) × (get_or flags k false ≡ true) × Has pairs declared k o
 
+-- one object more is in the lists of the types that it leads to
 pub filled-more : (pairs : List (ℕ × ℕ)) (declared : List (List ℕ)) (flags : List Bool) (n i : ℕ) (lists new : List (List ℕ)) (above : List ℕ) → IsFlaggedAbove pairs flags (get_or declared i []) above
     → length new ≡ length lists → ((k : ℕ) → get_or new k [] ≡ get_or lists k [] ++ cond (list_any (nat_eq k) above) (i ∷ []) []) → AreFilled pairs declared flags n i lists
     → AreFilled pairs declared flags n (i + 1) new
@@ -156,6 +164,7 @@ filled-more pairs declared flags n i lists new above some same grown filled =
 differs : (k n : ℕ) → k ≢ n → nat_eq k n ≡ false
 differs k n ne = ⊎_elim (λ e. absurd (ne (eqb-true k n e))) (λ e. e) (cases_Bool (nat_eq k n))
 
+-- what fails adds nothing
 no_flag : (a b : Bool) → b ≡ false → (a || (b || false)) ≡ a
 no_flag true b e = refl
 no_flag false b e = ap (λ b. b || false) e
@@ -169,6 +178,7 @@ all-filter p x (y ∷ ys) all = by (p y) (all-filter p x ys all.1)
     by true rest = (all.0, rest)
     by false rest = rest
 
+-- a list without repeats has none once it is filtered
 pub distinct-filter : (p : ℕ → Bool) (xs : List ℕ) → IsDistinct nat_eq xs → IsDistinct nat_eq (filter p xs)
 unfolding IsDistinct
 distinct-filter p [] different = tt
@@ -178,6 +188,7 @@ distinct-filter p (x ∷ xs) different = by (p x) (distinct-filter p xs differen
     by true rest = (all-filter p x xs different.0, rest)
     by false rest = rest
 
+-- an empty list has no repeats
 distinct-none : IsDistinct nat_eq []
 unfolding IsDistinct
 distinct-none = tt
@@ -231,6 +242,7 @@ flag-past count flags numbers i n lt is past before k low =
 
 -- ## Rows of types that objects share
 
+-- rows that the test doesn't tell apart are equal
 pub same_row : (xs ys : List ℕ) → false ≡ not (pointwise nat_eq xs ys) → xs ≡ ys
 same_row xs ys e = (pointwise_decides unsigned_Decides xs ys).0 (by (pointwise nat_eq xs ys) e)
   where

@@ -17,17 +17,20 @@ pub record AreCollected (d : DomainText) (names : List Text) (groups : List Name
   pub grouped : groups ≡ d.types
   pub filtered : pairs ≡ filter (λ p. not (is_root p)) (pairs_in names groups ++ object_pairs_in names groups)
 
+-- the pairs that were collected are those of types and parents
 pub collected-same : (d : DomainText) (names : List Text) (groups : List NameGroup) (pairs : List (ℕ × ℕ)) → AreCollected d names groups pairs → HasSame pairs (numbered_pairs d)
 collected-same d names groups pairs h =
     subst (λ (ps : List (ℕ × ℕ)). HasSame ps (numbered_pairs d))
     (sym (h.filtered ∙ ap₂ (λ (ns : List Text) (gs : List NameGroup). filter (λ p. not (is_root p)) (pairs_in ns gs ++ object_pairs_in ns gs)) h.named h.grouped)) (collected d)
 
+-- each pair that was collected has numbers of types
 pub collected-below : (d : DomainText) (names : List Text) (groups : List NameGroup) (pairs all : List (ℕ × ℕ)) (size : ℕ) → AreCollected d names groups pairs
     → all ≡ pairs → size ≡ length names → AreBelow size all
 collected-below d names groups pairs all size h is count =
     subst (λ (ps : List (ℕ × ℕ)). AreBelow size ps) (sym is)
     (subst (λ n. AreBelow n pairs) (sym (count ∙ ap length h.named)) (below_same (length (type_names d)) pairs (numbered_pairs d) (collected-same d names groups pairs h) (numbers-below d)))
 
+-- the rows made of the pairs are the parents and the children of each type
 pub collected-types : (d : DomainText) (names : List Text) (groups : List NameGroup) (pairs one two : List (ℕ × ℕ)) (up down : List (List ℕ)) (size : ℕ)
     → AreCollected d names groups pairs → size ≡ length names → one ≡ pairs → two ≡ turned pairs → length up ≡ size → length down ≡ size → AreRows one up → AreRows two down
     → AreTypesOf d names up down

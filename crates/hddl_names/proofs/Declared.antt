@@ -10,13 +10,16 @@ use Rattle.hddl_meaning.specs.Mentions.{Text, Mention, folded, mention_of, texts
 use Rattle.hddl_meaning.specs.Names.{with_name, optional_mention}
 use Rattle.hddl_names.specs.Texts.{mentions_in}
 
+-- the texts of mentioned names are the names in lower case
 pub names-texts : (names : List Name) → texts (map mention_of names) ≡ map (λ x. folded x.text) names
 names-texts [] = refl
 names-texts (x ∷ xs) = ap (λ ts. folded x.text ∷ ts) (names-texts xs)
 
+-- the texts of a group are its names' and then its type's
 group-texts : (g : NameGroup) → texts (map mention_of g.names ++ optional_mention g.of_type) ≡ map (λ x. folded x.text) g.names ++ texts (optional_mention g.of_type)
 group-texts g = map-append (λ m. m.text) (map mention_of g.names) (optional_mention g.of_type) ∙ ap (λ ts. ts ++ texts (optional_mention g.of_type)) (names-texts g.names)
 
+-- the mentions of one group more come at the end
 last-mentions : (groups : List NameGroup) (g : NameGroup) → mentions_in (groups ++ g ∷ []) ≡ mentions_in groups ++ (map mention_of g.names ++ optional_mention g.of_type)
 last-mentions groups g =
     flat_map-append (λ (g : NameGroup). map mention_of g.names ++ optional_mention g.of_type) groups (g ∷ [])

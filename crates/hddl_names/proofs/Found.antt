@@ -18,6 +18,7 @@ use Rattle.std.proofs.lemmas.List.Elements.{All-contains}
 use Rattle.htn_order.specs.Closure.{Precedes, Direct, Through, AreBelow}
 use Rattle.hddl_names.proofs.Parents.{numbers-below, below-reaches, reaches-below, turn-reaches, unturn-reaches, share-number, number-share, number-type}
 
+-- the numbers found from a type on tell which types it is below
 pub found-below : (d : DomainText) (names : List Text) (up down : List (List ℕ)) (t u : ℕ) (found : List ℕ) → AreTypesOf d names up down
     → t < length (type_names d) → u < length (type_names d) → IsReached up t found
     → (list_any (nat_eq u) found ≡ true) ↔ IsBelow d (type_at d t) (type_at d u)
@@ -26,10 +27,12 @@ found-below d names up down t u found types small small_u reached = (
   λ h. list_any-from_Contains nat_eq_equiv u found ((reached (numbered_pairs d) types.parents u).1 (below-reaches d t u small small_u h)),
 )
 
+-- what leads on along pairs below n is below n
 pub leading-small : (n : ℕ) (ps : List (ℕ × ℕ)) (a b : ℕ) → AreBelow n ps → Precedes ps a b → a < n
 leading-small n ps _ _ below (Direct a b pair) = (All-contains (λ (p : ℕ × ℕ). (p.0 < n) × (p.1 < n)) ps (a, b) below pair).0
 leading-small n ps _ _ below (Through a b c pair rest) = (All-contains (λ (p : ℕ × ℕ). (p.0 < n) × (p.1 < n)) ps (a, b) below pair).0
 
+-- what was found from two types tells whether they share a subtype
 pub found-share : (d : DomainText) (names : List Text) (up down : List (List ℕ)) (t u : ℕ) (these those : List ℕ) → AreTypesOf d names up down
     → t < length (type_names d) → u < length (type_names d) → IsReached down t these → IsReached down u those
     → ((x : ℕ) × Contains these x × Contains those x) ↔ ShareSubtype d (type_at d t) (type_at d u)
@@ -51,9 +54,11 @@ found-share d names up down t u these those types small small_u one two = (to, f
         let s = share-number d t u small small_u h in
         (s.0, (one (turned pairs) types.children s.0).1 (turn-reaches pairs s.0 t s.2), (two (turned pairs) types.children s.0).1 (turn-reaches pairs s.0 u s.3))
 
+-- a type below another shares a subtype with it
 pub below-share : (d : DomainText) (t u : ℕ) → t < length (type_names d) → IsBelow d (type_at d t) (type_at d u) → ShareSubtype d (type_at d t) (type_at d u)
 below-share d t u small below = (type_at d t, number-type d t small, inl refl, below)
 
+-- a type above another shares a subtype with it
 pub above-share : (d : DomainText) (t u : ℕ) → u < length (type_names d) → IsBelow d (type_at d u) (type_at d t) → ShareSubtype d (type_at d t) (type_at d u)
 above-share d t u small below = (type_at d u, number-type d u small, below, inl refl)
 

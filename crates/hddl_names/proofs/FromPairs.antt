@@ -10,15 +10,19 @@ use Rattle.htn_order.specs.Closure.{AreBelow}
 use Rattle.hddl_names.specs.Rows.{AreRows, HasSame}
 use Rattle.hddl_names.proofs.Distinct.{insert-cases, insert_all-old}
 
+-- whether two pairs have the same numbers
 abbrev pub same_pair : ℕ × ℕ → ℕ × ℕ → Bool
 same_pair x y = nat_eq x.0 y.0 && nat_eq x.1 y.1
 
+-- pairs with the same numbers are equal
 pub exact : (x y : ℕ × ℕ) → same_pair x y ≡ true → x ≡ y
 exact x y e = let parts = and_parts (nat_eq x.0 y.0) (nat_eq x.1 y.1) e in ap₂ (λ a b. (a, b)) (eqb-true x.0 y.0 parts.0) (eqb-true x.1 y.1 parts.1)
 
+-- a list of one value contains it
 last : (x y : ℕ × ℕ) → x ≡ y → Contains {X = ℕ × ℕ} (x ∷ []) y
 last x y is = (0, omega arith, is)
 
+-- one pair more that is kept once
 pub same_more : (ks pairs : List (ℕ × ℕ)) (i : ℕ) → i < length pairs → HasSame ks (take i pairs) → HasSame (insert_key same_pair ks (get_or pairs i (0, 0))) (take (i + 1) pairs)
 same_more ks pairs i lt has x = (
   λ h. subst (λ l. Contains {X = ℕ × ℕ} l x) (sym more)
@@ -33,9 +37,11 @@ same_more ks pairs i lt has x = (
     more : take (i + 1) pairs ≡ take i pairs ++ p ∷ []
     more = take_more pairs i (0, 0) lt
 
+-- at the end all pairs are kept
 pub same_end : (ks pairs : List (ℕ × ℕ)) (i : ℕ) → length pairs ≤ i → HasSame ks (take i pairs) → HasSame ks pairs
 same_end ks pairs i past has = subst (HasSame ks) (take_all i pairs past) has
 
+-- before the first pair all rows are empty
 pub rows_start : (n : ℕ) (pairs : List (ℕ × ℕ)) → AreRows (take 0 pairs) (replicate n [])
 rows_start n pairs a b = (λ h. absurd (nothing (subst (λ r. Contains r b) (empty a) h)), λ h. absurd (none h))
   where
@@ -48,6 +54,7 @@ rows_start n pairs a b = (λ h. absurd (nothing (subst (λ r. Contains r b) (emp
     none : Contains {X = ℕ × ℕ} (take 0 pairs) (a, b) → ⊥
     none (k, lt, is) = omega (arith, lt)
 
+-- one pair more is in the row of its first number
 pub rows_more : (rows new : List (List ℕ)) (pairs : List (ℕ × ℕ)) (i t u : ℕ) → i < length pairs → ◌≡◌ {A = ℕ × ℕ} (get_or pairs i (0, 0)) (t, u) → t < length rows
     → new ≡ set rows t (get_or rows t [] ++ u ∷ []) → AreRows (take i pairs) rows → AreRows (take (i + 1) pairs) new
 rows_more rows new pairs i t u lt pair small is are a b = (λ h. to (cases_eq a t) h, λ h. from (Contains-push_cases (take i pairs) (t, u) (a, b) (subst (λ l. Contains {X = ℕ × ℕ} l (a, b)) more h)))
@@ -84,6 +91,7 @@ rows_more rows new pairs i t u lt pair small is are a b = (λ h. to (cases_eq a 
         subst (λ k. Contains (get_or new k []) b) (ap (λ p. p.0) e)
         (subst (λ r. Contains r b) (sym here) (Contains-append_right (get_or rows t []) (u ∷ []) b (0, omega arith, ap (λ p. p.1) e)))
 
+-- at the end the rows have all pairs
 pub rows_end : (rows : List (List ℕ)) (pairs : List (ℕ × ℕ)) (i : ℕ) → length pairs ≤ i → AreRows (take i pairs) rows → AreRows pairs rows
 rows_end rows pairs i past are = subst (λ ps. AreRows ps rows) (take_all i pairs past) are
 
@@ -91,6 +99,7 @@ rows_end rows pairs i past are = subst (λ ps. AreRows ps rows) (take_all i pair
 pub rows_same : (xs ys : List (ℕ × ℕ)) (rows : List (List ℕ)) → HasSame xs ys → AreRows xs rows → AreRows ys rows
 rows_same xs ys rows has are a b = (λ h. (has (a, b)).0 ((are a b).0 h), λ h. (are a b).1 ((has (a, b)).1 h))
 
+-- lists with the same pairs are below the same bound
 pub below_same : (n : ℕ) (xs ys : List (ℕ × ℕ)) → HasSame xs ys → AreBelow n ys → AreBelow n xs
 below_same n xs ys has below =
     All-from_get_or (λ (p : ℕ × ℕ). (p.0 < n) × (p.1 < n)) xs (0, 0)

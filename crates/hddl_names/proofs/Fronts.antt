@@ -26,6 +26,7 @@ pub record IsFront (rows : List (List ℕ)) (starts : List ℕ) (found : List �
   pub sound : (pairs : List (ℕ × ℕ)) → AreRows pairs rows → (x : ℕ) → Contains found x → (t : ℕ) × Contains starts t × Reaches pairs t x
   pub closed : (j y : ℕ) → j < i → j < length found → Contains (get_or rows (get_or found j 0) []) y → Contains found y
 
+-- at first the starts are found, and no row is followed
 pub front_start : (rows : List (List ℕ)) (starts found : List ℕ) → found ≡ insert_all nat_eq [] starts → All (λ t. t < length rows) starts → IsFront rows starts found 0
 unfolding IsDistinct
 front_start rows starts found is small =
@@ -41,6 +42,7 @@ front_start rows starts found is small =
     there : (x : ℕ) → Contains (insert_all nat_eq [] starts) x → Contains starts x
     there x h = ⊎_elim (λ none. absurd (nothing x none)) (λ t. t) (insert_all-cases nat_eq [] starts x h)
 
+-- a way with a pair more at its end is a way
 pub one_more : (pairs : List (ℕ × ℕ)) (a b c : ℕ) → Reaches pairs a b → Contains {X = ℕ × ℕ} pairs (b, c) → Reaches pairs a c
 one_more pairs a b c (inl is) pair = inr (Direct a c (subst (λ x. Contains {X = ℕ × ℕ} pairs (x, c)) (sym is) pair))
 one_more pairs a b c (inr r) pair = inr (along a b r pair)
@@ -49,6 +51,7 @@ one_more pairs a b c (inr r) pair = inr (along a b r pair)
     along _ _ (Direct x y first) pair = Through x y c first (Direct y c pair)
     along _ _ (Through x m y first rest) pair = Through x m c first (along m y rest pair)
 
+-- one number more whose row is followed
 pub front_more : (rows : List (List ℕ)) (starts found new : List ℕ) (i t : ℕ) → AreWithin rows → slice_get found i ≡ Some t → new ≡ insert_all nat_eq found (get_or rows t [])
     → IsFront rows starts found i → IsFront rows starts new (i + 1)
 front_more rows starts found new i t square at is front =
@@ -80,6 +83,7 @@ front_more rows starts found new i t square at is front =
     kept : (j : ℕ) → j < length found → get_or (insert_all nat_eq found row) j 0 ≡ get_or found j 0
     kept j lt = let grown = insert_all-more nat_eq found row in ap (λ l. get_or l j 0) grown.1 ∙ get_or_append_left found grown.0 0 j lt
 
+-- where all rows are followed, all that is reached is found
 pub front_end : (rows : List (List ℕ)) (starts found : List ℕ) (i : ℕ) → length found ≤ i → IsFront rows starts found i → AreReached rows starts found
 front_end rows starts found i all front pairs are x = (front.sound pairs are x, λ from. ⊎_elim (λ is. subst (Contains found) is (front.has from.0 from.1)) (λ p. along from.0 x p (front.has from.0 from.1)) from.2)
   where
@@ -96,6 +100,7 @@ pub front_small : (rows : List (List ℕ)) (starts found : List ℕ) (i : ℕ) �
 front_small rows starts found i front =
     length-le_from_distinct_below found (length rows) front.different (λ q h. front.within q (Contains-list_any nat_eq eqb-true found q h))
 
+-- a list of one value contains no other
 only : (x y : ℕ) → Contains (x ∷ []) y → x ≡ y
 only x y h = ⊎_elim (λ is. is) (λ none. absurd (nothing y none)) (cons_cases x y [] h)
 

@@ -10,6 +10,7 @@ use Rattle.hddl_names.specs.Cycles.{placed_pair, placed_in}
 use Rattle.hddl_names.specs.declared.cycles.PlacedPair.{PlacedPair}
 use Rattle.hddl_names.specs.TypeNumbers.{number_pair, with_parents, with_object, pairs_in, object_pairs_in}
 
+-- each type of a group has the group's type as parent
 pub group_pairs : (names : List Text) (g : NameGroup) (parent : ℕ) → parent ≡ number_in names (text_or_object (option_map mention_of g.of_type))
     → map (λ x. (number_in names (folded x.text), parent)) g.names ≡ pairs_in names (g ∷ [])
 group_pairs names g parent is = ap (λ q. map (λ (x : Name). (number_in names (folded x.text), q)) g.names) is ∙ by g.names
@@ -19,6 +20,7 @@ group_pairs names g parent is = ap (λ q. map (λ (x : Name). (number_in names (
     by [] = refl
     by (x ∷ ns) = ap (λ r. (number_in names (folded x.text), number_in names (text_or_object (option_map mention_of g.of_type))) ∷ r) (by ns)
 
+-- each type that a group mentions has `object` as parent
 pub object_group_pairs : (names : List Text) (g : NameGroup) (parent : ℕ) → parent ≡ number_in names object
     → map (λ x. (number_in names (folded x.text), parent)) g.names ++ map (λ m. (number_in names m.text, parent)) (optional_mention g.of_type) ≡ object_pairs_in names (g ∷ [])
 object_group_pairs names g parent is =
@@ -34,6 +36,7 @@ object_group_pairs names g parent is =
     by [] = last (optional_mention g.of_type)
     by (x ∷ ns) = ap (λ r. (number_in names (folded x.text), number_in names object) ∷ r) (by ns)
 
+-- each object of a group has the group's type
 pub group_declared : (objects types : List Text) (g : NameGroup) (parent : ℕ) → parent ≡ number_in types (text_or_object (option_map mention_of g.of_type))
     → map (λ x. (number_in objects (folded x.text), parent)) g.names ≡ declared_in objects types (g ∷ [])
 group_declared objects types g parent is = ap (λ q. map (λ (x : Name). (number_in objects (folded x.text), q)) g.names) is ∙ by g.names
@@ -43,9 +46,11 @@ group_declared objects types g parent is = ap (λ q. map (λ (x : Name). (number
     by [] = refl
     by (x ∷ ns) = ap (λ r. (number_in objects (folded x.text), number_in types (text_or_object (option_map mention_of g.of_type))) ∷ r) (by ns)
 
+-- a pair with its place
 abbrev placed : ℕ → ℕ → ℕ → PlacedPair
 placed child parent place = record { child = child; parent = parent; place = place }
 
+-- the pairs of a group with their places
 pub group_placed : (names : List Text) (g : NameGroup) (parent : ℕ) → parent ≡ number_in names (text_or_object (option_map mention_of g.of_type))
     → map (λ (x : Name). record { child = number_in names (folded x.text); parent = parent; place = x.place }) g.names ≡ placed_in names (g ∷ [])
 group_placed names g parent is =

@@ -23,12 +23,15 @@ use Rattle.hddl_names.proofs.Within.{kept, unkept, nothing}
 
 -- ## Pairs along lines
 
+-- whether a pair is along a line: not to 0, and from no junction
 abbrev is_along : List ℕ → ℕ × ℕ → Bool
 is_along junctions p = not (nat_eq p.1 0) && not (list_any (nat_eq p.0) junctions)
 
+-- what fails has its opposite hold
 not_true : (b : Bool) → b ≡ false → not b ≡ true
 not_true b e = ap not e
 
+-- a pair that is from no junction and not to 0 is along a line
 along : (junctions : List ℕ) (pairs : List (ℕ × ℕ)) (a b : ℕ) → Contains {X = ℕ × ℕ} pairs (a, b) → 0 < b → list_any (nat_eq a) junctions ≡ false
     → Contains {X = ℕ × ℕ} (along_lines junctions pairs) (a, b)
 along junctions pairs a b pair positive apart =
@@ -38,9 +41,11 @@ along junctions pairs a b pair positive apart =
     other true e = absurd (let zero = eqb-true b 0 e in omega (arith, zero, positive))
     other false e = e
 
+-- the pairs along lines are pairs
 all_along : (junctions : List ℕ) (pairs : List (ℕ × ℕ)) (a b : ℕ) → Contains {X = ℕ × ℕ} (along_lines junctions pairs) (a, b) → Contains {X = ℕ × ℕ} pairs (a, b)
 all_along junctions pairs a b h = (unkept (is_along junctions) pairs (a, b) h).0
 
+-- no pair along a line is from a junction
 none_along : (junctions : List ℕ) (pairs : List (ℕ × ℕ)) (a b : ℕ) → Contains junctions a → Contains {X = ℕ × ℕ} (along_lines junctions pairs) (a, b) → ⊥
 none_along junctions pairs a b there h =
     let passes = (and_parts (not (nat_eq b 0)) (not (list_any (nat_eq a) junctions)) (unkept (is_along junctions) pairs (a, b) h).1).1 in
@@ -51,27 +56,32 @@ pub leads_more : (ps qs : List (ℕ × ℕ)) → ((a b : ℕ) → Contains {X = 
 leads_more ps qs more _ _ (Direct a b pair) = Direct a b (more a b pair)
 leads_more ps qs more _ _ (Through a m b pair rest) = Through a m b (more a m pair) (leads_more ps qs more m b rest)
 
+-- a way along some pairs is one along more
 pub reaches_more : (ps qs : List (ℕ × ℕ)) → ((a b : ℕ) → Contains {X = ℕ × ℕ} ps (a, b) → Contains {X = ℕ × ℕ} qs (a, b)) → (a b : ℕ) → Reaches ps a b → Reaches qs a b
 reaches_more ps qs more a b (inl is) = inl is
 reaches_more ps qs more a b (inr r) = inr (leads_more ps qs more a b r)
 
+-- a way and another from its end are one way
 joined : (pairs : List (ℕ × ℕ)) (a b c : ℕ) → Reaches pairs a b → Reaches pairs b c → Reaches pairs a c
 joined pairs a b c (inl is) r = subst (λ x. Reaches pairs x c) (sym is) r
 joined pairs a b c (inr r) (inl is) = inr (subst (Precedes pairs a) is r)
 joined pairs a b c (inr r) (inr s) = inr (follow pairs a b c r s)
 
+-- pairs along lines are below the same bound
 pub along_below : (junctions : List ℕ) (n : ℕ) (pairs : List (ℕ × ℕ)) → AreBelow n pairs → AreBelow n (along_lines junctions pairs)
 along_below junctions n pairs below =
     All-from_get_or (λ (p : ℕ × ℕ). (p.0 < n) × (p.1 < n)) (along_lines junctions pairs) (0, 0)
     (λ i lt. All-contains (λ (p : ℕ × ℕ). (p.0 < n) × (p.1 < n)) pairs (get_or (along_lines junctions pairs) i (0, 0)) below
     (unkept (is_along junctions) pairs (get_or (along_lines junctions pairs) i (0, 0)) (Contains-get_or (along_lines junctions pairs) i (0, 0) lt)).0)
 
+-- what follows of a value follows of one that may be there
 pub some_more : {X : Type 0} (P Q : X → Type 0) → ((x : X) → P x → Q x) → (o : Option X) → IfSome o P → IfSome o Q
 some_more P Q more None h = h
 some_more P Q more (Some x) h = more x h
 
 -- ## Positions
 
+-- a number in a list has a position there
 position_has : (xs : List ℕ) (x : ℕ) → Contains xs x → (i : ℕ) × (position (nat_eq x) xs ≡ Some i) × (slice_get xs i ≡ Some x)
 position_has xs x h =
     let i = position_or_len (nat_eq x) xs in
@@ -79,20 +89,24 @@ position_has xs x h =
     let found : position (nat_eq x) xs ≡ Some i = ap (λ t. cond t (Some i) None) (lt-ltb i (length xs) lt) in
     (i, found, slice_get-get_or xs i 0 lt ∙ ap Some (sym (eqb-true x (get_or xs i 0) (position-Some (nat_eq x) xs i 0 found).1)))
 
+-- at its position stands the number
 pub position_at : (xs : List ℕ) (x i : ℕ) → position (nat_eq x) xs ≡ Some i → slice_get xs i ≡ Some x
 position_at xs x i found =
     let some = position-Some (nat_eq x) xs i 0 found in
     slice_get-get_or xs i 0 some.0 ∙ ap Some (sym (eqb-true x (get_or xs i 0) some.1))
 
+-- what stands at a position is in the list
 position_member : (xs : List ℕ) (x i : ℕ) → slice_get xs i ≡ Some x → Contains xs x
 position_member xs x i at =
     subst (Contains xs) (get_or_from_slice_get xs i x 0 at) (Contains-get_or xs i 0 (slice_get_within xs i x at))
 
+-- at one position stands one number
 same_at : (xs : List ℕ) (x y i : ℕ) → slice_get xs i ≡ Some x → slice_get xs i ≡ Some y → x ≡ y
 same_at xs x y i one two = sym (get_or_from_slice_get xs i x 0 one) ∙ get_or_from_slice_get xs i y 0 two
 
 -- ## Sets that are gathered
 
+-- empty sets are sound
 pub sound_start : (pairs : List (ℕ × ℕ)) (junctions : List ℕ) (n : ℕ) → AreSound pairs junctions (replicate n [])
 sound_start pairs junctions n number i h = absurd (true≢false (sym h ∙ past_has (set_of (replicate n []) number) i (subst (λ (xs : List ℕ). length xs ≤ i / 64) (sym (empty number)) (omega arith))))
   where
@@ -126,15 +140,19 @@ module _ (pairs : List (ℕ × ℕ)) (up down : List (List ℕ)) (n : ℕ) (c : 
     (ups : AreRows pairs up) (downs : AreRows (turned pairs) down) (count : length c.intervals ≡ n)
     (tell : Tell (along_lines c.junctions pairs) c.intervals) (tops : AreTops (along_lines c.junctions pairs) n c.tops)
     (sound : AreSound pairs c.junctions c.sets) (own : HaveOwn c.junctions c.sets) (carried : AreCarried down c.sets) where
+  -- the pairs along lines
   abbrev pub lines : List (ℕ × ℕ)
   lines = along_lines c.junctions pairs
 
+  -- a way along lines is a way
   on_lines : (a b : ℕ) → Reaches lines a b → Reaches pairs a b
   on_lines a b r = reaches_more lines pairs (all_along c.junctions pairs) a b r
 
+  -- no pair is from 0
   no_pair : (b : ℕ) → Contains {X = ℕ × ℕ} pairs (0, b) → ⊥
   no_pair b pair = nothing b (subst (λ row. Contains row b) no_parent ((ups 0 b).1 pair))
 
+  -- no way is from 0
   no_way : (a b : ℕ) → a ≡ 0 → Precedes pairs a b → ⊥
   no_way _ _ is (Direct a b pair) = no_pair b (subst (λ a. Contains {X = ℕ × ℕ} pairs (a, b)) is pair)
   no_way _ _ is (Through a m b pair rest) = no_pair m (subst (λ a. Contains {X = ℕ × ℕ} pairs (a, m)) is pair)
@@ -166,13 +184,16 @@ module _ (pairs : List (ℕ × ℕ)) (up down : List (List ℕ)) (n : ℕ) (c : 
   same_top _ _ (Direct a b pair) = tops.alike a b pair
   same_top _ _ (Through a m b pair rest) = tops.alike a m pair ∙ same_top m b rest
 
+  -- a way along lines keeps the top
   pub line_top : (a b : ℕ) → Reaches lines a b → top_at c.tops a ≡ top_at c.tops b
   line_top a b (inl is) = ap (top_at c.tops) is
   line_top a b (inr r) = same_top a b r
 
+  -- where a way begins is below n
   leading : (a b : ℕ) → Precedes pairs a b → a < n
   leading a b r = leading-small n pairs a b below r
 
+  -- a junction that leads on is its own top
   junction_top : (j b : ℕ) → Contains c.junctions j → Precedes pairs j b → top_at c.tops j ≡ j
   junction_top j b there r = tops.last j (leading j b r) (λ p pair. none_along c.junctions pairs j p there pair)
 
@@ -188,12 +209,14 @@ module _ (pairs : List (ℕ × ℕ)) (up down : List (List ℕ)) (n : ℕ) (c : 
       let top : top_at c.tops a ≡ j = line_top a j r ∙ junction_top j b there on in
       (at.0, ap (λ x. position (nat_eq x) c.junctions) top ∙ at.1, full at.0 j b (own at.0 j at.2) on)
 
+  -- what the line's top leads to is reached
   passes : (a b : ℕ) → a < n → PassesTo c a b → Reaches pairs a b
   passes a b small (i, at, marked) =
       let found = sound b i marked in
       let top : top_at c.tops a ≡ found.0 = same_at c.junctions (top_at c.tops a) found.0 i (position_at c.junctions (top_at c.tops a) i at) found.1 in
       joined pairs a found.0 b (subst (Reaches pairs a) top (on_lines a (top_at c.tops a) (tops.reached a small))) found.2
 
+  -- the closure tells what leads to what
   leads : (a b : ℕ) → a < n → 0 < b → b < n → LeadsTo c a b ↔ Reaches pairs a b
   leads a b small_a positive small_b = (to, from)
     where
@@ -209,6 +232,7 @@ module _ (pairs : List (ℕ × ℕ)) (up down : List (List ℕ)) (n : ℕ) (c : 
       from (inr r) =
           ⊎_elim (λ line. inl (inside.1 line)) (λ past. inr (through a past.0 b past.1 past.2 past.3)) (ways a b positive r)
 
+  -- what reaches a number below n is below n
   small : (s a : ℕ) → a < n → Reaches pairs s a → s < n
   small s a lt (inl is) = subst (λ k. k < n) (sym is) lt
   small s a lt (inr r) = leading s a r
@@ -231,6 +255,7 @@ module _ (pairs : List (ℕ × ℕ)) (up down : List (List ℕ)) (n : ℕ) (c : 
   onwards : (s a b : ℕ) → Reaches lines s a → PassesTo c s b → PassesTo c a b
   onwards s a b r (i, at, marked) = (i, ap (λ x. position (nat_eq x) c.junctions) (sym (line_top s a r)) ∙ at, marked)
 
+  -- where a number passes to two, they share a junction
   shared : (s a b : ℕ) → PassesTo c s a → PassesTo c s b → ShareJunction c a b
   shared s a b (i, at, marked) (k, at_k, marked_k) =
       let same : i ≡ k = some_same i k (sym at ∙ at_k) in
@@ -239,6 +264,7 @@ module _ (pairs : List (ℕ × ℕ)) (up down : List (List ℕ)) (n : ℕ) (c : 
       some_same : (x y : ℕ) → Some x ≡ Some y → x ≡ y
       some_same x y e = ap (λ o. unwrap_or o 0) e
 
+  -- the closure tells whether something leads to both
   meet : (a b : ℕ) → 0 < a → a < n → 0 < b → b < n → Meet c a b ↔ ((s : ℕ) × (s < n) × Reaches pairs s a × Reaches pairs s b)
   meet a b positive_a small_a positive_b small_b = (to, from)
     where
@@ -264,11 +290,13 @@ module _ (pairs : List (ℕ × ℕ)) (up down : List (List ℕ)) (n : ℕ) (c : 
           by (inr r) (inl q) = inr (inl (inr (onwards s b a q r)))
           by (inr r) (inr q) = inr (inr (shared s a b r q))
 
+  -- the closure tells both
   pub tells : Tells pairs n c
   tells = record { leads = leads; meet = meet }
 
 -- ## Sets within that of a number
 
+-- a set that has what those of the first of a row have, has it of all at the row's end
 pub all_within_row : (sets : List (List ℕ)) (row : List ℕ) (number k : ℕ) → length row ≤ k → ((j : ℕ) → j < k → IsWithin (set_of sets (get_or row j 0)) (set_of sets number))
     → (child : ℕ) → Contains row child → IsWithin (set_of sets child) (set_of sets number)
 all_within_row sets row number k past within child (j, lt, is) =

@@ -14,6 +14,7 @@ pub has_row : (rows : List (List ℕ)) (a x : ℕ) → Contains (get_or rows a [
 has_row rows a x h =
     ⊎_elim (λ lt. lt) (λ past. absurd (nothing x (subst (λ row. Contains row x) (get_or_past rows a [] past) h))) (cases_lt a (length rows))
 
+-- along a way no rank rises
 falls : (rows : List (List ℕ)) (ranks : List ℕ) (pairs : List (ℕ × ℕ)) → NeverRise rows ranks → AreRows pairs rows → (a b : ℕ) → Precedes pairs a b → get_or ranks b 0 ≤ get_or ranks a 0
 falls rows ranks pairs never are _ _ (Direct a b pair) = never a b ((are a b).1 pair)
 falls rows ranks pairs never are _ _ (Through a b c pair rest) =

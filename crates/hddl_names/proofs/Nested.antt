@@ -23,6 +23,7 @@ pub record Fill (intervals : List Interval) (numbers : List ℕ) (from to : ℕ)
   pub within : (c : ℕ) → Contains numbers c → (from ≤ start_of intervals c) × (start_of intervals c < end_of intervals c) × (end_of intervals c ≤ to)
   pub covered : (place : ℕ) → from ≤ place → place < to → (c : ℕ) × Contains numbers c × Holds intervals c place
 
+-- intervals that tile fill all places between
 pub filled : (intervals : List Interval) (numbers : List ℕ) (from to : ℕ) → Tile intervals numbers from to → Fill intervals numbers from to
 filled intervals [] from to is =
     record { rises = omega (arith, is); within = λ c h. absurd (nothing c h); covered = λ place low high. absurd (omega (arith, low, high, is)) }
@@ -42,11 +43,13 @@ filled intervals (c ∷ rest) from to (starts, ends, tiles) =
           (cases_lt place (end_of intervals c));
     }
 
+-- intervals that tile don't go backwards
 pub tile_rises : (intervals : List Interval) (numbers : List ℕ) (from to : ℕ) → Tile intervals numbers from to → from ≤ to
 tile_rises intervals numbers from to tiles = (filled intervals numbers from to tiles).rises
 
 -- ## Places
 
+-- a list of length 0 is empty
 pub none : (xs : List ℕ) → nat_eq (length xs) 0 ≡ true → xs ≡ []
 none [] is = refl
 none (x ∷ xs) is = absurd (let empty = eqb-true (suc (length xs)) 0 is in omega (arith, empty))
@@ -71,22 +74,27 @@ module _ (up down : List (List ℕ)) (intervals : List Interval) (pairs : List (
     (no_parent : get_or up 0 [] ≡ []) (count : length intervals ≡ length down)
     (tiled : AreTiled intervals down) (order : List ℕ) (stand : StandAtPlaces intervals order)
     (ups : AreRows pairs up) (downs : AreRows (turned pairs) down) where
+  -- no way is from 0
   ends_at_zero : (a b : ℕ) → a ≡ 0 → Precedes pairs a b → ⊥
   ends_at_zero _ _ is (Direct a b pair) = nothing b (subst (λ row. Contains row b) no_parent (subst (λ a. Contains (get_or up a []) b) is ((ups a b).1 pair)))
   ends_at_zero _ _ is (Through a m b pair rest) = nothing m (subst (λ row. Contains row m) no_parent (subst (λ a. Contains (get_or up a []) m) is ((ups a m).1 pair)))
 
+  -- a pair's first number is in the row of its second
   child : (a p : ℕ) → Contains {X = ℕ × ℕ} pairs (a, p) → Contains (get_or down p []) a
   child a p pair = (downs p a).1 (turned-pair pairs a p pair)
 
+  -- a number in a row is paired with the row's
   parent : (a p : ℕ) → Contains (get_or down p []) a → Contains {X = ℕ × ℕ} pairs (a, p)
   parent a p there = unturned-pair pairs a p ((downs p a).0 there)
 
+  -- an interval is inside that of a parent, after its start
   step : (a p : ℕ) → 0 < p → Contains {X = ℕ × ℕ} pairs (a, p)
       → (start_of intervals p < start_of intervals a) × (start_of intervals a < end_of intervals a) × (end_of intervals a ≤ end_of intervals p)
   step a p positive pair =
       let there = child a p pair in
       (filled intervals (get_or down p []) (suc (start_of intervals p)) (end_of intervals p) (tiled p positive (has_row down p a there))).within a there
 
+  -- an interval is inside those of all that it leads to
   nested : (a b : ℕ) → Precedes pairs a b → 0 < b
       → (start_of intervals b < start_of intervals a) × (start_of intervals a < end_of intervals a) × (end_of intervals a ≤ end_of intervals b)
   nested _ _ (Direct a b pair) positive = step a b positive pair
@@ -102,6 +110,7 @@ module _ (up down : List (List ℕ)) (intervals : List Interval) (pairs : List (
       (λ root. absurd (ends_at_zero m b (omega (arith, root)) rest))
       (cases_lt 0 m)
 
+  -- what leads to another is inside it, and each is inside itself
   inside : (a b : ℕ) → 0 < b → b < length intervals → Reaches pairs a b → IsInside intervals a b
   inside a b positive small (inl is) =
       subst (λ a. IsInside intervals a b) (sym is)
@@ -125,6 +134,7 @@ module _ (up down : List (List ℕ)) (intervals : List Interval) (pairs : List (
       let positive_c = ⊎_elim {A = 0 < found.0} {B = found.0 ≤ 0} {C = 0 < found.0} (λ lt. lt) (λ root. absurd (ends_at_zero found.0 b (omega (arith, root)) (Direct found.0 b pair))) (cases_lt 0 found.0) in
       (found.0, pair, positive_c, has_places intervals found.0 within.1, omega (arith, low_c), within.2, found.2)
 
+  -- what is inside another leads to it, or is it
   reaches : (k a b : ℕ) → a < length intervals → 0 < b → b < length intervals → end_of intervals b ≤ start_of intervals b + k → IsInside intervals a b → Reaches pairs a b
   reaches zero a b small_a positive small_b most (low, high) = absurd (omega (arith, most, low, high))
   reaches (suc k) a b small_a positive small_b most (low, high) =
@@ -137,16 +147,19 @@ module _ (up down : List (List ℕ)) (intervals : List Interval) (pairs : List (
       (λ le. inl (apart intervals order stand a b small_a small_b (omega (arith, le, low))))
       (cases_lt (start_of intervals b) (start_of intervals a))
 
+  -- the intervals tell what leads to what
   tell : Tell pairs intervals
   tell a b small_a positive small_b =
       (λ h. reaches (end_of intervals b) a b small_a positive small_b (omega arith) h, λ r. inside a b positive small_b r)
 
 -- ## The tops of lines
 
+-- a row without members is empty
 empty : (row : List ℕ) → ((b : ℕ) → Contains row b → ⊥) → row ≡ []
 empty [] none = refl
 empty (x ∷ xs) none = absurd (none x (first x xs))
 
+-- tops that are kept along rows are the ends of lines
 tops_end : (up : List (List ℕ)) (pairs : List (ℕ × ℕ)) (intervals : List Interval) (tops : List ℕ) → length intervals ≡ length up → AreRows pairs up → Tell pairs intervals
     → HaveTops intervals tops up → AreTops pairs (length up) tops
 tops_end up pairs intervals tops count ups tells ends = record {
@@ -165,6 +178,7 @@ tops_end up pairs intervals tops count ups tells ends = record {
       ⊎_elim (λ own. own) (λ above. absurd (above.0 (empty (get_or up a []) (λ b there. none b ((ups a b).0 there))))) (ends a small).0;
 }
 
+-- intervals and tops that are made of rows tell what they should
 pub told : (up down : List (List ℕ)) (intervals : List Interval) (tops order : List ℕ) → length up ≡ length down → get_or up 0 [] ≡ [] → length intervals ≡ length down
     → AreTiled intervals down → StandAtPlaces intervals order → HaveTops intervals tops up → TellOfRows up down intervals tops
 told up down intervals tops order same no_parent count tiled stand ends pairs ups downs =

@@ -12,12 +12,15 @@ use Rattle.hddl_names.specs.NumberSets.{has}
 
 -- ## Words that are the same, or have more
 
+-- sets with the same words have the same numbers
 pub same_has : (vs ws : List ℕ) → ((k : ℕ) → get_or vs k 0 ≡ get_or ws k 0) → (x : ℕ) → has vs x ≡ has ws x
 same_has vs ws same x = ap (λ w. is_set w (x % 64)) (same (x / 64))
 
+-- a set whose words are those of two together has the numbers of both
 pub more_has : (new old other : List ℕ) → ((k : ℕ) → get_or new k 0 ≡ bit_or (get_or old k 0) (get_or other k 0)) → (x : ℕ) → has new x ≡ (has old x || has other x)
 more_has new old other is x = ap (λ w. is_set w (x % 64)) (is (x / 64)) ∙ is_set-or (get_or old (x / 64) 0) (get_or other (x / 64) 0) (x % 64)
 
+-- with what fails, either is the other
 or_false : (p : Bool) → (p || false) ≡ p
 or_false true = refl
 or_false false = refl
@@ -52,9 +55,11 @@ has_at words k i lt =
     let bit : (k * 64 + i) % 64 ≡ i = omega arith in
     ap₂ (λ k i. is_set (get_or words k 0) i) word bit
 
+-- past its words a set has no number
 pub past_has : (words : List ℕ) (x : ℕ) → length words ≤ x / 64 → has words x ≡ false
 past_has words x past = ap (λ w. is_set w (x % 64)) (get_or_past words (x / 64) 0 past) ∙ is_set-zero (x % 64)
 
+-- a set each of whose words is within another's is within it
 pub all_within : (vs ws : List ℕ) (n : ℕ) → length vs ≤ n → ((k : ℕ) → k < n → bit_or (get_or vs k 0) (get_or ws k 0) ≡ get_or ws k 0)
     → (x : ℕ) → has vs x ≡ true → has ws x ≡ true
 all_within vs ws n all words x h =
@@ -63,6 +68,7 @@ all_within vs ws n all words x h =
     (λ past. absurd (true≢false (sym h ∙ past_has vs x (omega (arith, all, past)))))
     (cases_lt (x / 64) n)
 
+-- a set within another has each word within the other's
 pub within_words : (vs ws : List ℕ) (k : ℕ) → get_or vs k 0 < 2 ^ 64 → get_or ws k 0 < 2 ^ 64 → ((x : ℕ) → has vs x ≡ true → has ws x ≡ true) → bit_or (get_or vs k 0) (get_or ws k 0) ≡ get_or ws k 0
 within_words vs ws k small_v small_w within =
     same_from_bits_below 64 (bit_or (get_or vs k 0) (get_or ws k 0)) (get_or ws k 0) (or_lt 64 (get_or vs k 0) (get_or ws k 0) small_v small_w) small_w
@@ -88,9 +94,11 @@ some_bit (suc w) n small some = elim (cases_eq (n % 2) 1) [
     halved : (w n : ℕ) → n < 2 ^ suc w → n / 2 < 2 ^ w
     halved w n h = let twice : 2 ^ suc w ≡ 2 * 2 ^ w = omega arith in omega (arith, h, twice)
 
+-- where the lesser of two bits is 1, both are
 both_one : (a b : ℕ) → a < 2 → b < 2 → min a b ≡ 1 → (a ≡ 1) × (b ≡ 1)
 both_one a b small_a small_b is = (omega (arith, small_a, small_b, is), omega (arith, small_a, small_b, is))
 
+-- words with a common bit have a common number
 pub words_meet : (vs ws : List ℕ) (k : ℕ) → get_or vs k 0 < 2 ^ 64 → get_or ws k 0 < 2 ^ 64 → (bit_and (get_or vs k 0) (get_or ws k 0) ≡ 0 → ⊥)
     → (x : ℕ) × (has vs x ≡ true) × (has ws x ≡ true)
 words_meet vs ws k small_v small_w some =
@@ -99,6 +107,7 @@ words_meet vs ws k small_v small_w some =
     (sym (bit_at_and (get_or vs k 0) (get_or ws k 0) bit.0) ∙ bit.2) in
     (k * 64 + bit.0, has_at vs k bit.0 bit.1 ∙ ap (λ b. eqb b 1) both.0, has_at ws k bit.0 bit.1 ∙ ap (λ b. eqb b 1) both.1)
 
+-- sets without a common bit have no common number
 pub none_meet : (vs ws : List ℕ) (n : ℕ) → length vs ≤ n → ((k : ℕ) → k < n → bit_and (get_or vs k 0) (get_or ws k 0) ≡ 0)
     → (x : ℕ) → has vs x ≡ true → has ws x ≡ true → ⊥
 none_meet vs ws n all none x h g =
@@ -116,9 +125,11 @@ none_meet vs ws n all none x h g =
 abbrev pub AddedUpTo : List ℕ → List ℕ → ℕ → List ℕ → Type 0
 AddedUpTo old other k words = (j : ℕ) → get_or words j 0 ≡ cond (ltb j k) (bit_or (get_or old j 0) (get_or other j 0)) (get_or old j 0)
 
+-- before the first word nothing is added
 pub added_start : (old other : List ℕ) → AddedUpTo old other 0 old
 added_start old other j = sym (ap (λ p. cond p (bit_or (get_or old j 0) (get_or other j 0)) (get_or old j 0)) (le-ltb j 0 (omega arith)))
 
+-- one word more is added
 pub added_step : (old other words : List ℕ) (k v more : ℕ) → k < length words → v ≡ get_or words k 0 → more ≡ get_or other k 0 → AddedUpTo old other k words
     → AddedUpTo old other (k + 1) (set words k (bit_or v more))
 added_step old other words k v more fits is is_more so_far j = elim (cases_eq j k) [
@@ -135,6 +146,7 @@ added_step old other words k v more fits is is_more so_far j = elim (cases_eq j 
       ])
 ]
 
+-- at the end the numbers of both are there
 pub added_end : (old other words : List ℕ) (k : ℕ) → length other ≤ k → AddedUpTo old other k words → (x : ℕ) → has words x ≡ (has old x || has other x)
 added_end old other words k all so_far x =
     ⊎_elim

@@ -16,22 +16,28 @@ use Rattle.hddl_meaning.specs.Mentions.{Text}
 use Rattle.hddl_meaning.specs.Names.{is_same_text, with_name, distinct, number_in, number_or_zero}
 use Rattle.hddl_names.proofs.Distinct.{insert_all-more, insert_all-new, insert_all-cases, insert_all-different}
 
+-- texts that the test finds the same are equal
 pub same : (x y : Text) → is_same_text x y ≡ true → x ≡ y
 same x y = (pointwise_decides unsigned_Decides x y).0
 
+-- equal texts are found the same
 pub same_as_itself : (x y : Text) → x ≡ y → is_same_text x y ≡ true
 same_as_itself x y = (pointwise_decides unsigned_Decides x y).1
 
+-- each text is among the distinct ones
 pub distinct-has : (xs : List Text) (x : Text) → Contains xs x → Contains (distinct xs) x
 distinct-has xs x h = insert_all-new is_same_text same [] xs x h
 
+-- each of the distinct texts is among the texts
 pub distinct-from : (xs : List Text) (x : Text) → Contains (distinct xs) x → Contains xs x
 distinct-from xs x h = ⊎_elim (λ none. absurd (omega (arith, none.1))) (λ there. there) (insert_all-cases is_same_text [] xs x h)
 
+-- the distinct texts differ
 pub distinct-different : (xs : List Text) → IsDistinct is_same_text (distinct xs)
 unfolding IsDistinct
 distinct-different xs = insert_all-different nat_list_eq_equiv [] xs tt
 
+-- where a value that passes is in a list, the first that does is in it
 pub early : {X : Type 0} (p : X → Bool) (xs : List X) (x : X) → p x ≡ true → Contains xs x → position_or_len p xs < length xs
 early p [] x passes (k, lt, is) = absurd (omega (arith, lt))
 early p (y ∷ ys) x passes h = ⊎_elim first (λ e. later e (early p ys x passes (rest e h))) (cases_Bool (p y))
@@ -54,9 +60,11 @@ position_of names x h =
     let found : position (is_same_text x) names ≡ Some k = ap (λ t. cond t (Some k) None) (lt-ltb k (length names) lt) in
     (k, found, lt, sym (same x (get_or names k []) (position-Some (is_same_text x) names k [] found).1))
 
+-- the number of a name among others is below their count
 pub number-small : (names : List Text) (x : Text) → Contains names x → number_in names x < length names
 number-small names x h = let at = position_of names x h in subst (λ o. number_or_zero o < length names) (sym at.1) at.2
 
+-- at the number of a name stands the name
 pub number-names : (names : List Text) (x : Text) → Contains names x → get_or names (number_in names x) [] ≡ x
 number-names names x h = let at = position_of names x h in ap (λ o. get_or names (number_or_zero o) []) at.1 ∙ at.3
 

@@ -12,6 +12,7 @@ use Rattle.hddl_names.specs.TypeNumbers.{AreTypesOf, type_at, numbered_pairs}
 use Rattle.hddl_names.proofs.Junctions.{reaches_more, some_more}
 use Rattle.hddl_names.proofs.Parents.{below-reaches, reaches-below, share-number, number-share}
 
+-- what tells of some pairs tells of a list with the same pairs
 tells-same : (ps qs : List (ℕ × ℕ)) (n : ℕ) (c : Closure) → HasSame ps qs → Tells ps n c → Tells qs n c
 tells-same ps qs n c same told = record {
   leads = λ a b small positive small_b.
@@ -28,6 +29,7 @@ tells-same ps qs n c same told = record {
     from : (a b : ℕ) → Reaches qs a b → Reaches ps a b
     from a b r = reaches_more qs ps (λ x y. (same (x, y)).1) a b r
 
+-- the closure of a domain's pairs tells what its types' names do
 pub hierarchy : (d : DomainText) (names : List Text) (up down : List (List ℕ)) (pairs : List (ℕ × ℕ)) (n : ℕ) (closure : Option Closure) → AreTypesOf d names up down → HasSame pairs (numbered_pairs d)
     → n ≡ length names → IfSome closure (Tells pairs n) → AreHierarchyOf d names up down closure
 hierarchy d names up down pairs n closure types same count told = record {
@@ -41,12 +43,14 @@ pub some-told : (d : DomainText) (names : List Text) (up down : List (List ℕ))
 some-told d names up down closure c is all =
     subst (λ n. Tells (numbered_pairs d) n c) (ap length all.types.all) (subst (λ (o : Option Closure). IfSome o (Tells (numbered_pairs d) (length names))) is all.told)
 
+-- the closure tells which type is below which
 pub leads-below : (d : DomainText) (c : Closure) (t u : ℕ) → Tells (numbered_pairs d) (length (type_names d)) c
     → t < length (type_names d) → u < length (type_names d) → 0 < u → LeadsTo c t u ↔ IsBelow d (type_at d t) (type_at d u)
 leads-below d c t u told small small_u positive =
     let both = told.leads t u small positive small_u in
     (λ h. reaches-below d t u (both.0 h), λ h. both.1 (below-reaches d t u small small_u h))
 
+-- the closure tells whether two types share a subtype
 pub meet-share : (d : DomainText) (c : Closure) (t u : ℕ) → Tells (numbered_pairs d) (length (type_names d)) c
     → t < length (type_names d) → u < length (type_names d) → 0 < t → 0 < u → Meet c t u ↔ ShareSubtype d (type_at d t) (type_at d u)
 meet-share d c t u told small small_u positive positive_u =

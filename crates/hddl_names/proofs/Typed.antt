@@ -24,14 +24,17 @@ use Rattle.hddl_names.proofs.Within.{mapped, unmapped}
 
 -- ## What is reached is a type
 
+-- what is led to along pairs below n is below n
 led-small : (n : ℕ) (ps : List (ℕ × ℕ)) (a b : ℕ) → AreBelow n ps → Precedes ps a b → b < n
 led-small n ps _ _ below (Direct a b pair) = (All-contains (λ (p : ℕ × ℕ). (p.0 < n) × (p.1 < n)) ps (a, b) below pair).1
 led-small n ps _ _ below (Through a b c pair rest) = led-small n ps b c below rest
 
+-- what a type reaches is a type
 pub reached-small : (d : DomainText) (t x : ℕ) → t < length (type_names d) → Reaches (numbered_pairs d) t x → x < length (type_names d)
 reached-small d t x small (inl is) = subst (λ k. k < length (type_names d)) is small
 reached-small d t x small (inr r) = led-small (length (type_names d)) (numbered_pairs d) t x (numbers-below d) r
 
+-- the types found above some types are types
 pub flagged-small : (d : DomainText) (flags : List Bool) (starts found all : List ℕ) (n : ℕ) → n ≡ length (type_names d) → All (λ t. t < length (type_names d)) starts
     → IsFlaggedAbove (numbered_pairs d) flags starts found → all ≡ found → All (λ x. x < n) all
 flagged-small d flags starts found all n count small some is =
@@ -41,6 +44,7 @@ flagged-small d flags starts found all n count small some is =
 
 -- ## Declarations by number
 
+-- a declared object is among the names of objects
 pub object-name : (d : DomainText) (p : ProblemText) (t : Typed) → Contains (object_declarations d p) t → Contains (object_names d p) t.mention.text
 object-name d p t h =
     distinct-has (texts (mentions_of (object_declarations d p))) t.mention.text
@@ -53,6 +57,7 @@ pub record AreDeclared (d : DomainText) (p : ProblemText) (v : Vocabulary) (cons
   pub second : objects ≡ p.objects
   pub listed : pairs ≡ declared_in v.objects v.types constants ++ declared_in v.objects v.types objects
 
+-- the declared pairs are each object with its type, by number
 pub declared-is : (d : DomainText) (p : ProblemText) (v : Vocabulary) (constants objects : List NameGroup) (pairs : List (ℕ × ℕ)) → AreDeclared d p v constants objects pairs
     → pairs ≡ map (number_typed (object_names d p) (type_names d)) (object_declarations d p)
 declared-is d p v constants objects pairs h =
@@ -62,6 +67,7 @@ declared-is d p v constants objects pairs h =
     ∙ ap (λ (gs : List NameGroup). declared_in (object_names d p) (type_names d) d.constants ++ declared_in (object_names d p) (type_names d) gs) h.second
     ∙ sym (map-append (number_typed (object_names d p) (type_names d)) (typed_names d.constants) (typed_names p.objects))
 
+-- both numbers of a declared pair are small
 pub declared-small : (d : DomainText) (p : ProblemText) (y : ℕ × ℕ) → AreTyped d p
     → Contains {X = ℕ × ℕ} (map (number_typed (object_names d p) (type_names d)) (object_declarations d p)) y → (y.0 < length (object_names d p)) × (y.1 < length (type_names d))
 declared-small d p y typed h =
@@ -69,6 +75,7 @@ declared-small d p y typed h =
     subst (λ (y : ℕ × ℕ). (y.0 < length (object_names d p)) × (y.1 < length (type_names d))) t.2
     (number-small (object_names d p) t.0.mention.text (object-name d p t.0 t.1), number-small (type_names d) (text_or_object t.0.of_type) (type-number d (text_or_object t.0.of_type) (typed t.0 t.1)))
 
+-- so are those of all such pairs
 pub declared-below : (d : DomainText) (p : ProblemText) (pairs all : List (ℕ × ℕ)) (size : ℕ) → AreTyped d p
     → pairs ≡ map (number_typed (object_names d p) (type_names d)) (object_declarations d p) → all ≡ pairs → length (object_names d p) ≤ size → length (type_names d) ≤ size → AreBelow size all
 declared-below d p pairs all size typed is same objects types =
@@ -80,6 +87,7 @@ declared-below d p pairs all size typed is same objects types =
     let b = small.1 in
     (omega (arith, a, objects), omega (arith, b, types))))
 
+-- the types in the rows are types
 pub rows-typed : (d : DomainText) (p : ProblemText) (all : List (ℕ × ℕ)) (rows : List (List ℕ)) → AreTyped d p
     → all ≡ map (number_typed (object_names d p) (type_names d)) (object_declarations d p) → AreRows all rows → All (All (λ t. t < length (type_names d))) rows
 rows-typed d p all rows typed is are =
@@ -90,6 +98,7 @@ rows-typed d p all rows typed is are =
 
 -- ## The objects of each type
 
+-- the rows have the declared types of each object
 pub declared-types : (d : DomainText) (p : ProblemText) (all : List (ℕ × ℕ)) (rows : List (List ℕ)) (size : ℕ) → AreTyped d p
     → all ≡ map (number_typed (object_names d p) (type_names d)) (object_declarations d p) → AreRows all rows → length rows ≡ size → length (object_names d p) ≤ size
     → AreDeclaredTypes d p rows

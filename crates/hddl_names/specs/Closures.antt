@@ -16,6 +16,7 @@ pub record Closure : Type 0 where
   pub tops : List ℕ
   pub sets : List (List ℕ)
 
+-- the set that is kept for a number, empty where none is
 abbrev pub set_of : List (List ℕ) → ℕ → List ℕ
 set_of sets number = get_or sets number []
 
@@ -27,6 +28,7 @@ along_lines junctions pairs = filter (λ p. not (nat_eq p.1 0) && not (list_any 
 abbrev pub AreSound : List (ℕ × ℕ) → List ℕ → List (List ℕ) → Type 0
 AreSound pairs junctions sets = (number i : ℕ) → has (set_of sets number) i ≡ true → (j : ℕ) × (slice_get junctions i ≡ Some j) × Reaches pairs j number
 
+-- one set of bits has no more than another
 abbrev pub IsWithin : List ℕ → List ℕ → Type 0
 IsWithin these those = (x : ℕ) → has these x ≡ true → has those x ≡ true
 
@@ -42,6 +44,7 @@ AreCarried rows sets = (number child : ℕ) → Contains (get_or rows number [])
 abbrev pub PassesTo : Closure → ℕ → ℕ → Type 0
 PassesTo c a b = (i : ℕ) × (position (nat_eq (top_at c.tops a)) c.junctions ≡ Some i) × (has (set_of c.sets b) i ≡ true)
 
+-- a leads to b: within the line of b, or by a junction at the end of its own
 abbrev pub LeadsTo : Closure → ℕ → ℕ → Type 0
 LeadsTo c a b = IsInside c.intervals a b ⊎ PassesTo c a b
 
@@ -49,6 +52,7 @@ LeadsTo c a b = IsInside c.intervals a b ⊎ PassesTo c a b
 abbrev pub ShareJunction : Closure → ℕ → ℕ → Type 0
 ShareJunction c a b = (i : ℕ) × (has (set_of c.sets a) i ≡ true) × (has (set_of c.sets b) i ≡ true)
 
+-- something leads to both: one leads to the other, or a junction leads to both
 abbrev pub Meet : Closure → ℕ → ℕ → Type 0
 Meet c a b = LeadsTo c a b ⊎ LeadsTo c b a ⊎ ShareJunction c a b
 

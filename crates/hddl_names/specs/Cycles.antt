@@ -7,6 +7,7 @@ use Rattle.hddl_meaning.specs.Names.{number_in}
 use Rattle.hddl_meaning.specs.Types.{IsOnCycle, text_or_object}
 use Rattle.hddl_names.specs.declared.cycles.PlacedPair.{PlacedPair}
 
+-- no declared pair of types lies on a cycle
 abbrev pub HasNoCycle : DomainText → Type 0
 HasNoCycle d = (t : Typed) → Contains (typed_names d.types) t → IsOnCycle d t → ⊥
 
@@ -25,5 +26,6 @@ abbrev pub placed_pair : List Text → Typed → PlacedPair
 placed_pair names t =
     record { child = number_in names t.mention.text; parent = number_in names (text_or_object t.of_type); place = t.mention.place }
 
+-- the same for all pairs of a typed list, in its order
 abbrev pub placed_in : List Text → List NameGroup → List PlacedPair
 placed_in names groups = map (placed_pair names) (typed_names groups)

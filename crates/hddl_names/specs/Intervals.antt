@@ -8,12 +8,15 @@ use Rattle.hddl_names.specs.declared.intervals.Interval.{Interval}
 abbrev pub interval_at : List Interval → ℕ → Interval
 interval_at intervals number = get_or intervals number (record { start = 0; end = 0 })
 
+-- the first place of a number's interval
 abbrev pub start_of : List Interval → ℕ → ℕ
 start_of intervals number = (interval_at intervals number).start
 
+-- the place after the last of a number's interval
 abbrev pub end_of : List Interval → ℕ → ℕ
 end_of intervals number = (interval_at intervals number).end
 
+-- a place is in the interval of a number
 abbrev pub Holds : List Interval → ℕ → ℕ → Type 0
 Holds intervals number place = (start_of intervals number ≤ place) × (place < end_of intervals number)
 
@@ -49,6 +52,7 @@ HasTop intervals tops row number =
     ((top_at tops number ≡ number) ⊎ ((row ≡ [] → ⊥) × (0 < top_at tops number) × IsInside intervals number (top_at tops number)))
     × All (λ parent. top_at tops parent ≡ top_at tops number) row
 
+-- the same for each number that has a row
 abbrev pub HaveTops : List Interval → List ℕ → List (List ℕ) → Type 0
 HaveTops intervals tops rows = (number : ℕ) → number < length rows → HasTop intervals tops (get_or rows number []) number
 

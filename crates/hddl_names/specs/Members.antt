@@ -17,6 +17,7 @@ use Rattle.hddl_names.specs.TypeNumbers.{type_at, numbered_pairs}
 abbrev pub AreTyped : DomainText → ProblemText → Type 0
 AreTyped d p = (t : Typed) → Contains (object_declarations d p) t → IsDeclaredType d (text_or_object t.of_type)
 
+-- the name of the object of that number
 abbrev pub object_at : DomainText → ProblemText → ℕ → Text
 object_at d p number = get_or (object_names d p) number []
 
@@ -24,6 +25,7 @@ object_at d p number = get_or (object_names d p) number []
 abbrev pub number_typed : List Text → List Text → Typed → ℕ × ℕ
 number_typed objects types t = (number_in objects t.mention.text, number_in types (text_or_object t.of_type))
 
+-- the same for all names of a typed list, in its order
 abbrev pub declared_in : List Text → List Text → List NameGroup → List (ℕ × ℕ)
 declared_in objects types groups = map (number_typed objects types) (typed_names groups)
 

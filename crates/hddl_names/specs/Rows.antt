@@ -1,6 +1,7 @@
 -- Pairs of numbers, kept as a list for each first number.
 use Rattle.std.specs.Prelude.{ℕ, ◌<◌, ◌↔◌, List, [], map, length, get_or, Vec, Contains, All}
 
+-- what the vectors hold
 abbrev pub lists_of : {A : Type 0} → List (Vec ℕ A) → List (List ℕ)
 lists_of vectors = map (λ v. v.items) vectors
 
@@ -12,6 +13,7 @@ AreWithin rows = All (All (λ x. x < length rows)) rows
 abbrev pub AreRows : List (ℕ × ℕ) → List (List ℕ) → Type 0
 AreRows pairs rows = (a b : ℕ) → Contains (get_or rows a []) b ↔ Contains {X = ℕ × ℕ} pairs (a, b)
 
+-- each pair the other way round
 abbrev pub turned : List (ℕ × ℕ) → List (ℕ × ℕ)
 turned pairs = map (λ p. (p.1, p.0)) pairs
 

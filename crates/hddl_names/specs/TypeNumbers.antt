@@ -12,6 +12,7 @@ use Rattle.hddl_names.specs.Rows.{AreRows, turned}
 abbrev pub type_at : DomainText → ℕ → Text
 type_at d number = get_or (type_names d) number []
 
+-- the numbers of two names
 abbrev pub number_pair : List Text → Text × Text → ℕ × ℕ
 number_pair names pair = (number_in names pair.0, number_in names pair.1)
 
@@ -19,12 +20,15 @@ number_pair names pair = (number_in names pair.0, number_in names pair.1)
 abbrev pub with_parents : List Typed → List (Text × Text)
 with_parents ts = map (λ t. (t.mention.text, text_or_object t.of_type)) ts
 
+-- each mentioned type below `object`
 abbrev pub with_object : List Mention → List (Text × Text)
 with_object mentions = map (λ text. (text, object)) (texts mentions)
 
+-- the numbers of each declared type and its parent, in the order of a typed list
 abbrev pub pairs_in : List Text → List NameGroup → List (ℕ × ℕ)
 pairs_in names groups = map (number_pair names) (with_parents (typed_names groups))
 
+-- the numbers of each type that a typed list mentions, and of `object`
 abbrev pub object_pairs_in : List Text → List NameGroup → List (ℕ × ℕ)
 object_pairs_in names groups = map (number_pair names) (with_object (mentions_in groups))
 

@@ -1,10 +1,11 @@
 //! The closure of pairs of numbers with their parents, kept short.
 //!
-//! Where a number has one parent, `0` aside, a line goes from it to that parent, and along lines intervals tell which number
-//! leads to which. Lines end at numbers without parents, and at *junctions*, which have several. Past the top of its line a
-//! number leads to what the junction there leads to. So each number keeps the set of the junctions that lead to it, a bit
-//! for each: then one look tells whether a number leads to another, and a pass over two sets whether something leads to
-//! both. The time to make it is that of going over all pairs, with a set for each pair past a junction.
+//! Where a number has one parent, `0` aside, a line goes from it to that parent, and along lines intervals tell which
+//! number leads to which. Lines end at numbers without parents, and at *junctions*, which have several. Past the top of
+//! its line a number leads to what the junction there leads to. So each number keeps the set of the junctions that lead
+//! to it, a bit for each: then one look tells whether a number leads to another, and a pass over two sets whether
+//! something leads to both. The time to make it is that of going over all pairs, with a set for each pair past a
+//! junction.
 ghost use Rattle.std.specs.Prelude.{◌≡◌, ◌<◌, ◌↔◌, ◌⊎◌, ◌||◌, ℕ, [], Some, List, true, replicate, length, get_or, All, Contains, IsTrue, IfOk, IfSome, OnOk};
 ghost use Rattle.htn_order.specs.Closure.{AreBelow};
 ghost use Rattle.hddl_names.specs.Closures.{along_lines, set_of, AreSound, AreCarried, HaveOwn, IsWithin, LeadsTo, Meet, PassesTo, ShareJunction, Tells};
@@ -129,8 +130,8 @@ fn gathered_set(
     Ok(set)
 }
 
-/// For each number the positions of junctions that lead to it: of all that do, where each number comes in the order after
-/// those that lead to it.
+/// For each number the positions of junctions that lead to it: of all that do, where each number comes in the order
+/// after those that lead to it.
 fn gathered(
     alloc: Global,
     children: &Rows,
@@ -200,8 +201,8 @@ fn are_carried(sets: &[NumberSet], children: &Rows) -> bool
 }
 
 impl Closure {
-    /// The closure of pairs, which are also given by rows in both directions, or an error where memory was refused. It may
-    /// be None where there is a cycle.
+    /// The closure of pairs, which are also given by rows in both directions, or an error where memory was refused. It
+    /// may be None where there is a cycle.
     pub(crate) fn of(
         alloc: Global,
         pairs: &[(usize, usize)],

@@ -16,8 +16,8 @@ use hddl_tree::{NameGroup, ProblemText};
 use std::alloc::{AllocError, Global};
 use std::marker::Model;
 
-/// The types that each constant and object has by its declarations, without those above them, by number. Contracts see the
-/// lists, one for each object.
+/// The types that each constant and object has by its declarations, without those above them, by number. Contracts see
+/// the lists, one for each object.
 #[derive(Drop)]
 pub struct DeclaredTypes {
     rows: Rows,

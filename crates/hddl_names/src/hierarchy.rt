@@ -165,8 +165,8 @@ impl<'a> TypeHierarchy<'a> {
         Ok(cycle)
     }
 
-    /// The place of the first name in the text of `:types` that stands in a declared pair on a cycle, None where there is
-    /// none, or an error where memory was refused.
+    /// The place of the first name in the text of `:types` that stands in a declared pair on a cycle, None where there
+    /// is none, or an error where memory was refused.
     pub fn cycle_at(&self, alloc: Global) -> Result<Option<usize>, AllocError>
         ensures { IfOk result (λ found. MatchOption found (HasNoCycle self.now) (IsFirstCycle self.now)) }
     {

@@ -1,10 +1,10 @@
 //! Intervals of a walk, which tell in one look whether one number leads to another.
 //!
-//! Where each number has one parent at most, a line goes from it up to the last of its ancestors, its top. The numbers are
-//! walked from the tops down. Each has a place in the walk, and its interval goes from there to the end of all that lead
-//! to it. So a number leads to another exactly where its place is in the other's interval. No promise rests on the walk:
-//! whether the intervals of the children tile that of their parent is looked at once, after it. Where a number has several
-//! parents, or leads to itself, they don't, and there are none.
+//! Where each number has one parent at most, a line goes from it up to the last of its ancestors, its top. The numbers
+//! are walked from the tops down. Each has a place in the walk, and its interval goes from there to the end of all that
+//! lead to it. So a number leads to another exactly where its place is in the other's interval. No promise rests on the
+//! walk: whether the intervals of the children tile that of their parent is looked at once, after it. Where a number
+//! has several parents, or leads to itself, they don't, and there are none.
 ghost use Rattle.std.specs.Prelude.{◌≡◌, ◌<◌, ◌↔◌, ℕ, IsTrue, IfOk, IfSome, [], length, get_or};
 ghost use Rattle.hddl_names.specs.Intervals.{Tile, AreTiled, StandAtPlaces, IsInside, HasTop, HaveTops, TellOfRows, interval_at, top_at};
 
@@ -153,7 +153,8 @@ pub(crate) fn top_of(tops: &[usize], number: usize) -> usize
     tops.get(number).copied().unwrap_or(number)
 }
 
-/// Whether a number with this row is its own top, or has a row and is inside its top, and all of the row have the same top.
+/// Whether a number with this row is its own top, or has a row and is inside its top, and all of the row have the same
+/// top.
 fn has_top(intervals: &[Interval], tops: &[usize], row: &[usize], number: usize) -> bool
     ensures { IsTrue result ↔ HasTop intervals.now tops.now row.now number }
 {

@@ -10,7 +10,8 @@ use indexmap::IndexSet;
 use std::alloc::{AllocError, AllocFailed, Global};
 use std::marker::Model;
 
-/// Different names in lower case, as a plan file can hold them, each with its position as its number. Contracts see the list of the names.
+/// Different names in lower case, as a plan file can hold them, each with its position as its number. Contracts see the
+/// list of the names.
 #[derive(Drop)]
 pub struct Names {
     texts: IndexSet<Vec<u8>>,

@@ -5,7 +5,8 @@ ghost use Rattle.hddl_names.specs.NumberSets.{has};
 use std::alloc::{AllocError, Global};
 use std::marker::Model;
 
-/// A set of numbers. It takes a bit for each number up to the largest. Contracts see its words of 64 bits, which `has` reads.
+/// A set of numbers. It takes a bit for each number up to the largest. Contracts see its words of 64 bits, which `has`
+/// reads.
 #[derive(Drop)]
 pub(crate) struct NumberSet {
     words: Vec<u64>,

@@ -11,11 +11,13 @@ use Rattle.hddl_meaning.specs.Items.{IsPast}
 use Rattle.hddl_scope.specs.Findings.{Finds}
 use Rattle.hddl_scope.proofs.Finding.{Finds-some}
 
+-- a list is what stands before a position, the value there, and what stands after it
 pub cut_at : {X : Type 0} (xs : List X) (k : ℕ) (x : X) → k < length xs → x ≡ get_or xs k x → xs ≡ take k xs ++ x ∷ drop (k + 1) xs
 cut_at xs k x lt is =
     sym (take-append-drop k xs)
     ∙ ap (λ l. take k xs ++ l) (drop-cons xs k x lt ∙ (λ i. sym is i ∷ drop (sym (add-one k) i) xs))
 
+-- the mention at the limit is the first past it
 pub past_limit : (limit : ℕ) (ms : List Mention) (m : Mention) (place : ℕ) → limit < length ms → m ≡ get_or ms limit m → place ≡ m.place
     → Finds (IsPast limit ms) (Some place)
 past_limit limit ms m place lt is at =
@@ -28,6 +30,7 @@ module _ {X Y : Type 0} (f : X → List Y) where
       ap (flat_map f) (take_more xs k x lt ∙ ap (λ y. take k xs ++ y ∷ []) (sym is)) ∙ flat_map-append f (take k xs) (x ∷ [])
       ∙ ap (λ l. flat_map f (take k xs) ++ l) (append-nil (f x))
 
+-- the mentions of one group of variables more
 pub variables_more : (gs : List VariableGroup) (k : ℕ) (g : VariableGroup) → k < length gs → g ≡ get_or gs k g
     → mentions_of (typed_variables (take k gs)) ++ map variable_mention g.variables ≡ mentions_of (typed_variables (take (k + 1) gs))
 variables_more gs k g lt is =
@@ -36,6 +39,7 @@ variables_more gs k g lt is =
     (ap mentions_of (flat_more of gs k g lt is) ∙ map-append (λ t. t.mention) (typed_variables (take k gs)) (of g)
     ∙ ap (λ l. mentions_of (typed_variables (take k gs)) ++ l) (map-map (λ t. t.mention) (λ x. record { mention = variable_mention x; of_type = option_map mention_of g.of_type }) g.variables))
 
+-- the mentions of one group of names more
 pub names_more : (gs : List NameGroup) (k : ℕ) (g : NameGroup) → k < length gs → g ≡ get_or gs k g
     → mentions_of (typed_names (take k gs)) ++ map mention_of g.names ≡ mentions_of (typed_names (take (k + 1) gs))
 names_more gs k g lt is =

@@ -13,6 +13,7 @@ use Rattle.hddl_scope.proofs.Finding.{Finds-some, Finds-none, none_from}
 use Rattle.hddl_scope.proofs.Repeating.{snoc_cases}
 use Rattle.hddl_scope.proofs.Positions.{of_distinct}
 
+-- a text has a number exactly where it stands among the entries
 any_number : (es : Entries) (t : Text) → is_some (number_at es t) ≡ list_any (is_same_text t) (map (λ e. e.0) es)
 any_number [] t = refl
 any_number (e ∷ es) t = by (is_same_text t e.0) (any_number es t)
@@ -22,6 +23,7 @@ any_number (e ∷ es) t = by (is_same_text t e.0) (any_number es t)
     by true rest = refl
     by false rest = rest
 
+-- the entries of a list with one mention more: a new name is added
 pub names-noted : (known : Entries) (ms : List Mention) (m : Mention) → AreNamesOf known ms → AreNamesOf (noted known m) (ms ++ m ∷ [])
 names-noted known ms m are =
     by (is_some (number_at known m.text))
@@ -35,6 +37,7 @@ names-noted known ms m are =
     by true = refl
     by false = map-append (λ e. e.0) known ((m.text, m.place) ∷ [])
 
+-- the same one mention further in the list
 pub names-next : (known after : Entries) (first ms : List Mention) (k : ℕ) (m : Mention) → k < length ms → m ≡ get_or ms k m → after ≡ noted known m
     → AreNamesOf known (first ++ take k ms) → AreNamesOf after (first ++ take (k + 1) ms)
 names-next known after first ms k m lt is put are =
@@ -55,6 +58,7 @@ no_number known ms t are = (
     by gone true some = absurd (gone (of_distinct (texts ms) t some))
     by gone false none = refl
 
+-- there are as many entries as distinct names
 count : (known : Entries) (ms : List Mention) → AreNamesOf known ms → length known ≡ length (distinct (texts ms))
 count known ms are = sym (length-map known (λ e. e.0)) ∙ ap length are
 
@@ -63,6 +67,7 @@ pub record Within (known : Entries) (first ms : List Mention) : Type 0 where
   pub names : AreNamesOf known (first ++ ms)
   pub none : (place : ℕ) → IsPastAfter first ms place → ⊥
 
+-- before a list nothing is past the limit
 pub Within-start : (known : Entries) (first : List Mention) → AreNamesOf known first → Within known first []
 Within-start known first are = record {
   names = are ∙ ap (λ l. distinct (texts l)) (sym (append-nil first));
@@ -73,6 +78,7 @@ Within-start known first are = record {
     nothing first place ([], m, after, e, wide, new, at) = cc
     nothing first place (b ∷ bs, m, after, e, wide, new, at) = cc
 
+-- a mention that is known, or not past the limit, leaves what was read within it
 pub Within-next : (known after : Entries) (first ms : List Mention) (k : ℕ) (m : Mention) → k < length ms → m ≡ get_or ms k m → after ≡ noted known m
     → ((length known ≡ 65535) × (number_at known m.text ≡ None) → ⊥) → Within known first (take k ms) → Within after first (take (k + 1) ms)
 Within-next known after first ms k m lt is put not w = record {
@@ -89,11 +95,13 @@ Within-next known after first ms k m lt is put not w = record {
       ];
 }
 
+-- a new mention past the limit is the one that is found
 pub Within-past : (known : Entries) (first ms : List Mention) (k : ℕ) (m : Mention) (place : ℕ) → k < length ms → m ≡ get_or ms k m
     → (length known ≡ 65535) × (number_at known m.text ≡ None) → place ≡ m.place → Within known first (take k ms) → Finds (IsPastAfter first ms) (Some place)
 Within-past known first ms k m place lt is past at w =
     Finds-some place
     (take k ms, m, drop (k + 1) ms, cut_at ms k m lt is, sym (count known (first ++ take k ms) w.names) ∙ past.0, (no_number known (first ++ take k ms) m.text w.names).0 past.1, at)
 
+-- a list all of which is within the limit has none past it
 pub Within-end : (known : Entries) (first ms : List Mention) (k : ℕ) → length ms ≤ k → Within known first (take k ms) → Finds (IsPastAfter first ms) None
 Within-end known first ms k le w = subst (λ l. Finds (IsPastAfter first l) None) (take_all k ms le) (Finds-none w.none)

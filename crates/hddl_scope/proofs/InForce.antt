@@ -16,9 +16,11 @@ use Rattle.hddl_scope.proofs.Finding.{IfSome-weaker, mapped, sound-one}
 use Rattle.hddl_scope.proofs.Positions.{next_number, numbers_more}
 use Rattle.hddl_scope.proofs.Repeating.{Contains-middle, more, snoc_cases, stands}
 
+-- the text of a variable
 abbrev text_of : Variable → Text
 text_of v = v.typed.mention.text
 
+-- the place of the variable in force that has a text
 abbrev pub place_in : List Variable → Text → Option ℕ
 place_in vs t = option_map (λ v. v.typed.mention.place) (variable_in vs t)
 
@@ -31,11 +33,13 @@ take_take (suc n) zero xs le = absurd (omega arith)
 take_take (suc n) (suc m) [] le = refl
 take_take (suc n) (suc m) (x ∷ xs) le = ap (λ l. x ∷ l) (take_take n m xs (omega arith))
 
+-- the front of a list with more after it is that of the list
 pub take_front : {X : Type 0} (n : ℕ) (xs ys : List X) → n ≤ length xs → take n (xs ++ ys) ≡ take n xs
 take_front zero xs ys le = refl
 take_front (suc n) [] ys le = absurd (let none : suc n ≤ 0 = le in omega (arith, none))
 take_front (suc n) (x ∷ xs) ys le = ap (λ l. x ∷ l) (take_front n xs ys (let more : suc n ≤ suc (length xs) = le in omega (arith, more)))
 
+-- a list is the front of it with more after it
 pub take_whole : {X : Type 0} (xs ys : List X) → take (length xs) (xs ++ ys) ≡ xs
 take_whole [] ys = refl
 take_whole (x ∷ xs) ys = ap (λ l. x ∷ l) (take_whole xs ys)
@@ -46,12 +50,14 @@ kept_on xs now after more is kept =
     let long : length now ≡ length xs + length more = ap length is ∙ length-append xs more in
     sym (take_take (length xs) (length now) after (omega (arith, long))) ∙ ap (take (length xs)) (kept ∙ is) ∙ take_whole xs more
 
+-- what stands in the front of a list stands there in the list
 taken : {X : Type 0} (n : ℕ) (xs : List X) (k : ℕ) (x : X) → slice_get (take n xs) k ≡ Some x → (k < n) × (slice_get xs k ≡ Some x)
 taken zero xs k x e = cc
 taken (suc n) [] k x e = cc
 taken (suc n) (y ∷ xs) zero x e = (omega arith, e)
 taken (suc n) (y ∷ xs) (suc k) x e = let r = taken n xs k x e in let lt = r.0 in (omega (arith, lt), r.1)
 
+-- what stands in a list with one value more stands there in the list, or is that value
 pushed_at : {X : Type 0} (xs : List X) (x : X) (k : ℕ) (y : X) → slice_get (xs ++ x ∷ []) k ≡ Some y → (slice_get xs k ≡ Some y) ⊎ ((k ≡ length xs) × (x ≡ y))
 pushed_at [] x zero y e = inr (refl, cc)
 pushed_at [] x (suc k) y e = cc
@@ -60,6 +66,7 @@ pushed_at (z ∷ xs) x (suc k) y e = elim (pushed_at xs x k y e) [ inl h ↦ inl
 
 -- ## The first variable of a text
 
+-- the variable that is found is in force and has the text
 found_in : (vs : List Variable) (t : Text) (v : Variable) → variable_in vs t ≡ Some v → IsIn v vs × (t ≡ text_of v)
 found_in [] t v e = cc
 found_in (w ∷ vs) t v e = by (is_same_text t (text_of w)) refl e (found_in vs t v)
@@ -71,6 +78,7 @@ found_in (w ∷ vs) t v e = by (is_same_text t (text_of w)) refl e (found_in vs 
         (subst (λ z. IsIn z (w ∷ vs)) is (at_head w vs), (texts_decide t (text_of w)).0 same ∙ ap (λ (z : Variable). text_of z) is)
     by false same e rest = let r = rest e in (at_tail w v vs r.0, r.1)
 
+-- where none is found, no variable in force has the text
 found_none : (vs : List Variable) (t : Text) → variable_in vs t ≡ None → (v : Variable) → IsIn v vs → text_of v ≡ t → ⊥
 found_none [] t e v at same = in_nothing v at
 found_none (w ∷ vs) t e v at same = by (is_same_text t (text_of w)) refl e (found_none vs t)
@@ -87,15 +95,19 @@ found_none (w ∷ vs) t e v at same = by (is_same_text t (text_of w)) refl e (fo
 -- ## One more variable
 
 module _ (vs : List Variable) (v : Variable) where
+  -- the mentions of the variables in force
   abbrev ms : List Mention
   ms = variable_mentions vs
 
+  -- the mention of the variable that comes
   abbrev m : Mention
   m = v.typed.mention
 
+  -- with the variable, its mention comes at the end
   pushed : variable_mentions (vs ++ v ∷ []) ≡ ms ++ m ∷ []
   pushed = map-append (λ (v : Variable). v.typed.mention) vs (v ∷ [])
 
+  -- a new variable changes nothing of which repeat is first
   repeats_new : (found next : Option ℕ) → variable_in vs m.text ≡ None → Finds (IsRepeat ms) found → IsOneOf found None next → Finds (IsRepeat (ms ++ m ∷ [])) next
   repeats_new found next none old one = record {
     sound = sound-one (IsRepeat (ms ++ m ∷ [])) (IfSome-weaker (IsRepeat ms) (IsRepeat (ms ++ m ∷ [])) (more ms m) found old.sound) tt one;
@@ -108,6 +120,7 @@ module _ (vs : List Variable) (v : Variable) where
     ];
   }
 
+  -- a variable that stood before is the first repeat, unless there is an earlier one
   repeats_old : (w : Variable) (found next : Option ℕ) → variable_in vs m.text ≡ Some w → Finds (IsRepeat ms) found → IsOneOf found (Some (max w.typed.mention.place m.place)) next
       → Finds (IsRepeat (ms ++ m ∷ [])) next
   repeats_old w found next some old one =
@@ -121,6 +134,7 @@ module _ (vs : List Variable) (v : Variable) where
         complete = λ e. let none = (one.none e).1 in cc;
       }
 
+  -- the first repeat with one variable more, whether it is new or not
   repeats_more : (found here next : Option ℕ) → Finds (IsRepeat ms) found → here ≡ repeat_of (place_in vs m.text) m.place → IsOneOf found here next
       → Finds (IsRepeat (variable_mentions (vs ++ v ∷ []))) next
   repeats_more found here next old is one =
@@ -131,6 +145,7 @@ module _ (vs : List Variable) (v : Variable) where
       by None e one = repeats_new found next e old one
       by (Some w) e one = repeats_old w found next e old one
 
+  -- what is known of the variables in force, with one variable more
   pub noted_more : (known after : Entries) (found here next : Option ℕ) → ((t : Text) → number_at after t ≡ next_number known m.text (length vs) t)
       → here ≡ repeat_of (place_in vs m.text) m.place → IsOneOf found here next → AreNoted known vs found → AreNoted after (vs ++ v ∷ []) next
   noted_more known after found here next step is one old = record {

@@ -12,6 +12,7 @@ use Rattle.hddl_meaning.proofs.Listed.{at_head, at_tail, texts_decide, in_distin
 use Rattle.hddl_meaning.proofs.Numbers.{first_below}
 use Rattle.hddl_scope.specs.Numbers.{Entries, number_at}
 
+-- where no value passes, the position is past the end
 none_pass : {X : Type 0} (p : X → Bool) (xs : List X) → list_any p xs ≡ false → position_or_len p xs ≡ length xs
 none_pass p [] none = refl
 none_pass p (x ∷ xs) none = by (p x) none (none_pass p xs)
@@ -21,6 +22,7 @@ none_pass p (x ∷ xs) none = by (p x) none (none_pass p xs)
     by true none rest = cc
     by false none rest = let e = rest none in omega (arith, e)
 
+-- there is a position exactly where a value passes
 pub has_position : {X : Type 0} (p : X → Bool) (xs : List X) → is_some (position p xs) ≡ list_any p xs
 has_position p xs = by (list_any p xs) refl
   where
@@ -34,6 +36,7 @@ has_position p xs = by (list_any p xs) refl
         let test : nat_lt (position_or_len p xs) (length xs) ≡ false = grind (arith, nat_tests) in
         ap (λ t. is_some (cond t (Some (position_or_len p xs)) None)) test
 
+-- a text among names with one more is among them or is that one
 named_cases : (acc : List Text) (x t : Text) → list_any (is_same_text t) (with_name acc x) ≡ true → (list_any (is_same_text t) acc ≡ true) ⊎ (x ≡ t)
 named_cases acc x t h = by (list_any (is_same_text x) acc) h
   where
@@ -46,6 +49,7 @@ named_cases acc x t h = by (list_any (is_same_text x) acc) h
     by true h = inl h
     by false h = last (list_any (is_same_text t) acc) (is_same_text t x) refl (sym (list_any-append (is_same_text t) acc (x ∷ [])) ∙ h)
 
+-- a text among the distinct names is one of those that they were made from
 in_folded : (acc ts : List Text) (t : Text) → list_any (is_same_text t) (fold with_name acc ts) ≡ true → (list_any (is_same_text t) acc ≡ true) ⊎ IsIn t ts
 in_folded acc [] t h = inl h
 in_folded acc (x ∷ ts) t h =
@@ -54,6 +58,7 @@ in_folded acc (x ∷ ts) t h =
       | inr later ↦ inr (at_tail x t ts later)
     ]
 
+-- a text among the distinct names is one of the names
 pub of_distinct : (ts : List Text) (t : Text) → list_any (is_same_text t) (distinct ts) ≡ true → IsIn t ts
 of_distinct ts t h = elim (in_folded [] ts t h) [ inl none ↦ cc | inr at ↦ at ]
 
@@ -66,6 +71,7 @@ is_number_of ts t = (
 
 -- ## Positions that grow
 
+-- the position in a list with one value more is the old one, or else that of the value
 pub push_from : {X : Type 0} (p : X → Bool) (i : ℕ) (xs : List X) (x : X)
     → position_from p i (xs ++ x ∷ []) ≡ cond (is_some (position_from p i xs)) (position_from p i xs) (cond (p x) (Some (i + length xs)) None)
 push_from p i [] x = ap (λ n. cond (p x) (Some n) None) (omega arith)
@@ -98,6 +104,7 @@ kept_number es u n some t = by (number_at es t) refl
     by None none = fresh none (is_same_text t u) refl
     by (Some k) is = refl
 
+-- the same from the start of the list
 pub position_push : {X : Type 0} (p : X → Bool) (xs : List X) (x : X)
     → position p (xs ++ x ∷ []) ≡ cond (is_some (position p xs)) (position p xs) (cond (p x) (Some (length xs)) None)
 position_push p xs x =
@@ -115,6 +122,7 @@ numbers_more name xs x es n next long step old t =
 
 -- ## What stands at a position
 
+-- where there is a position, it is the first
 pub first_is : {X : Type 0} (p : X → Bool) (xs : List X) (k : ℕ) → position p xs ≡ Some k → position_or_len p xs ≡ k
 first_is p xs k e = by (nat_lt (position_or_len p xs) (length xs)) e
   where
@@ -122,9 +130,11 @@ first_is p xs k e = by (nat_lt (position_or_len p xs) (length xs)) e
     by true e = cc
     by false e = cc
 
+-- the value that is found is the one at the position
 pub found_at : {X : Type 0} (p : X → Bool) (xs : List X) (k : ℕ) → position p xs ≡ Some k → find p xs ≡ slice_get xs k
 found_at p xs k e = find_at p xs ∙ ap (slice_get xs) (first_is p xs k e)
 
+-- where there is no position, nothing is found
 pub found_nowhere : {X : Type 0} (p : X → Bool) (xs : List X) → position p xs ≡ None → find p xs ≡ None
 found_nowhere p xs e =
     find_at p xs

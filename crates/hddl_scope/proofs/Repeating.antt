@@ -11,6 +11,7 @@ use Rattle.hddl_scope.specs.Numbers.{Entries, number_at}
 use Rattle.hddl_scope.specs.Repeats.{IsRepeat, noted, repeat_of}
 use Rattle.hddl_scope.proofs.Finding.{sound-one, IfSome-weaker}
 
+-- a text has the same bytes as itself
 pub same_itself : (t : Text) → is_same_text t t ≡ true
 same_itself t = nat_list_eq_equiv.refl t
 
@@ -29,10 +30,12 @@ number_at-push (e ∷ es) u n t = by (is_same_text t e.0) (number_at-push es u n
     by true rest = refl
     by false rest = rest
 
+-- a text that has a number keeps it when another entry comes
 pub number_at-kept : (es : Entries) (u : Text) (n : ℕ) (t : Text) (m : ℕ) → number_at es t ≡ Some m → number_at (es ++ (u, n) ∷ []) t ≡ Some m
 number_at-kept es u n t m e =
     number_at-push es u n t ∙ ap (λ o. cond (is_some o) o (cond (is_same_text t u) (Some n) None)) e
 
+-- a text without a number gets the one of its new entry
 pub number_at-new : (es : Entries) (u : Text) (n : ℕ) → number_at es u ≡ None → number_at (es ++ (u, n) ∷ []) u ≡ Some n
 number_at-new es u n e =
     number_at-push es u n u ∙ ap (λ o. cond (is_some o) o (cond (is_same_text u u) (Some n) None)) e
@@ -54,6 +57,7 @@ number_at-cases es u n t m e = by (number_at es t) refl
     by None none = fresh (is_same_text t u) refl (sym (ap (λ o. cond (is_some o) o (cond (is_same_text t u) (Some n) None)) none) ∙ whole)
     by (Some k) some = inl (some ∙ (sym (ap (λ o. cond (is_some o) o (cond (is_same_text t u) (Some n) None)) some) ∙ whole))
 
+-- a text that has a number has one when another entry comes
 pub number_at-still : (es : Entries) (u : Text) (n : ℕ) (t : Text) → IsSome (number_at es t) → IsSome (number_at (es ++ (u, n) ∷ []) t)
 number_at-still es u n t some =
     ap is_some (number_at-push es u n t) ∙ ap (λ b. is_some (cond b (number_at es t) (cond (is_same_text t u) (Some n) None))) some ∙ some
@@ -80,6 +84,7 @@ stands (y ∷ ys) x at = elim (Contains-append_cases (y ∷ []) ys x at) [
   | inr more ↦ let (before, after, is) = stands ys x more in (y ∷ before, after, ap (λ l. y ∷ l) is)
 ]
 
+-- a value in the middle of a list is in it
 pub Contains-middle : {X : Type 0} (before after : List X) (x : X) → IsIn x (before ++ x ∷ after)
 Contains-middle before after x = Contains-append_right before (x ∷ after) x (Contains-append_left (x ∷ []) after x (Contains-push [] x))
 
@@ -90,10 +95,12 @@ pub record Kept (known : Entries) (ms : List Mention) (found : Option ℕ) : Typ
   pub none : found ≡ None → (place : ℕ) → IsRepeat ms place → ⊥
   pub repeat : IfSome found (IsRepeat ms)
 
+-- in an empty list nothing stands twice
 no_repeat : (place : ℕ) → IsRepeat [] place → ⊥
 no_repeat place ([], first, middle, second, after, e, same, is) = cc
 no_repeat place (b ∷ bs, first, middle, second, after, e, same, is) = cc
 
+-- before anything is read nothing is kept or found
 pub Kept-start : Kept [] [] None
 Kept-start = record {
   from = λ t n e. cc;
@@ -102,11 +109,13 @@ Kept-start = record {
   repeat = tt;
 }
 
+-- what stands twice in a list does so with one mention more
 pub more : (ms : List Mention) (m : Mention) (place : ℕ) → IsRepeat ms place → IsRepeat (ms ++ m ∷ []) place
 more ms m place (before, first, middle, second, after, e, same, is) =
     (before, first, middle, second, after ++ m ∷ [], ap (λ l. l ++ m ∷ []) e ∙ append_assoc (before ++ first ∷ middle) (second ∷ after) (m ∷ []), same, is)
 
 module _ (known : Entries) (ms : List Mention) (m : Mention) (found next : Option ℕ) where
+  -- a new name is kept, and is no repeat
   kept_new : number_at known m.text ≡ None → Kept known ms found → IsOneOf found None next → Kept (known ++ (m.text, m.place) ∷ []) (ms ++ m ∷ []) next
   kept_new none k one = record {
     from = λ t n e. elim (number_at-cases known m.text m.place t n e) [
@@ -128,6 +137,7 @@ module _ (known : Entries) (ms : List Mention) (m : Mention) (found next : Optio
     repeat = sound-one (IsRepeat (ms ++ m ∷ [])) (IfSome-weaker (IsRepeat ms) (IsRepeat (ms ++ m ∷ [])) (more ms m) found k.repeat) tt one;
   }
 
+  -- a name that was kept is a repeat, the first unless one was found before
   kept_old : (first : ℕ) → number_at known m.text ≡ Some first → Kept known ms found → IsOneOf found (Some (max first m.place)) next
       → Kept known (ms ++ m ∷ []) next
   kept_old first some k one =
@@ -144,6 +154,7 @@ module _ (known : Entries) (ms : List Mention) (m : Mention) (found next : Optio
         repeat = sound-one (IsRepeat (ms ++ m ∷ [])) (IfSome-weaker (IsRepeat ms) (IsRepeat (ms ++ m ∷ [])) (more ms m) found k.repeat) repeat one;
       }
 
+  -- what is kept and found with one mention more
   pub Kept-more : Kept known ms found → IsOneOf found (repeat_of (number_at known m.text) m.place) next → Kept (noted known m) (ms ++ m ∷ []) next
   Kept-more k one = by (number_at known m.text) refl one
     where
@@ -154,6 +165,7 @@ module _ (known : Entries) (ms : List Mention) (m : Mention) (found next : Optio
       by None none o = kept_new none k o
       by (Some first) some o = kept_old first some k o
 
+-- the same one mention further in the list
 pub Kept-step : (known after : Entries) (ms : List Mention) (i : ℕ) (m : Mention) (found here next : Option ℕ) → i < length ms → m ≡ get_or ms i m
     → here ≡ repeat_of (number_at known m.text) m.place → after ≡ noted known m → IsOneOf found here next
     → Kept known (take i ms) found → Kept after (take (i + 1) ms) next
@@ -162,5 +174,6 @@ Kept-step known after ms i m found here next lt is told put one k =
     subst (λ l. Kept after l next) e
     (subst (λ a. Kept a (take i ms ++ m ∷ []) next) (sym put) (Kept-more known (take i ms) m found next k (subst (λ h. IsOneOf found h next) told one)))
 
+-- what was found at the end is the first repeat, if there is one
 pub Kept-finds : (known : Entries) (ms : List Mention) (found : Option ℕ) → Kept known ms found → Finds (IsRepeat ms) found
 Kept-finds known ms found k = record { sound = k.repeat; complete = k.none }

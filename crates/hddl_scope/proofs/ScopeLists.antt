@@ -10,6 +10,7 @@ use Rattle.hddl_meaning.specs.Uses.{Variable, quantified_of}
 use Rattle.hddl_meaning.specs.Items.{variable_mentions}
 use Rattle.hddl_scope.specs.Scopes.{group_variables}
 
+-- the variables that groups put in force are those of the typed list
 pub scope_groups : (quantified : Bool) (gs : List VariableGroup)
     → flat_map (group_variables quantified) gs ≡ map (λ t. record { typed = t; is_quantified = quantified }) (typed_variables gs)
 scope_groups quantified [] = refl

@@ -15,6 +15,7 @@ pub record AreNoted (known : Entries) (variables : List Variable) (repeat : Opti
   pub positions : (t : Text) → number_at known t ≡ position (has_text t) variables
   pub repeats : Finds (IsRepeat (variable_mentions variables)) repeat
 
+-- the variables of the entries, in their order
 abbrev pub variables_of : List Entry → List Variable
 variables_of entries = map (λ e. e.variable) entries
 

@@ -5,6 +5,7 @@ use Rattle.hddl_meaning.specs.Mentions.{Text, mention_of, variable_mention}
 use Rattle.hddl_meaning.specs.Names.{is_same_text}
 use Rattle.hddl_meaning.specs.Uses.{Variable}
 
+-- the variables of one group, all of its type
 abbrev pub group_variables : Bool → VariableGroup → List Variable
 group_variables quantified g =
     map (λ x. record { typed = record { mention = variable_mention x; of_type = option_map mention_of g.of_type }; is_quantified = quantified }) g.variables

@@ -27,8 +27,9 @@ struct Entry {
     repeat: Option<usize>,
 }
 
-/// The variables in force: the parameters of a schema, and then those of each `forall` around. Variables are put in force
-/// and taken back at the end, and the work is that of these variables alone. Contracts see the list of the variables.
+/// The variables in force: the parameters of a schema, and then those of each `forall` around. Variables are put in
+/// force and taken back at the end, and the work is that of these variables alone. Contracts see the list of the
+/// variables.
 #[derive(Drop)]
 pub struct Scope {
     entries: Vec<Entry>,

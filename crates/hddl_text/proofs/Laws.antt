@@ -22,6 +22,7 @@ use Rattle.hddl_text.specs.Spelling.{Spells, BeginsNone, HasNested, FaultAt, is_
 use Rattle.hddl_text.proofs.TermsAgree.{out, opening_agrees}
 use Rattle.hddl_text.proofs.SectionsAgree.{domain_rest_agrees, problem_rest_agrees}
 
+-- two cuts of one list with ends of one length are the same
 same_split : (xs ys us vs : List Word) → xs ++ us ≡ ys ++ vs → length us ≡ length vs → (xs ≡ ys) × (us ≡ vs)
 same_split [] [] us vs e l = (refl, e)
 same_split [] (y ∷ ys) us vs e l = let n : length us ≡ length (y ∷ (ys ++ vs)) = ap length e in absurd (omega (arith, length-append ys vs, n))
@@ -38,6 +39,7 @@ pub record StopsAt {Tree : Type 0} (Derives : List Word → Tree → Type 0) (ws
   pub none : BeginsNone Derives ws word
   pub place : left ≡ suc (length none.rest)
 
+-- where no word is left, what is expected is at the end
 refusal_none : (len left : ℕ) (u : Bool) → refusal len [] u left ≡ Expected len
 refusal_none len left u = ap (refusal_at len u) (drop-nil _)
 
@@ -46,28 +48,35 @@ no_memory : (len : ℕ) (ws : List Word) (stop : Stop) → fault_of len ws stop 
 no_memory len ws Memory h = absurd (h refl)
 no_memory len ws (Refused u left) h = λ e. cc
 
+-- a text has one list of words
 same_words : (text : List ℕ) (vs ws : List Word) → words text ≡ Ok vs → words text ≡ Ok ws → vs ≡ ws
 same_words text vs ws e f = cc
 
 module _ {Tree : Type 0} (B : Phrase Tree) (b : Reader Tree) (g : (N : ℕ) → Agrees N suc out B b) where
+  -- a whole text: an opening bracket and what follows it
   abbrev Text : Phrase Tree
   Text = phrase.◌>>◌ Opening B
 
+  -- reads an opening bracket and what follows it
   abbrev text_reader : Reader Tree
   text_reader = reading.◌>>◌ opening b
 
+  -- the words are those of a tree, and nothing follows
   abbrev Derived : List Word → Tree → Type 0
   Derived ws tree = Text ws tree []
 
+  -- the reader of a text agrees with its rule
   text_agrees : (N : ℕ) → Agrees N out out Text text_reader
   text_agrees N = agrees_seq (λ k. omega arith) (opening_agrees N out) (λ _. g N)
 
   -- ---- what is read
 
+  -- the tree that the words derive is the one that is read
   whole_only : (ws : List Word) (tree : Tree) → Derived ws tree → whole text_reader ws ≡ read tree []
   whole_only ws tree r =
       ap (λ o. and_then o (λ d. reading.◌>>◌ end (pure d))) ((text_agrees (suc (length ws))).complete ws [] tree (omega arith) r)
 
+  -- what is read of all words is derived
   found_by : (o : Outcome Tree) (ws rest : List Word) (tree : Tree) → text_reader ws ≡ o → and_then o (λ d. reading.◌>>◌ end (pure d)) ≡ read tree rest → Derived ws tree
   found_by (read d []) ws rest tree is e = (text_agrees (suc (length ws))).sound ws [] tree (omega arith) (is ∙ cc)
   found_by (read d (w ∷ ms)) ws rest tree is e = absurd cc
@@ -105,11 +114,13 @@ module _ {Tree : Type 0} (B : Phrase Tree) (b : Reader Tree) (g : (N : ℕ) → 
   run_out class.Open w ws u n e = (g (suc (length ws))).ends 0 ws u (omega arith) (omega arith) n e
   run_out c w ws u n e = let h : suc (length ws) ≡ 0 = cc in omega arith
 
+  -- brackets that nest are refused at the end only where there is no word
   no_words : (ws : List Word) (u : Bool) → Nests 0 ws → text_reader ws ≡ refused u 0 → ws ≡ []
   unfolding opening
   no_words [] u n e = refl
   no_words (w ∷ ws) u n e = absurd (run_out (class_of w) w ws u n.1 e)
 
+  -- where reading stops, no text begins so, or there is no word
   whole_stops : (o : Outcome Tree) (ws : List Word) (u : Bool) (left : ℕ) → Nests 0 ws → text_reader ws ≡ o → and_then o (λ d. reading.◌>>◌ end (pure d)) ≡ refused u left → ((left ≡ 0) × (ws ≡ [])) ⊎ StopsAt Derived ws left
   whole_stops (read d []) ws u left n is e = absurd cc
   whole_stops (read d (w ∷ ms)) ws u left n is e =
@@ -147,11 +158,13 @@ module _ {Tree : Type 0} (B : Phrase Tree) (b : Reader Tree) (g : (N : ℕ) → 
 
   -- ---- faults
 
+  -- a fault at a word stands there if nothing derived begins with the words up to it
   word_stands : (text : List ℕ) (ws : List Word) (w : Word) (u c : Bool) → HasNested text ws → BeginsNone Derived ws w → is_unsupportable (class_of w) ≡ c → FaultAt Derived text (cond (u && c) (Unsupported w.place) (Expected w.place))
   word_stands text ws w true true has none is = (ws, has, (w, refl, none, is))
   word_stands text ws w true false has none is = (ws, has, inr (w, refl, none))
   word_stands text ws w false c has none is = (ws, has, inr (w, refl, none))
 
+  -- the fault where reading stopped stands at its place
   refusal_stands : (text : List ℕ) (ws : List Word) (u : Bool) (left : ℕ) → HasNested text ws → whole text_reader ws ≡ failed (Refused u left) → FaultAt Derived text (refusal (length text) ws u left)
   refusal_stands text ws u left has e =
       ⊎_elim
@@ -167,6 +180,7 @@ module _ {Tree : Type 0} (B : Phrase Tree) (b : Reader Tree) (g : (N : ℕ) → 
       subst (FaultAt Derived text) (sym is) (word_stands text ws s.word u (is_unsupportable (class_of s.word)) has s.none refl))
       (whole_stops (text_reader ws) ws u left has.nested refl e)
 
+  -- the same for each way in which reading stops
   stop_stands : (text : List ℕ) (ws : List Word) (stop : Stop) → HasNested text ws → (stop ≢ Memory → whole text_reader ws ≡ failed stop) → FaultAt Derived text (fault_of (length text) ws stop)
   stop_stands text ws Memory has h = (tt, tt)
   stop_stands text ws (Refused u left) has h = refusal_stands text ws u left has (h (λ e. cc))
@@ -179,6 +193,7 @@ pub record TextLaws {Tree : Type 0} (Derives : List Word → Tree → Type 0) (p
   pub refused : (text : List ℕ) (ws : List Word) (stop : Stop) (tree : Tree) → HasNested text ws → (stop ≢ Memory → whole p ws ≡ failed stop) → fault_of (length text) ws stop ≢ OutOfMemory → Spells Derives text tree → ⊥
   pub fault : (text : List ℕ) (ws : List Word) (stop : Stop) → HasNested text ws → (stop ≢ Memory → whole p ws ≡ failed stop) → FaultAt Derives text (fault_of (length text) ws stop)
 
+-- a reader that agrees with its rule reads whole texts rightly and refuses them rightly
 text_laws : {Tree : Type 0} (B : Phrase Tree) (b : Reader Tree) → ((N : ℕ) → Agrees N suc out B b) → TextLaws (λ ws tree. phrase.◌>>◌ Opening B ws tree []) (reading.◌>>◌ opening b)
 text_laws B b g = record {
   found = λ text ws rest tree has e. record { parts = ws; lexed = has.lexed; nested = has.nested; derived = found_by B b g (reading.◌>>◌ opening b ws) ws rest tree refl e };
@@ -199,10 +214,12 @@ text_laws B b g = record {
   fault = stop_stands B b g;
 }
 
+-- the reader of domains reads and refuses rightly
 pub domain_laws : TextLaws DerivesDomain domain
 unfolding domain
 domain_laws = text_laws IsDomainRest domain_rest domain_rest_agrees
 
+-- the reader of problems reads and refuses rightly
 pub problem_laws : TextLaws DerivesProblem problem
 unfolding problem
 problem_laws = text_laws IsProblemRest problem_rest problem_rest_agrees
@@ -213,10 +230,12 @@ none_spelled Derives text tree none s = none s.parts (record { lexed = s.lexed; 
 
 -- ---- the words from a place on
 
+-- the first token is that of the first word
 front_of : (tokens : List Token) (d : Token) → 1 ≤ length tokens → map word_of tokens ≡ word_of (get_or tokens 0 d) ∷ map word_of (drop 1 tokens)
 front_of [] d some = absurd (omega arith)
 front_of (t ∷ tokens) d some = refl
 
+-- the token at a place is that of the word there
 pub rest_at : (tokens : List Token) (from : ℕ) (d : Token) → 1 ≤ length (take (length tokens - from) (drop from tokens)) → drop from (map word_of tokens) ≡ word_of (get_or (take (length tokens - from) (drop from tokens)) 0 d) ∷ map word_of (drop 1 (take (length tokens - from) (drop from tokens)))
 rest_at tokens from d some =
     let all : take (length tokens - from) (drop from tokens) ≡ drop from tokens = take_all (length tokens - from) (drop from tokens) (omega (arith, length-drop from tokens)) in

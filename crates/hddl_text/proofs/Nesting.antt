@@ -12,10 +12,12 @@ use Rattle.hddl_text.specs.Grammar.{PartPhrase, IsBody, IsRestWithin, IsRest}
 use Rattle.hddl_text.specs.Readers.{Part, nested, body, rest_within, rest_of}
 use Rattle.hddl_text.proofs.TermsAgree.{out}
 
+-- items up to the bracket are ones by a weaker rule
 pub until_map : {D : Type 0} {F G : D → ItemPhrase D} → ((d : D) (c : Class) (w : Word) (ws rest : List Word) (e : D) → F d c w ws e rest → G d c w ws e rest) → {d e : D} {ws rest : List Word} → Until F d ws e rest → Until G d ws e rest
 until_map to (closed is fine) = closed is fine
 until_map to (more {d = d} {e = e} {w = w} {ws = ws} {mid = mid} is r u) = more is (to d (class_of w) w ws mid e r) (until_map to u)
 
+-- what stands in brackets does so by a weaker rule
 pub opened_map : {A : Type 0} {P Q : Phrase A} → ((ws rest : List Word) (a : A) → P ws a rest → Q ws a rest) → (c : Class) (w : Word) (ws rest : List Word) (a : A) → Opened P c w ws a rest → Opened Q c w ws a rest
 opened_map to class.Open w ws rest a r = to ws rest a r
 opened_map to _ w ws rest a r = absurd r
@@ -33,12 +35,14 @@ pub record PartAgrees {A : Type 0} (L : PartPhrase A) (l : Part A) : Type 1 wher
   pub same : (N : ℕ) (p q : List A → Reader (List A)) → ((xs : List A) (ws : List Word) → length ws < N → p xs ws ≡ q xs ws) → (c : Class) (w : Word) (ws : List Word) → length ws < N → run (l p c w) ws ≡ run (l q c w) ws
 
 module _ {A : Type 0} (L : PartPhrase A) (l : Part A) (part : PartAgrees L l) where
+  -- the reader of a conjunction agrees with its rule if that of inner ones does
   body_agrees : (N : ℕ) (P : List A → Phrase (List A)) (p : List A → Reader (List A)) → ((xs : List A) → Agrees N suc out (P xs) (p xs)) → (xs : List A) → ItemAgrees N suc out (IsBody (L P) P xs) (body (l p) p xs)
   unfolding nested
   body_agrees N P p g xs class.Close w = gives N suc out _
   body_agrees N P p g xs class.And w = reads (λ k h. h) (agrees_items {item = nested p} (λ ys. agrees_opened (agrees_at suc (g ys))) xs)
   body_agrees N P p g xs c w = step_map (λ x. xs ++ x ∷ []) (part.agrees N P p g c w)
 
+  -- a conjunction is one by a weaker rule for inner ones
   body_map : (P Q : List A → Phrase (List A)) → ((xs : List A) (ws rest : List Word) (ys : List A) → P xs ws ys rest → Q xs ws ys rest) → (xs : List A) (c : Class) (w : Word) (ws rest : List Word) (ys : List A) → IsBody (L P) P xs c w ws ys rest → IsBody (L Q) Q xs c w ws ys rest
   body_map P Q to xs class.Close w ws rest ys r = r
   body_map P Q to xs class.And w ws rest ys r = until_map (λ d c v vs ms e i. opened_map (to d) c v vs ms e i) r
@@ -51,6 +55,7 @@ module _ {A : Type 0} (L : PartPhrase A) (l : Part A) (part : PartAgrees L l) wh
   nests_more (suc n) (suc m) less xs ws rest ys r =
       (r.0, r.1, r.2, body_map (IsRestWithin L n) (IsRestWithin L m) (nests_more n m (omega arith)) xs (class_of r.0) r.0 r.1 rest ys r.3)
 
+  -- a conjunction of any depth is one whose inner ones are of any depth
   rest_in : (xs : List A) (ws rest : List Word) (ys : List A) → IsRest L xs ws ys rest → Next (IsBody (L (IsRest L)) (IsRest L) xs) ws ys rest
   rest_in xs ws rest ys (zero, r) = absurd r
   rest_in xs ws rest ys (suc n, r) =
@@ -61,6 +66,7 @@ module _ {A : Type 0} (L : PartPhrase A) (l : Part A) (part : PartAgrees L l) wh
   opened_bound xs class.Open w ws rest ys r = r
   opened_bound xs _ w ws rest ys r = absurd r
 
+  -- items of any depth have a depth that bounds them all
   until_bound : {d e : List A} {ws rest : List Word} → Until (λ ys. Opened (IsRest L ys)) d ws e rest → (n : ℕ) × Until (λ ys. Opened (IsRestWithin L n ys)) d ws e rest
   until_bound (closed is fine) = (0, closed is fine)
   until_bound (more {d = d} {e = e} {w = w} {ws = ws} {mid = mid} is r u) =
@@ -69,14 +75,17 @@ module _ {A : Type 0} (L : PartPhrase A) (l : Part A) (part : PartAgrees L l) wh
       let here = opened_map (nests_more i.0 (i.0 + k.0) (omega arith) d) (class_of w) w ws mid e i.1 in
       (i.0 + k.0, more is here (until_map (λ f c v vs ms g j. opened_map (nests_more k.0 (i.0 + k.0) (omega arith) f) c v vs ms g j) k.1))
 
+  -- a conjunction of any depth is one of some depth
   body_bound : (xs : List A) (c : Class) (w : Word) (ws rest : List Word) (ys : List A) → IsBody (L (IsRest L)) (IsRest L) xs c w ws ys rest → (n : ℕ) × IsBody (L (IsRestWithin L n)) (IsRestWithin L n) xs c w ws ys rest
   body_bound xs class.Close w ws rest ys r = (0, r)
   body_bound xs class.And w ws rest ys r = until_bound r
   body_bound xs c w ws rest ys r = let b = part.bounds c w ws r.1 r.0 r.2 in (b.0, (r.0, r.1, b.1, r.3))
 
+  -- a conjunction whose inner ones are of any depth is one
   rest_out : (xs : List A) (ws rest : List Word) (ys : List A) → Next (IsBody (L (IsRest L)) (IsRest L) xs) ws ys rest → IsRest L xs ws ys rest
   rest_out xs ws rest ys r = let b = body_bound xs (class_of r.0) r.0 r.1 rest ys r.3 in (suc b.0, (r.0, r.1, r.2, b.1))
 
+  -- the reader of conjunctions over fewer words agrees with the rule
   within_agrees : (n : ℕ) (xs : List A) → Agrees n suc out (IsRest L xs) (rest_within l n xs)
   unfolding rest_within
   within_agrees zero xs = agrees_none suc out (IsRest L xs) (rest_within l zero xs)
@@ -84,6 +93,7 @@ module _ {A : Type 0} (L : PartPhrase A) (l : Part A) (part : PartAgrees L l) wh
       agrees_as (rest_out xs) (rest_in xs) (λ ws short. refl)
       (agrees_next n suc out (IsBody (L (IsRest L)) (IsRest L) xs) (body (l (rest_within l n)) (rest_within l n) xs) (body_agrees n (IsRest L) (rest_within l n) (within_agrees n) xs))
 
+  -- a conjunction is read alike by readers that read inner ones alike
   body_same : (N : ℕ) (p q : List A → Reader (List A)) → ((xs : List A) → Agrees N suc out (IsRest L xs) (p xs)) → ((xs : List A) (ws : List Word) → length ws < N → p xs ws ≡ q xs ws) → (xs : List A) (c : Class) (w : Word) (ws : List Word) → length ws < N → run (body (l p) p xs c w) ws ≡ run (body (l q) q xs c w) ws
   unfolding nested
   body_same N p q g same xs class.Close w ws short = refl
@@ -95,6 +105,7 @@ module _ {A : Type 0} (L : PartPhrase A) (l : Part A) (part : PartAgrees L l) wh
   body_same N p q g same xs c w ws short =
       followed_run (l p c w) (λ x. pure (xs ++ x ∷ [])) ws ∙ ap (λ o. and_then o (λ x. pure (xs ++ x ∷ []))) (part.same N p q same c w ws short) ∙ sym (followed_run (l q c w) (λ x. pure (xs ++ x ∷ [])) ws)
 
+  -- over enough words the bound on depth doesn't matter
   within_enough : (n m : ℕ) (xs : List A) (ws : List Word) → length ws < n → length ws < m → rest_within l n xs ws ≡ rest_within l m xs ws
   unfolding rest_within
   within_enough zero m xs ws fits fits' = absurd (omega arith)
@@ -105,6 +116,7 @@ module _ {A : Type 0} (L : PartPhrase A) (l : Part A) (part : PartAgrees L l) wh
       body_same N (rest_within l n) (rest_within l m) (λ ys. agrees_upto N (omega arith) (within_agrees n ys))
       (λ ys vs short. within_enough n m ys vs (omega arith) (omega arith)) xs (class_of w) w ws (omega arith)
 
+  -- the reader of conjunctions agrees with the rule
   pub rest_agrees : (N : ℕ) (xs : List A) → Agrees N suc out (IsRest L xs) (rest_of l xs)
   unfolding rest_of
   rest_agrees N xs = agrees_as (λ ws rest c r. r) (λ ws rest c r. r) (λ ws short. within_enough (suc (length ws)) N xs ws (omega arith) short) (within_agrees N xs)

@@ -14,10 +14,12 @@ use Rattle.hddl_text.proofs.TermsAgree.{out, opening_agrees, closing_agrees, any
 use Rattle.hddl_text.proofs.ConditionsAgree.{constraint_agrees}
 
 module _ (N : ℕ) where
+  -- the reader of a subtask without label agrees with its rule
   unlabelled_agrees : (name : Name) (first : Term) → Agrees N suc out (Until (Adds IsTerm) (first ∷ []) >>= (λ ts. Gives (subtask_of None name ts))) (unlabelled name first)
   unfolding unlabelled
   unlabelled_agrees name first = agrees_map _ (agrees_items (λ xs c w. step_map (λ x. xs ++ x ∷ []) (term_agrees N c w)) (first ∷ []))
 
+  -- the reader of what follows a subtask's first name agrees with its rule
   tail_agrees : (name : Name) → ItemAgrees N suc out (IsSubtaskTail name) (subtask_tail name)
   unfolding labelled
   tail_agrees name class.Open w =
@@ -30,14 +32,17 @@ module _ (N : ℕ) where
   tail_agrees name class.Reserved w = nothing N _ _ out true
   tail_agrees name _ w = nothing N _ _ out false
 
+  -- the reader of a subtask after its first name agrees with its rule
   named_subtask_agrees : (name : Name) → Agrees N suc out (Next (IsSubtaskTail name)) (named_subtask name)
   unfolding named_subtask
   named_subtask_agrees name = agrees_word (tail_agrees name)
 
+  -- the reader of a subtask agrees with its rule
   pub subtask_agrees : Agrees N suc out IsSubtaskRest subtask_rest
   unfolding subtask_rest
   subtask_agrees = agrees_seq (λ k. omega arith) (any_name_agrees N suc) named_subtask_agrees
 
+  -- the reader of subtasks after their bracket agrees with its rule
   net_body_agrees : ItemAgrees N suc out IsNetBody net_body
   net_body_agrees class.Close w = gives N suc out []
   net_body_agrees class.And w = reads (λ k h. h) (agrees_list (agrees_opened (agrees_at suc subtask_agrees)))
@@ -46,10 +51,12 @@ module _ (N : ℕ) where
   net_body_agrees class.Reserved w = nothing N _ _ out true
   net_body_agrees _ w = nothing N _ _ out false
 
+  -- the reader of subtasks agrees with its rule
   net_agrees : Agrees N suc suc IsNet net
   unfolding net
   net_agrees = agrees_seq (λ k. omega arith) (opening_agrees N suc) (λ _. agrees_at suc (agrees_word net_body_agrees))
 
+  -- the reader of an ordering's first word agrees with its rule
   pair_body_agrees : ItemAgrees N suc out IsPairBody pair_body
   unfolding prefix_pair infix_pair
   pair_body_agrees class.Less w =
@@ -62,19 +69,23 @@ module _ (N : ℕ) where
   pair_body_agrees class.Reserved w = nothing N _ _ out true
   pair_body_agrees _ w = nothing N _ _ out false
 
+  -- the reader of an ordering agrees with its rule
   pub pair_agrees : Agrees N suc out (Next IsPairBody) pair_rest
   unfolding pair_rest
   pair_agrees = agrees_word pair_body_agrees
 
+  -- the reader of orderings after their bracket agrees with its rule
   orderings_body_agrees : ItemAgrees N suc out IsOrderingsBody orderings_body
   orderings_body_agrees class.Close w = gives N suc out []
   orderings_body_agrees class.And w = reads (λ k h. h) (agrees_list (agrees_opened (agrees_at suc pair_agrees)))
   orderings_body_agrees c w = step_map (λ p. p ∷ []) (pair_body_agrees c w)
 
+  -- the reader of orderings agrees with its rule
   orderings_agree : Agrees N suc suc IsOrderings orderings
   unfolding orderings
   orderings_agree = agrees_seq (λ k. omega arith) (opening_agrees N suc) (λ _. agrees_at suc (agrees_word orderings_body_agrees))
 
+  -- the reader of a network's section agrees with its rule
   pub network_part_agrees : (d : NetworkParts) → ItemAgrees N suc suc (IsNetworkPart d) (network_part d)
   network_part_agrees d (class.Keyword key.Subtasks) w = step_absent d.subtasks (reads (λ k h. h) (agrees_map _ net_agrees))
   network_part_agrees d (class.Keyword key.OrderedSubtasks) w = step_absent d.subtasks (reads (λ k h. h) (agrees_map _ net_agrees))

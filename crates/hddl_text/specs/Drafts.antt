@@ -23,38 +23,49 @@ use Rattle.hddl_text.specs.declared.parts.ProblemParts.{ProblemParts}
 
 -- ---- nothing was read so far
 
+-- nothing read of a typed list of names
 abbrev pub no_name_parts : NameParts
 no_name_parts = record { groups = []; names = [] }
 
+-- nothing read of a typed list of variables
 abbrev pub no_variable_parts : VariableParts
 no_variable_parts = record { groups = []; variables = [] }
 
+-- nothing read of a network
 abbrev pub no_network_parts : NetworkParts
 no_network_parts = record { is_ordered = false; subtasks = None; orderings = None; constraints = None }
 
+-- nothing read of a task
 abbrev pub no_task_parts : TaskParts
 no_task_parts = record { parameters = None; has_precondition = false; has_effect = false }
 
+-- nothing read of an action
 abbrev pub no_action_parts : ActionParts
 no_action_parts = record { parameters = None; precondition = None; effect = None }
 
+-- nothing read of a method
 abbrev pub no_method_parts : MethodParts
 no_method_parts = record { parameters = None; task = None; precondition = None; network = no_network_parts }
 
+-- nothing read of the initial network
 abbrev pub no_htn_parts : HtnParts
 no_htn_parts = record { parameters = None; network = no_network_parts }
 
+-- no section of a domain read
 abbrev pub no_domain_parts : DomainParts
 no_domain_parts = record { requirements = None; types = None; constants = None; predicates = None; tasks = []; methods = []; actions = [] }
 
+-- no section of a problem read
 abbrev pub no_problem_parts : ProblemParts
 no_problem_parts = record { domain = None; requirements = None; objects = None; init = None; goal = None; htn = None }
 
 -- ---- what the parts complete; what isn't written is empty
 
+-- names with their type
 abbrev pub name_group : List Name → Option Name → NameGroup
 name_group names of_type = record { names = names; of_type = of_type }
 
+-- variables with their type
 abbrev pub variable_group : List Variable → Option Name → VariableGroup
 variable_group variables of_type = record { variables = variables; of_type = of_type }
 
@@ -63,10 +74,12 @@ abbrev pub grouped_names : List NameGroup → List Name → List NameGroup
 grouped_names groups [] = groups
 grouped_names groups (n ∷ ns) = groups ++ name_group (n ∷ ns) None ∷ []
 
+-- the groups with the variables after the last type as one more, if there are any
 abbrev pub grouped_variables : List VariableGroup → List Variable → List VariableGroup
 grouped_variables groups [] = groups
 grouped_variables groups (v ∷ vs) = groups ++ variable_group (v ∷ vs) None ∷ []
 
+-- the network of what was read: what is absent is empty
 abbrev pub network_of : NetworkParts → NetworkText
 network_of d = record {
   is_ordered = d.is_ordered;
@@ -75,9 +88,11 @@ network_of d = record {
   constraints = unwrap_or d.constraints [];
 }
 
+-- the task of what was read
 abbrev pub task_of : Name → TaskParts → TaskText
 task_of name d = record { name = name; parameters = unwrap_or d.parameters [] }
 
+-- the action of what was read: what is absent is empty
 abbrev pub action_of : Name → ActionParts → ActionText
 action_of name d = record {
   name = name;
@@ -98,12 +113,15 @@ method_with place name d (Some task) = Some (record {
   network = network_of d.network;
 })
 
+-- the method of what was read, if it has its task
 abbrev pub method_of : ℕ → Name → MethodParts → Option MethodText
 method_of place name d = method_with place name d d.task
 
+-- the initial network of what was read
 abbrev pub htn_of : ℕ → HtnParts → HtnText
 htn_of place d = record { place = place; parameters = unwrap_or d.parameters []; network = network_of d.network }
 
+-- the domain of what was read: what is absent is empty
 abbrev pub domain_of : Name → DomainParts → DomainText
 domain_of name d = record {
   name = name;
@@ -129,5 +147,6 @@ problem_with name d (Some domain) (Some htn) = Some (record {
 })
 problem_with name d _ _ = None
 
+-- the problem of what was read, if it names its domain and has an initial network
 abbrev pub problem_of : Name → ProblemParts → Option ProblemText
 problem_of name d = problem_with name d d.domain d.htn

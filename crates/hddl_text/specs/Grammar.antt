@@ -55,6 +55,7 @@ Empty = Opening >> Closing
 abbrev pub AnyName : Phrase Name
 AnyName = Next (Named (λ w. Gives (name_of w)))
 
+-- a name that is spelled so, in any case of letters
 abbrev pub IsSpelled : List ℕ → ItemPhrase (Unit {0})
 IsSpelled text class.Name w = IfHolds (str_eq_ignore_ascii_case w.text text) (Gives tt)
 IsSpelled text _ w = Nothing
@@ -63,10 +64,12 @@ IsSpelled text _ w = Nothing
 abbrev pub Spelled : List ℕ → Phrase (Unit {0})
 Spelled text = Next (IsSpelled text)
 
+-- `<`
 abbrev pub IsLess : ItemPhrase (Unit {0})
 IsLess class.Less w = Gives tt
 IsLess _ w = Nothing
 
+-- `=`
 abbrev pub IsEqual : ItemPhrase (Unit {0})
 IsEqual class.Equal w = Gives tt
 IsEqual _ w = Nothing
@@ -78,6 +81,7 @@ abbrev pub IsNamesType : List NameGroup → List Name → Phrase NameParts
 IsNamesType groups [] = Nothing
 IsNamesType groups (n ∷ ns) = AnyName >>= (λ t. Gives (record { groups = groups ++ name_group (n ∷ ns) (Some t) ∷ []; names = [] }))
 
+-- a name of a typed list, or `-` and the type of those before it
 abbrev pub IsNameItem : NameParts → ItemPhrase NameParts
 IsNameItem d class.Name w = Gives (record d { names = d.names ++ name_of w ∷ [] })
 IsNameItem d class.Minus w = IsNamesType d.groups d.names
@@ -87,10 +91,12 @@ IsNameItem d _ w = Nothing
 abbrev pub IsNames : Phrase (List NameGroup)
 IsNames = Until IsNameItem no_name_parts >>= (λ d. Gives (grouped_names d.groups d.names))
 
+-- the type after `-`, which has variables before it
 abbrev pub IsVariablesType : List VariableGroup → List Variable → Phrase VariableParts
 IsVariablesType groups [] = Nothing
 IsVariablesType groups (v ∷ vs) = AnyName >>= (λ t. Gives (record { groups = groups ++ variable_group (v ∷ vs) (Some t) ∷ []; variables = [] }))
 
+-- a variable of a typed list, or `-` and the type of those before it
 abbrev pub IsVariableItem : VariableParts → ItemPhrase VariableParts
 IsVariableItem d class.Variable w = Gives (record d { variables = d.variables ++ variable_of w ∷ [] })
 IsVariableItem d class.Minus w = IsVariablesType d.groups d.variables
@@ -168,6 +174,7 @@ abbrev pub IsRestWithin : {A : Type 0} → PartPhrase A → ℕ → List A → P
 IsRestWithin part zero xs = Nothing
 IsRestWithin part (suc n) xs = Next (IsBody (part (IsRestWithin part n)) (IsRestWithin part n) xs)
 
+-- a conjunction from its first word on, of any depth
 abbrev pub IsRest : {A : Type 0} → PartPhrase A → List A → Phrase (List A)
 IsRest part xs ws ys rest = (n : ℕ) × IsRestWithin part n xs ws ys rest
 
@@ -210,14 +217,17 @@ IsConstraintPart inner = IsEquality
 abbrev pub IsCondition : Phrase (List Condition)
 IsCondition = IsConjunction IsConditionPart
 
+-- an effect: one literal or a conjunction
 abbrev pub IsEffect : Phrase (List LiteralText)
 IsEffect = IsConjunction IsEffectPart
 
+-- constraints: one equality or a conjunction
 abbrev pub IsConstraint : Phrase (List EqualityText)
 IsConstraint = IsConjunction IsConstraintPart
 
 -- ---- networks
 
+-- a subtask from its parts
 abbrev pub subtask_of : Option Name → Name → List Term → SubtaskText
 subtask_of label name terms = record { label = label; task = record { name = name; terms = terms } }
 
@@ -273,6 +283,7 @@ IsOrderingsBody c w = IsPairBody c w >>= (λ p. Gives (p ∷ []))
 abbrev pub IsOrderings : Phrase (List OrderingText)
 IsOrderings = Opening >> Next IsOrderingsBody
 
+-- the network with these subtasks, in sequence or not
 abbrev pub with_subtasks : Bool → NetworkParts → List SubtaskText → NetworkParts
 with_subtasks is_ordered d ss = record d { is_ordered = is_ordered; subtasks = Some ss }
 
@@ -409,6 +420,7 @@ IsHead kind = do
   Closing
   Gives name
 
+-- a domain after its opening bracket: its head, and sections
 abbrev pub IsDomainRest : Phrase DomainText
 IsDomainRest = do
   name ← IsHead (codes "domain")
@@ -419,6 +431,7 @@ IsDomainRest = do
 abbrev pub IsDomain : Phrase DomainText
 IsDomain = Opening >> IsDomainRest
 
+-- a problem after its opening bracket: its head, and sections
 abbrev pub IsProblemRest : Phrase ProblemText
 IsProblemRest = do
   name ← IsHead (codes "problem")
@@ -432,5 +445,6 @@ IsProblem = Opening >> IsProblemRest
 abbrev pub DerivesDomain : List Word → DomainText → Type 0
 DerivesDomain ws tree = IsDomain ws tree []
 
+-- the words are a problem's, and nothing follows
 abbrev pub DerivesProblem : List Word → ProblemText → Type 0
 DerivesProblem ws tree = IsProblem ws tree []

@@ -59,20 +59,24 @@ FaultAt Derives text fault = EarlyFaultAt text fault
 abbrev pub AreNested : List ℕ → Vec Token Global → Type 0
 AreNested text tokens = HasNested text (map word_of tokens.items)
 
+-- unless memory is refused, the text has no words whose brackets nest
 abbrev pub HasNoNested : List ℕ → TextFault → Type 0
 HasNoNested text fault = fault ≢ OutOfMemory → (ws : List Word) → HasNested text ws → ⊥
 
--- the fault where reading stopped, with this many words left
+-- the fault at a word where reading stopped
 abbrev pub refusal_of : Bool → Word → TextFault
 refusal_of unsupported w = if unsupported && is_unsupportable (class_of w) then Unsupported w.place else Expected w.place
 
+-- the fault at the first of these words, or at the end of the text
 abbrev pub refusal_at : ℕ → Bool → List Word → TextFault
 refusal_at len unsupported [] = Expected len
 refusal_at len unsupported (w ∷ ws) = refusal_of unsupported w
 
+-- the fault where reading stopped, with this many words left
 abbrev pub refusal : ℕ → List Word → Bool → ℕ → TextFault
 refusal len ws unsupported left = refusal_at len unsupported (drop (length ws - min left (length ws)) ws)
 
+-- the fault of a text whose reading stopped so
 abbrev pub fault_of : ℕ → List Word → Stop → TextFault
 fault_of len ws Memory = OutOfMemory
 fault_of len ws (Refused unsupported left) = refusal len ws unsupported left

@@ -1,5 +1,5 @@
-//! Reads HDDL texts: exactly the domains and problems that the grammar spells, each as its one tree, and every other text
-//! refused with the place of its first fault.
+//! Reads HDDL texts: exactly the domains and problems that the grammar spells, each as its one tree, and every other
+//! text refused with the place of its first fault.
 #![tactic(auto)]
 
 mod conditions;

@@ -3,6 +3,7 @@ use Rattle.std.specs.Prelude.{ℕ, Option, Some, None}
 use Rattle.hddl_words.specs.Names.{Name}
 use Rattle.hddl_tree.specs.declared.network.SubtaskText.{SubtaskText}
 
+-- the first name of a subtask: its label, or else its task
 abbrev pub first_of : Option Name → Name → Name
 first_of (Some label) name = label
 first_of None name = name

@@ -1,5 +1,5 @@
-//! Conditions, effects and constraints. Each is a conjunction: a list of its parts in the order of the text. `()` is the
-//! empty one, and a nested `and` adds its parts in its place.
+//! Conditions, effects and constraints. Each is a conjunction: a list of its parts in the order of the text. `()` is
+//! the empty one, and a nested `and` adds its parts in its place.
 
 use crate::term::{AtomText, Term, VariableGroup};
 use hddl_words::Items;

@@ -23,7 +23,8 @@ pub struct OrderingText {
 /// The network of a method or of `:htn`. What isn't written is empty.
 #[derive(Debug, Drop)]
 pub struct NetworkText {
-    /// Whether the order of the list is an order of the subtasks too, as under `:ordered-subtasks` and `:ordered-tasks`.
+    /// Whether the order of the list is an order of the subtasks too, as under `:ordered-subtasks` and
+    /// `:ordered-tasks`.
     pub is_ordered: bool,
     pub subtasks: Items<SubtaskText>,
     /// The pairs of `:ordering` or `:order`.

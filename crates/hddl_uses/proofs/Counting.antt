@@ -14,9 +14,11 @@ use Rattle.hddl_uses.specs.Tables.{IsTableOf, as_parameter}
 use Rattle.hddl_uses.specs.declared.signatures.Signatures.{Signatures}
 use Rattle.hddl_uses.proofs.Using.{take_front}
 
+-- the names of the declarations
 abbrev names_in : List Signature → List Text
 names_in signatures = map (λ s. s.name) signatures
 
+-- a table has as many rows as there are declarations
 as_long : (signatures : List Signature) (table : Signatures) → IsTableOf signatures table → length table.places.items ≡ length signatures
 as_long signatures table is =
     sym (length-map table.places.items (λ v. v.items)) ∙ ap (λ (l : List (List Variable)). length l) is.places ∙ length-map signatures (λ s. map as_parameter s.places)
@@ -28,12 +30,15 @@ all_names signatures table n is count =
     let le : length signatures ≤ n = omega (arith, long) in
     ap names_in (take_all n signatures le)
 
+-- the declarations of predicates have the predicates' names
 pub predicates_named : (d : DomainText) → names_in (predicate_signatures d) ≡ predicate_names d
 predicates_named d = map-map (λ (s : Signature). s.name) (λ (x : PredicateText). signature x.name x.parameters) d.predicates
 
+-- the declarations of compound tasks have their names
 compound_named : (d : DomainText) → names_in (map (λ x. signature x.name x.parameters) d.tasks) ≡ compound_names d
 compound_named d = map-map (λ (s : Signature). s.name) (λ (x : TaskText). signature x.name x.parameters) d.tasks
 
+-- the declarations of tasks and actions have their names
 pub tasks_named : (d : DomainText) → names_in (task_signatures d) ≡ task_names d
 tasks_named d =
     map-append (λ (s : Signature). s.name) (map (λ (x : TaskText). signature x.name x.parameters) d.tasks) (map (λ (x : ActionText). signature x.name x.parameters) d.actions)

@@ -5,6 +5,7 @@ use Rattle.std.proofs.lemmas.Iterator.Adapters.{position_from-zero}
 use Rattle.std.proofs.lemmas.List.{take_more, length-take-le}
 use Rattle.hddl_scope.proofs.Positions.{push_from}
 
+-- the first place that passes, one value further
 pub position_next : {X : Type 0} (p : X → Bool) (xs : List X) (k : ℕ) (x : X) → k < length xs → x ≡ get_or xs k x
     → position p (take (k + 1) xs) ≡ cond (is_some (position p (take k xs))) (position p (take k xs)) (cond (p x) (Some k) None)
 position_next p xs k x lt is =

@@ -25,6 +25,7 @@ use Rattle.hddl_scope.proofs.Positions.{has_position}
 
 -- ## Pairs
 
+-- what holds of each list's values holds of all joined
 all_flat : {X Y : Type 0} (P : Y → Type 0) (f : X → List Y) (xs : List X) → ((x : X) → All P (f x)) → All P (flat_map f xs)
 all_flat P f [] each = λ k d h. absurd (omega arith)
 all_flat P f (x ∷ xs) each = All-append P (f x) (flat_map f xs) (each x) (all_flat P f xs each)
@@ -37,29 +38,35 @@ position_below p xs k e = by (nat_lt (position_or_len p xs) (length xs)) refl e
     by true test found = let same : position_or_len p xs ≡ k = cc in rw (← same) (ltb-true _ _ test)
     by false test found = absurd cc
 
+-- a pair of numbers below n is below n
 one_below : (n a b : ℕ) → a < n → b < n → AreBelow n ((a, b) ∷ [])
 one_below n a b h j zero d k = (h, j)
 one_below n a b h j (suc i) d k = absurd (omega arith)
 
+-- no pairs are below n
 none_below : (n : ℕ) → AreBelow n []
 none_below n k d h = absurd (omega arith)
 
+-- a pair that is there only if both numbers are is below n if they are
 pair_below : (n : ℕ) (a b : Option ℕ) → ((k : ℕ) → a ≡ Some k → k < n) → ((k : ℕ) → b ≡ Some k → k < n) → AreBelow n (pair_of a b)
 pair_below n (Some x) (Some y) a b = one_below n x y (a x refl) (b y refl)
 pair_below n (Some x) None a b = none_below n
 pair_below n None y a b = none_below n
 
+-- the written orderings pair positions of subtasks
 pub written_below : (n : NetworkText) → AreBelow (length n.subtasks) (written_pairs n)
 written_below n =
     all_flat (λ p. (p.0 < length n.subtasks) × (p.1 < length n.subtasks)) (λ o. pair_of (labelled n o.before) (labelled n o.after)) n.orderings
     (λ o. pair_below (length n.subtasks) (labelled n o.before) (labelled n o.after) (λ k e. position_below (λ (s : SubtaskText). is_text (folded o.before.text) s.label) n.subtasks k e)
     (λ k e. position_below (λ (s : SubtaskText). is_text (folded o.after.text) s.label) n.subtasks k e))
 
+-- the pairs by the numbers of labels are the written ones
 pub written : (n : NetworkText) (numbers : Entries) → IsNumbering n numbers → flat_map (pairs_of numbers) n.orderings ≡ written_pairs n
 written n numbers number = λ i. flat_map (λ o. pair_of (number (folded o.before.text) i) (number (folded o.after.text) i)) n.orderings
 
 -- ## Names
 
+-- a text that some label has is among the labels
 named : (t : Text) (subtasks : List SubtaskText) → list_any (λ s. is_text t s.label) subtasks ≡ true → IsIn t (texts (flat_map (λ s. optional_mention s.label) subtasks))
 named t [] h = cc
 named t (s ∷ ss) h = by s.label h (named t ss)
@@ -77,6 +84,7 @@ named t (s ∷ ss) h = by s.label h (named t ss)
     by None h later = later h
     by (Some l) h later = told l (is_same_text t (folded l.text)) refl h later
 
+-- a text among the labels is one that some label has
 naming : (t : Text) (subtasks : List SubtaskText) → IsIn t (texts (flat_map (λ s. optional_mention s.label) subtasks)) → list_any (λ s. is_text t s.label) subtasks ≡ true
 naming t [] h = absurd (in_nothing t h)
 naming t (s ∷ ss) h = by s.label h (naming t ss)
@@ -99,12 +107,15 @@ naming t (s ∷ ss) h = by s.label h (naming t ss)
     ]
 
 module _ (n : NetworkText) (numbers : Entries) (number : IsNumbering n numbers) where
+  -- a text has a number exactly where some label has it
   known : (t : Text) → is_some (number_at numbers t) ≡ list_any (λ s. is_text t s.label) n.subtasks
   known t = ap is_some (number t) ∙ has_position (λ (s : SubtaskText). is_text t s.label) n.subtasks
 
+  -- a text without a number is no label
   missing : (t : Text) → number_at numbers t ≡ None → IsIn t (texts (label_mentions n)) → ⊥
   missing t none at = true≢false (sym (naming t n.subtasks at) ∙ sym (known t) ∙ ap is_some none)
 
+  -- a text that is no label has no number
   none_there : (t : Text) → (IsIn t (texts (label_mentions n)) → ⊥) → number_at numbers t ≡ None
   none_there t gone = none_from (number_at numbers t) (by (list_any (λ s. is_text t s.label) n.subtasks) refl)
     where

@@ -21,14 +21,17 @@ use Rattle.hddl_scope.proofs.Positions.{has_position}
 use Rattle.hddl_uses.proofs.TypeNames.{is_type_number}
 use Rattle.hddl_uses.proofs.Searching.{named}
 
+-- a test doesn't hold together with its opposite
 pub not_both : (b : Bool) → not b ≡ true → b ≡ true → ⊥
 not_both true h e = true≢false (sym h)
 not_both false h e = true≢false (sym e)
 
+-- a test that can't hold has its opposite hold
 pub not_by : (b : Bool) → (b ≡ true → ⊥) → not b ≡ true
 not_by true h = absurd (h refl)
 not_by false h = refl
 
+-- a text that is among others stands at its first position
 at_first : (ts : List Text) (t : Text) → list_any (is_same_text t) ts ≡ true
     → (position_or_len (is_same_text t) ts < length ts) × (get_or ts (position_or_len (is_same_text t) ts) [] ≡ t)
 at_first [] t h = cc
@@ -55,9 +58,11 @@ at_position ts t k e =
     let same : first ≡ k = ap number_or_zero (sym (ap (λ b. cond b (Some first) None) test) ∙ e) in
     subst (λ n. (n < length ts) × (get_or ts n [] ≡ t)) same (lt, is)
 
+-- a type with a position is declared
 pub type_known : (d : DomainText) (t : Text) (k : ℕ) → position (is_same_text t) (type_names d) ≡ Some k → IsDeclaredType d t
 type_known d t k e = (is_type_number d t).0 (ap is_some e)
 
+-- a type without a position isn't declared
 pub type_unknown : (d : DomainText) (t : Text) → position (is_same_text t) (type_names d) ≡ None → IsDeclaredType d t → ⊥
 type_unknown d t e h = true≢false (sym ((is_type_number d t).1 h) ∙ ap is_some e)
 
@@ -67,25 +72,31 @@ declared_types d p known t at =
     let number = is_type_number d (text_or_object t.of_type) in number.0 (∥∥₁_elim known (search props) (λ k. number.1 (k.typed t at)))
 
 module _ (d : DomainText) (v : Variable) (type : Text) where
+  -- a variable of a `forall` may stand where its type is below the place's
   pub quantified : v.is_quantified ≡ true → MayStand d v type ↔ IsBelow d (text_or_object v.typed.of_type) type
   quantified e =
       subst (λ b. MayStand d (record { typed = v.typed; is_quantified = b }) type ↔ IsBelow d (text_or_object v.typed.of_type) type) (sym e) (λ h. h, λ h. h)
 
+  -- any other variable may stand where its type and the place's share a subtype
   pub unquantified : v.is_quantified ≡ false → MayStand d v type ↔ ShareSubtype d (text_or_object v.typed.of_type) type
   unquantified e =
       subst (λ b. MayStand d (record { typed = v.typed; is_quantified = b }) type ↔ ShareSubtype d (text_or_object v.typed.of_type) type) (sym e) (λ h. h, λ h. h)
 
 -- ## A variable that can't stand in a place
 
+-- the type of a variable, by its text
 abbrev pub type_text : Variable → Text
 type_text v = text_or_object v.typed.of_type
 
+-- the position of a variable's type
 abbrev pub type_position : DomainText → Variable → Option ℕ
 type_position d v = position (is_same_text (type_text v)) (type_names d)
 
+-- both types are declared, and the variable may not stand in the place
 abbrev pub IsBarred : DomainText → Variable → Variable → Type 0
 IsBarred d v place = IsTyped d v.typed × IsTyped d place.typed × (MayStand d v (type_text place) → ⊥)
 
+-- where both types have positions, the test tells whether the variable is barred
 pub barred : (d : DomainText) (v place : Variable) (t u : ℕ) (stands : Bool) → type_position d v ≡ Some t → type_position d place ≡ Some u
     → (IsTrue stands ↔ MayStand d v (type_text place)) → IsTrue (not stands) ↔ IsBarred d v place
 barred d v place t u stands own wanted is = (
@@ -93,22 +104,27 @@ barred d v place t u stands own wanted is = (
   λ (a, b, cannot). not_by stands (λ h. cannot (is.0 h)),
 )
 
+-- a variable that isn't barred is told so
 pub not_barred : (d : DomainText) (v place : Variable) → (IsBarred d v place → ⊥) → IsTrue false ↔ IsBarred d v place
 not_barred d v place never = (λ h. absurd (true≢false (sym h)), λ h. absurd (never h))
 
 module _ (d : DomainText) (v place : Variable) (t u : ℕ) (own : type_position d v ≡ Some t) (wanted : type_position d place ≡ Some u) where
+  -- the type at the variable's position is the variable's
   own_at : type_at d t ≡ type_text v
   own_at = (at_position (type_names d) (type_text v) t own).1
 
+  -- the type at the place's position is the place's
   wanted_at : type_at d u ≡ type_text place
   wanted_at = (at_position (type_names d) (type_text place) u wanted).1
 
+  -- a test of which type is below which tells whether a variable of a `forall` may stand
   pub stands_below : (b : Bool) → v.is_quantified ≡ true → (IsTrue b ↔ IsBelow d (type_at d t) (type_at d u)) → IsTrue b ↔ MayStand d v (type_text place)
   stands_below b q is =
       let same : IsTrue b ↔ IsBelow d (type_text v) (type_text place) =
       subst (λ (x : Text). IsTrue b ↔ IsBelow d x (type_text place)) own_at (subst (λ (y : Text). IsTrue b ↔ IsBelow d (type_at d t) y) wanted_at is) in
       (λ h. (quantified d v (type_text place) q).1 (same.0 h), λ h. same.1 ((quantified d v (type_text place) q).0 h))
 
+  -- a test of shared subtypes tells whether any other variable may stand
   pub stands_sharing : (b : Bool) → v.is_quantified ≡ false → (IsTrue b ↔ ShareSubtype d (type_at d t) (type_at d u)) → IsTrue b ↔ MayStand d v (type_text place)
   stands_sharing b q is =
       let same : IsTrue b ↔ ShareSubtype d (type_text v) (type_text place) =
@@ -130,9 +146,11 @@ rows_typed d p rows known =
     (λ h. All-get_or (λ t. t < length (type_names d)) (get_or rows o []) i 0 small (All-get_or (All (λ t. t < length (type_names d))) rows o [] lt h.1.typed))))
 
 module _ (d : DomainText) (p : ProblemText) (t : Text) (place : Variable) where
+  -- the object's declared types are known, and it hasn't the type of the place
   abbrev pub Lacks : Type 0
   Lacks = ∥ AreKnown d p ∥₁ × IsTyped d place.typed × IsIn t (object_names d p) × (HasType d p t (type_text place) → ⊥)
 
+  -- an object that lacks no type is told so
   pub lacks_none : (Lacks → ⊥) → IsTrue false ↔ Lacks
   lacks_none never = (λ h. absurd (true≢false (sym h)), λ h. absurd (never h))
 
@@ -141,6 +159,7 @@ module _ (d : DomainText) (p : ProblemText) (t : Text) (place : Variable) where
     abbrev pub LeadsThere : Type 0
     LeadsThere = (own : ℕ) × Contains (get_or rows o []) own × Reaches (numbered_pairs d) own u
 
+    -- a declared type of the object leads to the place's exactly where the object has that type
     led : AreDeclaredTypes d p rows → LeadsThere ↔ HasType d p t (type_text place)
     led all =
         let object = at_position (object_names d p) t o found in
@@ -148,6 +167,7 @@ module _ (d : DomainText) (p : ProblemText) (t : Text) (place : Variable) where
         subst (λ (x : Text). LeadsThere ↔ HasType d p x (type_text place)) object.1
         (subst (λ (y : Text). LeadsThere ↔ HasType d p (object_at d p o) y) type.1 (all.members u o type.0 object.0))
 
+    -- the test of what leads there tells whether the object lacks the type
     pub lacks : (has : Bool) → KnownWith d p rows → (IsTrue has ↔ LeadsThere) → IsTrue (not has) ↔ Lacks
     lacks has known is = (
       λ h. (

@@ -8,6 +8,7 @@ use Rattle.hddl_meaning.specs.Items.{variable_in}
 use Rattle.hddl_meaning.proofs.Listed.{at_head, at_tail, in_cases, in_nothing, texts_decide, found}
 use Rattle.hddl_scope.proofs.Positions.{has_position}
 
+-- a text that a search finds is among those that were searched
 pub among : (t : Text) (ts : List Text) → list_any (is_same_text t) ts ≡ true → IsIn t ts
 among t [] h = cc
 among t (u ∷ ts) h = by (is_same_text t u) refl (among t ts) h
@@ -20,6 +21,7 @@ among t (u ∷ ts) h = by (is_same_text t u) refl (among t ts) h
 pub named : (ts : List Text) (t : Text) → (is_some (position (is_same_text t) ts) ≡ true) ↔ IsIn t ts
 named ts t = (λ h. among t ts (sym (has_position (is_same_text t) ts) ∙ h), λ at. has_position (is_same_text t) ts ∙ found t ts at)
 
+-- the texts of variables in force
 abbrev pub variable_texts : List Variable → List Text
 variable_texts vs = map (λ v. v.typed.mention.text) vs
 
@@ -33,6 +35,7 @@ in_force_to (v ∷ vs) t h = by (is_same_text t v.typed.mention.text) refl (in_f
     by true e rest h = subst (λ z. IsIn z (variable_texts (v ∷ vs))) (sym ((texts_decide t v.typed.mention.text).0 e)) (at_head v.typed.mention.text (variable_texts vs))
     by false e rest h = at_tail v.typed.mention.text t (variable_texts vs) (rest h)
 
+-- a variable whose text is among those in force is found
 pub in_force_from : (vs : List Variable) (t : Text) → IsIn t (variable_texts vs) → is_some (variable_in vs t) ≡ true
 in_force_from [] t at = absurd (in_nothing t at)
 in_force_from (v ∷ vs) t at = by (is_same_text t v.typed.mention.text) refl (in_force_from vs t)
@@ -45,6 +48,7 @@ in_force_from (v ∷ vs) t at = by (is_same_text t v.typed.mention.text) refl (i
       | inr later ↦ rest later
     ]
 
+-- a value is there mapped exactly where it is there
 pub some_mapped : {X Y : Type 0} (f : X → Y) (o : Option X) → is_some (option_map f o) ≡ is_some o
 some_mapped f None = refl
 some_mapped f (Some x) = refl

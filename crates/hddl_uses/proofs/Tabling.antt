@@ -20,6 +20,7 @@ use Rattle.hddl_scope.proofs.Positions.{first_is, next_number, numbers_more}
 
 -- ## One more declaration
 
+-- a table has as many rows as there are declarations
 same_length : {X A : Type 0} (f : Signature → List X) (vectors : List (Vec X A)) (signatures : List Signature) → lists_of vectors ≡ map f signatures
     → length vectors ≡ length signatures
 same_length f vectors signatures e = sym (length-map vectors (λ v. v.items)) ∙ ap length e ∙ length-map signatures f
@@ -44,6 +45,7 @@ next_row of signatures xs k x lt is =
 
 -- ## What is found
 
+-- a declaration that stands where there is none
 nobody : Signature
 nobody = record { name = []; places = [] }
 
@@ -62,6 +64,7 @@ among_first signatures count text among =
     let early : first < count = omega (arith, below, long) in
     (first, ap (λ b. cond b (Some first) None) ((Decides-ltb first (length signatures)).1 within), early, within)
 
+-- the places in a row are those of the declaration at its position
 places_at : (signatures : List Signature) (k : ℕ) → k < length signatures
     → slice_get (map (λ s. map as_parameter s.places) signatures) k ≡ Some (map as_parameter (get_or signatures k nobody).places)
 places_at signatures k lt =

@@ -21,9 +21,11 @@ use Rattle.hddl_uses.specs.Parts.{Part, TypeName, type_parts, variable_group_par
 -- ## The types of a group are its type, if it has a name
 
 module _ {X : Type 0} (mention : X → Mention) (of_type : Option Name) where
+  -- a name of the group with the group's type
   abbrev pub typed_as : X → Typed
   typed_as x = record { mention = mention x; of_type = option_map mention_of of_type }
 
+  -- a type that a group's names have is the group's
   pub types_within : (xs : List X) (m : Mention) → IsIn m (flat_map type_of (map typed_as xs)) → IsIn m (optional_mention of_type)
   types_within xs m at = by of_type xs at
     where
@@ -40,6 +42,7 @@ module _ {X : Type 0} (mention : X → Mention) (of_type : Option Name) where
             | inr later ↦ by (Some n) xs later
           ]
 
+  -- the type of a group with a name is the type of one of its names
   pub types_all : (x : X) (xs : List X) (m : Mention) → IsIn m (optional_mention of_type) → IsIn m (flat_map type_of (map typed_as (x ∷ xs)))
   types_all x xs m at = by of_type at
     where
@@ -49,6 +52,7 @@ module _ {X : Type 0} (mention : X → Mention) (of_type : Option Name) where
 
 -- ## Declared types
 
+-- a type has a number exactly where it is declared
 pub is_type_number : (d : DomainText) (t : Text) → (is_some (position (is_same_text t) (type_names d)) ≡ true) ↔ IsDeclaredType d t
 is_type_number d t =
     let all = object ∷ texts (type_mentions d) in (
@@ -59,12 +63,14 @@ is_type_number d t =
 -- ## Findings
 
 module _ (P : Part → CheckFault → Type 0) where
+  -- what is found of a group's type is found of its names' types
   group_types : {X : Type 0} (mention : X → Mention) (of_type : Option Name) (x : X) (xs : List X) {found : Option CheckFault}
       → Finds (AnyOf P (map TypeName (optional_mention of_type))) found → Finds (AnyOf P (type_parts (map (typed_as mention of_type) (x ∷ xs)))) found
   group_types mention of_type x xs h =
       Finds-mapped P TypeName (optional_mention of_type) (flat_map type_of (map (typed_as mention of_type) (x ∷ xs)))
       (types_all mention of_type x xs) (types_within mention of_type (x ∷ xs)) h
 
+  -- the same of a group of variables
   pub variable_group : (g : VariableGroup) {found : Option CheckFault} → (g.variables ≡ [] → ⊥)
       → Finds (AnyOf P (map TypeName (optional_mention g.of_type))) found → Finds (AnyOf P (variable_group_parts g)) found
   variable_group g {found} some h = by g.variables some
@@ -73,6 +79,7 @@ module _ (P : Part → CheckFault → Type 0) where
       by [] some = absurd (some refl)
       by (x ∷ xs) some = Finds-list P (ap type_parts (sym (append-nil (map (typed_as variable_mention g.of_type) (x ∷ xs))))) (group_types variable_mention g.of_type x xs h)
 
+  -- the same of a group of names
   pub name_group : (g : NameGroup) {found : Option CheckFault} → (g.names ≡ [] → ⊥)
       → Finds (AnyOf P (map TypeName (optional_mention g.of_type))) found → Finds (AnyOf P (name_group_parts g)) found
   name_group g {found} some h = by g.names some
@@ -81,21 +88,26 @@ module _ (P : Part → CheckFault → Type 0) where
       by [] some = absurd (some refl)
       by (x ∷ xs) some = Finds-list P (ap type_parts (sym (append-nil (map (typed_as mention_of g.of_type) (x ∷ xs))))) (group_types mention_of g.of_type x xs h)
 
+-- the types of two lists have to fit, one list after the other
 type_parts-append : (xs ys : List Typed) → type_parts (xs ++ ys) ≡ type_parts xs ++ type_parts ys
 type_parts-append xs ys = ap (map TypeName) (flat_map-append type_of xs ys) ∙ map-append TypeName (flat_map type_of xs) (flat_map type_of ys)
 
+-- the types of joined lists have to fit, list by list
 pub type_parts-flat : {X : Type 0} (of : X → List Typed) (xs : List X) → type_parts (flat_map of xs) ≡ flat_map (λ x. type_parts (of x)) xs
 type_parts-flat of [] = refl
 type_parts-flat of (x ∷ xs) = type_parts-append (of x) (flat_map of xs) ∙ ap (λ l. type_parts (of x) ++ l) (type_parts-flat of xs)
 
+-- an empty list after each changes nothing
 single_group : {X : Type 0} (of : X → List Typed) (xs : List X) → flat_map (λ x. type_parts (of x ++ [])) xs ≡ flat_map (λ x. type_parts (of x)) xs
 single_group of [] = refl
 single_group of (x ∷ xs) = λ i. type_parts (append-nil (of x) i) ++ single_group of xs i
 
+-- the types of groups of variables are those of the typed list
 pub variable_groups : (gs : List VariableGroup) → flat_map variable_group_parts gs ≡ type_parts (typed_variables gs)
 variable_groups gs =
     let of : VariableGroup → List Typed = λ g. map (typed_as variable_mention g.of_type) g.variables in single_group of gs ∙ sym (type_parts-flat of gs)
 
+-- the types of groups of names are those of the typed list
 pub name_groups : (gs : List NameGroup) → flat_map name_group_parts gs ≡ type_parts (typed_names gs)
 name_groups gs =
     let of : NameGroup → List Typed = λ g. map (typed_as mention_of g.of_type) g.names in single_group of gs ∙ sym (type_parts-flat of gs)

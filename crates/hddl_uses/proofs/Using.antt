@@ -30,6 +30,7 @@ object_clash context before after name at_place f (place, is, h) = (place, is, r
 
 -- ## Pairs of two lists
 
+-- where both lists have a value, they have the pair
 pub zip_at : {X Y : Type 0} (xs : List X) (ys : List Y) (k : ℕ) (x : X) (y : Y) → k < length xs → k < length ys → x ≡ get_or xs k x → y ≡ get_or ys k y
     → (k < length (zip xs ys)) × ((x, y) ≡ get_or (zip xs ys) k (x, y))
 zip_at [] ys k x y lx ly ex ey = absurd (omega (arith, lx))
@@ -38,11 +39,13 @@ zip_at (a ∷ xs) (b ∷ ys) zero x y lx ly ex ey = (omega arith, λ i. (ex i, e
 zip_at (a ∷ xs) (b ∷ ys) (suc k) x y lx ly ex ey =
     let (below, is) = zip_at xs ys k x y (omega (arith, lx)) (omega (arith, ly)) ex ey in (omega (arith, below), is)
 
+-- there are no more pairs than values in the first list
 pub zip_short : {X Y : Type 0} (xs : List X) (ys : List Y) → length (zip xs ys) ≤ length xs
 zip_short [] ys = omega arith
 zip_short (x ∷ xs) [] = omega arith
 zip_short (x ∷ xs) (y ∷ ys) = let le = zip_short xs ys in omega (arith, le)
 
+-- the first of a pair is in the first list
 zip_left : {X Y : Type 0} (xs : List X) (ys : List Y) (z : X × Y) → IsIn z (zip xs ys) → IsIn z.0 xs
 zip_left [] ys z at = absurd (in_nothing z at)
 zip_left (x ∷ xs) [] z at = absurd (in_nothing z at)
@@ -60,6 +63,7 @@ zip_parameters {X} (a ∷ xs) (b ∷ ts) x t at = elim (in_cases {X = X × Typed
   | inr later ↦ at_tail (a, as_parameter b) (x, as_parameter t) (zip xs (map as_parameter ts)) (zip_parameters xs ts x t later)
 ]
 
+-- a pair with a parameter is one with its declaration
 zip_typed : {X : Type 0} (xs : List X) (ts : List Typed) (z : X × Variable) → IsIn z (zip xs (map as_parameter ts)) → IsIn {X = X × Typed} (z.0, z.1.typed) (zip xs ts)
 zip_typed [] ts z at = absurd (in_nothing z at)
 zip_typed (a ∷ xs) [] z at = absurd (in_nothing z at)
@@ -80,6 +84,7 @@ zip_some {X} {Y} (a ∷ xs) (b ∷ ys) x same at = elim (in_cases a x xs at) [
 -- ## Findings among the first items of a list
 
 module _ {X Y : Type 0} (P : X → Y → Type 0) where
+  -- what is found up to a value, or of the value, is found one value further
   pub Finds-item : (xs : List X) (k : ℕ) (x : X) {a b found : Option Y} → k < length xs → x ≡ get_or xs k x
       → Finds (AnyOf P (take k xs)) a → Finds (P x) b → IsOneOf a b found → Finds (AnyOf P (take (k + 1) xs)) found
   Finds-item xs k x lt is ha hb one =
@@ -89,12 +94,15 @@ module _ {X Y : Type 0} (P : X → Y → Type 0) where
 
 module _ (d : DomainText) (p : ProblemText) (text : Source) (names : List Text) (signatures : List Signature) (u : Use) (s : Signature)
     (is_found : declaration_in signatures u.atom.name ≡ Some s) (is_named : IsIn (folded u.atom.name.text) names) (as_many : length u.atom.terms ≡ length s.places) where
+  -- an argument fails in its place
   abbrev ArgumentFails : Term × Variable → CheckFault → Type 0
   ArgumentFails a = ArgumentFailsIn d p text u.variables (a.0, a.1.typed)
 
+  -- each argument with the parameter whose place it takes
   abbrev argued : List (Term × Variable)
   argued = zip u.atom.terms (map as_parameter s.places)
 
+  -- a name has one declaration
   same_declaration : (r : Signature) → declaration_in signatures u.atom.name ≡ Some r → r ≡ s
   same_declaration r is = ap from (sym is ∙ is_found)
     where
@@ -102,12 +110,14 @@ module _ (d : DomainText) (p : ProblemText) (text : Source) (names : List Text) 
       from (Some x) = x
       from _ = s
 
+  -- an argument that fails makes the use fail
   to_use : (f : CheckFault) → AnyOf ArgumentFails argued f → UseFails d p text names signatures u f
   to_use f (z, at, inl (place, e, unknown)) =
       let as_use : Term → TermUse = λ x. record { variables = u.variables; term = x } in
       inr (inl (place, e, (as_use z.0, in_map as_use z.0 u.atom.terms (zip_left u.atom.terms (map as_parameter s.places) z at), unknown)))
   to_use f (z, at, inr (place, e, clash)) = inr (inr (inr (place, e, (s, z.0, z.1.typed, is_found, zip_typed u.atom.terms s.places z at, clash))))
 
+  -- a use whose name and number of arguments are right fails by one of these
   from_use : (f : CheckFault) → UseFails d p text names signatures u f → AnyOf ArgumentFails argued f
   from_use f (inl (place, e, missing)) = absurd (missing.0 is_named)
   from_use f (inr (inl (place, e, (t, in', unknown)))) =
@@ -119,6 +129,7 @@ module _ (d : DomainText) (p : ProblemText) (text : Source) (names : List Text) 
   from_use f (inr (inr (inr (place, e, (r, a, t, is, in', clash))))) =
       ((a, as_parameter t), zip_parameters u.atom.terms s.places a t (subst (λ (x : Signature). IsIn {X = Term × Typed} (a, t) (zip u.atom.terms x.places)) (same_declaration r is) in'), inr (place, e, clash))
 
+  -- what is found of the arguments is found of the use
   pub use_checked : {found : Option CheckFault} → Finds (AnyOf ArgumentFails argued) found → Finds (UseFails d p text names signatures u) found
   use_checked = Finds-same to_use from_use
 

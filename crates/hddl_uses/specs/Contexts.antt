@@ -11,6 +11,7 @@ use Rattle.hddl_scope.specs.Findings.{AnyOf, Faulted}
 use Rattle.hddl_uses.specs.Parts.{ArgumentFailsIn, ClashesAt, Part, Side, FailsIn}
 use Rattle.hddl_uses.specs.declared.context.Context.{Context}
 
+-- a part of the text that is checked fails with a fault
 abbrev pub Fails : Context → Part → CheckFault → Type 0
 Fails c = FailsIn c.domain.now c.problem.now c.source
 
@@ -34,5 +35,6 @@ ObjectClashes c name = Clashes c [] (term.Object name)
 abbrev pub ArgumentFails : Context → List Variable → Term × Variable → CheckFault → Type 0
 ArgumentFails c variables a = ArgumentFailsIn c.domain.now c.problem.now c.source variables (a.0, a.1.typed)
 
+-- one of the arguments fails in its place with a fault
 abbrev pub AnyArgumentFails : Context → List Variable → List (Term × Variable) → CheckFault → Type 0
 AnyArgumentFails c variables = AnyOf (ArgumentFails c variables)

@@ -20,6 +20,7 @@ pub record AreKnown (d : DomainText) (p : ProblemText) : Type 0 where
 abbrev pub IsTyped : DomainText → Typed → Type 0
 IsTyped d t = IsDeclaredType d (text_or_object t.of_type)
 
+-- each of the typed names has a declared type
 abbrev pub AllTyped : DomainText → List Typed → Type 0
 AllTyped d typed = (t : Typed) → IsIn t typed → IsTyped d t
 

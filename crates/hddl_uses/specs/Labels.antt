@@ -13,6 +13,7 @@ use Rattle.hddl_meaning.specs.Mentions.{Text, folded}
 use Rattle.hddl_meaning.specs.Networks.{pair_of, is_text}
 use Rattle.hddl_scope.specs.Numbers.{Entries, number_at}
 
+-- the pair of positions that an ordering gives, if both names are those of subtasks
 abbrev pub pairs_of : Entries → OrderingText → List (ℕ × ℕ)
 pairs_of numbers o = pair_of (number_at numbers (folded o.before.text)) (number_at numbers (folded o.after.text))
 

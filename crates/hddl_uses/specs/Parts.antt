@@ -23,6 +23,7 @@ use Rattle.hddl_scope.specs.Findings.{Faulted}
 use Rattle.hddl_uses.specs.Known.{IsKnownClash}
 use Rattle.hddl_scope.specs.Repeats.{IsRepeat}
 
+-- one thing that has to fit
 pub data Part : Type 0 where
   -- names that must differ
   Different : List Mention → Part
@@ -44,13 +45,16 @@ pub data Part : Type 0 where
 
 -- ## Failures
 
+-- a mentioned type that isn't declared, at its place
 abbrev pub IsUndeclaredType : DomainText → Mention → ℕ → Type 0
 IsUndeclaredType d m place = (items.IsDeclaredType d m.text → ⊥) × (place ≡ m.place)
 
+-- a use has another number of arguments than its declaration, at the place of its name
 abbrev pub IsWrongCount : List Signature → Use → ℕ → Type 0
 IsWrongCount signatures u place =
     (s : Signature) × (items.declaration_in signatures u.atom.name ≡ Some s) × (length u.atom.terms ≡ length s.places → ⊥) × (place ≡ u.atom.name.place)
 
+-- an argument clashes with the place that it takes, and it can be told
 abbrev pub ClashesAt : DomainText → ProblemText → List Variable → Term × Typed → ℕ → Type 0
 ClashesAt d p variables a place = IsKnownClash d p variables a.0 a.1 place
 
@@ -60,9 +64,11 @@ ArgumentFailsIn d p text variables a f =
     Faulted fault.UnknownName text (items.IsUnknownTerm (object_names d p) (record { variables = variables; term = a.0 })) f
     ⊎ Faulted fault.TypeClash text (ClashesAt d p variables a) f
 
+-- an argument of a use is no variable in force and no object, at its place
 abbrev pub HasUnknownArgument : DomainText → ProblemText → Use → ℕ → Type 0
 HasUnknownArgument d p u place = (t : TermUse) × IsIn t (items.arguments_of u) × items.IsUnknownTerm (object_names d p) t place
 
+-- an argument of a use clashes with what is declared there
 abbrev pub HasClash : DomainText → ProblemText → List Signature → Use → ℕ → Type 0
 HasClash d p signatures u place =
     (s : Signature) × (argument : Term) × (at_place : Typed) × (items.declaration_in signatures u.atom.name ≡ Some s)
@@ -80,9 +86,11 @@ UseFails d p text names signatures u f =
 abbrev pub IsCyclic : ℕ → NetworkText → ℕ → Type 0
 IsCyclic at n place = (a : ℕ) × Precedes (order_pairs n) a a × (place ≡ at)
 
+-- a name in an ordering is that of no subtask, at its place
 abbrev pub HasUnknownLabel : NetworkText → ℕ → Type 0
 HasUnknownLabel n place = (name : Name) × IsIn name (ordering_names n) × items.IsMissing (texts (label_mentions n)) name place
 
+-- a part fails in its text with a fault: the fault's kind is the part's, and its place is one that the part allows
 abbrev pub FailsIn : DomainText → ProblemText → Source → Part → CheckFault → Type 0
 FailsIn d p text (Different mentions) f = Faulted fault.Duplicate text (IsRepeat mentions) f
 FailsIn d p text (Limited limit mentions) f = Faulted fault.TooMany text (items.IsPast limit mentions) f
@@ -105,9 +113,11 @@ type_parts typed = map TypeName (flat_map type_of typed)
 abbrev pub variable_group_parts : VariableGroup → List Part
 variable_group_parts g = type_parts (typed_variables (g ∷ []))
 
+-- what has to fit in a group of a typed list: the type that it names
 abbrev pub name_group_parts : NameGroup → List Part
 name_group_parts g = type_parts (typed_names (g ∷ []))
 
+-- what has to fit at a `forall`: its variables differ from those around it, are few enough, and have declared types
 abbrev pub quantifier_parts : Quantifier → List Part
 quantifier_parts q =
     let own = mentions_of (typed_variables q.own) in
@@ -119,5 +129,6 @@ abbrev pub conditions_parts : List Variable → List Condition → List Part
 conditions_parts variables cs =
     map Atom (atoms_in variables cs) ++ (flat_map quantifier_parts (quantifiers_in variables cs) ++ map Side (sides_in variables cs))
 
+-- what has to fit in a network apart from its uses: labels that differ, subtasks that are few enough, and orderings
 abbrev pub network_parts : ℕ → NetworkText → List Part
 network_parts place n = Different (label_mentions n) ∷ Limited items.most_subtasks (subtask_mentions n) ∷ Network place n ∷ []

@@ -12,9 +12,11 @@ use Rattle.hddl_uses.specs.declared.signatures.Signatures.{Signatures}
 abbrev pub as_parameter : Typed → Variable
 as_parameter t = record { typed = t; is_quantified = false }
 
+-- whether a declaration has that name
 abbrev pub has_name : Text → Signature → Bool
 has_name text s = is_same_text text s.name
 
+-- what the vectors hold
 abbrev pub lists_of : {X A : Type 0} → List (Vec X A) → List (List X)
 lists_of vectors = map (λ v. v.items) vectors
 

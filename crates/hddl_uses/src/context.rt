@@ -21,7 +21,8 @@ pub struct Context<'a> {
     pub problem: &'a ProblemText,
     pub vocabulary: &'a Vocabulary,
     pub types: &'a TypeHierarchy<'a>,
-    /// The types of each object, unless one of these isn't declared, or there are more objects than sixteen bits number.
+    /// The types of each object, unless one of these isn't declared, or there are more objects than sixteen bits
+    /// number.
     pub objects: Option<&'a DeclaredTypes>,
     pub declared: &'a Declarations,
     ghost known: { vocabulary.now ≡ vocabulary_of domain.now problem.now },

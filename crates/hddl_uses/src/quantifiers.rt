@@ -51,7 +51,8 @@ fn check_quantifier(
     Ok(first_of(repeated, first_of(own_limit, first_of(limit, types))))
 }
 
-/// Puts the variables of a `forall` in force, and gives a fault of theirs. Where memory is refused, none of them is in force.
+/// Puts the variables of a `forall` in force, and gives a fault of theirs. Where memory is refused, none of them is in
+/// force.
 pub(crate) fn enter(
     context: &Context<'_>,
     scope: &mut Scope,

@@ -40,11 +40,13 @@ pub data StepAgrees {A : Type 0} (N : ℕ) (before into out : ℕ → ℕ) (R : 
   on : {p : Reader A} → Agrees N into out R p → ((k : ℕ) (ws : List Word) (u : Bool) → length ws < N → 0 < before k → Nests (into k) ws → p ws ≡ refused u 0 → ⊥) → StepAgrees N before into out R (go p)
   off : {u : Bool} → ((ws rest : List Word) (a : A) → R ws a rest → ⊥) → StepAgrees N before into out R (stop u)
 
+-- at each word of each class, what is done there agrees with the rule for such words
 abbrev pub ItemAgrees : {A : Type 0} → ℕ → (ℕ → ℕ) → (ℕ → ℕ) → ItemPhrase A → Item A → Type 0
 ItemAgrees N into out R item = (c : Class) (w : Word) → StepAgrees N into (λ k. after c (into k)) out (R c w) (item c w)
 
 -- ---- no word
 
+-- to give a value without a word agrees with itself
 pub agrees_gives : {A : Type 0} (N : ℕ) (level : ℕ → ℕ) (x : A) → Agrees N level level (Gives x) (pure x)
 agrees_gives N level x = record {
   sound = λ ws rest a short e. (cc, cc);
@@ -57,6 +59,7 @@ agrees_gives N level x = record {
 
 -- ---- fewer words
 
+-- what agrees over so many words agrees over fewer
 pub agrees_upto : {A : Type 0} {N : ℕ} {into out : ℕ → ℕ} {R : Phrase A} {p : Reader A} (M : ℕ) → M ≤ N → Agrees N into out R p → Agrees M into out R p
 agrees_upto M less g = record {
   sound = λ ws rest a short e. g.sound ws rest a (omega arith) e;
@@ -67,6 +70,7 @@ agrees_upto M less g = record {
   ends = λ k ws u short inside n e. g.ends k ws u (omega arith) inside n e;
 }
 
+-- what agrees over one word more agrees over so many
 pub agrees_below : {A : Type 0} {N : ℕ} {into out : ℕ → ℕ} {R : Phrase A} {p : Reader A} → Agrees (suc N) into out R p → Agrees N into out R p
 agrees_below {N = N} g = agrees_upto N (omega arith) g
 
@@ -87,18 +91,22 @@ nothing N before into out u = off (λ ws rest a r. r)
 -- ---- a word, and what follows it
 
 module _ {A : Type 0} {N : ℕ} {before into out : ℕ → ℕ} {R : Phrase A} where
+  -- what is read after a word stands there by the rule
   step_sound : {s : Step A} → StepAgrees N before into out R s → (ws rest : List Word) (a : A) → length ws < N → run s ws ≡ read a rest → R ws a rest
   step_sound (on g alive) ws rest a short e = g.sound ws rest a short e
   step_sound (off none) ws rest a short e = absurd cc
 
+  -- what stands there by the rule is read
   step_complete : {s : Step A} → StepAgrees N before into out R s → (ws rest : List Word) (a : A) → length ws < N → R ws a rest → run s ws ≡ read a rest
   step_complete (on g alive) ws rest a short r = g.complete ws rest a short r
   step_complete (off none) ws rest a short r = absurd (none ws rest a r)
 
+  -- what is read doesn't depend on what follows
   step_goes : {s : Step A} → StepAgrees N before into out R s → (ws rest : List Word) (a : A) → length ws < N → run s ws ≡ read a rest → Goes N (run s) a ws rest
   step_goes (on g alive) ws rest a short e = g.goes ws rest a short e
   step_goes (off none) ws rest a short e = absurd cc
 
+  -- where reading stops, it does so whatever follows
   step_stops : {s : Step A} → StepAgrees N before into out R s → (w : Word) (item : Item A) → item (class_of w) w ≡ s → (ws : List Word) (u : Bool) (left : ℕ) → length ws < N → 0 < left → run s ws ≡ refused u left → Stops (suc N) (next item) u left (w ∷ ws)
   step_stops (on g alive) w item is ws u left short some e =
       let h = g.stops ws u left short some e in
@@ -106,19 +114,23 @@ module _ {A : Type 0} {N : ℕ} {before into out : ℕ → ℕ} {R : Phrase A} w
   step_stops (off none) w item is ws u left short some e =
       record { front = []; word = w; rest = ws; whole = refl; place = cc; again = λ others s. ap (λ t. run t others) is ∙ cc }
 
+  -- the brackets that are open nest on after what was read
   step_keeps : {s : Step A} → StepAgrees N before into out R s → (k : ℕ) (ws rest : List Word) (a : A) → length ws < N → Nests (into k) ws → run s ws ≡ read a rest → Nests (out k) rest
   step_keeps (on g alive) k ws rest a short n e = g.keeps k ws rest a short n e
   step_keeps (off none) k ws rest a short n e = absurd cc
 
+  -- inside brackets that nest, reading never stops for want of a word
   step_ends : {s : Step A} → StepAgrees N before into out R s → (k : ℕ) (ws : List Word) (u : Bool) → length ws < N → 0 < before k → Nests (into k) ws → run s ws ≡ refused u 0 → ⊥
   step_ends (on g alive) k ws u short inside n e = alive k ws u short inside n e
   step_ends (off none) k ws u short inside n e = let h : suc (length ws) ≡ 0 = cc in omega arith
 
 module _ {A : Type 0} (N : ℕ) (into out : ℕ → ℕ) (R : ItemPhrase A) (item : Item A) (g : ItemAgrees N into out R item) where
+  -- what is read of the next word and on stands there by the rule
   next_sound : (ws rest : List Word) (a : A) → length ws < suc N → next item ws ≡ read a rest → Next R ws a rest
   next_sound [] rest a short e = absurd cc
   next_sound (w ∷ ws) rest a short e = (w, ws, refl, step_sound (g (class_of w) w) ws rest a (omega arith) e)
 
+  -- what stands there by the rule is read
   next_complete : (ws rest : List Word) (a : A) → length ws < suc N → Next R ws a rest → next item ws ≡ read a rest
   next_complete [] rest a short r = absurd (let e = r.2 in cc)
   next_complete (w ∷ ws) rest a short r =
@@ -128,24 +140,29 @@ module _ {A : Type 0} (N : ℕ) (into out : ℕ → ℕ) (R : ItemPhrase A) (ite
       let r' : R (class_of w) w ws a rest = rw (v, vs) r.3 in
       step_complete (g (class_of w) w) ws rest a (omega arith) r'
 
+  -- what is read doesn't depend on what follows
   next_goes : (ws rest : List Word) (a : A) → length ws < suc N → next item ws ≡ read a rest → Goes (suc N) (next item) a ws rest
   next_goes [] rest a short e = absurd cc
   next_goes (w ∷ ws) rest a short e =
       let h = step_goes (g (class_of w) w) ws rest a (omega arith) e in
       record { front = w ∷ h.front; whole = ap (λ vs. w ∷ vs) h.whole; again = λ others s. h.again others (omega arith) }
 
+  -- where reading stops, it does so whatever follows
   next_stops : (ws : List Word) (u : Bool) (left : ℕ) → length ws < suc N → 0 < left → next item ws ≡ refused u left → Stops (suc N) (next item) u left ws
   next_stops [] u left short some e = let none : left ≡ 0 = cc in absurd (omega arith)
   next_stops (w ∷ ws) u left short some e = step_stops (g (class_of w) w) w item refl ws u left (omega arith) some e
 
+  -- the brackets that are open nest on after what was read
   next_keeps : (k : ℕ) (ws rest : List Word) (a : A) → length ws < suc N → Nests (into k) ws → next item ws ≡ read a rest → Nests (out k) rest
   next_keeps k [] rest a short n e = absurd cc
   next_keeps k (w ∷ ws) rest a short n e = step_keeps (g (class_of w) w) k ws rest a (omega arith) n.1 e
 
+  -- inside brackets that nest, reading never stops for want of a word
   next_ends : (k : ℕ) (ws : List Word) (u : Bool) → length ws < suc N → 0 < into k → Nests (into k) ws → next item ws ≡ refused u 0 → ⊥
   next_ends k [] u short inside n e = omega arith
   next_ends k (w ∷ ws) u short inside n e = step_ends (g (class_of w) w) k ws u (omega arith) inside n.1 e
 
+  -- a reader of the next word agrees with the rule if what is done there does
   pub agrees_next : Agrees (suc N) into out (Next R) (next item)
   agrees_next = record { sound = next_sound; complete = next_complete; goes = next_goes; stops = next_stops; keeps = next_keeps; ends = next_ends }
 
@@ -161,15 +178,18 @@ module _ {A B : Type 0} (N : ℕ) (into mid out : ℕ → ℕ) (P : Phrase A) (Q
       let whole : length ws ≡ length (f.front ++ rest) = ap length f.whole in
       omega (arith, length-append f.front rest, whole)
 
+  -- what two readers read, one after the other, stands there by both rules
   seq_sound : (r : Outcome A) (ws rest : List Word) (b : B) → length ws < N → p ws ≡ r → and_then r q ≡ read b rest → phrase.◌>>=◌ P Q ws b rest
   seq_sound (read a ms) ws rest b short is e = (a, ms, g.sound ws ms a short is, (h a).sound ms rest b (shorter ws ms a short is) e)
   seq_sound (failed s) ws rest b short is e = absurd cc
 
+  -- what stands there by both rules is read by both
   seq_complete : (ws rest : List Word) (b : B) → length ws < N → phrase.◌>>=◌ P Q ws b rest → reading.◌>>=◌ p q ws ≡ read b rest
   seq_complete ws rest b short r =
       let e = g.complete ws r.1 r.0 short r.2 in
       ap (λ o. and_then o q) e ∙ (h r.0).complete r.1 rest b (shorter ws r.1 r.0 short e) r.3
 
+  -- what both read doesn't depend on what follows
   seq_goes : (r : Outcome A) (ws rest : List Word) (b : B) → length ws < N → p ws ≡ r → and_then r q ≡ read b rest → Goes N (reading.◌>>=◌ p q) b ws rest
   seq_goes (read a ms) ws rest b short is e =
       let f = g.goes ws ms a short is in
@@ -185,6 +205,7 @@ module _ {A B : Type 0} (N : ℕ) (into mid out : ℕ → ℕ) (P : Phrase A) (Q
       }
   seq_goes (failed s) ws rest b short is e = absurd cc
 
+  -- where one of them stops, it does so whatever follows
   seq_stops : (r : Outcome A) (ws : List Word) (u : Bool) (left : ℕ) → length ws < N → 0 < left → p ws ≡ r → and_then r q ≡ refused u left → Stops N (reading.◌>>=◌ p q) u left ws
   seq_stops (read a ms) ws u left short some is e =
       let f = g.goes ws ms a short is in
@@ -205,14 +226,17 @@ module _ {A B : Type 0} (N : ℕ) (into mid out : ℕ → ℕ) (P : Phrase A) (Q
       let l = g.stops ws u left short some (is ∙ cc) in
       record { front = l.front; word = l.word; rest = l.rest; whole = l.whole; place = l.place; again = λ others s. ap (λ o. and_then o q) (l.again others s) }
 
+  -- the brackets that are open nest on after both
   seq_keeps : (r : Outcome A) (k : ℕ) (ws rest : List Word) (b : B) → length ws < N → Nests (into k) ws → p ws ≡ r → and_then r q ≡ read b rest → Nests (out k) rest
   seq_keeps (read a ms) k ws rest b short n is e = (h a).keeps k ms rest b (shorter ws ms a short is) (g.keeps k ws ms a short n is) e
   seq_keeps (failed s) k ws rest b short n is e = absurd cc
 
+  -- inside brackets that nest, neither stops for want of a word
   seq_ends : (r : Outcome A) (k : ℕ) (ws : List Word) (u : Bool) → length ws < N → 0 < into k → Nests (into k) ws → p ws ≡ r → and_then r q ≡ refused u 0 → ⊥
   seq_ends (read a ms) k ws u short some n is e = alive a k ms u (shorter ws ms a short is) some (g.keeps k ws ms a short n is) e
   seq_ends (failed s) k ws u short some n is e = g.ends k ws u short some n (is ∙ cc)
 
+  -- two readers, one after the other, agree with both rules where a bracket is open between
   pub agrees_alive : Agrees N into out (phrase.◌>>=◌ P Q) (reading.◌>>=◌ p q)
   agrees_alive = record {
     sound = λ ws rest a short e. seq_sound (p ws) ws rest a short refl e;
@@ -235,6 +259,7 @@ agrees_map {A} {B} {N} {into} {out} {P} {p} f g =
 
 -- ---- the same phrase, read the same
 
+-- over no words any reader agrees with any rule
 pub agrees_none : {A : Type 0} (into out : ℕ → ℕ) (R : Phrase A) (p : Reader A) → Agrees 0 into out R p
 agrees_none into out R p = record {
   sound = λ ws rest a short e. absurd (omega arith);
@@ -245,6 +270,7 @@ agrees_none into out R p = record {
   ends = λ k ws u short inside n e. omega arith;
 }
 
+-- a reader that reads the same agrees with a rule that says the same
 pub agrees_as : {A : Type 0} {N : ℕ} {into out : ℕ → ℕ} {R S : Phrase A} {p q : Reader A} → ((ws rest : List Word) (a : A) → R ws a rest → S ws a rest) → ((ws rest : List Word) (a : A) → S ws a rest → R ws a rest) → ((ws : List Word) → length ws < N → q ws ≡ p ws) → Agrees N into out R p → Agrees N into out S q
 agrees_as to from same g = record {
   sound = λ ws rest a short e. to ws rest a (g.sound ws rest a short (sym (same ws short) ∙ e));
@@ -255,24 +281,29 @@ agrees_as to from same g = record {
   ends = λ k ws u short inside n e. g.ends k ws u short inside n (sym (same ws short) ∙ e);
 }
 
+-- what is done at a word agrees over fewer words
 pub step_below : {A : Type 0} {N : ℕ} {before into out : ℕ → ℕ} {R : Phrase A} {s : Step A} → StepAgrees (suc N) before into out R s → StepAgrees N before into out R s
 step_below (on g alive) = on (agrees_below g) (λ k ws u short some n e. alive k ws u (omega arith) some n e)
 step_below (off none) = off none
 
 -- ---- items up to the closing bracket
 
+-- readings that go on alike end alike
 and_then_same : {A B : Type 0} (o : Outcome A) (f g : A → Reader B) → ((a : A) (ws : List Word) → o ≡ read a ws → f a ws ≡ g a ws) → and_then o f ≡ and_then o g
 and_then_same (read a ws) f g same = same a ws refl
 and_then_same (failed s) f g same = refl
 
+-- what is done at a word goes on alike by readers that read on alike
 followed_same : {A B : Type 0} (s : Step A) (f g : A → Reader B) (ws : List Word) → ((a : A) (rest : List Word) → run s ws ≡ read a rest → f a rest ≡ g a rest) → run (followed s f) ws ≡ run (followed s g) ws
 followed_same (go p) f g ws same = and_then_same (p ws) f g same
 followed_same (stop u) f g ws same = refl
 
+-- a turn goes on alike by readers that read on alike
 turn_same : {D A : Type 0} (b : Bool) (l : Step A) (s : Step D) (f g : D → Reader A) (ws : List Word) → ((a : D) (rest : List Word) → run s ws ≡ read a rest → f a rest ≡ g a rest) → run (cond b l (followed s f)) ws ≡ run (cond b l (followed s g)) ws
 turn_same true l s f g ws same = refl
 turn_same false l s f g ws same = followed_same s f g ws same
 
+-- what is done at a word leaves no more words
 pub step_shorter : {A : Type 0} {N : ℕ} {before into out : ℕ → ℕ} {R : Phrase A} {s : Step A} → StepAgrees N before into out R s → (ws rest : List Word) (a : A) → length ws < N → run s ws ≡ read a rest → length rest ≤ length ws
 step_shorter g ws rest a short e =
     let f = step_goes g ws rest a short e in
@@ -280,6 +311,7 @@ step_shorter g ws rest a short e =
     omega (arith, length-append f.front rest, whole)
 
 module _ {D A : Type 0} (finish : D → Option A) (item : D → Item D) where
+  -- over enough words the bound on turns doesn't matter
   until_enough : (n m N : ℕ) (d : D) (ws : List Word) → ((d : D) (c : Class) (w : Word) (ws rest : List Word) (e : D) → length ws < N → run (item d c w) ws ≡ read e rest → length rest ≤ length ws) → length ws < n → length ws < m → length ws < suc N → ended_within finish n item d ws ≡ ended_within finish m item d ws
   unfolding ended_within
   until_enough zero m N d ws shorten fits fits' short = absurd (omega arith)
@@ -289,6 +321,7 @@ module _ {D A : Type 0} (finish : D → Option A) (item : D → Item D) where
       turn_same (is_close (class_of w)) (finished (finish d)) (item d (class_of w) w) (ended_within finish n item) (ended_within finish m item) ws
       (λ a rest e. let less = shorten d (class_of w) w ws rest a (omega arith) e in until_enough n m N a rest shorten (omega arith) (omega arith) (omega arith))
 
+  -- items up to the bracket are read turn by turn
   pub until-is : (N : ℕ) (d : D) (ws : List Word) → ((d : D) (c : Class) (w : Word) (ws rest : List Word) (e : D) → length ws < N → run (item d c w) ws ≡ read e rest → length rest ≤ length ws) → length ws < suc N → until_ended finish item d ws ≡ next (turn finish (until_ended finish item) item d) ws
   unfolding until_ended ended_within
   until-is N d [] shorten short = refl
@@ -296,10 +329,12 @@ module _ {D A : Type 0} (finish : D → Option A) (item : D → Item D) where
       turn_same (is_close (class_of w)) (finished (finish d)) (item d (class_of w) w) (ended_within finish (suc (length ws)) item) (until_ended finish item) ws
       (λ a rest e. let less = shorten d (class_of w) w ws rest a (omega arith) e in until_enough (suc (length ws)) (suc (length rest)) N a rest shorten (omega arith) (omega arith) (omega arith))
 
+-- what is done at a word and then a reader is run one after the other
 pub followed_run : {A B : Type 0} (s : Step A) (f : A → Reader B) (ws : List Word) → run (followed s f) ws ≡ and_then (run s ws) f
 followed_run (go p) f ws = refl
 followed_run (stop u) f ws = refl
 
+-- a turn is alike where its item is and what goes on is
 turn_same_items : {D A : Type 0} (b : Bool) (l : Step A) (s t : Step D) (f g : D → Reader A) (ws : List Word) → run s ws ≡ run t ws → ((a : D) (rest : List Word) → run s ws ≡ read a rest → f a rest ≡ g a rest) → run (cond b l (followed s f)) ws ≡ run (cond b l (followed t g)) ws
 turn_same_items true l s t f g ws is same = refl
 turn_same_items false l s t f g ws is same = followed_run s f ws ∙ and_then_same (run s ws) f g same ∙ ap (λ o. and_then o g) is ∙ sym (followed_run t g ws)
@@ -308,6 +343,7 @@ turn_same_items false l s t f g ws is same = followed_run s f ws ∙ and_then_sa
 module _ {D A : Type 0} (finish : D → Option A) (N : ℕ) (item other : D → Item D)
     (same : (d : D) (c : Class) (w : Word) (ws : List Word) → length ws < N → run (item d c w) ws ≡ run (other d c w) ws)
     (shorten : (d : D) (c : Class) (w : Word) (ws rest : List Word) (e : D) → length ws < N → run (item d c w) ws ≡ read e rest → length rest ≤ length ws) where
+  -- items that are read alike make lists that are read alike, turn by turn
   until_within_same : (n : ℕ) (d : D) (ws : List Word) → length ws < suc N → ended_within finish n item d ws ≡ ended_within finish n other d ws
   unfolding ended_within
   until_within_same zero d ws short = refl
@@ -317,54 +353,67 @@ module _ {D A : Type 0} (finish : D → Option A) (N : ℕ) (item other : D → 
       (same d (class_of w) w ws (omega arith))
       (λ a rest e. let less = shorten d (class_of w) w ws rest a (omega arith) e in until_within_same n a rest (omega arith))
 
+  -- the same of whole lists
   pub until_same : (d : D) (ws : List Word) → length ws < suc N → until_ended finish item d ws ≡ until_ended finish other d ws
   unfolding until_ended
   until_same d ws short = until_within_same (suc (length ws)) d ws short
 
+-- the value at the closing bracket, if what was read is complete
 abbrev Finished : {A : Type 0} → Option A → Phrase A
 Finished (Some a) = Gives a
 Finished None = Nothing
 
+-- at the closing bracket the value, else what a turn gives
 abbrev TurnBy : {A : Type 0} → Bool → Option A → Phrase A → Phrase A
 TurnBy true o P = Finished o
 TurnBy false o P = P
 
+-- at the closing bracket a turn gives the value
 turn_out_closed : {A : Type 0} (b : Bool) (o : Option A) (a : A) (P : Phrase A) (ws : List Word) → b ≡ true → o ≡ Some a → TurnBy b o P ws a ws
 turn_out_closed true (Some x) a P ws is ends = (cc, refl)
 turn_out_closed true None a P ws is ends = absurd cc
 turn_out_closed false o a P ws is ends = absurd cc
 
+-- at another word a turn goes on
 turn_out_more : {A : Type 0} (b : Bool) (o : Option A) (a : A) (P : Phrase A) (ws rest : List Word) → b ≡ false → P ws a rest → TurnBy b o P ws a rest
 turn_out_more true o a P ws rest is r = absurd cc
 turn_out_more false o a P ws rest is r = r
 
 module _ {D A : Type 0} (finish : D → Option A) (F : D → ItemPhrase D) where
+  -- one turn over a list: the closing bracket, or an item and more turns
   abbrev Turn : D → ItemPhrase A
   Turn d c w = TurnBy (is_close c) (finish d) (phrase.◌>>=◌ (F d c w) (Ended finish F))
 
+  -- a list may end at its closing bracket
   ends_in : (o : Option A) (d : D) (a : A) (w : Word) (ws rest : List Word) → is_close (class_of w) ≡ true → finish d ≡ o → Finished o ws a rest → Ended finish F d (w ∷ ws) a rest
   ends_in (Some x) d a w ws rest is fine r = rw (r.0, r.1) (closed is fine)
   ends_in None d a w ws rest is fine r = absurd r
 
+  -- a turn makes a list, whether it ends it or not
   turn_in_by : (b : Bool) (d : D) (a : A) (w : Word) (ws rest : List Word) → is_close (class_of w) ≡ b → TurnBy b (finish d) (phrase.◌>>=◌ (F d (class_of w) w) (Ended finish F)) ws a rest → Ended finish F d (w ∷ ws) a rest
   turn_in_by true d a w ws rest is r = ends_in (finish d) d a w ws rest is refl r
   turn_in_by false d a w ws rest is r = more is r.2 r.3
 
+  -- a turn makes a list
   turn_in : (d : D) (ws rest : List Word) (a : A) → Next (Turn d) ws a rest → Ended finish F d ws a rest
   turn_in d ws rest a r = rw r.2 (turn_in_by (is_close (class_of r.0)) d a r.0 r.1 rest refl r.3)
 
+  -- a list is made by a turn
   turn_out : (d : D) (ws rest : List Word) (a : A) → Ended finish F d ws a rest → Next (Turn d) ws a rest
   turn_out d ws rest a (closed {w = w} {ws = vs} is fine) = (w, vs, refl, turn_out_closed (is_close (class_of w)) (finish d) a _ vs is fine)
   turn_out d ws rest a (more {e = e} {w = w} {ws = vs} {mid = mid} is r u) = (w, vs, refl, turn_out_more (is_close (class_of w)) (finish d) a _ vs rest is (e, mid, r, u))
 
+-- what is done where a test holds agrees with the rule there
 pub step_holds : {A : Type 0} {N : ℕ} {before into out : ℕ → ℕ} {R : Phrase A} {s : Step A} (b : Bool) → StepAgrees N before into out R s → StepAgrees N before into out (IfHolds b R) (if_holds b s)
 step_holds true g = g
 step_holds {N = N} {before = before} {into = into} {out = out} false g = nothing N before into out false
 
+-- to give the value if there is one agrees with the rule
 step_finished : {A : Type 0} (N : ℕ) (before level : ℕ → ℕ) (o : Option A) → StepAgrees N before level level (Finished o) (finished o)
 step_finished N before level (Some a) = gives N before level a
 step_finished N before level None = nothing N before level level false
 
+-- what is done at a word, and a reader after it, agree with both rules
 step_alive : {A B : Type 0} {N : ℕ} {before into mid out : ℕ → ℕ} {P : Phrase A} {Q : A → Phrase B} {p : Reader A} {q : A → Reader B} (inside : (k : ℕ) → 0 < mid k) → Agrees N into mid P p → ((a : A) → Agrees N mid out (Q a) (q a))
     → ((k : ℕ) (ws : List Word) (u : Bool) → length ws < N → 0 < before k → Nests (into k) ws → p ws ≡ refused u 0 → ⊥)
     → (o : Outcome A) (k : ℕ) (ws : List Word) (u : Bool) → length ws < N → 0 < before k → Nests (into k) ws → p ws ≡ o → and_then o q ≡ refused u 0 → ⊥
@@ -379,10 +428,12 @@ step_followed {q = q} inside (on {p = p} g alive) h =
 step_followed inside (off none) h = off (λ ws rest a r. none ws r.1 r.0 r.2)
 
 module _ {D A : Type 0} (finish : D → Option A) (F : D → ItemPhrase D) (item : D → Item D) where
+  -- a turn agrees with its rule if items and what goes on do
   turn_agrees : (N : ℕ) → ((d : D) → ItemAgrees N suc suc (F d) (item d)) → ((d : D) → Agrees N suc (λ k. k) (Ended finish F d) (until_ended finish item d)) → (d : D) → ItemAgrees N suc (λ k. k) (Turn finish F d) (turn finish (until_ended finish item) item d)
   turn_agrees N g u d class.Close w = step_finished N suc (λ k. k) (finish d)
   turn_agrees N g u d c w = step_followed (λ k. omega arith) (g d c w) u
 
+  -- items up to the bracket agree with their rule if each does
   pub agrees_ended : (N : ℕ) → ((d : D) → ItemAgrees N suc suc (F d) (item d)) → (d : D) → Agrees (suc N) suc (λ k. k) (Ended finish F d) (until_ended finish item d)
   agrees_ended zero g d =
       agrees_as (turn_in finish F d) (turn_out finish F d) (λ ws short. until-is finish item zero d ws (λ d c w ws rest e s r. step_shorter (g d c w) ws rest e s r) short)

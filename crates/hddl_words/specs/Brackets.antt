@@ -15,6 +15,7 @@ after class.Open k = suc k
 after class.Close k = pred k
 after _ k = k
 
+-- a bracket may stand where k are open: no more than 64 are open at once, and none is closed that isn't open
 abbrev pub MayStand : Class → ℕ → Type 0
 MayStand class.Open k = k < 64
 MayStand class.Close k = 0 < k
@@ -25,10 +26,12 @@ abbrev pub Nests : ℕ → List Word → Type 0
 Nests k [] = k ≡ 0
 Nests k (w ∷ ws) = MayStand (class_of w) k × Nests (after (class_of w) k) ws
 
+-- the fault of the innermost bracket that is open at the end, if any is
 abbrev pub innermost : List ℕ → Option TextFault
 innermost [] = None
 innermost (place ∷ places) = Some (Unclosed place)
 
+-- the fault of a bracket at its place, or what follows it
 abbrev pub bracket_at : Kind → ℕ → List ℕ → (List ℕ → Option TextFault) → Option TextFault
 bracket_at kind.Open place places more = if length places == 64 then Some (TooDeep place) else more (place ∷ places)
 bracket_at kind.Close place [] more = Some (ExtraClose place)

@@ -38,6 +38,7 @@ keyword_of text =
     else (if str_eq_ignore_ascii_case text (codes ":constraints") then keyword.Constraints
     else section_of text))))))
 
+-- the sign that a text is: `-`, `=` or else `<`
 abbrev pub sign_of : List ℕ → Class
 sign_of text = if str_eq_ignore_ascii_case text (codes "-") then class.Minus else (if str_eq_ignore_ascii_case text (codes "=") then class.Equal else class.Less)
 
@@ -48,6 +49,7 @@ is_left_out text =
     || str_eq_ignore_ascii_case text (codes "when") || str_eq_ignore_ascii_case text (codes "either") || str_eq_ignore_ascii_case text (codes "increase")
     || str_eq_ignore_ascii_case text (codes "preference")
 
+-- a name that is kept for the grammar, one that is left out of the language, or any other
 abbrev pub name_class : List ℕ → Class
 name_class text =
     if str_eq_ignore_ascii_case text (codes "and") then class.And
@@ -55,6 +57,7 @@ name_class text =
     else (if str_eq_ignore_ascii_case text (codes "forall") then class.Forall
     else (if is_left_out text then class.Reserved else class.Name)))
 
+-- the class of a word by its kind and, for keywords, signs and names, its text
 abbrev pub class_by : Kind → List ℕ → Class
 class_by kind.Open text = class.Open
 class_by kind.Close text = class.Close
@@ -63,6 +66,7 @@ class_by kind.Keyword text = class.Keyword (keyword_of text)
 class_by kind.Sign text = sign_of text
 class_by kind.Name text = name_class text
 
+-- the class of a word
 unfoldable pub class_of : Word → Class
 class_of w = class_by w.kind w.text
 

@@ -22,6 +22,7 @@ IsNotAscii front byte rest = IsOutsideComments front × (is_blank byte ≡ false
 abbrev pub IsBadWord : List ℕ → ℕ → List ℕ → Type 0
 IsBadWord front byte rest = IsOutsideComments front × IsBetweenWords front × (is_word_byte byte ≡ true) × (kind_of byte (length (take_while is_word_byte (byte ∷ rest))) ≡ None)
 
+-- a fault of the words holds of the text at its place
 abbrev pub WordFaultAt : List ℕ → TextFault → Type 0
 WordFaultAt text (NotAscii place) = ByteAt IsNotAscii text place
 WordFaultAt text (BadWord place) = ByteAt IsBadWord text place
@@ -29,6 +30,7 @@ WordFaultAt text (TooLong place) = (place ≡ max_bytes) × (max_bytes < length 
 WordFaultAt text OutOfMemory = ⊤
 WordFaultAt text _ = ⊥
 
+-- the place that a fault names, 0 for want of memory
 abbrev pub place_of : TextFault → ℕ
 place_of (NotAscii place) = place
 place_of (BadWord place) = place
@@ -40,6 +42,7 @@ place_of (Unsupported place) = place
 place_of (TooLong place) = place
 place_of OutOfMemory = 0
 
+-- no fault of the words holds anywhere
 abbrev pub HasNoWordFault : List ℕ → Type 0
 HasNoWordFault text = (fault : TextFault) → fault ≢ OutOfMemory → WordFaultAt text fault → ⊥
 
@@ -55,6 +58,7 @@ IsLeftmost text fault = (other : TextFault) → other ≢ OutOfMemory → WordFa
 abbrev pub WordAt : Kind → (List Word → List Word → Type 0) → List Word → ℕ → Type 0
 WordAt k Is ws place = (front : List Word) × (w : Word) × (rest : List Word) × (ws ≡ front ++ w ∷ rest) × (w.kind ≡ k) × (w.place ≡ place) × Is front rest
 
+-- how many brackets are open after a word: one more, one less, or as many
 abbrev pub LeadsBy : Kind → ℕ → (ℕ → Type 0) → Type 0
 LeadsBy kind.Open open_now more = more (suc open_now)
 LeadsBy kind.Close zero more = ⊥
@@ -78,6 +82,7 @@ IsExtraClose front rest = Leads 0 front 0
 abbrev pub IsUnclosed : List Word → List Word → Type 0
 IsUnclosed front rest = ((open_now : ℕ) × Leads 0 front open_now) × Leads 0 rest 0
 
+-- a fault of the brackets holds of the words at its place
 abbrev pub BracketFaultAt : List Word → TextFault → Type 0
 BracketFaultAt ws (TooDeep place) = WordAt kind.Open IsTooDeep ws place
 BracketFaultAt ws (ExtraClose place) = WordAt kind.Close IsExtraClose ws place

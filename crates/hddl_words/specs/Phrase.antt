@@ -24,10 +24,12 @@ Gives x ws a rest = (a ≡ x) × (rest ≡ ws)
 
 -- one phrase and then another
 infixl 10 ◌>>=◌
+-- a phrase, and then the one that its value gives
 abbrev pub ◌>>=◌ : {A B : Type 0} → Phrase A → (A → Phrase B) → Phrase B
 ◌>>=◌ {A} {B} P Q ws b rest = (a : A) × (mid : List Word) × P ws a mid × Q a mid b rest
 
 infixl 10 ◌>>◌
+-- a phrase whose value is dropped, and then another
 abbrev pub ◌>>◌ : {A B : Type 0} → Phrase A → Phrase B → Phrase B
 ◌>>◌ {A} {B} P Q = P >>= (λ _. Q)
 
@@ -40,6 +42,7 @@ pub data Ended {D A : Type 0} (finish : D → Option A) (item : D → Class → 
   closed : {d : D} {a : A} {w : Word} {ws : List Word} → is_close (class_of w) ≡ true → finish d ≡ Some a → Ended finish item d (w ∷ ws) a ws
   more : {d e : D} {a : A} {w : Word} {ws mid rest : List Word} → is_close (class_of w) ≡ false → item d (class_of w) w ws e mid → Ended finish item e mid a rest → Ended finish item d (w ∷ ws) a rest
 
+-- items up to the closing bracket, each over what was read before it
 abbrev pub Until : {D : Type 0} → (D → ItemPhrase D) → D → Phrase D
 Until item = Ended Some item
 
@@ -47,6 +50,7 @@ Until item = Ended Some item
 abbrev pub Adds : {A : Type 0} → ItemPhrase A → List A → ItemPhrase (List A)
 Adds item xs c w = item c w >>= (λ x. Gives (xs ++ x ∷ []))
 
+-- items up to the closing bracket, as a list
 abbrev pub ListOf : {A : Type 0} → ItemPhrase A → Phrase (List A)
 ListOf item = Until (Adds item) []
 
@@ -55,10 +59,12 @@ abbrev pub Opened : {A : Type 0} → Phrase A → ItemPhrase A
 Opened P class.Open w = P
 Opened P _ w = Nothing
 
+-- a closing bracket, which gives a value
 abbrev pub Closed : {A : Type 0} → A → ItemPhrase A
 Closed x class.Close w = Gives x
 Closed x _ w = Nothing
 
+-- a name, and then the phrase that it gives
 abbrev pub Named : {A : Type 0} → (Word → Phrase A) → ItemPhrase A
 Named P class.Name w = P w
 Named P _ w = Nothing
@@ -68,6 +74,7 @@ abbrev pub IfAbsent : {X A : Type 0} → Option X → Phrase A → Phrase A
 IfAbsent None P = P
 IfAbsent (Some x) P = Nothing
 
+-- a phrase where a test holds, else nothing
 abbrev pub IfHolds : {A : Type 0} → Bool → Phrase A → Phrase A
 IfHolds true P = P
 IfHolds false P = Nothing

@@ -9,6 +9,7 @@ abbrev pub is_in_comment : Bool → List ℕ → Bool
 is_in_comment inside [] = inside
 is_in_comment inside (b ∷ bytes) = is_in_comment (if b == 10 then false else (inside || b == 59)) bytes
 
+-- what comes after this beginning of the text is no part of a comment
 abbrev pub IsOutsideComments : List ℕ → Type 0
 IsOutsideComments front = is_in_comment false front ≡ false
 

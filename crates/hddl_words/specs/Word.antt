@@ -6,9 +6,11 @@ use Rattle.hddl_words.specs.declared.fault.TextFault.TheVariants.{NotAscii, BadW
 use Rattle.hddl_words.specs.declared.token.Kind.{Kind}
 use Rattle.hddl_words.specs.declared.token.Kind.TheVariants.{Open, Close, Variable, Keyword, Sign, Name}
 
+-- whether a byte is a tab, a line feed, a form feed, a carriage return or a space
 abbrev pub is_blank : ℕ → Bool
 is_blank b = b == 9 || b == 10 || b == 12 || b == 13 || b == 32
 
+-- whether a byte is one of ASCII's visible characters
 abbrev pub is_printable : ℕ → Bool
 is_printable b = nat_le 33 b && nat_le b 126
 
@@ -20,11 +22,13 @@ is_word_byte b = is_printable b && not (b == 40 || b == 41 || b == 59)
 abbrev pub is_comment_byte : ℕ → Bool
 is_comment_byte b = not (b == 10)
 
+-- a word of a text: what it begins like, where it stands, and its bytes
 pub record Word : Type 0 where
   pub kind : Kind
   pub place : ℕ
   pub text : List ℕ
 
+-- a word from its parts
 abbrev pub word : Kind → ℕ → List ℕ → Word
 word kind place text = record { kind = kind; place = place; text = text }
 
@@ -36,6 +40,7 @@ kind_of first len =
     else (if first == 45 || first == 61 || first == 60 then (if nat_lt 1 len then None else Some Sign)
     else Some Name))
 
+-- a word of a kind, or the fault of one that has none
 abbrev pub kinded : ℕ → List ℕ → Option Kind → Result Word TextFault
 kinded place text (Some kind) = Ok (word kind place text)
 kinded place text None = Err (BadWord place)

@@ -8,13 +8,16 @@ use Rattle.hddl_words.specs.declared.fault.TextFault.TheVariants.{TooLong, OutOf
 use Rattle.hddl_words.specs.declared.token.Token.{Token}
 pub use Rattle.hddl_words.specs.Word.{Word, word, is_blank, is_printable, is_word_byte, is_comment_byte, kind_of, kinded, word_at}
 
+-- 16 MiB, the most bytes that a text may have
 abbrev pub max_bytes : ℕ
 max_bytes = 16777216
 
+-- words in front of those that follow, unless there is a fault
 abbrev pub before : List Word → Result (List Word) TextFault → Result (List Word) TextFault
 before front (Ok ws) = Ok (front ++ ws)
 before front (Err fault) = Err fault
 
+-- a word in front of those that follow, unless there is a fault
 abbrev pub and_then : Result Word TextFault → (Word → Result (List Word) TextFault) → Result (List Word) TextFault
 and_then (Ok w) more = before (w ∷ []) (more w)
 and_then (Err fault) more = Err fault
@@ -29,9 +32,11 @@ words_from zero place (b ∷ bytes) =
     else (if b == 59 then words_from (prefix_len is_comment_byte bytes) (place + 1) bytes
     else and_then (word_at place (b ∷ bytes)) (λ w. words_from (length w.text - 1) (place + 1) bytes))
 
+-- the words of a text, or its first fault; first of all that it is too long
 abbrev pub words : List ℕ → Result (List Word) TextFault
 words text = if nat_lt max_bytes (length text) then Err (TooLong max_bytes) else words_from 0 0 text
 
+-- the word that a token stands for
 abbrev pub word_of : Token → Word
 word_of token = word token.kind token.place token.text.now
 

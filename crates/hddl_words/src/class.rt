@@ -49,7 +49,8 @@ pub enum Class {
     And,
     Not,
     Forall,
-    /// A reserved word that the grammar leaves out: `or`, `imply`, `exists`, `when`, `either`, `increase`, `preference`.
+    /// A reserved word that the grammar leaves out: `or`, `imply`, `exists`, `when`, `either`, `increase`,
+    /// `preference`.
     Reserved,
     /// A name that isn't reserved.
     Name,

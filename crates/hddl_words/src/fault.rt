@@ -21,7 +21,8 @@ pub enum TextFault {
     /// Brackets nest more than 64 deep. The place of the opening bracket that would be the 65th open one.
     #[error("TooDeep at {0}")]
     TooDeep(usize),
-    /// A word that the grammar doesn't allow where it stands. Its place, or the text's length where the text has no word.
+    /// A word that the grammar doesn't allow where it stands. Its place, or the text's length where the text has no
+    /// word.
     #[error("Expected at {0}")]
     Expected(usize),
     /// A word that means what this profile of HDDL leaves out. Its place.

@@ -17,9 +17,9 @@ pub const MAX_BYTES: usize = 16_777_216;
 
 /// The words of a text, in order, each with its place and its bytes, which are a slice of the text.
 ///
-/// A text of more than 16,777,216 bytes is refused as `TooLong`. Else the first fault from the left is answered: `NotAscii`
-/// or `BadWord`. Words are those of HDDL (Höller et al., AAAI 2020): brackets, and runs of other printable bytes, between
-/// blanks and comments.
+/// A text of more than 16,777,216 bytes is refused as `TooLong`. Else the first fault from the left is answered:
+/// `NotAscii` or `BadWord`. Words are those of HDDL (Höller et al., AAAI 2020): brackets, and runs of other printable
+/// bytes, between blanks and comments.
 pub fn lex<'a>(alloc: Global, text: &'a [u8]) -> Result<Vec<Token<'a>>, TextFault>
     // The words, or the first fault, unless memory runs out.
     ensures words { Lexes result (words text.now) }

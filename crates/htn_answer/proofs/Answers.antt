@@ -15,10 +15,12 @@ use Rattle.htn_answer.specs.Answered.{IsAnswered, IsExact}
 use Rattle.htn_answer.proofs.Words.{no_later, finishes_from, finishes_back, met_from, met_back}
 
 module _ (problem : Problem) (bound : ℕ) where
+  -- a finishing word has a number more than it has steps
   counted : (w : List ℕ) → FinishesIn problem w → length w ≡ suc (step_count w)
   counted [] finish = absurd finish
   counted (i ∷ ns) finish = refl
 
+  -- the machine's least finishing word is the problem's least word
   pub least_word : (w : List ℕ) → IsLeastFinishing (machine_of problem) bound w → IsLeastWord problem bound (Some w)
   least_word w least =
       let finish = finishes_from problem w least.finishes in
@@ -26,6 +28,7 @@ module _ (problem : Problem) (bound : ℕ) where
       let within = least.within in
       (finish, omega arith, λ other finishes. no_later w other (λ before. least.least other (finishes_back problem other finishes) before))
 
+  -- where no word of the machine finishes, the problem has no least word
   no_word : NoneFinishes (machine_of problem) bound → IsLeastWord problem bound None
   no_word none word finish =
       let long = counted word finish in
@@ -33,9 +36,11 @@ module _ (problem : Problem) (bound : ℕ) where
       omega arith
 
   module _ (grounded : IsGrounded problem) where
+    -- where no word of any length finishes, the problem is unsolvable
     never : NeverFinishes (machine_of problem) → IsUnsolvable problem
     never none s solves = let code = (one_to_one problem grounded).code s solves in none code.0 (finishes_back problem code.0 code.3)
 
+    -- what answers for the machine answers for the problem
     answered_by : (found : Found) → IsAnswer (machine_of problem) bound found → IsAnswered problem bound found
     answered_by (Word word) least =
         let own = least_word word.items least in
@@ -43,6 +48,7 @@ module _ (problem : Problem) (bound : ℕ) where
     answered_by NoWord none = ((least_word_answers problem grounded).answer bound None None (no_word none.0) tt, met_from problem bound none.1)
     answered_by Unsolvable none = (never none.0, λ met. none.1 (met_back problem bound met))
 
+    -- what is answered for the problem is exact: a plan, none, or unsolvable
     exact_by : (found : Found) → IsAnswered problem bound found → IsExact problem bound found
     exact_by (Word word) own =
         let s = (one_to_one problem grounded).solution word.items own.0.0 in
@@ -60,8 +66,10 @@ module _ (problem : Problem) (bound : ℕ) where
       unsolvable = (λ e. own, λ other. refl);
     }
 
+-- what answers for the machine of a grounded problem answers for the problem
 pub answered : (problem : Problem) (bound : ℕ) (found : Found) → IsGrounded problem → IsAnswer (machine_of problem) bound found → IsAnswered problem bound found
 answered problem bound found grounded answer = answered_by problem bound grounded found answer
 
+-- what answers for the machine of a grounded problem is exact
 pub exact : (problem : Problem) (bound : ℕ) (found : Found) → IsGrounded problem → IsAnswer (machine_of problem) bound found → IsExact problem bound found
 exact problem bound found grounded answer = exact_by problem bound grounded found (answered_by problem bound grounded found answer)

@@ -38,6 +38,7 @@ trichotomy (x ∷ v) (y ∷ w) long =
 abbrev pub IsNoLater : List ℕ → List ℕ → Type 0
 IsNoLater w v = (w ≡ v) ⊎ IsLexicographicallyBefore w v
 
+-- a number that is no greater, in front of a word that is no later, makes one that is no later
 no_later_cons : (m n : ℕ) (v w : List ℕ) → m ≤ n → IsNoLater v w → IsNoLater (m ∷ v) (n ∷ w)
 no_later_cons m n v w most later =
     elim (cases_lt m n) [
@@ -49,14 +50,17 @@ no_later_cons m n v w most later =
     ]
 
 module _ {C : Type 0} (Step Other : C → ℕ → C → Type 0) (each : (c d : C) (n : ℕ) → Step c n d → Other c n d) where
+  -- a step that is one of the other machine leads there too
   leads_by : (c d : C) (ns : List ℕ) → Leads Step c ns d → Leads Other c ns d
   leads_by c d [] leads = leads
   leads_by c d (n ∷ ns) leads = (leads.0, each c leads.0 n leads.1, leads_by leads.0 d ns leads.2)
 
+  -- what is reached by the one machine's steps is reached by the other's
   reaches_by : (initials : List C) (w : List ℕ) (c : C) → Reaches Step initials w c → Reaches Other initials w c
   reaches_by initials [] c reached = absurd reached
   reaches_by initials (i ∷ ns) c reached = (reached.0, reached.1, leads_by reached.0 c ns reached.2)
 
+-- words of one length that reach something have equally many steps
 same_steps : {C : Type 0} (Step Other : C → ℕ → C → Type 0) (initials others : List C) (v w : List ℕ) (c d : C) → length v ≡ length w → Reaches Step initials v c → Reaches Other others w d → step_count v ≡ step_count w
 same_steps Step Other initials others [] w c d long reached other = absurd reached
 same_steps Step Other initials others (i ∷ v) [] c d long reached other = absurd other
@@ -65,17 +69,21 @@ same_steps Step Other initials others (i ∷ v) (j ∷ w) c d long reached other
 -- ## Words of the one as words of the other
 
 module _ {C : Type 0} (m few : WordMachine C) (initial_of : ℕ → ℕ) (number_of : C → ℕ → ℕ) (enough : HasEnough m few initial_of number_of) where
+  -- the numbers of the ranks from a configuration on
   abbrev along : Option C → List ℕ → List ℕ
   along = numbers_from m few initial_of number_of
 
+  -- the numbers of a word of ranks
   abbrev told : List ℕ → List ℕ
   told = numbers_of m few initial_of number_of
 
+  -- the numbers of ranks lead where the ranks do, by steps that are not dead
   along_leads : (c d : C) (ranks : List ℕ) → Leads (IsStep few) c ranks d → Leads (IsLiveStep m) c (along (Some c) ranks) d
   along_leads c d [] leads = leads
   along_leads c d (rank ∷ ranks) leads =
       (leads.0, enough.step c leads.0 rank leads.1, subst (λ o. Leads (IsLiveStep m) leads.0 (along o ranks) d) (sym leads.1) (along_leads leads.0 d ranks leads.2))
 
+  -- the numbers are as many as the ranks
   along_length : (c d : C) (ranks : List ℕ) → Leads (IsStep few) c ranks d → length (along (Some c) ranks) ≡ length ranks
   along_length c d [] leads = refl
   along_length c d (rank ∷ ranks) leads = ap suc (ap (λ o. length (along o ranks)) leads.1 ∙ along_length leads.0 d ranks leads.2)
@@ -103,6 +111,7 @@ module _ {C : Type 0} (m few : WordMachine C) (initial_of : ℕ → ℕ) (number
   abbrev IsTold : C → C → List ℕ → Type 0
   IsTold c d v = (ranks : List ℕ) × Leads (IsStep few) c ranks d × (length ranks ≡ length v) × IsNoLater (along (Some c) ranks) v
 
+  -- where live numbers lead, there are ranks that lead there too, with numbers that are no later
   along_all : (c d : C) (v : List ℕ) → Leads (IsLiveStep m) c v d → IsTold c d v
   along_all c d [] leads = ([], leads, refl, inl refl)
   along_all c d (n ∷ v) leads =
@@ -114,6 +123,7 @@ module _ {C : Type 0} (m few : WordMachine C) (initial_of : ℕ → ℕ) (number
         no_later_cons (number_of c first.0) n (along (few.step c first.0) rest.0) v first.2 (subst (λ o. IsNoLater (along o rest.0) v) (sym first.1) rest.3),
       )
 
+  -- the numbers of a word reach what its ranks reach
   told_reaches : (w : List ℕ) (c : C) → Reaches (IsStep few) few.initials w c → Reaches (IsLiveStep m) m.initials (told w) c
   told_reaches [] c reached = absurd reached
   told_reaches (rank ∷ ranks) c reached = (
@@ -122,10 +132,12 @@ module _ {C : Type 0} (m few : WordMachine C) (initial_of : ℕ → ℕ) (number
     subst (λ o. Leads (IsLiveStep m) reached.0 (along o ranks) c) (sym reached.1) (along_leads reached.0 c ranks reached.2),
   )
 
+  -- the numbers of a word are as many as its ranks
   told_length : (w : List ℕ) (c : C) → Reaches (IsStep few) few.initials w c → length (told w) ≡ length w
   told_length [] c reached = refl
   told_length (rank ∷ ranks) c reached = ap suc (ap (λ o. length (along o ranks)) reached.1 ∙ along_length reached.0 c ranks reached.2)
 
+  -- a word of ranks before another has its numbers before the other's
   told_before : (v w : List ℕ) (c d : C) → Reaches (IsStep few) few.initials v c → Reaches (IsStep few) few.initials w d → IsLexicographicallyBefore v w
       → IsLexicographicallyBefore (told v) (told w)
   told_before [] w c d p q before = absurd p
@@ -158,9 +170,11 @@ module _ {C : Type 0} (m few : WordMachine C) (initial_of : ℕ → ℕ) (number
 
   -- ## Answers
 
+  -- each step of the machine with fewer numbers is live in it
   live_few : (c d : C) (rank : ℕ) → IsStep few c rank d → IsLiveStep few c rank d
   live_few c d rank step = (step, λ dead. true≢false (sym dead ∙ enough.none_dead c rank))
 
+  -- the numbers of a finishing word finish
   told_finishes : (w : List ℕ) → IsFinishing few w → IsFinishing m (told w)
   told_finishes w finish = (
     finish.0,
@@ -176,10 +190,12 @@ module _ {C : Type 0} (m few : WordMachine C) (initial_of : ℕ → ℕ) (number
         let ranks = told_all v live.0 live.1 in
         (ranks.0, (live.0, ranks.1, enough.is_done live.0 ∙ live.2), ranks.2, ranks.3)
 
+    -- finishing words of one length have equally many steps in both machines
     steps_told : (v w : List ℕ) → IsFinishing m v → IsFinishing few w → length w ≡ length v → step_count w ≡ step_count v
     steps_told v w p q long = same_steps (IsStep few) (IsStep m) few.initials m.initials w v q.0 p.0 long q.1 p.1
 
     module _ (bound : ℕ) where
+      -- a word of ranks whose numbers are no later than one before the told word is before the word
       none_before : (w v ranks : List ℕ) (c d : C) → Reaches (IsStep few) few.initials w c → Reaches (IsStep few) few.initials ranks d → length ranks ≡ length w → IsNoLater (told ranks) v
           → IsLexicographicallyBefore v (told w) → IsLexicographicallyBefore ranks w
       none_before w v ranks c d p q long later before =
@@ -197,6 +213,7 @@ module _ {C : Type 0} (m few : WordMachine C) (initial_of : ℕ → ℕ) (number
                 ]))
           ]
 
+      -- the numbers of the least finishing word are the least finishing numbers
       pub least_told : (w : List ℕ) → IsLeastFinishing few bound w → IsLeastFinishing m bound (told w)
       least_told w least = record {
         finishes = told_finishes w least.finishes;
@@ -216,14 +233,17 @@ module _ {C : Type 0} (m few : WordMachine C) (initial_of : ℕ → ℕ) (number
                     least.least down.0 down.1 (inr (by, none_before w other down.0 least.finishes.0 down.1.0 least.finishes.1 down.1.1 by down.3 equal.1)))
               ]
 
+      -- where no word of ranks within the bound finishes, no numbers do
       none_told : NoneFinishes few bound → NoneFinishes m bound
       none_told none v finish =
           let down = finishes_told v finish in
           subst (λ n. bound < n) (steps_told v down.0 finish down.1 down.2) (none down.0 down.1)
 
+      -- where no word of ranks of any length finishes, no numbers do
       never_told : NeverFinishes few → NeverFinishes m
       never_told never v finish = let down = finishes_told v finish in never down.0 down.1
 
+      -- a bound that is met by ranks is met by numbers
       met_told : IsMet few bound → IsMet m bound
       met_told met = (told met.0, met.1, told_reaches met.0 met.1 reached, beyond)
         where
@@ -238,6 +258,7 @@ module _ {C : Type 0} (m few : WordMachine C) (initial_of : ℕ → ℕ) (number
               let steps : step_count down.0 ≡ step_count other = same_steps (IsStep few) (IsLiveStep m) few.initials m.initials down.0 other met.1 met.1 down.2 down.1 reaches in
               omega arith
 
+      -- a bound that is met by numbers is met by ranks
       met_back : IsMet m bound → IsMet few bound
       met_back met = by (told_all met.0 met.1 met.2)
         where
@@ -253,6 +274,7 @@ module _ {C : Type 0} (m few : WordMachine C) (initial_of : ℕ → ℕ) (number
                   let steps : step_count other ≡ step_count (told other) = same_steps (IsStep few) (IsLiveStep m) few.initials m.initials other (told other) met.1 met.1 (sym (told_length other met.1 own)) own up in
                   omega arith
 
+      -- what answers for the machine with fewer numbers answers, told by numbers, for the whole one
       pub answer_told : (found tells : Found) → IsAnswer few bound found → IsToldBy m few initial_of number_of found tells → IsAnswer m bound tells
       answer_told (Word ranks) (Word word) answer is = subst (IsLeastFinishing m bound) (sym is) (least_told ranks.items answer)
       answer_told (Word ranks) NoWord answer is = absurd is

@@ -11,9 +11,11 @@ use Rattle.word_machine.specs.Machine.{IsLawful}
 use Rattle.htn_answer.specs.Machine.{is_dead_choice, machine_of, IsOwn}
 use Rattle.htn_answer.proofs.Words.{slice_get-map_back, done_from, leads_from}
 
+-- what an initial network starts with is one of the problem's configurations
 start_own : (problem : Problem) (network : Network) → IsOwn problem (start problem network)
 start_own problem network a still = refl
 
+-- what all initial networks start with are the problem's configurations
 starts_own : (problem : Problem) → All (IsOwn problem) (map (start problem) problem.initials)
 starts_own problem k d inside =
     elim (slice_get_cases (map (start problem) problem.initials) k).1 [
@@ -23,17 +25,20 @@ starts_own problem k d inside =
     ]
 
 module _ (problem : Problem) (grounded : IsGrounded problem) where
+  -- a step leads from the problem's configurations to one of them
   stays_own : (c d : Config) (n : ℕ) → IsOwn problem c → step_by problem c n ≡ Some d → IsOwn problem d
   stays_own c d n own step =
       let made = step_choice problem c d n step in
       subst (IsOwn problem) (sym made.2) (chosen_agrees problem grounded c n made.0 own (chosen problem c n made.0 made.1))
 
+  -- a step is possible only where a node is open
   wants_open : (c d : Config) (n : ℕ) → step_by problem c n ≡ Some d → 0 < length c.open_nodes
   wants_open c d n step =
       let made = step_choice problem c d n step in
       let inside : made.0.position < length c.open_nodes = choice_within problem c n made.0 (chosen problem c n made.0 made.1) in
       omega arith
 
+  -- the machine of a problem keeps the laws that a search needs
   pub lawful : IsLawful (machine_of problem) (IsOwn problem)
   lawful = record {
     starts = starts_own problem;

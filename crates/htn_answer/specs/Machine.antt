@@ -8,6 +8,7 @@ use Rattle.htn_model.specs.Levels.{is_done}
 use Rattle.htn_model.specs.Exhaustion.{is_dead}
 use Rattle.word_machine.specs.Machine.{WordMachine}
 
+-- whether a step chose a dead instance; one without a choice didn't
 abbrev pub is_dead_choice : Problem → Option Choice → Bool
 is_dead_choice problem None = false
 is_dead_choice problem (Some choice) = is_dead problem choice.network
@@ -16,6 +17,7 @@ is_dead_choice problem (Some choice) = is_dead problem choice.network
 abbrev pub is_dead_number : Problem → Config → ℕ → Bool
 is_dead_number problem c number = is_dead_choice problem (choose problem c number)
 
+-- configurations as states of a word machine: they start at the initial networks and step by instances of methods
 abbrev pub machine_of : Problem → WordMachine Config
 machine_of problem = record {
   initials = map (start problem) problem.initials;

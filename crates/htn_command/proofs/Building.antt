@@ -27,6 +27,7 @@ pub with_one : (old new : Command) (a : Arg) (app : App) (rule : Rule) → Is ol
 with_one old new a app rule is adds rule_is local =
     (adds.shape local ∙ ap₂ with_rule is.0 rule_is, adds.globals ∙ ap₂ (λ x y. x || y) is.1 local)
 
+-- a command that shows its version
 abbrev pub versioned : Shape → Shape
 versioned s = record s { has_version = true }
 
@@ -35,6 +36,7 @@ pub made_versioned : (a b : Command) (text : Bor Text) (app : App) → app_of a 
     → app_of b ≡ on_top versioned app
 made_versioned a b text app is one = ap app_of_fields one ∙ ap (on_top versioned) is
 
+-- a command that needs a subcommand, and shows help without one
 abbrev pub strict : Shape → Shape
 strict s = record s { subcommand_required = true; arg_required_else_help = true }
 
@@ -60,6 +62,7 @@ line_is_free = refl
 abbrev pub within : ℤ → ℤ → ValueParser → Type 0
 within least most parser = NarrowsTo (Unsigned 0 18446744073709551615) (Some least) (Some most) parser
 
+-- a parser of all 64-bit numbers that is narrowed to a range takes those of the range
 pub narrowed : (all parser : ValueParser) (r : RangeInclusive ℤ) (least most : ℤ) → all ≡ Unsigned 0 18446744073709551615
     → range_inclusive_start r ≡ least → range_inclusive_end r ≡ most
     → NarrowsTo all (Some (range_inclusive_start r)) (Some (range_inclusive_end r)) parser → within least most parser

@@ -4,6 +4,7 @@ use Rattle.clap.proofs.OnLiterals.{clap_on_literals}
 use Rattle.htn_command.specs.CommandLine.{faults, htnplan, read_by}
 use Rattle.htn_command.specs.Examples.{ExamplesHold}
 
+-- the worked command lines give and ask for what they should
 pub examples_hold : ExamplesHold
 unfolding clap_on_literals faults htnplan read_by
 examples_hold = record {

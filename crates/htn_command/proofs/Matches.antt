@@ -71,17 +71,20 @@ abbrev pub IsUnread : Found → Text → Type 0
 IsUnread f id = (t : Text) → one_text f id ≡ Some t
     → IsNumeral 10 (without_leading_plus t) × (digits_value 10 (without_leading_plus t) < 2 ^ 64) → ⊥
 
+-- where an option isn't read as a number, the line gives no number in range for it
 no_number : (f : Found) (id : Text) (n : ℕ) → IsUnread f id → n ≤ 1000000 → IsNumber (one_of id (rows_of f)) n → ⊥
 no_number f id n unread le h =
     let value = h.3 in
     let fits : digits_value 10 (without_leading_plus h.0) < 2 ^ 64 = omega arith in
     unread h.0 (one_text-rows f id ∙ h.1) (h.2, fits)
 
+-- where a line gives no value, it gives no text
 no_text : (f : Found) (id text : Text) → None ≡ first_value f id → first_of id (rows_of f) ≡ Some text → ⊥
 no_text f id text none has =
     let bad : None ≡ Some text = none ∙ first_value-rows f id ∙ has in
     cc
 
+-- a text spells one number at most
 pub one_number : (text : Option Text) (n m : ℕ) → IsNumber text n → IsNumber text m → n ≡ m
 one_number text n m h k =
     let same : h.0 ≡ k.0 = ap (λ o. unwrap_or o k.0) (sym h.1 ∙ k.1) in
@@ -107,21 +110,26 @@ module _ (f : Found) where
   plan_of (Plan domain problem bounds) is use_it = use_it domain problem bounds (given_rows _ _ (Plan domain problem bounds) is refl)
   plan_of (Verify domain problem plan) is use_it = other_command _ _ is.1 commands_differ
 
+  -- where the bound isn't read, no plan is asked for
   pub lacks_nodes : (r : Request) → IsUnread f (codes "nodes") → Planned r → ⊥
   lacks_nodes r unread is = plan_of r is (λ domain problem bounds h.
       let within = h.5.nodes_within in no_number f (codes "nodes") bounds.nodes unread (omega arith) h.2)
 
+  -- where the number of workers isn't read, no plan is asked for
   pub lacks_workers : (r : Request) → IsUnread f (codes "workers") → Planned r → ⊥
   lacks_workers r unread is = plan_of r is (λ domain problem bounds h.
       let within = h.5.workers_within in no_number f (codes "workers") bounds.workers unread (omega arith) h.3)
 
+  -- where the size of a piece isn't read, no plan is asked for
   pub lacks_piece : (r : Request) → IsUnread f (codes "piece") → Planned r → ⊥
   lacks_piece r unread is = plan_of r is (λ domain problem bounds h.
       no_number f (codes "piece") bounds.piece unread h.5.piece_within h.4)
 
+  -- where no domain is given, no plan is asked for
   pub lacks_domain : (r : Request) → None ≡ first_value f (codes "DOMAIN") → Planned r → ⊥
   lacks_domain r none is = plan_of r is (λ domain problem bounds h. no_text f (codes "DOMAIN") domain.now none h.0)
 
+  -- where no problem is given, no plan is asked for
   pub lacks_problem : (r : Request) → None ≡ first_value f (codes "PROBLEM") → Planned r → ⊥
   lacks_problem r none is = plan_of r is (λ domain problem bounds h. no_text f (codes "PROBLEM") problem.now none h.1)
 

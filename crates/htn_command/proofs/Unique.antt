@@ -25,6 +25,7 @@ rows_give_one rows (Verify domain problem plan) (Verify other second third) same
 rows_give_one rows (Plan domain problem bounds) (Verify other second third) same h k = commands_differ same
 rows_give_one rows (Verify domain problem plan) (Plan other second limits) same h k = commands_differ (sym same)
 
+-- words ask for one request at most
 pub requests_are_unique : RequestsAreUnique
 requests_are_unique words request other h k =
     let rows = k.given.0 in

@@ -8,15 +8,19 @@ use Rattle.htn_command.specs.CommandLine.{faults, read_by}
 abbrev pub given : List Text → Text → Option Text
 given words id = option_and_then (λ found. first_of id found.1) (read_by words)
 
+-- a line that plans with defaults
 abbrev pub short : List Text
 short = codes "htnplan" ∷ codes "plan" ∷ codes "d" ∷ codes "p" ∷ []
 
+-- a line that plans with two options, one of them by `=`
 abbrev pub long : List Text
 long = codes "htnplan" ∷ codes "plan" ∷ codes "--nodes=7" ∷ codes "d" ∷ codes "--workers" ∷ codes "2" ∷ codes "p" ∷ []
 
+-- a line that verifies
 abbrev pub verifying : List Text
 verifying = codes "htnplan" ∷ codes "verify" ∷ codes "d" ∷ codes "p" ∷ codes "f" ∷ []
 
+-- what each of these lines gives each argument, and the requests that they ask for
 pub record ExamplesHold : Type 0 where
   pub domain : given short (codes "DOMAIN") ≡ Some (codes "d")
   pub problem : given long (codes "PROBLEM") ≡ Some (codes "p")

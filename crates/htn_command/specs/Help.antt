@@ -10,6 +10,7 @@ use Rattle.htn_command.specs.declared.refusal.Refusal.TheVariants.{Help, Version
 abbrev pub is_help_word : List ℕ → Bool
 is_help_word word = pointwise nat_eq word (codes "help") || starts_with nat_eq word (codes "--help") || starts_with nat_eq word (codes "-h")
 
+-- whether a word asks for help
 abbrev pub asks_for_help : {Z : Type 0} → List (String Z) → Bool
 asks_for_help words = list_any (λ word. is_help_word (string_bytes word)) words
 
@@ -17,6 +18,7 @@ asks_for_help words = list_any (λ word. is_help_word (string_bytes word)) words
 abbrev pub is_version_word : List ℕ → Bool
 is_version_word word = starts_with nat_eq word (codes "--version") || starts_with nat_eq word (codes "-V")
 
+-- whether a word asks for the version
 abbrev pub asks_for_version : {Z : Type 0} → List (String Z) → Bool
 asks_for_version words = list_any (λ word. is_version_word (string_bytes word)) words
 

@@ -29,6 +29,7 @@ IsGiven rows (Verify domain problem plan) =
 abbrev pub IsOf : Option (Text × List Row) → Request → Type 0
 IsOf found request = (rows : List Row) × (found ≡ Some (command_of request, rows)) × IsGiven rows request
 
+-- what was found on a line is of no request
 abbrev pub IsOfNothing : Option (Text × List Row) → Type 0
 IsOfNothing found = (request : Request) → IsOf found request → ⊥
 

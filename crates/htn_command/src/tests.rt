@@ -10,18 +10,25 @@ fn words_of(alloc: Global, line: &str) -> Result<Vec<String>, AllocError> {
     Ok(words)
 }
 
+// The request of the words; a failure says whether memory was wanted.
+fn request_of<'a>(alloc: Global, words: &'a [String]) -> Result<Request<'a>, Fail> {
+    match parse(alloc, words) {
+        Ok(request) => Ok(request),
+        Err(Refusal::OutOfMemory) => Err(Fail::new("OutOfMemory")),
+        Err(_) => Err(Fail::new("no request")),
+    }
+}
+
 #[test]
 fn reads_the_defaults(rt: HostRuntime) -> Result<(), Fail> {
     let words = words_of(rt.alloc(), "htnplan plan d.hddl p.hddl")?;
-    let Ok(
-        Request::Plan {
-            domain,
-            problem,
-            bounds,
-        },
-    ) = parse(rt.alloc(), words.as_slice())
+    let Request::Plan {
+        domain,
+        problem,
+        bounds,
+    } = request_of(rt.alloc(), words.as_slice())?
     else {
-        return Err(Fail::new("no request"));
+        return Err(Fail::new("another request"));
     };
     assert!(rt; domain == "d.hddl" && problem == "p.hddl");
     assert!(rt; bounds.nodes == 100 && bounds.workers == 1 && bounds.piece == 64);
@@ -41,33 +48,32 @@ fn status_of(alloc: Global, line: &str) -> Result<i32, AllocError> {
 #[test]
 fn refuses_numbers_out_of_range(rt: HostRuntime) -> Result<(), Fail> {
     let alloc = rt.alloc();
-    assert!(rt;
+    assert_eq!(rt;
         status_of(
             alloc,
             "htnplan plan d p --nodes 10000 --workers 64 --piece 1000000"
-        )? == -1
+        )?,
+        -1
     );
-    assert!(rt; status_of(alloc, "htnplan plan d p --nodes 10001")? == 2);
-    assert!(rt; status_of(alloc, "htnplan plan d p --workers 0")? == 2);
-    assert!(rt; status_of(alloc, "htnplan plan d p --workers 65")? == 2);
-    assert!(rt; status_of(alloc, "htnplan plan d p --piece 0")? == 2);
-    assert!(rt; status_of(alloc, "htnplan plan d")? == 2);
-    assert!(rt; status_of(alloc, "htnplan")? == 2);
+    assert_eq!(rt; status_of(alloc, "htnplan plan d p --nodes 10001")?, 2);
+    assert_eq!(rt; status_of(alloc, "htnplan plan d p --workers 0")?, 2);
+    assert_eq!(rt; status_of(alloc, "htnplan plan d p --workers 65")?, 2);
+    assert_eq!(rt; status_of(alloc, "htnplan plan d p --piece 0")?, 2);
+    assert_eq!(rt; status_of(alloc, "htnplan plan d")?, 2);
+    assert_eq!(rt; status_of(alloc, "htnplan")?, 2);
     Ok(())
 }
 
 #[test]
 fn reads_three_files(rt: HostRuntime) -> Result<(), Fail> {
     let words = words_of(rt.alloc(), "htnplan verify d.hddl p.hddl f.txt")?;
-    let Ok(
-        Request::Verify {
-            domain,
-            problem,
-            plan,
-        },
-    ) = parse(rt.alloc(), words.as_slice())
+    let Request::Verify {
+        domain,
+        problem,
+        plan,
+    } = request_of(rt.alloc(), words.as_slice())?
     else {
-        return Err(Fail::new("no request"));
+        return Err(Fail::new("another request"));
     };
     assert!(rt; domain == "d.hddl" && problem == "p.hddl" && plan == "f.txt");
     Ok(())
@@ -76,31 +82,31 @@ fn reads_three_files(rt: HostRuntime) -> Result<(), Fail> {
 #[test]
 fn refuses_fewer_files_and_more(rt: HostRuntime) -> Result<(), Fail> {
     let alloc = rt.alloc();
-    assert!(rt; status_of(alloc, "htnplan verify d p f")? == -1);
-    assert!(rt; status_of(alloc, "htnplan verify -- d p f")? == -1);
-    assert!(rt; status_of(alloc, "htnplan verify")? == 2);
-    assert!(rt; status_of(alloc, "htnplan verify d")? == 2);
-    assert!(rt; status_of(alloc, "htnplan verify d p")? == 2);
-    assert!(rt; status_of(alloc, "htnplan verify d p f g")? == 2);
-    assert!(rt; status_of(alloc, "htnplan verify d p f --nodes 5")? == 2);
-    assert!(rt; status_of(alloc, "htnplan plan d p f")? == 2);
+    assert_eq!(rt; status_of(alloc, "htnplan verify d p f")?, -1);
+    assert_eq!(rt; status_of(alloc, "htnplan verify -- d p f")?, -1);
+    assert_eq!(rt; status_of(alloc, "htnplan verify")?, 2);
+    assert_eq!(rt; status_of(alloc, "htnplan verify d")?, 2);
+    assert_eq!(rt; status_of(alloc, "htnplan verify d p")?, 2);
+    assert_eq!(rt; status_of(alloc, "htnplan verify d p f g")?, 2);
+    assert_eq!(rt; status_of(alloc, "htnplan verify d p f --nodes 5")?, 2);
+    assert_eq!(rt; status_of(alloc, "htnplan plan d p f")?, 2);
     Ok(())
 }
 
 #[test]
 fn shows_help_and_the_version(rt: HostRuntime) -> Result<(), Fail> {
     let alloc = rt.alloc();
-    assert!(rt; status_of(alloc, "htnplan --help")? == 0);
-    assert!(rt; status_of(alloc, "htnplan plan --help")? == 0);
-    assert!(rt; status_of(alloc, "htnplan plan -h")? == 0);
-    assert!(rt; status_of(alloc, "htnplan help plan")? == 0);
-    assert!(rt; status_of(alloc, "htnplan verify --help")? == 0);
-    assert!(rt; status_of(alloc, "htnplan verify d -h")? == 0);
-    assert!(rt; status_of(alloc, "htnplan help verify")? == 0);
-    assert!(rt; status_of(alloc, "htnplan --version")? == 0);
-    assert!(rt; status_of(alloc, "htnplan -V")? == 0);
-    assert!(rt; status_of(alloc, "htnplan verify --version")? == 2);
-    assert!(rt; status_of(alloc, "htnplan paint --version")? == 2);
+    assert_eq!(rt; status_of(alloc, "htnplan --help")?, 0);
+    assert_eq!(rt; status_of(alloc, "htnplan plan --help")?, 0);
+    assert_eq!(rt; status_of(alloc, "htnplan plan -h")?, 0);
+    assert_eq!(rt; status_of(alloc, "htnplan help plan")?, 0);
+    assert_eq!(rt; status_of(alloc, "htnplan verify --help")?, 0);
+    assert_eq!(rt; status_of(alloc, "htnplan verify d -h")?, 0);
+    assert_eq!(rt; status_of(alloc, "htnplan help verify")?, 0);
+    assert_eq!(rt; status_of(alloc, "htnplan --version")?, 0);
+    assert_eq!(rt; status_of(alloc, "htnplan -V")?, 0);
+    assert_eq!(rt; status_of(alloc, "htnplan verify --version")?, 2);
+    assert_eq!(rt; status_of(alloc, "htnplan paint --version")?, 2);
     Ok(())
 }
 
@@ -111,7 +117,8 @@ fn shown(alloc: Global, line: &str) -> Result<String, Fail> {
         Err(Refusal::Help(text) | Refusal::Version(text) | Refusal::Words(text)) => Ok(
             format!(in alloc; "{text}")?,
         ),
-        _ => Err(Fail::new("no text")),
+        Err(Refusal::OutOfMemory) => Err(Fail::new("OutOfMemory")),
+        Ok(_) => Err(Fail::new("no text")),
     }
 }
 

@@ -15,21 +15,26 @@ use Rattle.htn_desk.specs.Views.{no_place, whole, one_seat, spent_view, without_
 
 -- ---- sums over the views
 
+-- where one view is changed, the sum changes by what that view's part does
 sum-set : (f : View → ℕ) (views : List View) (port : ℕ) (v w : View) → get_elem? views port ≡ some v → sum_by f (set views port w) + f v ≡ sum_by f views + f w
 sum-set f [] port v w e = absurd (some-ne-none v (sym e))
 sum-set f (x ∷ xs) zero v w e = let is : f x ≡ f v = ap f (some-injective x v e) in omega (arith, sum_by-cons f w xs, sum_by-cons f x xs)
 sum-set f (x ∷ xs) (suc i) v w e = let r = sum-set f xs i v w e in omega (arith, sum_by-cons f x (set xs i w), sum_by-cons f x xs)
 
+-- where a view is changed and its part stays, so does the sum
 sum-set_same : (f : View → ℕ) (views : List View) (port : ℕ) (v w : View) → get_elem? views port ≡ some v → f w ≡ f v → sum_by f (set views port w) ≡ sum_by f views
 sum-set_same f views port v w e is = omega (arith, sum-set f views port v w e)
 
+-- where a view is cut in two whose parts make up its own, the sum stays
 sum-cut : (f : View → ℕ) (views : List View) (port : ℕ) (v left right : View) → get_elem? views port ≡ some v → f left + f right ≡ f v → sum_by f (set views port left ++ right ∷ []) ≡ sum_by f views
 sum-cut f views port v left right e is = omega (arith, sum-set f views port v left e, sum_by_push f (set views port left) right)
 
+-- where two views become one and a spent one with the same parts, the sum stays
 sum-glued : (f : View → ℕ) (views : List View) (port other : ℕ) (v w both spent : View) → get_elem? views port ≡ some v → get_elem? (set views port both) other ≡ some w → f both + f spent ≡ f v + f w
     → sum_by f (set (set views port both) other spent) ≡ sum_by f views
 sum-glued f views port other v w both spent e e' is = omega (arith, sum-set f views port v both e, sum-set f (set views port both) other w spent e')
 
+-- no view's part is more than the sum
 part-le-sum : (f : View → ℕ) (views : List View) (port : ℕ) (v : View) → get_elem? views port ≡ some v → f v ≤ sum_by f views
 part-le-sum f [] port v e = absurd (some-ne-none v (sym e))
 part-le-sum f (x ∷ xs) zero v e = let is : f x ≡ f v = ap f (some-injective x v e) in omega (arith, sum_by-cons f x xs)
@@ -48,33 +53,42 @@ ended_past pieces draw views numbers some_ended = let counted = numbers.counted 
 
 -- ---- how often a number stands in a list
 
+-- how often a number stands in a list with one more at its end
 pub times-push : (x y : ℕ) (xs : List ℕ) → times x (xs ++ y ∷ []) ≡ times x xs + cond (eqb y x) 1 0
 times-push x y xs = sum_by_push (λ (z : ℕ). cond (eqb z x) 1 0) xs y
 
+-- one where two numbers are equal, else none
 abbrev pub once : ℕ → ℕ → ℕ
 once y x = cond (eqb y x) 1 0
 
+-- a number stands once where it is itself
 pub once-same : (x : ℕ) → once x x ≡ 1
 once-same x = grind (arith, nat_tests)
 
+-- a number doesn't stand where another is
 pub once-other : (y x : ℕ) → y ≢ x → once y x ≡ 0
 once-other y x apart = grind (arith, nat_tests)
 
+-- how often a number stands in two lists together
 pub times-append : (x : ℕ) (xs ys : List ℕ) → times x (xs ++ ys) ≡ times x xs + times x ys
 times-append x xs ys = sum_by-append (λ (z : ℕ). cond (eqb z x) 1 0) xs ys
 
+-- one more below the bound: that bound itself
 once-suc : (x n : ℕ) → once_below x (n + 1) ≡ once_below x n + cond (eqb n x) 1 0
 once-suc x n = grind (arith, nat_tests)
 
+-- what is counted below a bound is below it
 below_of_once : (x n : ℕ) → 0 < once_below x n → x < n
 below_of_once x n h = grind (arith, nat_tests)
 
 -- ---- the rule where sums stay
 
 module _ (views views' : List View) where
+  -- where draws and ends stay as often, the rule on numbers stays
   numbers_stay : {pieces draw : ℕ} → ((x : ℕ) → draws x views' ≡ draws x views) → sum_by (λ v. v.ended) views' ≡ sum_by (λ v. v.ended) views → Numbers pieces draw views → Numbers pieces draw views'
   numbers_stay {pieces = pieces} {draw = draw} d e r = record { drawn = λ x. d x ∙ r.drawn x; counted = r.counted ∙ ap (λ (n : ℕ). min draw pieces + n) (sym e) }
 
+  -- where reports and looks stay as often, the rule on places stays
   places_stay : {least : ℕ} → ((x : ℕ) → reports x views' ≡ reports x views) → ((x : ℕ) → looks x views' ≡ looks x views) → Places least views → Places least views'
   places_stay {least = least} p l r = record {
     lowest = λ x h. r.lowest x (subst (λ n. 0 < n) (p x) h);
@@ -82,11 +96,13 @@ module _ (views views' : List View) where
     seen = λ x h. let t = r.seen x (subst (λ n. 0 < n) (l x) h) in (t.0, subst (λ n. 0 < n) (sym (p x)) t.1);
   }
 
+-- where one view is changed and sits, all sit
 each_set : (size : Size) (views : List View) (port : ℕ) (w : View) → ((j : ℕ) (v : View) → get_elem? views j ≡ some v → Sits size v) → Sits size w
     → (j : ℕ) (v : View) → get_elem? (set views port w) j ≡ some v → Sits size v
 each_set size views port w each sits j v e =
     ⊎_elim (λ (t : (j ≡ port) × (w ≡ v)). subst (Sits size) t.1 sits) (λ (t : (j ≢ port) × (get_elem? views j ≡ some v)). each j v t.1) (at_set views port j w v e)
 
+-- where one view is changed and keeps its seats, the rule on seats stays
 seats_set : (size : Size) (views : List View) (port : ℕ) (v w : View) → Seats size views → get_elem? views port ≡ some v → w.seats ≡ v.seats → Sits size w → Seats size (set views port w)
 seats_set size views port v w r at is sits = record {
   few = r.few;
@@ -100,16 +116,20 @@ seated size v w r some_seat is same ended = record { spent = λ none. absurd (om
 
 -- ---- the words after a step
 
+-- a word that was set has the value
 word-set_here : (words : List ℕ) (i m n : ℕ) → length words ≡ 2 → i < 2 → m ≡ n → get_or (set words i m) i 0 ≡ n
 word-set_here words i m n wide below is = get_or-set_same words i m 0 (omega arith) ∙ is
 
+-- the other word stays
 word-set_other : (words : List ℕ) (i j m : ℕ) → i ≢ j → get_or (set words i m) j 0 ≡ get_or words j 0
 word-set_other words i j m apart = get_or-set_other words i j m 0 (λ e. apart (sym e))
 
 module _ (size : Size) (slots id : ℕ) (me : Me (Unit {0}) View) (one : me.0.seats ≡ 1) where
+  -- the words and views of a desk
   abbrev St : Type 0
   St = State (Unit {0}) View
 
+  -- the view of the pass
   abbrev v : View
   v = me.0
 
@@ -122,6 +142,7 @@ module _ (size : Size) (slots id : ℕ) (me : Me (Unit {0}) View) (one : me.0.se
       let le = sum-le (λ (u : View). u.ended) (λ (u : View). u.seats) s.views (λ port u e. (r.seated.each port u e).ended) in
       omega arith
 
+  -- a draw of a number that was next keeps the rule on numbers
   drew_numbers : (s : St) (r : Kept size s) (n : ℕ) → get_elem? s.views id ≡ some v → n ≡ get_or s.words 0 0 → n < size.pieces → Numbers size.pieces (n + 1) (set s.views id (drew v n))
   drew_numbers s r n at is below =
       let here : Numbers size.pieces n s.views = subst (λ k. Numbers size.pieces k s.views) (sym is) r.numbers in
@@ -139,6 +160,7 @@ module _ (size : Size) (slots id : ℕ) (me : Me (Unit {0}) View) (one : me.0.se
         counted = omega arith;
       }
 
+  -- an end that is found past the last number keeps the rule on numbers
   ended_numbers : (s : St) (r : Kept size s) (n : ℕ) → get_elem? s.views id ≡ some v → n ≡ get_or s.words 0 0 → size.pieces ≤ n → Numbers size.pieces (n + 1) (set s.views id (ended_view v))
   ended_numbers s r n at is above =
       let here : Numbers size.pieces n s.views = subst (λ k. Numbers size.pieces k s.views) (sym is) r.numbers in
@@ -161,6 +183,7 @@ module _ (size : Size) (slots id : ℕ) (me : Me (Unit {0}) View) (one : me.0.se
     seated = seats_set size s.views id v w r.seated at seats_stay (seated size v w (r.seated.each id v at) (omega arith) seats_stay of_desk ended);
   }
 
+  -- a draw keeps the whole rule, whether it gets a number or finds the end
   drawn_at : (s : St) (r : Kept size s) (n m : ℕ) (not_ended : v.ended ≡ 0) → get_elem? s.views id ≡ some v → n ≡ get_or s.words 0 0 → m ≡ n + 1 → (b : Bool) → ltb n v.size.pieces ≡ b
       → Kept size (stepped s 0 m id me.1 (cond b (drew v n) (ended_view v)) keeps)
   drawn_at s r n m not_ended at here is true below =
@@ -181,6 +204,7 @@ module _ (size : Size) (slots id : ℕ) (me : Me (Unit {0}) View) (one : me.0.se
       let below = below_of_once x (min n size.pieces) (omega arith) in
       omega arith
 
+  -- the step of a draw keeps the rule
   pub draws_keep : v.ended ≡ 0 → Allows (Kept size) slots id me 0 (λ n. (n + 1) % 2 ^ 64) (Draws (step slots 0 1 0 none) me)
   draws_keep not_ended s r _ at small =
       let n : ℕ = get_or s.words 0 0 in
@@ -202,6 +226,7 @@ module _ (size : Size) (slots id : ℕ) (me : Me (Unit {0}) View) (one : me.0.se
         seated = seats_set size s.views id v w r.seated at seats_stay (seated size v w sits (omega arith) seats_stay of_desk (omega arith));
       }
 
+  -- a report keeps the rule on places, and the least of it and the word is the new least
   reported_places : (least place : ℕ) (views : List View) → place < no_place → get_elem? views id ≡ some v → Places least views → Places (min least place) (set views id (reported_view v place))
   reported_places least place views below at r =
       let views' : List View = set views id (reported_view v place) in
@@ -228,11 +253,13 @@ module _ (size : Size) (slots id : ℕ) (me : Me (Unit {0}) View) (one : me.0.se
           let here : 0 < reports least views' = omega arith in
           subst (λ k. 0 < reports k views') (sym is) here
 
+  -- the step of a report keeps the rule
   pub reports_keep : (place : ℕ) → place < no_place → Allows (Kept size) slots id me 1 (λ n. min n place) (Reports (step slots 1 place 0 none) me)
   reports_keep place below s r _ at small =
       let n : ℕ = get_or s.words 1 0 in
       (reported_view v place, keeps, tt, placed_kept s r (min n place) (min n place) (reported_view v place) at refl (reported_places n place s.views below at r.places) refl refl refl refl, refl)
 
+  -- a look that sees the least place keeps the rule on places
   saw_places : (least : ℕ) (views : List View) → least < no_place → get_elem? views id ≡ some v → Places least views → Places least (set views id (saw v least))
   saw_places least views below at r =
       let views' : List View = set views id (saw v least) in
@@ -256,6 +283,7 @@ module _ (size : Size) (slots id : ℕ) (me : Me (Unit {0}) View) (one : me.0.se
       (λ e. let t = seen (omega arith) in lowest t.1)
       (λ some_reported. lowest (omega arith))
 
+  -- a look keeps the whole rule, whether it sees a place or none
   looked_at : (s : St) (r : Kept size s) (n : ℕ) → n ≡ get_or s.words 1 0 → get_elem? s.views id ≡ some v → (b : Bool) → ltb n no_place ≡ b → Kept size (stepped s 1 n id me.1 (cond b (saw v n) v) keeps)
   looked_at s r n is at true below =
       let here : Places n s.views = subst (λ k. Places k s.views) (sym is) r.places in
@@ -264,6 +292,7 @@ module _ (size : Size) (slots id : ℕ) (me : Me (Unit {0}) View) (one : me.0.se
       let here : Places n (set s.views id v) = subst (λ (z : ℕ × List View). Places z.0 z.1) (λ i. (sym is i, sym (set_again s.views id v at) i)) r.places in
       placed_kept s r n n v at refl here refl refl refl refl
 
+  -- the step of a look keeps the rule
   pub looks_keep : Allows (Kept size) slots id me 1 (λ n. n) (Looks (step slots 1 0 0 none) me)
   looks_keep s r _ at small =
       let n : ℕ = get_or s.words 1 0 in
@@ -272,6 +301,7 @@ module _ (size : Size) (slots id : ℕ) (me : Me (Unit {0}) View) (one : me.0.se
 -- ---- views are cut and joined, and the desk opens and closes
 
 module _ (size : Size) where
+  -- a pass that gives a seat away keeps the rule
   pub splits : (id : ℕ) (v : View) → 2 ≤ v.seats → v.ended ≡ 0 → Splits (Kept size) id v (without_one v) (one_seat v.size)
   splits id v many none_ended s r at =
       let left : View = without_one v in
@@ -292,6 +322,7 @@ module _ (size : Size) where
         };
       }
 
+  -- a pass that takes another's seats keeps the rule
   pub joins : (id : ℕ) (v : View) (other : ℕ) (w : View) → 0 < v.seats → 0 < w.seats → Joins (Kept size) id v other w (joined w v) spent_view
   joins id v other w some_seat other_seat s r at apart there =
       let both : View = joined w v in
@@ -315,6 +346,7 @@ module _ (size : Size) where
         };
       }
 
+  -- a new desk has the rule
   pub opens : size.pieces ≤ 2 ^ 63 → 0 < size.seats → size.seats ≤ 64 → Kept size (opening (0 ∷ no_place ∷ []) [] (whole size))
   opens few_pieces some_seat few_seats = record {
     words = refl;
@@ -365,6 +397,7 @@ pub record IsLast (size : Size) (draw least : ℕ) (v : View) : Type 0 where
   pub reached : least < no_place → 0 < times least v.reported
   pub seen : (x : ℕ) → 0 < times x v.seen → (least ≤ x) × (0 < times x v.reported)
 
+-- a pass with all seats knows all draws, reports and looks
 pub closes : (size : Size) (s : State (Unit {0}) View) (id : ℕ) (v : View) → Kept size s → get_elem? s.views id ≡ some v → v.seats ≡ size.seats → IsLast size (get_or s.words 0 0) (get_or s.words 1 0) v
 closes size s id v r at every_seat =
     let only : (f : View → ℕ) → f spent_view ≡ 0 → sum_by f s.views ≡ f v =

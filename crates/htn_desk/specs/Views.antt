@@ -17,12 +17,15 @@ no_place = 18446744073709551615
 abbrev pub whole : Size → View
 whole size = record { seats = size.seats; ended = 0; size = size; drawn = []; reported = []; seen = [] }
 
+-- the view of a pass that takes one seat at a desk of that size
 abbrev pub one_seat : Size → View
 one_seat size = record (whole size) { seats = 1 }
 
+-- the view of a desk without pieces and seats
 abbrev pub spent_view : View
 spent_view = whole record { pieces = 0; seats = 0 }
 
+-- a view with one seat less
 abbrev pub without_one : View → View
 without_one v = record v { seats = v.seats - 1 }
 
@@ -41,9 +44,11 @@ joined v w = record {
 abbrev pub draws : ℕ → List View → ℕ
 draws x views = sum_by (λ v. times x v.drawn) views
 
+-- how often a place stands among all reports
 abbrev pub reports : ℕ → List View → ℕ
 reports x views = sum_by (λ v. times x v.reported) views
 
+-- how often a place stands among all that was seen
 abbrev pub looks : ℕ → List View → ℕ
 looks x views = sum_by (λ v. times x v.seen) views
 
@@ -77,18 +82,23 @@ pub record Kept (size : Size) (s : State (Unit {0}) View) : Type 0 where
   pub places : Places (slice_index s.words 1) s.views
   pub seated : Seats size s.views
 
+-- the view of a pass together with the table of all
 abbrev Sat : Type 0
 Sat = Me (Unit {0}) View
 
+-- a view that drew one number more
 abbrev pub drew : View → ℕ → View
 drew v n = record v { drawn = v.drawn ++ n ∷ [] }
 
+-- a view that found the numbers at an end once more
 abbrev pub ended_view : View → View
 ended_view v = record v { ended = v.ended + 1 }
 
+-- a view with one report more
 abbrev pub reported_view : View → ℕ → View
 reported_view v place = record v { reported = v.reported ++ place ∷ [] }
 
+-- a view with one more look, and what it saw
 abbrev pub saw : View → ℕ → View
 saw v place = record v { seen = v.seen ++ place ∷ [] }
 
@@ -98,6 +108,7 @@ Draws s before found after =
     (after ≡ ((if nat_lt found before.0.size.pieces then drew before.0 found else ended_view before.0), before.1))
     × ((x : ℕ) → 0 < times x before.0.drawn → x < found)
 
+-- what a report changes: it is added to the view of the pass, and nothing else
 abbrev pub Reports : Step (Unit {0}) → Sat → ℕ → Sat → Type 0
 Reports s before found after = after ≡ (reported_view before.0 s.first, before.1)
 
@@ -111,6 +122,7 @@ Looks s before found after =
 abbrev pub state_of : TableId → View → Bool → PassState
 state_of id v ended = record { desk = record { id = id; pieces = v.size.pieces; seats = v.size.seats }; ended = ended; drawn = v.drawn; reported = v.reported; seen = v.seen }
 
+-- the desk that a seat belongs to, with its pieces and seats
 abbrev pub desk_of : Seat (Unit {0}) View → DeskState
 desk_of seat = record { id = seat.table_id; pieces = seat.me.0.size.pieces; seats = seat.me.0.size.seats }
 

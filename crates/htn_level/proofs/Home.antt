@@ -14,6 +14,7 @@ use Rattle.htn_level.proofs.Ranks.{of_each}
 
 -- ---- what stands in lists
 
+-- a value of the joined lists is in one of them
 pub found_in_flat_map : {X A : Type 0} (f : X → List A) (xs : List X) (a : A) → Contains (flat_map f xs) a → (x : X) × Contains xs x × Contains (f x) a
 found_in_flat_map f [] a h = absurd (omega arith)
 found_in_flat_map f (x ∷ xs) a h =
@@ -21,11 +22,13 @@ found_in_flat_map f (x ∷ xs) a h =
     (λ later. let r = found_in_flat_map f xs a later in (r.0, (suc r.1.0, omega arith, r.1.2), r.2))
     (Contains-append_cases (f x) (flat_map f xs) a h)
 
+-- a value of one of the lists is in the joined ones
 pub stands_in_flat_map : {X A : Type 0} (f : X → List A) (xs : List X) (x : X) (a : A) → Contains xs x → Contains (f x) a → Contains (flat_map f xs) a
 stands_in_flat_map f [] x a h k = absurd (omega arith)
 stands_in_flat_map f (y ∷ ys) x a (zero, below, is) k = Contains-append_left (f y) (flat_map f ys) a (subst (λ z. Contains (f z) a) (sym is) k)
 stands_in_flat_map f (y ∷ ys) x a (suc n, below, is) k = Contains-append_right (f y) (flat_map f ys) a (stands_in_flat_map f ys x a (n, omega arith, is) k)
 
+-- a value of the mapped list is that of one of the list
 pub found_in_map : {X A : Type 0} (f : X → A) (xs : List X) (a : A) → Contains (map f xs) a → (x : X) × Contains xs x × (f x ≡ a)
 found_in_map f [] a h = absurd (omega arith)
 found_in_map f (x ∷ xs) a (zero, below, is) = (x, (0, omega arith, refl), is)
@@ -33,12 +36,14 @@ found_in_map f (x ∷ xs) a (suc n, below, is) = let r = found_in_map f xs a (n,
 
 -- ---- the piece of a rank
 
+-- the piece in which a rank lies
 pub record Located (first last size count rank : ℕ) : Type 0 where
   pub number : ℕ
   pub number_below : number < count
   pub from : piece_first first size number ≤ rank
   pub below : rank < piece_last first last size number
 
+-- each rank of a level lies in one of the pieces
 pub located : (first last size count rank : ℕ) → 0 < size → last ≤ first + count * size → first ≤ rank → rank < last → Located first last size count rank
 located first last size count rank some_size cover from below =
     let place : ℕ = rank - first in
@@ -54,12 +59,15 @@ located first last size count rank some_size cover from below =
 -- ---- what the level was, by what came home
 
 module _ {S F : Type 0} (has_successors : ℕ → List S → Type 0) (finishes : ℕ → F → Type 0) (first last size : ℕ) where
+  -- the places that a piece reported
   abbrev places_in : Piece S F → List ℕ
   places_in p = places_of p.outcome
 
+  -- what a worker brought home: the numbers it drew, what it reported and saw, and its pieces
   abbrev Home : List ℕ → List ℕ → List ℕ → List (Piece S F) → Type 0
   Home drawn reported seen pieces = Brings has_successors finishes first last size drawn reported seen pieces
 
+  -- a piece is right by what was seen
   abbrev RightAt : List ℕ → Piece S F → Type 0
   RightAt seen p = IsOutcome has_successors finishes first last size p.number seen p.outcome
 
@@ -83,6 +91,7 @@ module _ {S F : Type 0} (has_successors : ℕ → List S → Type 0) (finishes :
       let start = right.1 in
       absurd (omega arith)
 
+  -- where a place was reported and all numbers drawn, the piece of the least ended there, the first of the level
   pub done_level : (count least : ℕ) (finish : F) (drawn reported seen : List ℕ) (pieces : List (Piece S F)) → 0 < size → last ≤ first + count * size → HasEachBelow count drawn → IsLeast reported least → All (λ x. least ≤ x) seen → Home drawn reported seen pieces
       → (number : ℕ) × Contains pieces (record { number = number; outcome = Ran (Done least finish) }) → IsFirstDone has_successors finishes first last least finish
   done_level count least finish drawn reported seen pieces some_size cover each is_least not_below home named =
@@ -109,9 +118,11 @@ module _ {S F : Type 0} (has_successors : ℕ → List S → Type 0) (finishes :
   whole_by number seen (Ran (Done rank finish)) none looks right = absurd (none rank (0, omega arith, refl))
   whole_by number seen (Skipped skip) none looks right = absurd (looks skip.seen right.0)
 
+  -- an empty list contains nothing
   no_member : (xs : List ℕ) (x : ℕ) → xs ≡ [] → Contains xs x → ⊥
   no_member xs x is h = let e = ap length is in let b = h.1 in omega arith
 
+  -- where nothing was reported, each piece was expanded to its end
   pub whole_pieces : (drawn reported seen : List ℕ) (pieces : List (Piece S F)) → reported ≡ [] → All (Contains reported) seen → Home drawn reported seen pieces → All (IsWhole has_successors first last size) pieces
   whole_pieces drawn reported seen pieces none looks home k d below =
       let p = get_or pieces k d in
@@ -123,6 +134,7 @@ module _ {S F : Type 0} (has_successors : ℕ → List S → Type 0) (finishes :
 
 -- ---- the desk is closed
 
+-- what holds of all of some values holds of one
 pub any_of_all : {X : Type 0} (P : X → Type 0) (xs : List X) → 0 < length xs → All P xs → Any P xs
 any_of_all P [] some_one all = absurd (omega arith)
 any_of_all P (x ∷ xs) some_one all = (0, x, omega arith, refl, all 0 x (omega arith))

@@ -15,10 +15,12 @@ abbrev pub above : List ℕ → ℕ
 above [] = 0
 above (x ∷ xs) = max (x + 1) (above xs)
 
+-- what is below a bound has its end at the bound or before
 pub above-le : (xs : List ℕ) (n : ℕ) → All (λ m. m < n) xs → above xs ≤ n
 above-le [] n h = omega arith
 above-le (x ∷ xs) n h = let a : x < n = h 0 x (omega arith) in let b = above-le xs n (λ k d l. h (suc k) d (omega arith)) in omega arith
 
+-- a number at the end of a list is below the list's end
 pub above-push : (xs : List ℕ) (n : ℕ) → n < above (xs ++ n ∷ [])
 above-push [] n = omega arith
 above-push (x ∷ xs) n = let r = above-push xs n in omega arith
@@ -29,39 +31,49 @@ left_falls drawn drawn' n pieces rising below is = let a = above-le drawn n risi
 
 -- ---- lists that grow by one, and lose their first
 
+-- what holds of a list and of one more value holds of both
 pub all_pushed : {X : Type 0} (P : X → Type 0) (xs ys : List X) (x : X) → ys ≡ xs ++ x ∷ [] → All P xs → P x → All P ys
 all_pushed P xs ys x is all one = subst (All P) (sym is) (All-push P xs x all one)
 
+-- the same where the value is added only if a test holds
 pub all_pushed_or_not : {X : Type 0} (P : X → Type 0) (xs ys : List X) (x : X) (b : Bool) → ys ≡ (if b then xs ++ x ∷ [] else xs) → All P xs → P x → All P ys
 all_pushed_or_not P xs ys x true is all one = all_pushed P xs ys x is all one
 all_pushed_or_not P xs ys x false is all one = subst (All P) (sym is) all
 
+-- what holds of a list holds of its first value and of the rest
 pub all_rest : {X : Type 0} (P : X → Type 0) (x : X) (xs ys : List X) → ys ≡ x ∷ xs → All P ys → P x × All P xs
 all_rest P x xs ys is all = (All-head P x xs (subst (All P) is all), All-rest P x xs ys is all)
 
+-- the value that was added last is in the list
 pub stands_last : (xs ys : List ℕ) (x : ℕ) → ys ≡ xs ++ x ∷ [] → Contains ys x
 stands_last xs ys x is = subst (λ l. Contains l x) (sym is) (Contains-append_right xs (x ∷ []) x (0, omega arith, refl))
 
+-- the first of the rest is in the whole
 pub stands_between : {X : Type 0} (before rest after all : List X) (x : X) → before ++ rest ≡ all → rest ≡ x ∷ after → Contains all x
 stands_between before rest after all x whole is = subst (λ l. Contains l x) whole (Contains-append_right before rest x (subst (λ l. Contains l x) (sym is) (0, omega arith, refl)))
 
 -- ---- threads
 
+-- handles that promise one job, and one more that does, all promise it
 pub promised_more : {T P : Type 0} (job : P) (xs ys : List (PromisedHandle T P)) (x : PromisedHandle T P) → ys ≡ xs ++ x ∷ [] → All (λ h. h.promise ≡ job) xs → x.promise ≡ job → All (λ h. h.promise ≡ job) ys
 promised_more job xs ys x is all one = subst (All (λ h. h.promise ≡ job)) (sym is) (All-push (λ h. h.promise ≡ job) xs x all one)
 
 -- ---- what comes home
 
 module _ {S F : Type 0} (has_successors : ℕ → List S → Type 0) (finishes : ℕ → F → Type 0) (first last size : ℕ) where
+  -- the number of a piece
   abbrev pub number_of : Piece S F → ℕ
   number_of p = p.number
 
+  -- the places that a piece reported
   abbrev pub places_in : Piece S F → List ℕ
   places_in p = places_of p.outcome
 
+  -- a piece is right by what was seen
   abbrev pub RightAt : List ℕ → Piece S F → Type 0
   RightAt seen p = IsOutcome has_successors finishes first last size p.number seen p.outcome
 
+  -- what a worker brought home: the numbers it drew, what it reported and saw, and its pieces
   abbrev pub Home : List ℕ → List ℕ → List ℕ → List (Piece S F) → Type 0
   Home drawn reported seen pieces = Brings has_successors finishes first last size drawn reported seen pieces
 
@@ -70,13 +82,16 @@ module _ {S F : Type 0} (has_successors : ℕ → List S → Type 0) (finishes :
   outcome_stays number seen more (Ran e) h = h
   outcome_stays number seen more (Skipped s) h = (Contains-append_left seen more s.seen h.0, h.1)
 
+  -- an outcome stays right when more was seen before
   pub outcome_after : (number : ℕ) (seen before : List ℕ) (o : Outcome S F) → IsOutcome has_successors finishes first last size number seen o → IsOutcome has_successors finishes first last size number (before ++ seen) o
   outcome_after number seen before (Ran e) h = h
   outcome_after number seen before (Skipped s) h = (Contains-append_right before seen s.seen h.0, h.1)
 
+  -- an outcome is right by equal lists of what was seen
   pub seen_same : (number : ℕ) (seen seen' : List ℕ) (o : Outcome S F) → seen ≡ seen' → IsOutcome has_successors finishes first last size number seen o → IsOutcome has_successors finishes first last size number seen' o
   seen_same number seen seen' o is h = subst (λ l. IsOutcome has_successors finishes first last size number l o) is h
 
+  -- pieces stay right when more was seen after
   pub right_on : (seen more : List ℕ) (pieces : List (Piece S F)) → All (RightAt seen) pieces → All (RightAt (seen ++ more)) pieces
   right_on seen more pieces all = All-weaker (RightAt seen) (RightAt (seen ++ more)) (λ p h. outcome_stays p.number seen more p.outcome h) pieces all
 

@@ -12,6 +12,7 @@ get_appended (y ∷ xs) ys zero x h = inl h
 get_appended (y ∷ xs) ys (suc i) x h = ⊎_elim (λ here. inl here) (λ later. inr (later.0, omega (arith, later.1), later.2)) (get_appended xs ys i x h)
 
 module _ {S : Type 0} (has_successors : ℕ → List S → Type 0) where
+  -- an empty range of ranks has no successors
   pub no_ranks : (first : ℕ) → AreSuccessors has_successors first first []
   no_ranks first = record {
     lists = [];
@@ -20,6 +21,7 @@ module _ {S : Type 0} (has_successors : ℕ → List S → Type 0) where
     joined = refl;
   }
 
+  -- the successors of one rank are those of its range
   pub one_rank : (rank : ℕ) (more : List S) → has_successors rank more → AreSuccessors has_successors rank (rank + 1) more
   one_rank rank more here = record {
     lists = more ∷ [];
@@ -32,6 +34,7 @@ module _ {S : Type 0} (has_successors : ℕ → List S → Type 0) where
       only zero xs h = let same : more ≡ xs = cc in let at : rank ≡ rank + 0 = omega arith in subst (λ r. has_successors r xs) at (subst (has_successors rank) same here)
       only (suc i) xs h = absurd (cc)
 
+  -- successors of two adjoining ranges are, one after the other, those of both
   pub both_ranges : (first middle last : ℕ) (xs ys : List S) → AreSuccessors has_successors first middle xs → AreSuccessors has_successors middle last ys → AreSuccessors has_successors first last (xs ++ ys)
   both_ranges first middle last xs ys one two = record {
     lists = one.lists ++ two.lists;
@@ -42,6 +45,7 @@ module _ {S : Type 0} (has_successors : ℕ → List S → Type 0) where
     joined = ap₂ (λ x y. x ++ y) one.joined two.joined ∙ sym (flat_map-append (λ (x : List S). x) one.lists two.lists);
   }
 
+  -- a range and the successors of the rank after it make the range with that rank
   pub one_more : (first rank : ℕ) (xs more xs' : List S) → AreSuccessors has_successors first rank xs → has_successors rank more → xs' ≡ xs ++ more → AreSuccessors has_successors first (rank + 1) xs'
   one_more first rank xs more xs' so_far here is = subst (AreSuccessors has_successors first (rank + 1)) (sym is) (both_ranges first rank (rank + 1) xs more so_far (one_rank rank more here))
 

@@ -17,6 +17,7 @@ CanExpandAll can_expand first last = (rank : ℕ) → first ≤ rank → rank < 
 abbrev pub piece_first : (first size number : ℕ) → ℕ
 piece_first first size number = first + number * size
 
+-- the place after the last of a piece: so many places from its first, and none past the end
 abbrev pub piece_last : (first last size number : ℕ) → ℕ
 piece_last first last size number = min (first + number * size + size) last
 
@@ -72,6 +73,7 @@ module _ {S F : Type 0} (has_successors : ℕ → List S → Type 0) (first last
   IsWholeOutcome number (Ran (Done rank finish)) = ⊥
   IsWholeOutcome number (Skipped skip) = ⊥
 
+  -- a piece whose outcome is that it was expanded to its end
   abbrev pub IsWhole : Piece S F → Type 0
   IsWhole p = IsWholeOutcome p.number p.outcome
 

@@ -37,6 +37,7 @@ ids_join [] right = refl
 ids_join (line ∷ left) right = ap (λ l. line.id ∷ l) (ids_join left right)
 
 module _ (naming : Naming) (trees : Nodes) (id_at : Place → ℕ) where
+  -- the node at a place has a decomposition line
   abbrev HasLine : List DecompositionLine → Place → Type 0
   HasLine lines p = (line : DecompositionLine) × IsIn line lines × IsDecompositionLine naming trees id_at p line
 
@@ -80,15 +81,19 @@ module _ (naming : Naming) (problem : Problem) (grounded : IsGrounded problem) (
     (runs : LinesRun naming problem file states) (number : ℕ) (network : Network) (is_initial : slice_get problem.initials number ≡ Some network)
     (start finish : ℕ → ℕ) (trees_laid : Forest naming problem file states network.children file.roots start finish)
     (keeps : ForestKeeps problem states trees_laid.slots network.order trees_laid.nodes (length file.actions)) where
+  -- the trees that were laid
   abbrev trees : Nodes
   trees = trees_laid.nodes
 
+  -- which place comes before which: by its key, and among equal keys by the inherited order
   abbrev earlier : Place → Place → Bool
   earlier = precedes problem network.order trees trees_laid.slots
 
+  -- the places of leaves and steps
   abbrev places : List Place
   places = primitives_from [] 0 trees
 
+  -- these places in sequence
   abbrev list : List Place
   list = sorted earlier places
 
@@ -132,6 +137,7 @@ module _ (naming : Naming) (problem : Problem) (grounded : IsGrounded problem) (
       (leaf_of naming file trees_laid.slots trees_laid.ids trees trees_laid.laid.marks is_forest listed)
       (one_leaf naming file trees_laid.slots trees_laid.ids trees trees_laid.laid.marks is_forest listed) list 0 file.actions waits
 
+  -- the trees with that sequence
   abbrev solution : Solution
   solution = record { number = number; trees = trees; linearisation = list }
 

@@ -11,9 +11,11 @@ use Rattle.htn_model.proofs.Onward.{Followed, onward}
 use Rattle.htn_model.proofs.OneToOne.{followed_of, own_order}
 
 module _ (problem : Problem) (grounded : IsGrounded problem) (order : Order) (trees : Nodes) where
+  -- the word leads to a configuration that has the front
   abbrev Reaches : List ℕ → List Placed → Config → Type 0
   Reaches word last c = (d : Config) × LeadsTo problem word c d × Matches problem order trees last d
 
+  -- a peeling of some of the front steps the machine along
   follow : (word : List ℕ) (front last : List Placed) (list rest : List Place) (c : Config) → Followed problem grounded order trees front list c
       → PeelsTo (before problem order trees) word front list last rest → Reaches word last c
   follow [] front last list rest c f p = (c, refl, subst (λ x. Matches problem order trees x c) p.0 f.matches)
@@ -23,6 +25,7 @@ module _ (problem : Problem) (grounded : IsGrounded problem) (order : Order) (tr
       let reached = follow word (splice i (children_at (front_at front i)) front) last o.rest rest (result_of c o.choice) o.followed o.peels in
       (reached.0, (result_of c o.choice, ap (option_map (result_of c)) o.chooses, reached.1), reached.2)
 
+-- the machine follows each code of a grounded problem
 pub machine_follows : (problem : Problem) → IsGrounded problem → MachineFollows problem
 machine_follows problem grounded s word front rest solves peels =
     let network = solves.network in

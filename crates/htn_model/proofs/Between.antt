@@ -10,6 +10,7 @@ use Rattle.htn_model.proofs.Ascending.{all_in, in_left, in_right}
 use Rattle.htn_model.proofs.Planted.{AreNamedLines}
 
 module _ (naming : Naming) (problem : Problem) where
+  -- a state that may be there, or else another
   abbrev state_or : State → Option State → State
   state_or state None = state
   state_or state (Some next) = next

@@ -7,9 +7,11 @@ use Rattle.htn_model.proofs.Splices.{table_square, same_order, length_splice}
 use Rattle.htn_model.proofs.Steps.{chosen, step_choice}
 use Rattle.htn_model.proofs.Regrown.{choice_within}
 
+-- the order that a network starts with is a square table of its nodes
 pub start_square : (problem : Problem) (network : Network) → IsNetwork network → IsSquare (length (start problem network).open_nodes) (start problem network).order
 start_square problem network h = h.square
 
+-- a step makes an order that is a square table of the open nodes
 pub step_square : (problem : Problem) (c next : Config) (number : ℕ) → step_by problem c number ≡ Some next → IsSquare (length next.open_nodes) next.order
 step_square problem c next number h =
     let made = step_choice problem c next number h in
@@ -45,5 +47,6 @@ open_steps problem (number ∷ word) c h =
     let same : length h.0.open_nodes ≡ length (splice i made.0.network.children c.open_nodes) = ap (λ d. length d.open_nodes) made.2 in
     omega arith
 
+-- configurations of a run are proper
 pub configs_are_proper : (problem : Problem) → ConfigsAreProper problem
 configs_are_proper problem = record { starts = start_square problem; steps = step_square problem; equal = same_config }

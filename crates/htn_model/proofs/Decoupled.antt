@@ -7,10 +7,12 @@ use Rattle.htn_model.specs.Tree.{Node, leaf, step, compound, Nodes, no_nodes, no
 use Rattle.htn_model.specs.Fits.{AreSpans}
 use Rattle.htn_model.specs.Placement.{Slots, IsPrimitive, duration, KeepsOrder, Sits, AllSit}
 
+-- nothing stands below nothing
 pub nothing_below : (p : Place) → node_below None p ≡ None
 nothing_below [] = refl
 nothing_below (i ∷ p) = nothing_below p
 
+-- nothing is no leaf and no step
 pub none_primitive : (n : Option Node) → n ≡ None → IsPrimitive n → ⊥
 none_primitive n none h = subst IsPrimitive none h
 
@@ -27,6 +29,7 @@ sits_at problem states slots k (node m ns) start finish (suc i) n all h =
     let e : suc k + i ≡ k + suc i = omega arith in
     subst (λ j. Sits problem states (λ p. slots (j ∷ p)) n (start j) (finish j)) e (sits_at problem states slots (suc k) ns start finish i n all.1 h)
 
+-- where all children sit, each does
 pub sits_child : (problem : Problem) (states : ℕ → State) (slots : Slots) (ns : Nodes) (start finish : ℕ → ℕ) (i : ℕ) (n : Node)
     → AllSit problem states slots 0 ns start finish → child_at ns i ≡ Some n
     → Sits problem states (λ p. slots (i ∷ p)) n (start i) (finish i)
@@ -36,11 +39,13 @@ sits_child problem states slots ns start finish i n all h =
 
 -- ## Every leaf and step below a node is within the node's span
 
+-- a leaf or step lies in the span
 pub record IsWithin (slots : Slots) (n : Option Node) (p : Place) (g h : ℕ) : Type 0 where
   pub from : g ≤ slots p
   pub to : duration (node_below n p) + slots p ≤ h
 
 module _ (problem : Problem) (states : ℕ → State) where
+  -- what sits in a child lies in the child's span
   pub within_child : (p : Place)
       → ((slots : Slots) (n : Node) (g h : ℕ) → Sits problem states slots n g h → IsPrimitive (node_below (Some n) p) → IsWithin slots (Some n) p g h)
       → (slots : Slots) (nodes : Nodes) (i : ℕ) (m : Option Node) → child_at nodes i ≡ m
@@ -50,6 +55,7 @@ module _ (problem : Problem) (states : ℕ → State) where
   within_child p deeper slots nodes i (Some n) is start finish all primitive =
       deeper (λ q. slots (i ∷ q)) n (start i) (finish i) (sits_child problem states slots nodes start finish i n all is) primitive
 
+  -- what sits in a node lies in the node's span
   pub within : (p : Place) (slots : Slots) (n : Node) (g h : ℕ) → Sits problem states slots n g h → IsPrimitive (node_below (Some n) p) → IsWithin slots (Some n) p g h
   within [] slots (leaf task) g h sits primitive = record { from = sits.0; to = let e = sits.1 in omega arith }
   within [] slots (step literals) g h sits primitive = record { from = sits.0; to = let e = sits.1 in omega arith }
@@ -65,14 +71,17 @@ module _ (problem : Problem) (states : ℕ → State) where
 -- ## Children of one network interact through its order alone
 
 module _ (problem : Problem) (states : ℕ → State) where
+  -- a leaf or step that the order of the trees puts before another ends by the slot of that
   abbrev Ordered : Slots → Order → Nodes → Place → Place → Type 0
   Ordered slots order nodes p q = IsPrimitive (node_at nodes p) → IsPrimitive (node_at nodes q) → before problem order nodes p q ≡ true
       → duration (node_at nodes p) + slots p ≤ slots q
 
+  -- so does one below a node, by the order there
   abbrev pub OrderedBelow : Slots → Option Node → Place → Place → Type 0
   OrderedBelow slots m p q = IsPrimitive (node_below m p) → IsPrimitive (node_below m q) → before problem (order_in problem m) (children_in m) p q ≡ true
       → duration (node_below m p) + slots p ≤ slots q
 
+  -- two that are below one child keep its order
   deep : (p q : Place) → ((slots : Slots) (n : Node) (g h : ℕ) → Sits problem states slots n g h → OrderedBelow slots (Some n) p q)
       → (slots : Slots) (nodes : Nodes) (i : ℕ) (m : Option Node) → child_at nodes i ≡ m → (start finish : ℕ → ℕ) → AllSit problem states slots 0 nodes start finish
       → OrderedBelow (λ r. slots (i ∷ r)) m p q
@@ -80,6 +89,7 @@ module _ (problem : Problem) (states : ℕ → State) where
   deep p q deeper slots nodes i (Some n) is start finish all first second h =
       deeper (λ r. slots (i ∷ r)) n (start i) (finish i) (sits_child problem states slots nodes start finish i n all is) first second h
 
+  -- two that are below different children keep the network's order
   parted : (p q : Place) → ((slots : Slots) (n : Node) (g h : ℕ) → Sits problem states slots n g h → OrderedBelow slots (Some n) p q)
       → (slots : Slots) (order : Order) (nodes : Nodes) (i j : ℕ) (start finish : ℕ → ℕ) (g h : ℕ) → AreSpans order start finish g h → AllSit problem states slots 0 nodes start finish
       → Ordered slots order nodes (i ∷ p) (j ∷ q)
@@ -100,6 +110,7 @@ module _ (problem : Problem) (states : ℕ → State) where
         let left_to = left.to in let right_from = right.from in omega arith)
   ]
 
+  -- all that sit below a node keep its order
   keeps_below : (p q : Place) (slots : Slots) (n : Node) (g h : ℕ) → Sits problem states slots n g h → OrderedBelow slots (Some n) p q
   keeps_below [] q slots n g h sits first second precedes = absurd cc
   keeps_below (i ∷ p) [] slots n g h sits first second precedes = absurd cc

@@ -9,16 +9,20 @@ use Rattle.htn_model.proofs.Ascending.{In, all_in}
 use Rattle.htn_model.proofs.Levels.{Below, Ascends}
 
 module _ (problem : Problem) where
+  -- a list that tests as empty is empty
   empty_nothing : {X : Type 0} (xs : List X) → is_empty xs ≡ true → xs ≡ []
   empty_nothing [] h = refl
   empty_nothing (x ∷ xs) h = absurd cc
 
+  -- a configuration that tests as done is done
   pub done_is : (c : Config) → is_done problem c ≡ true → IsDone problem c
   done_is c h = let parts = and_parts _ _ h in (empty_nothing c.open_nodes parts.0, parts.1)
 
+  -- a configuration that is done tests as done
   pub is_done_from : (c : Config) → IsDone problem c → is_done problem c ≡ true
   is_done_from c h = and_from _ _ (ap is_empty h.0) h.1
 
+  -- the first that is done is in the list, and is done
   pub first_in : (rs : List Reached) (r : Reached) → first_done problem rs ≡ Some r → In r rs × (is_done problem r.config ≡ true)
   first_in [] r h = absurd cc
   first_in (s ∷ rs) r h = by (is_done problem s.config) refl (first_in rs r) h
@@ -28,6 +32,7 @@ module _ (problem : Problem) where
       by true e deeper h = let same : s ≡ r = cc in (inl (sym same), ap (λ t. is_done problem t.config) (sym same) ∙ e)
       by false e deeper h = let found = deeper h in (inr found.0, found.1)
 
+  -- where none is found, none in the list is done
   pub none_done : (rs : List Reached) (r : Reached) → first_done problem rs ≡ None → In r rs → is_done problem r.config ≡ true → ⊥
   none_done [] r h i d = i
   none_done (s ∷ rs) r h i d = by (is_done problem s.config) refl (none_done rs r) h i

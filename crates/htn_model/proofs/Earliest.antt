@@ -23,6 +23,7 @@ module _ (room : Room) (order : Order) (rank : ℕ → ℕ) (g n : ℕ) (start f
     (greedy : IsGreedyBelow room order rank g n start finish)
     (h : ℕ) (other_start other_finish : ℕ → ℕ) (spans : AreSpans order other_start other_finish g h)
     (rooms : (a : ℕ) → room a (other_start a) (other_finish a)) where
+  -- by rank, no child starts or finishes later than in any other spans
   no_later_by : (m a : ℕ) → m ≤ n → rank a < suc m → (start a ≤ other_start a) × (rank a < n → finish a ≤ other_finish a)
   no_later_by zero a small low =
       let starts : start a ≤ other_start a = greedy.first a (other_start a) (omega arith) (spans.from a) (λ b h. absurd (let r = ranked b a h in omega arith)) in
@@ -37,6 +38,7 @@ module _ (room : Room) (order : Order) (rank : ℕ → ℕ) (g n : ℕ) (start f
   pub no_later_start : (a : ℕ) → rank a < suc n → start a ≤ other_start a
   no_later_start a low = (no_later_by n a (let e : n ≤ n = omega arith in e) low).0
 
+  -- no child finishes later than in any other spans
   pub no_later_finish : (a : ℕ) → rank a < n → finish a ≤ other_finish a
   no_later_finish a low = (no_later_by n a (let e : n ≤ n = omega arith in e) (omega arith)).1 low
 

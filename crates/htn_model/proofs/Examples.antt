@@ -26,9 +26,11 @@ solves k s network atoms initial are_roots are_trees rearranged respects runs go
   reaches_goal = (set_of atoms, run_shown k s.trees k.initial_atoms s.linearisation ∙ ap (option_map set_of) runs, holds_shown atoms k.goal ∙ goal);
 }
 
+-- the one action is a solution
 renewed_solves : IsSolution (sketched renewing) renewed
 renewed_solves = solves renewing renewed _ _ refl refl ((_, refl), tt) ([], [], refl, refl) (tt, tt) refl refl
 
+-- so what it deletes and adds is true
 pub adds_come_last : AddsComeLast
 adds_come_last =
     let grounded = grounded_from renewing refl in
@@ -37,10 +39,12 @@ adds_come_last =
       too_few = no_answer renewing 0 grounded refl;
     }
 
+-- the step after the action is a solution
 step_last_solves : IsSolution (sketched needing) step_last
 step_last_solves =
     solves needing step_last _ _ refl refl ((_, refl, refl, (tt, tt)), ((_, refl), tt)) ((0 ∷ 0 ∷ []) ∷ [], [], refl, ([], [], refl, refl)) ((refl, tt), (tt, tt)) refl refl
 
+-- so a precondition is tested at its place
 pub steps_are_tested_in_place : StepsAreTestedInPlace
 steps_are_tested_in_place =
     let grounded = grounded_from needing refl in
@@ -51,9 +55,11 @@ steps_are_tested_in_place =
       too_few = no_answer needing 2 grounded refl;
     }
 
+-- each method gives a solution
 by_method_solves : (number : ℕ) → slice_get (nothing ∷ nothing ∷ []) number ≡ Some nothing → IsSolution (sketched two_methods) (by_method number)
 by_method_solves number h = solves two_methods (by_method number) _ _ refl refl ((nothing, h, refl, tt), tt) refl tt refl refl
 
+-- that of the least code is the answer
 pub least_code_answers : LeastCodeAnswers
 least_code_answers = record {
   first_method = is_answer two_methods 1 0 (0 ∷ []) (by_method 0) (grounded_from two_methods refl) refl refl (by_method_solves 0 refl) (refl, ((_, _, refl), (refl, refl)));
@@ -67,10 +73,12 @@ least_code_answers = record {
   other_code = (refl, (1, _, refl, refl, (0, _, refl, refl, (refl, refl))));
 }
 
+-- the two actions around the task are a solution
 chained_solves : IsSolution (sketched (chain (makes 0) (needs 0))) chained
 chained_solves =
     solves (chain (makes 0) (needs 0)) chained _ _ refl refl ((_, refl), ((_, refl, refl, tt), ((_, refl), tt))) ([], (2 ∷ []) ∷ [], refl, ([], [], refl, refl)) ((refl, tt), (tt, tt)) refl refl
 
+-- so the order goes through a task without nodes
 pub order_goes_through_empty_tasks : OrderGoesThroughEmptyTasks
 order_goes_through_empty_tasks = record {
   answer =
@@ -80,15 +88,19 @@ order_goes_through_empty_tasks = record {
   within = λ bound low. not_met (chain (needs 0) (makes 0)) 4 3 bound refl low;
 }
 
+-- so children inherit the order of their task
 pub children_inherit_order : ChildrenInheritOrder
 children_inherit_order = unsolvable three_before 6 (grounded_from three_before refl) refl
 
+-- the action on the first object is a solution
 touched_solves : IsSolution (sketched touching) (touched 0 1)
 touched_solves = solves touching (touched 0 1) _ _ refl refl ((_, refl), tt) ([], [], refl, refl) (tt, tt) refl refl
 
+-- the second instance gives a solution
 had_solves : IsSolution (sketched hidden) had
 had_solves = solves hidden had _ _ refl refl ((_, refl, refl, (tt, tt)), tt) ([], [], refl, refl) (tt, tt) refl refl
 
+-- so a code has the numbers that were chosen
 pub numbers_are_chosen : NumbersAreChosen
 numbers_are_chosen =
     let code : IsCode (sketched hidden) had (0 ∷ 1 ∷ 0 ∷ []) = (refl, ((_, _, refl), (0, _, refl, refl, (refl, refl)))) in

@@ -58,6 +58,7 @@ module _ (problem : Problem) (order : Order) (trees : Nodes) (slots : Slots) whe
   abbrev pub key : Place → ℕ
   key p = duration (node_at trees p) + (slots p + slots p)
 
+  -- which place comes before which: by its key, and among equal keys by the inherited order
   abbrev pub precedes : Place → Place → Bool
   precedes p q = ltb (key p) (key q) || before problem order trees p q
 
@@ -71,13 +72,16 @@ module _ (problem : Problem) (order : Order) (trees : Nodes) (slots : Slots) whe
       let parts = neither (ltb (key p) (key q)) (before problem order trees p q) e in
       (elim (cases_lt (key p) (key q)) [ inl less ↦ absurd (both_ways (ltb (key p) (key q)) parts.0 (lt-ltb (key p) (key q) less)) | inr other ↦ other ], parts.1)
 
+  -- a leaf or step stands at a place
   abbrev pub Stands : Place → Type 0
   Stands p = IsPrimitive (node_at trees p)
 
   module _ (grounded : IsGrounded problem) (closed : IsClosed order) (states : ℕ → State) (n : ℕ) (keeps : ForestKeeps problem states slots order trees n) where
+    -- what the inherited order puts before another has no greater key
     key_kept : (p q : Place) → Stands p → Stands q → before problem order trees p q ≡ true → key p ≤ key q
     key_kept p q hp hq e = let k = keeps.keeps p q hp hq e in omega arith
 
+    -- what comes before what comes before another comes before that
     pub precedes_transitive : (p q r : Place) → Stands p → Stands q → Stands r → precedes p q ≡ true → precedes q r ≡ true → precedes p r ≡ true
     precedes_transitive p q r hp hq hr a b =
         by (or_cases (ltb (key p) (key q)) (before problem order trees p q) a) (or_cases (ltb (key q) (key r)) (before problem order trees q r) b)
@@ -108,12 +112,15 @@ module _ (naming : Naming) (problem : Problem) (file : PlanFile) (states : ℕ �
     (keeps : ForestKeeps problem states slots order trees (length file.actions))
     (leaf_of : (i : ℕ) (line : ActionLine) → slice_get file.actions i ≡ Some line → (p : Place) × (g : GroundTask) × (node_at trees p ≡ Some (leaf g)) × (slots p ≡ i))
     (one_leaf : (p q : Place) (g h : GroundTask) → node_at trees p ≡ Some (leaf g) → node_at trees q ≡ Some (leaf h) → slots p ≡ slots q → p ≡ q) where
+  -- how many action lines there are
   abbrev n : ℕ
   n = length file.actions
 
+  -- the key by which a place is put in sequence
   abbrev key_of : Place → ℕ
   key_of = key problem order trees slots
 
+  -- a place isn't before another
   abbrev Later : Place → Place → Type 0
   Later p q = precedes problem order trees slots q p ≡ false
 

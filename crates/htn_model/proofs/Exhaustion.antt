@@ -16,6 +16,7 @@ use Rattle.htn_model.proofs.Steps.{Decomposes, Executes, chosen, step_choice}
 use Rattle.htn_model.proofs.Regrown.{choice_within}
 use Rattle.htn_model.proofs.OneToOne.{one_to_one}
 
+-- one passes in joined lists where one does in the first or in the second
 any-append : {X : Type 0} (test : X → Bool) (xs ys : List X) → list_any test (xs ++ ys) ≡ (list_any test xs || list_any test ys)
 any-append test [] ys = refl
 any-append test (x ∷ xs) ys = by (test x) (any-append test xs ys)
@@ -29,32 +30,38 @@ module _ (problem : Problem) (grounded : IsGrounded problem) where
   abbrev pub Agrees : State → Type 0
   Agrees state = (a : Atom) → problem.is_changed a.predicate ≡ false → contains state a ≡ contains problem.initial_state a
 
+  -- a set of atoms that change has none whose predicate doesn't
   unchanged : (s : State) (a : Atom) → problem.is_changed a.predicate ≡ false → AreChanged problem.is_changed s → contains s a ≡ false
   unchanged s a still changed = elim (cases_Bool (contains s a)) [
     | inl t ↦ absurd (both_ways (problem.is_changed a.predicate) still (changed a t))
     | inr f ↦ f
   ]
 
+  -- what isn't deleted and not added stays
   kept : (x : Bool) → (false || (x && not false)) ≡ x
   kept true = refl
   kept false = refl
 
+  -- an effect leaves what doesn't change as it was
   after_agrees : (state : State) (a : Action) → AreChanged problem.is_changed a.adds → AreChanged problem.is_changed a.deletes → Agrees state → Agrees (after state a)
   after_agrees state a adds deletes agrees x still =
       contains-after state a x
       ∙ ap₂ (λ p q. p || (contains state x && not q)) (unchanged a.adds x still adds) (unchanged a.deletes x still deletes)
       ∙ kept (contains state x) ∙ agrees x still
 
+  -- a state that is there only if a test holds is that state
   cond_state : (b : Bool) (s next : State) → cond b (Some s) None ≡ Some next → s ≡ next
   cond_state true s next h = cc
   cond_state false s next h = absurd cc
 
+  -- an action leaves what doesn't change as it was
   action_agrees : (g : GroundTask) (state next : State) (o : Option Action) → problem.action_of g ≡ o → Agrees state → perform_action state o ≡ Some next → Agrees next
   action_agrees g state next None e agrees h = absurd cc
   action_agrees g state next (Some a) e agrees h =
       let named = grounded.effects g a e in
       subst Agrees (cond_state (holds state a.precondition) (after state a) next h) (after_agrees state a named.0 named.1 agrees)
 
+  -- so does whatever is carried out
   perform_agrees : (state next : State) (x : Child) → Agrees state → perform problem state x ≡ Some next → Agrees next
   perform_agrees state next (precondition literals) agrees h = subst Agrees (cond_state (holds state literals) state next h) agrees
   perform_agrees state next (action g) agrees h = action_agrees g state next (problem.action_of g) refl agrees h
@@ -62,6 +69,7 @@ module _ (problem : Problem) (grounded : IsGrounded problem) where
 
   -- ## A dead step never holds
 
+  -- a dead literal is false in each state that agrees
   dead_literal : (state : State) (l : Literal) → Agrees state → is_dead_literal problem l ≡ true → literal_holds state l ≡ false
   dead_literal state (atom true a) agrees dead =
       let parts = and_parts _ _ dead in agrees a (not-true _ parts.0) ∙ not-true _ parts.1
@@ -70,13 +78,16 @@ module _ (problem : Problem) (grounded : IsGrounded problem) where
   dead_literal state (equality true x y) agrees dead = not-true _ dead
   dead_literal state (equality false x y) agrees dead = not-true _ dead
 
+  -- where the first fails, both together do
   and_first : (x y : Bool) → x ≡ false → (x && y) ≡ false
   and_first x y h = ap (λ z. z && y) h
 
+  -- where the second fails, both together do
   and_second : (x y : Bool) → y ≡ false → (x && y) ≡ false
   and_second true y h = h
   and_second false y h = refl
 
+  -- literals of which one is dead don't hold
   dead_literals : (state : State) (ls : List Literal) → Agrees state → list_any (is_dead_literal problem) ls ≡ true → holds state ls ≡ false
   dead_literals state [] agrees dead = absurd cc
   dead_literals state (l ∷ ls) agrees dead = either (or_cases (is_dead_literal problem l) (list_any (is_dead_literal problem) ls) dead) (dead_literals state ls agrees)
@@ -85,10 +96,12 @@ module _ (problem : Problem) (grounded : IsGrounded problem) where
       either (inl h) later = and_first _ _ (dead_literal state l agrees h)
       either (inr h) later = and_second _ _ (later h)
 
+  -- a state that is there only if a test holds shows that it does
   cond_holds : (b : Bool) (s next : State) → cond b (Some s) None ≡ Some next → b ≡ true
   cond_holds true s next h = refl
   cond_holds false s next h = absurd cc
 
+  -- what is carried out is not dead
   performed_alive : (state next : State) (x : Child) → Agrees state → perform problem state x ≡ Some next → is_dead_child problem x ≡ false
   performed_alive state next (precondition literals) agrees h = elim (cases_Bool (list_any (is_dead_literal problem) literals)) [
     | inl t ↦ absurd (both_ways _ (dead_literals state literals agrees t) (cond_holds (holds state literals) state next h))
@@ -97,18 +110,22 @@ module _ (problem : Problem) (grounded : IsGrounded problem) where
   performed_alive state next (action g) agrees h = refl
   performed_alive state next (task t) agrees h = refl
 
+  -- what is chosen is not dead
   chosen_alive : (c : Config) (number : ℕ) (choice : Choice) → Agrees c.state → Decomposes problem c number choice ⊎ Executes problem c number choice
       → is_dead_child problem (child_of c.open_nodes choice.position) ≡ false
   chosen_alive c number choice agrees (inl d) = ap (is_dead_child problem) d.is_task
   chosen_alive c number choice agrees (inr e) = performed_alive c.state choice.state (child_of c.open_nodes choice.position) agrees e.performs
 
+  -- a choice leaves what doesn't change as it was
   pub chosen_agrees : (c : Config) (number : ℕ) (choice : Choice) → Agrees c.state → Decomposes problem c number choice ⊎ Executes problem c number choice → Agrees choice.state
   chosen_agrees c number choice agrees (inl d) = subst Agrees (sym d.state) agrees
   chosen_agrees c number choice agrees (inr e) = perform_agrees c.state choice.state (child_of c.open_nodes choice.position) agrees e.performs
 
+  -- one of the nodes is dead
   abbrev HasDead : List Child → Type 0
   HasDead xs = list_any (is_dead_child problem) xs ≡ true
 
+  -- a dead node stays where another is replaced
   dead_stays : (i : ℕ) (ys xs : List Child) → i < length xs → is_dead_child problem (child_of xs i) ≡ false → HasDead xs → HasDead (splice i ys xs)
   dead_stays i ys xs within alive dead =
       let test = is_dead_child problem in
@@ -125,12 +142,14 @@ module _ (problem : Problem) (grounded : IsGrounded problem) where
       widen false false true false f h = refl
       widen false false false e f h = absurd cc
 
+  -- a dead node of a network comes in with it
   dead_enters : (i : ℕ) (ys xs : List Child) → HasDead ys → HasDead (splice i ys xs)
   dead_enters i ys xs dead =
       let test = is_dead_child problem in
       any-append test (take i xs) (ys ++ drop (suc i) xs)
       ∙ or_right _ _ (any-append test ys (drop (suc i) xs) ∙ or_left _ _ dead)
 
+  -- a configuration with a dead node never finishes
   never_finishes : (word : List ℕ) (c : Config) → Agrees c.state → HasDead c.open_nodes → FinishesFrom problem word c → ⊥
   never_finishes [] c agrees dead h = both_ways _ (ap (list_any (is_dead_child problem)) h.0) dead
   never_finishes (number ∷ word) c agrees dead h =
@@ -155,11 +174,13 @@ module _ (problem : Problem) (grounded : IsGrounded problem) where
         | inr f ↦ f
       ]
 
+  -- live numbers lead to a done configuration
   record Lives (word : List ℕ) (c : Config) : Type 0 where
     last : Config
     leads : LeadsLive problem word c last
     done : IsDone problem last
 
+  -- a word that finishes has live numbers only
   lives : (word : List ℕ) (c : Config) → Agrees c.state → FinishesFrom problem word c → Lives word c
   lives [] c agrees h = record { last = c; leads = refl; done = h }
   lives (number ∷ word) c agrees h =
@@ -175,6 +196,7 @@ module _ (problem : Problem) (grounded : IsGrounded problem) where
       ] in
       record { last = later.last; leads = (choice, made.1, alive, later.leads); done = later.done }
 
+  -- live numbers that lead to a done configuration finish
   finishes_live : (word : List ℕ) (c last : Config) → LeadsLive problem word c last → IsDone problem last → FinishesFrom problem word c
   finishes_live [] c last leads done = subst (IsDone problem) (sym leads) done
   finishes_live (number ∷ word) c last leads done =
@@ -202,19 +224,23 @@ module _ (problem : Problem) (grounded : IsGrounded problem) where
             omega arith);
       }
 
+  -- where the bound isn't met, no answer means no solution
   pub exhaustion_decides : ExhaustionDecides problem
   exhaustion_decides bound not_met none s solves =
       let c = (one_to_one problem grounded).code s solves in not_met (met_by bound none c.0 c.3)
 
+  -- a finishing word finishes by live numbers
   to_live : (word : List ℕ) → Finishes problem word → FinishesLive problem word
   to_live [] h = h
   to_live (number ∷ word) h =
       let live = lives word (start problem h.0) (λ a still. refl) h.2 in
       (h.0, live.last, h.1, live.leads, live.done)
 
+  -- a word that finishes by live numbers finishes
   from_live : (word : List ℕ) → FinishesLive problem word → Finishes problem word
   from_live [] h = h
   from_live (number ∷ word) h = (h.0, h.2, finishes_live word (start problem h.0) h.1 h.3 h.4)
 
+  -- dead numbers never finish
   pub dead_numbers_never_finish : DeadNumbersNeverFinish problem
   dead_numbers_never_finish word = (to_live word, from_live word)

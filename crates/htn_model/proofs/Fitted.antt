@@ -39,6 +39,7 @@ module _ (naming : Naming) (file : PlanFile) (forest : IsForest file) (trees : N
     (leaf_line : (p : Place) (g : GroundTask) → node_at trees p ≡ Some (leaf g)
     → (line : ActionLine) × (slice_get file.actions (slots p) ≡ Some line) × (line.id ≡ id_at p) × (naming.named line.name line.arguments ≡ Some g))
     (compound_line : (p : Place) → IsCompound (node_at trees p) → (line : DecompositionLine) × IsIn line file.decompositions × IsDecompositionLine naming trees id_at p line) where
+  -- the slots below a place
   abbrev below : Place → Slots
   below place q = slots (place ++ q)
 
@@ -62,10 +63,12 @@ module _ (naming : Naming) (file : PlanFile) (forest : IsForest file) (trees : N
       let (other, listed, found) = compound_line place (subst IsCompound (sym e) tt) in
       absurd (kinds_apart file forest line other (at_in line file.actions i there) listed (is ∙ sym same ∙ sym found.id))
 
+  -- a plan that shows a node's line fits where that node stands
   abbrev Shown : PlanTree → Type 0
   Shown p = (id : ℕ) → ShowsTree naming file id p → (place : Place) (m : Node) → node_at trees place ≡ Some m → HasId (Some m)
       → id_at place ≡ id → Shades naming (below place) m p
 
+  -- so do plans that show the lines of a network's nodes
   abbrev AllShown : PlanTrees → Type 0
   AllShown plans = (ids : List ℕ) → ShowTrees naming file ids plans → (place : Place) (nodes : Nodes) → Finds place nodes → (positions : List ℕ)
       → ((a : ℕ) → IsIn a positions → HasId (child_at nodes a)) → ids ≡ map (λ a. id_at (place ++ a ∷ [])) positions

@@ -12,12 +12,15 @@ use Rattle.htn_model.proofs.Decoupled.{nothing_below, within, within_child, sits
 use Rattle.htn_model.proofs.Coupled.{spread_by, all_sit}
 
 module _ (problem : Problem) (states : ℕ → State) where
+  -- the step at a place holds in its gap
   abbrev Hold : Slots → Option Node → Place → Type 0
   Hold slots m p = (literals : List Literal) → node_below m p ≡ Some (step literals) → holds (states (slots p)) literals ≡ true
 
+  -- nothing is no step
   no_step : (p : Place) (literals : List Literal) → node_below None p ≡ Some (step literals) → ⊥
   no_step p literals h = let none = nothing_below p in absurd cc
 
+  -- steps below a child hold in their gaps
   hold_child : (p : Place) → ((slots : Slots) (n : Node) (g h : ℕ) → Sits problem states slots n g h → Hold slots (Some n) p)
       → (slots : Slots) (nodes : Nodes) (i : ℕ) (m : Option Node) → child_at nodes i ≡ m
       → (start finish : ℕ → ℕ) → AllSit problem states slots 0 nodes start finish → Hold (λ q. slots (i ∷ q)) m p
@@ -25,6 +28,7 @@ module _ (problem : Problem) (states : ℕ → State) where
   hold_child p deeper slots nodes i (Some n) is start finish all literals h =
       deeper (λ q. slots (i ∷ q)) n (start i) (finish i) (sits_child problem states slots nodes start finish i n all is) literals h
 
+  -- steps that sit in a node hold in their gaps
   steps_hold : (p : Place) (slots : Slots) (n : Node) (g h : ℕ) → Sits problem states slots n g h → Hold slots (Some n) p
   steps_hold [] slots (leaf named) g h sits literals is = absurd cc
   steps_hold [] slots (step given) g h sits literals is = let same : given ≡ literals = cc in subst (λ l. holds (states (slots [])) l ≡ true) same sits.2
@@ -34,11 +38,13 @@ module _ (problem : Problem) (states : ℕ → State) where
   steps_hold (i ∷ p) slots (compound t number nodes) g h (start, finish, spans, all) literals is =
       hold_child p (steps_hold p) slots nodes i (child_at nodes i) refl start finish all literals is
 
+  -- steps of a forest that sits hold in their gaps
   forest_steps : (slots : Slots) (trees : Nodes) (start finish : ℕ → ℕ) → AllSit problem states slots 0 trees start finish
       → (p : Place) (literals : List Literal) → node_at trees p ≡ Some (step literals) → holds (states (slots p)) literals ≡ true
   forest_steps slots trees start finish all [] literals is = absurd cc
   forest_steps slots trees start finish all (i ∷ p) literals is = hold_child p (steps_hold p) slots trees i (child_at trees i) refl start finish all literals is
 
+  -- leaves and steps of a forest that sits end by the last gap
   forest_ends : (slots : Slots) (trees : Nodes) (start finish : ℕ → ℕ) (n : ℕ) → ((a : ℕ) → finish a ≤ n) → AllSit problem states slots 0 trees start finish
       → (p : Place) → IsPrimitive (node_at trees p) → duration (node_at trees p) + slots p ≤ n
   forest_ends slots trees start finish n to all [] primitive = absurd primitive
@@ -46,6 +52,7 @@ module _ (problem : Problem) (states : ℕ → State) where
       let w = within_child problem states p (within problem states p) slots trees i (child_at trees i) refl start finish all primitive in
       let end = w.to in let last = to i in omega arith
 
+-- a forest keeps its order exactly where its networks sit in spans
 pub networks_decouple : (problem : Problem) → IsGrounded problem → NetworksDecouple problem
 networks_decouple problem grounded = record {
   sits = λ states slots order trees n closed k.
@@ -58,6 +65,7 @@ networks_decouple problem grounded = record {
   };
 }
 
+-- the earliest finish of a line shows what room it has
 pub earliest_shows_all : (naming : Naming) (problem : Problem) → EarliestShowsAll naming problem
 earliest_shows_all naming problem = record {
   monotone = fits_monotone naming problem;

@@ -13,11 +13,13 @@ use Rattle.htn_model.proofs.Splices.{places_of_splice, Inside, Outside, outside_
 
 -- ## The trees under a place
 
+-- the child at a position stands in the front with its place
 pub record PlacedAt (place : Place) (i : ℕ) (ns : Nodes) (k : ℕ) : Type 0 where
   pub child : Node
   pub stands : child_at ns k ≡ Some child
   pub is : front_at (placed place i ns) k ≡ record { place = place ++ (i + k) ∷ []; node = child }
 
+-- so it does where one more stands before it
 placed_later : (place : Place) (i : ℕ) (n : Node) (ns : Nodes) (k : ℕ) → PlacedAt place (suc i) ns k → PlacedAt place i (node n ns) (suc k)
 placed_later place i n ns k p = record {
   child = p.child;
@@ -25,20 +27,24 @@ placed_later place i n ns k p = record {
   is = p.is ∙ ap (λ j. record { place = place ++ j ∷ []; node = p.child }) (let e : suc i + k ≡ i + suc k = omega arith in e);
 }
 
+-- each position of placed children has one
 pub placed_at : (place : Place) (i : ℕ) (ns : Nodes) (k : ℕ) → k < length (placed place i ns) → PlacedAt place i ns k
 placed_at place i no_nodes k h = absurd (omega arith)
 placed_at place i (node n ns) zero h = record { child = n; stands = refl; is = ap (λ j. record { place = place ++ j ∷ []; node = n }) (let e : i ≡ i + 0 = omega arith in e) }
 placed_at place i (node n ns) (suc k) h = placed_later place i n ns k (placed_at place (suc i) ns k (omega arith))
 
+-- placed children are trees of the same nodes
 pub placed_roots : (place : Place) (i : ℕ) (ns : Nodes) → front_roots (placed place i ns) ≡ roots ns
 placed_roots place i no_nodes = refl
 placed_roots place i (node n ns) = ap (λ rest. root n ∷ rest) (placed_roots place (suc i) ns)
 
+-- a tree of trees is one
 pub tree_at : (problem : Problem) (ns : Nodes) (k : ℕ) (n : Node) → AreTrees problem ns → child_at ns k ≡ Some n → IsTree problem n
 tree_at problem no_nodes k n h stands = absurd cc
 tree_at problem (node m ns) zero n h stands = let same : m ≡ n = cc in subst (IsTree problem) same h.0
 tree_at problem (node m ns) (suc k) n h stands = tree_at problem ns k n h.1 stands
 
+-- the children of a tree are trees
 pub child_trees : (problem : Problem) (n : Node) → IsTree problem n → AreTrees problem (children_of n)
 child_trees problem (leaf g) h = tt
 child_trees problem (step literals) h = tt
@@ -63,13 +69,16 @@ pub record Expands (problem : Problem) (x : Placed) (network : Network) : Type 0
   pub children : roots (children_of x.node) ≡ network.children
   pub orders : order_of problem x.node ≡ network.order
 
+-- a node has as many children as its network has nodes
 pub length_children : (problem : Problem) (x : Placed) (network : Network) → Expands problem x network → length (children_at x) ≡ length network.children
 length_children problem x network e = sym (length-map (children_at x) (λ y. root y.node)) ∙ ap length (placed_roots x.place 0 (children_of x.node)) ∙ ap length e.children
 
+-- nothing comes before the empty place
 pub before_nothing : (problem : Problem) (order : Order) (trees : Nodes) (p : Place) → before problem order trees p [] ≡ false
 before_nothing problem order trees [] = refl
 before_nothing problem order trees (i ∷ p) = refl
 
+-- two positions that aren't both the replaced one are told apart
 not_both : (a b i : ℕ) (s t : Bool) → (a ≡ i → b ≡ i → ⊥) → cond (eqb a i && eqb b i) s t ≡ t
 not_both a b i s t other = elim (cases_eq a i) [
   | inl same ↦ rw (eq-eqb a i same, ne_eqb b i (other same)) refl
@@ -77,15 +86,19 @@ not_both a b i s t other = elim (cases_eq a i) [
 ]
 
 module _ (problem : Problem) (grounded : IsGrounded problem) (order : Order) (trees : Nodes) (front : List Placed) (i : ℕ) (here : i < length front) where
+  -- the node of the front that is replaced
   abbrev x : Placed
   x = front_at front i
 
+  -- the front after it
   abbrev next : List Placed
   next = splice i (children_at x) front
 
+  -- a position of the new front is among the children, or outside
   abbrev At : ℕ → Type 0
   At a = Inside i (children_at x) front nowhere a ⊎ Outside i (children_at x) front nowhere a
 
+  -- each position is one of these
   at : (a : ℕ) → At a
   at a = places_of_splice i (children_at x) front nowhere a here
 
@@ -93,14 +106,17 @@ module _ (problem : Problem) (grounded : IsGrounded problem) (order : Order) (tr
   child : (a : ℕ) → (p : Inside i (children_at x) front nowhere a) → PlacedAt x.place 0 (children_of x.node) p.offset
   child a p = placed_at x.place 0 (children_of x.node) p.offset p.within
 
+  -- a position among the children has the child with its place
   is_child : (a : ℕ) → (p : Inside i (children_at x) front nowhere a)
       → front_at next a ≡ record { place = x.place ++ p.offset ∷ []; node = (child a p).child }
   is_child a p = p.element ∙ (child a p).is ∙ ap (λ j. record { place = x.place ++ j ∷ []; node = (child a p).child }) (let e : 0 + p.offset ≡ p.offset = omega arith in e)
 
   module _ (is_front : IsFront problem order trees front) where
+    -- a node of the front is the one at its place in the trees
     Good : Placed → Type 0
     Good y = Shows problem order trees y.place (order_of problem y.node) (children_of y.node) × (node_at trees y.place ≡ Some y.node) × IsTree problem y.node
 
+    -- so is each of the new front
     good_at : (a : ℕ) → a < length next → At a → Good (front_at next a)
     unfolding Good
     good_at a within (inl p) =
@@ -114,9 +130,11 @@ module _ (problem : Problem) (grounded : IsGrounded problem) (order : Order) (tr
         let b = origin i (length (children_at x)) a in
         subst Good (sym q.element) (is_front.shown b (q.within within), is_front.stands b (q.within within), is_front.are_trees b (q.within within))
 
+    -- two nodes of the front have places apart
     Parts : Placed → Placed → Type 0
     Parts y z = Apart y.place z.place
 
+    -- so have each two of the new front
     parts_at : (a b : ℕ) → a < length next → b < length next → (a ≡ b → ⊥) → At a → At b → Parts (front_at next a) (front_at next b)
     unfolding Parts
     parts_at a b low high other (inl p) (inl q) =
@@ -133,6 +151,7 @@ module _ (problem : Problem) (grounded : IsGrounded problem) (order : Order) (tr
         (is_front.apart (origin i (length (children_at x)) a) (origin i (length (children_at x)) b) (p.within low) (q.within high)
         (λ e. other (outside_once i (children_at x) front nowhere a b p q e)))
 
+    -- the new front is one
     pub front_next : IsFront problem order trees next
     unfolding Good Parts
     front_next = record {
@@ -145,15 +164,19 @@ module _ (problem : Problem) (grounded : IsGrounded problem) (order : Order) (tr
     -- ## The configuration after one number
 
     module _ (c : Config) (matches : Matches problem order trees front c) (network : Network) (expands : Expands problem x network) where
+      -- the inherited order of places
       abbrev precedes : Place → Place → Bool
       precedes = before problem order trees
 
+      -- there are as many children as nodes of the network
       m_is : length (children_at x) ≡ length network.children
       m_is = length_children problem x network expands
 
+      -- the network's order is closed
       closed : IsClosed network.order
       closed = subst IsClosed expands.orders (order_of_closed problem grounded x.node)
 
+      -- two positions are ordered as their places are
       order_at : (a b : ℕ) → a < length next → b < length next → At a → At b
           → replaced_order c.order i (length network.children) network.order a b ≡ precedes (front_at next a).place (front_at next b).place
       order_at a b low high (inl p) (inl q) =
@@ -190,14 +213,17 @@ module _ (problem : Problem) (grounded : IsGrounded problem) (order : Order) (tr
           ∙ ap₂ (λ y z. precedes (front_at front y).place (front_at front z).place) u v
           ∙ sym (ap₂ (λ y z. precedes y.place z.place) p.element q.element)
 
+      -- the open nodes after a step are those of the new front
       roots_next : splice i network.children c.open_nodes ≡ front_roots next
       roots_next =
           ap₂ (splice i) (sym (placed_roots x.place 0 (children_of x.node) ∙ expands.children)) matches.roots
           ∙ sym (map_splice (λ y. root y.node) i (children_at x) front)
 
+      -- there are as many
       length_next : length (splice i network.children c.open_nodes) ≡ length next
       length_next = ap length roots_next ∙ length-map next (λ y. root y.node)
 
+      -- their order is that of the new front
       order_next : (a b : ℕ) → is_before (table (length (splice i network.children c.open_nodes)) (replaced_order c.order i (length network.children) network.order)) a b ≡ front_order precedes next a b
       order_next a b =
           let n = length (splice i network.children c.open_nodes) in

@@ -65,6 +65,7 @@ count_small t zero = omega arith
 count_small t (suc n) = let more = count_small t n in let here = one_small (t n) in omega arith
 
 module _ (network : Network) (is_network : IsNetwork network) where
+  -- how many nodes the network has
   abbrev size : ℕ
   size = length network.children
 
@@ -126,15 +127,19 @@ module _ (naming : Naming) (problem : Problem) (states : ℕ → State) where
 -- ## Greedy spans
 
 module _ (naming : Naming) (problem : Problem) (states : ℕ → State) (network : Network) (positions : List ℕ) (plans : PlanTrees) (is_network : IsNetwork network) where
+  -- what stands at a position has room
   abbrev Room : ℕ → ℕ → ℕ → Type 0
   Room = HasRoomAt naming problem states network positions plans
 
+  -- the first gap at which it can have finished
   abbrev Earliest : ℕ → ℕ → ℕ → Type 0
   Earliest = IsEarliestAt naming problem states network positions plans
 
+  -- spans that are greedy from a gap on
   abbrev Greedy : ℕ → (ℕ → ℕ) → (ℕ → ℕ) → Type 0
   Greedy = IsGreedy naming problem states network positions plans
 
+  -- any spans of the plans at these positions
   abbrev Spans : ℕ → ℕ → (ℕ → ℕ) → (ℕ → ℕ) → Type 0
   Spans = HaveSpans naming problem states network positions plans
 
@@ -181,27 +186,34 @@ module _ (naming : Naming) (problem : Problem) (states : ℕ → State) (network
   -- ## Their existence, rank by rank
 
   module _ (g n : ℕ) (tables : Tables naming problem states network positions plans n) where
+    -- the finish that a table tells, or the start where there is none
     abbrev finish_from : (a x : ℕ) → ((y : ℕ) × Earliest a x y) ⊎ ((k : ℕ) → k ≤ n → Room a x k → ⊥) → ℕ
     finish_from a x (inl found) = found.0
     finish_from a x (inr none) = x
 
+    -- the finish of what comes before a position, else the first gap
     abbrev earlier : (ℕ → ℕ) → ℕ → ℕ → ℕ
     earlier finish a b = cond (is_before network.order b a) (finish b) g
 
+    -- past the nodes nothing comes before
     earlier_small : (finish : ℕ → ℕ) (a b : ℕ) → length network.children ≤ b → earlier finish a b ≤ g
     earlier_small finish a b past = let e : earlier finish a b ≡ g = ap (λ c. cond c (finish b) g) (past_size network is_network b a past) in omega arith
 
+    -- the greatest finish of what comes before
     begin : (ℕ → ℕ) → ℕ → ℕ
     begin finish a = (greatest g (earlier finish a) (length network.children) (earlier_small finish a)).0
 
+    -- it is the greatest
     begin_is : (finish : ℕ → ℕ) (a : ℕ) → IsGreatest g (earlier finish a) (begin finish a)
     unfolding begin
     begin_is finish a = (greatest g (earlier finish a) (length network.children) (earlier_small finish a)).1
 
+    -- what comes before has finished there
     after_earlier : (finish : ℕ → ℕ) (a b : ℕ) → is_before network.order b a ≡ true → finish b ≤ begin finish a
     after_earlier finish a b e =
         let u = (begin_is finish a).upper b in let same : earlier finish a b ≡ finish b = ap (λ c. cond c (finish b) g) e in omega arith
 
+    -- no finish of what comes before is later than a gap by which all have
     earlier_up_to : (finish : ℕ → ℕ) (a k b : ℕ) → g ≤ k → (is_before network.order b a ≡ true → finish b ≤ k) → earlier finish a b ≤ k
     earlier_up_to finish a k b low h = by (is_before network.order b a) refl
       where
@@ -209,13 +221,16 @@ module _ (naming : Naming) (problem : Problem) (states : ℕ → State) (network
         by true e = h e
         by false e = low
 
+    -- so it is the soonest start
     soonest : (finish : ℕ → ℕ) (a k : ℕ) → g ≤ k → ((b : ℕ) → is_before network.order b a ≡ true → finish b ≤ k) → begin finish a ≤ k
     soonest finish a k low h = (begin_is finish a).least k low (λ b. earlier_up_to finish a k b low (h b))
 
+    -- the finish of a position, by so many rounds
     finish_at : ℕ → ℕ → ℕ
     finish_at zero a = g
     finish_at (suc m) a = finish_from a (begin (finish_at m) a) (tables a (begin (finish_at m) a))
 
+    -- starts are equal where what comes before finishes alike
     same_begin : (first second : ℕ → ℕ) (a : ℕ) → ((b : ℕ) → is_before network.order b a ≡ true → first b ≡ second b) → begin first a ≡ begin second a
     same_begin first second a alike =
         let low = (begin_is first a).low in
@@ -224,6 +239,7 @@ module _ (naming : Naming) (problem : Problem) (states : ℕ → State) (network
         let two : begin second a ≤ begin first a = soonest second a (begin first a) low (λ b e. let s = alike b e in let u = after_earlier first a b e in omega arith) in
         omega arith
 
+    -- after as many rounds as its rank a finish stays
     stable : (m a : ℕ) → rank network is_network a < m → finish_at (suc m) a ≡ finish_at m a
     unfolding finish_at
     stable zero a low = absurd (omega arith)
@@ -231,12 +247,15 @@ module _ (naming : Naming) (problem : Problem) (states : ℕ → State) (network
         ap (λ x. finish_from a x (tables a x))
         (same_begin (finish_at (suc m)) (finish_at m) a (λ b e. stable m b (let r = is_ranked network is_network b a e in omega arith)))
 
+    -- the finish of a position
     finish : ℕ → ℕ
     finish = finish_at (suc (length network.children))
 
+    -- the start of a position
     start : ℕ → ℕ
     start = begin finish
 
+    -- the finish is what the table tells from the start
     finish_is : (a : ℕ) → finish a ≡ finish_from a (start a) (tables a (start a))
     unfolding start finish finish_at
     finish_is a = sym (stable (suc (length network.children)) a (rank_small network is_network a))
@@ -245,6 +264,7 @@ module _ (naming : Naming) (problem : Problem) (states : ℕ → State) (network
     abbrev Stuck : ℕ → Type 0
     Stuck a = (k : ℕ) → k ≤ n → Room a (start a) k → ⊥
 
+    -- a position finishes earliest, or it is stuck
     found_or_stuck : (a : ℕ) → Earliest a (start a) (finish a) ⊎ Stuck a
     found_or_stuck a = by (tables a (start a)) refl
       where
@@ -252,6 +272,7 @@ module _ (naming : Naming) (problem : Problem) (states : ℕ → State) (network
         by (inl found) e = inl (subst (Earliest a (start a)) (sym (finish_is a ∙ ap (finish_from a (start a)) e)) found.1)
         by (inr none) e = inr none
 
+    -- no finish from that start is earlier
     least_there : (a k : ℕ) → k ≤ n → Room a (start a) k → finish a ≤ k
     least_there a k low r = elim (found_or_stuck a) [ inl found ↦ found.least k r | inr stuck ↦ absurd (stuck k low r) ]
 
@@ -267,6 +288,7 @@ module _ (naming : Naming) (problem : Problem) (states : ℕ → State) (network
         a (let r = rank_small network is_network a in omega arith) in
         stuck (other_finish a) (omega arith) (room_wider a (other_start a) (other_finish a) (start a) earlier_start (rooms_of g h other_start other_finish s a))
 
+    -- among the positions all finish earliest, or one is stuck
     search_stuck : (m : ℕ) → ((a : ℕ) → a < m → Earliest a (start a) (finish a)) ⊎ ((a : ℕ) × Stuck a)
     search_stuck zero = inl (λ a low. absurd (omega arith))
     search_stuck (suc m) = elim (search_stuck m) [
@@ -280,6 +302,7 @@ module _ (naming : Naming) (problem : Problem) (states : ℕ → State) (network
       | inr some ↦ inr some
     ]
 
+    -- there are greedy spans, or no spans at all
     greedy_or_none : ((a x : ℕ) → length network.children ≤ a → (found : (y : ℕ) × Earliest a x y) × (tables a x ≡ inl found))
         → ((start : ℕ → ℕ) × (finish : ℕ → ℕ) × Greedy g start finish) ⊎ ((h : ℕ) (start finish : ℕ → ℕ) → h ≤ n → Spans g h start finish → ⊥)
     unfolding start
@@ -328,6 +351,7 @@ module _ (naming : Naming) (problem : Problem) (states : ℕ → State) (network
     least = λ k r. r.forward;
   }
 
+  -- a table for each position, and past the nodes no room is needed
   abbrev table_or_past : (n a x : ℕ) → IsMatching network.children positions plans → Tables naming problem states network positions plans n
       → (a < length network.children) ⊎ (length network.children ≤ a) → ((y : ℕ) × Earliest a x y) ⊎ ((k : ℕ) → k ≤ n → Room a x k → ⊥)
   table_or_past n a x matching tables (inl low) = tables a x
@@ -353,6 +377,7 @@ module _ (naming : Naming) (problem : Problem) (states : ℕ → State) (network
 abbrev Table : (ℕ → Type 0) → ℕ → Type 0
 Table A n = ((y : ℕ) × A y × ((k : ℕ) → A k → y ≤ k)) ⊎ ((k : ℕ) → k ≤ n → A k → ⊥)
 
+-- what holds at a gap holds at later ones
 abbrev IsUp : (ℕ → Type 0) → Type 0
 IsUp A = (y z : ℕ) → y ≤ z → A y → A z
 
@@ -389,6 +414,7 @@ module _ (naming : Naming) (problem : Problem) (states : ℕ → State) where
           inl (found.0, (gap, (omega arith), to, there), (λ k fits. let (other, low, up, holds_there) = fits in found.2 k (other, not_here literals x other e low holds_there, up, holds_there)))
       by false e (inr none) = inr (λ k low fits. let (gap, from, to, there) = fits in none k low (gap, not_here literals x gap e from there, to, there))
 
+  -- the step at a position has room
   abbrev StepRoom : List Child → ℕ → ℕ → ℕ → Type 0
   StepRoom children a x y = (literals : List Literal) → slice_get children a ≡ Some (precondition literals) → StepFits states literals x y
 
@@ -418,6 +444,7 @@ module _ (naming : Naming) (problem : Problem) (states : ℕ → State) where
       by (Some (action g)) e = no_step (λ literals f. let both : Some (action g) ≡ Some (precondition literals) = sym e ∙ f in absurd cc)
       by (Some (task t)) e = no_step (λ literals f. let both : Some (task t) ≡ Some (precondition literals) = sym e ∙ f in absurd cc)
 
+  -- the plan at a position has room
   abbrev PlanRoom : List ℕ → PlanTrees → ℕ → ℕ → ℕ → Type 0
   PlanRoom = PlanHasRoom naming problem states
 

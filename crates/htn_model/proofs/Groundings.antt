@@ -10,24 +10,31 @@ use Rattle.htn_model.specs.Schema.{AtomSchema, EqualitySchema, Formula, Name, Ne
 use Rattle.htn_model.specs.Task.{ActionSchema, Declaration, InitialSchema, MethodSchema, ObjectType, Task}
 use Rattle.htn_model.specs.Instances.{action_of, initials, methods_of}
 
+-- a declaration of that name and these types
 abbrev called : ℕ → List ℕ → Declaration
 called name types = record { name = name ∷ []; types = types }
 
+-- a type of that name with these objects
 abbrev of_type : ℕ → List ℕ → ObjectType
 of_type name objects = record { name = name ∷ []; objects = objects }
 
+-- an atom with these terms
 abbrev at_terms : ℕ → List Term → AtomSchema
 at_terms predicate arguments = record { predicate = predicate; arguments = arguments }
 
+-- a task with these terms
 abbrev task_at : ℕ → List Term → TaskSchema
 task_at name arguments = record { name = name; arguments = arguments }
 
+-- a ground task
 abbrev ground_at : ℕ → List ℕ → GroundTask
 ground_at name arguments = record { name = name; arguments = arguments }
 
+-- a positive ground literal
 abbrev fact : ℕ → List ℕ → Literal
 fact predicate arguments = atom true (record { predicate = predicate; arguments = arguments })
 
+-- a task that declares objects alone
 abbrev only_objects : Task
 only_objects = record {
   objects = [];
@@ -43,6 +50,7 @@ only_objects = record {
 
 -- ## A truck that goes from place to place
 
+-- the method of who is there
 abbrev stay : MethodSchema
 stay = record {
   name = 0 ∷ [];
@@ -53,6 +61,7 @@ stay = record {
   network = record { subtasks = []; order = [] };
 }
 
+-- the method that drives one road further
 abbrev drive_step : MethodSchema
 drive_step = record {
   name = 1 ∷ [];
@@ -66,6 +75,7 @@ drive_step = record {
   };
 }
 
+-- the action that drives along a road
 abbrev drive : ActionSchema
 drive = record {
   name = 2 ∷ [];
@@ -89,9 +99,11 @@ road = record only_objects {
       set_of (record { predicate = 1; arguments = 3 ∷ 0 ∷ [] } ∷ record { predicate = 0; arguments = 0 ∷ 1 ∷ [] } ∷ record { predicate = 0; arguments = 1 ∷ 2 ∷ [] } ∷ []);
 }
 
+-- get the truck to the third place
 abbrev go_to_c : GroundTask
 go_to_c = ground_at 0 (3 ∷ 2 ∷ [])
 
+-- that has ten instances
 road_numbers : length (methods_of road go_to_c) ≡ 10
 road_numbers = refl
 
@@ -103,6 +115,7 @@ staying = record {
   network = record { children = problem.precondition (fact 1 (3 ∷ 2 ∷ []) ∷ []) ∷ []; order = (false ∷ []) ∷ [] };
 }
 
+-- the first is to stay
 road_first : slice_get (methods_of road go_to_c) 0 ≡ Some staying
 road_first = refl
 
@@ -117,15 +130,19 @@ stepping from to = record {
   };
 }
 
+-- then driving from the first place to the first
 road_second : slice_get (methods_of road go_to_c) 1 ≡ Some (stepping 0 0)
 road_second = refl
 
+-- then from the first place to the second
 road_third : slice_get (methods_of road go_to_c) 2 ≡ Some (stepping 0 1)
 road_third = refl
 
+-- the seventh from the second place to the third
 road_seventh : slice_get (methods_of road go_to_c) 6 ≡ Some (stepping 1 2)
 road_seventh = refl
 
+-- the last from the third place to the third
 road_last : slice_get (methods_of road go_to_c) 9 ≡ Some (stepping 2 2)
 road_last = refl
 
@@ -133,12 +150,15 @@ road_last = refl
 road_place : methods_of road (ground_at 0 (2 ∷ 3 ∷ [])) ≡ []
 road_place = refl
 
+-- a task with an argument too few has none
 road_short : methods_of road (ground_at 0 (3 ∷ [])) ≡ []
 road_short = refl
 
+-- an action has no methods
 road_drive : methods_of road (ground_at 1 (3 ∷ 0 ∷ 1 ∷ [])) ≡ []
 road_drive = refl
 
+-- driving has its precondition and effects
 road_driven : action_of road (ground_at 1 (3 ∷ 0 ∷ 1 ∷ []))
     ≡ Some (record {
       precondition = fact 1 (3 ∷ 0 ∷ []) ∷ fact 0 (0 ∷ 1 ∷ []) ∷ [];
@@ -147,14 +167,17 @@ road_driven : action_of road (ground_at 1 (3 ∷ 0 ∷ 1 ∷ []))
     })
 road_driven = refl
 
+-- what is no truck can't be driven
 road_not_driven : action_of road (ground_at 1 (0 ∷ 0 ∷ 1 ∷ [])) ≡ None
 road_not_driven = refl
 
+-- a compound task is no action
 road_no_action : action_of road (ground_at 0 (3 ∷ 2 ∷ [])) ≡ None
 road_no_action = refl
 
 -- ## An initial network with a parameter that must differ from the first object
 
+-- an initial network with a parameter that isn't the first object
 abbrev touching : List Name → List ℕ → Task
 touching names numbers = record only_objects {
   objects = names;
@@ -167,17 +190,21 @@ touching names numbers = record only_objects {
   };
 }
 
+-- its instance by an object
 abbrev touched : ℕ → Instance
 touched o = record { method = None; values = o ∷ []; network = record { children = problem.action (ground_at 0 (o ∷ [])) ∷ []; order = (false ∷ []) ∷ [] } }
 
+-- three objects give two instances
 touching_three : initials (touching ((0 ∷ []) ∷ (1 ∷ []) ∷ (2 ∷ []) ∷ []) (0 ∷ 1 ∷ 2 ∷ [])) ≡ touched 1 ∷ touched 2 ∷ []
 touching_three = refl
 
+-- one object gives none
 touching_one : initials (touching ((0 ∷ []) ∷ []) (0 ∷ [])) ≡ []
 touching_one = refl
 
 -- ## A method that needs an object that the task doesn't name
 
+-- a task whose method needs a fact of its parameter
 abbrev needing : Task
 needing = record only_objects {
   objects = (0 ∷ []) ∷ (1 ∷ []) ∷ [];
@@ -195,9 +222,11 @@ needing = record only_objects {
   initial_atoms = set_of (record { predicate = 0; arguments = 1 ∷ [] } ∷ []);
 }
 
+-- its instance by an object
 abbrev needed : ℕ → Instance
 needed o = record { method = Some 0; values = o ∷ []; network = record { children = problem.precondition (fact 0 (o ∷ []) ∷ []) ∷ []; order = (false ∷ []) ∷ [] } }
 
+-- each object gives an instance
 needing_both : methods_of needing (ground_at 0 []) ≡ needed 0 ∷ needed 1 ∷ []
 needing_both = refl
 
@@ -230,12 +259,15 @@ boxes names numbers = record only_objects {
   } ∷ [];
 }
 
+-- a task whose precondition is for all of two boxes
 abbrev two_boxes : Task
 two_boxes = boxes ((0 ∷ []) ∷ (1 ∷ []) ∷ []) (0 ∷ 1 ∷ [])
 
+-- the instance with these literals
 abbrev all_done : List Literal → Instance
 all_done literals = record { method = Some 0; values = []; network = record { children = problem.precondition literals ∷ []; order = (false ∷ []) ∷ [] } }
 
+-- it has a literal for each box
 boxes_two : methods_of two_boxes (ground_at 0 []) ≡ all_done (fact 0 (0 ∷ []) ∷ fact 0 (1 ∷ []) ∷ []) ∷ []
 boxes_two = refl
 
@@ -256,6 +288,7 @@ boxes_inside = refl
 
 -- ## An equality of two objects, and a task with an argument twice
 
+-- a method with two parameters that are the same, or aren't
 abbrev twice : Bool → Task
 twice same = record only_objects {
   objects = (0 ∷ []) ∷ (1 ∷ []) ∷ [];
@@ -275,8 +308,10 @@ twice same = record only_objects {
 twice_same : methods_of (twice false) (ground_at 0 (1 ∷ 1 ∷ [])) ≡ record { method = Some 0; values = 1 ∷ []; network = record { children = []; order = [] } } ∷ []
 twice_same = refl
 
+-- different values have no instance where they must be the same
 twice_different : methods_of (twice false) (ground_at 0 (0 ∷ 1 ∷ [])) ≡ []
 twice_different = refl
 
+-- equal values have none where they must differ
 twice_unequal : methods_of (twice true) (ground_at 0 (1 ∷ 1 ∷ [])) ≡ []
 twice_unequal = refl

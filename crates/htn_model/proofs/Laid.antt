@@ -14,6 +14,7 @@ use Rattle.htn_model.proofs.Rearranged.{in_rearranged, in_arranged, map_rearrang
 
 -- ## The positions of subtasks
 
+-- a node of a network is an action or a task
 abbrev pub IsSubtask : Child → Type 0
 IsSubtask (precondition literals) = ⊥
 IsSubtask (action g) = Unit {0}
@@ -83,9 +84,11 @@ pub record Laid : Type 0 where
   pub slots : Slots
   pub ids : Place → ℕ
 
+-- the line's id at each position below
 abbrev pub id_below : (Place → ℕ) → ℕ → ℕ
 id_below ids a = ids (a ∷ [])
 
+-- ids below a node with its own
 abbrev pub with_id : ℕ → (Place → ℕ) → Place → ℕ
 with_id id ids [] = id
 with_id id ids (a ∷ q) = ids (a ∷ q)
@@ -115,6 +118,7 @@ marks_with naming file slots ids id i (node n ns) marks = (marks.0, marks_with n
 
 -- ## One of each position
 
+-- something holds of each plan with its position and id
 abbrev pub AllOf : (ℕ → ℕ → PlanTree → Type 0) → List ℕ → List ℕ → PlanTrees → Type 0
 AllOf P positions ids no_plans = (positions ≡ []) × (ids ≡ [])
 AllOf P [] ids (plan p plans) = ⊥
@@ -129,6 +133,7 @@ all_of_map P Q [] ids (plan p plans) f all = absurd all
 all_of_map P Q (a ∷ positions) [] (plan p plans) f all = absurd all
 all_of_map P Q (a ∷ positions) (id ∷ ids) (plan p plans) f all = (f a id p (inl refl) all.0, all_of_map P Q positions ids plans (λ b x q i. f b x q (inr i)) all.1)
 
+-- for each plan something was chosen
 record Chosen {Y : Type 0} (P : ℕ → ℕ → PlanTree → Y → Type 0) (base : ℕ → Y) (positions ids : List ℕ) (plans : PlanTrees) : Type 0 where
   at : ℕ → Y
   each : AllOf (λ a id p. P a id p (at a)) positions ids plans
@@ -160,6 +165,7 @@ choose {Y = Y} P base (a ∷ positions) (id ∷ ids) (plan p plans) distinct all
 
 -- ## The steps of a network
 
+-- the literals of the step at a position
 abbrev literals_at : List Child → ℕ → List Literal
 literals_at [] a = []
 literals_at (precondition literals ∷ children) zero = literals
@@ -181,6 +187,7 @@ record Gaps (states : ℕ → State) (children : List Child) (start finish : ℕ
   fits : (a : ℕ) (literals : List Literal) → slice_get children a ≡ Some (precondition literals)
       → (start a ≤ gap a) × (gap a ≤ finish a) × (holds (states (gap a)) literals ≡ true)
 
+-- a value in front of the others
 abbrev at_front : ℕ → (ℕ → ℕ) → ℕ → ℕ
 at_front x value zero = x
 at_front x value (suc i) = value i
@@ -220,14 +227,17 @@ gaps states (c ∷ children) start finish fit = by c refl (gaps states children 
 
 -- ## A network's trees from its children's
 
+-- the slots of what was laid at each position
 abbrev pub slots_of : (ℕ → Laid) → Slots
 slots_of f [] = 0
 slots_of f (a ∷ q) = (f a).slots q
 
+-- the ids of what was laid at each position
 abbrev pub ids_from : (ℕ → Laid) → Place → ℕ
 ids_from f [] = 0
 ids_from f (a ∷ q) = (f a).ids q
 
+-- the nodes of what was laid from a position on
 abbrev pub nodes_from : (ℕ → Laid) → ℕ → List Child → Nodes
 nodes_from f i [] = no_nodes
 nodes_from f i (c ∷ children) = node (f i).node (nodes_from f (suc i) children)
@@ -264,6 +274,7 @@ module _ (naming : Naming) (problem : Problem) (file : PlanFile) (states : ℕ �
         marks = (here.marks, more.marks);
       }
 
+  -- what was laid at a position is a tree of the plan there, in its span, with its id
   abbrev pub LaidAt : (ℕ → ℕ) → (ℕ → ℕ) → ℕ → ℕ → PlanTree → Laid → Type 0
   LaidAt start finish a id p y = IsLaid (child_of p) (start a) (finish a) y × (y.ids [] ≡ id)
 
@@ -344,6 +355,7 @@ module _ (naming : Naming) (problem : Problem) (file : PlanFile) (states : ℕ �
   -- ## From the lines' room
 
   module _ (run : LinesRun naming problem file states) where
+    -- a line that names an action has one
     is_action : (g : GroundTask) (i : ℕ) (line : ActionLine) → slice_get file.actions i ≡ Some line → naming.named line.name line.arguments ≡ Some g
         → (a : Action) × (problem.action_of g ≡ Some a)
     is_action g i line there named = by (problem.action_of g) refl

@@ -21,38 +21,47 @@ module _ (problem : Problem) (taken : Stepping) (On : Config → Type 0)
     (takes : (c d : Config) (number : ℕ) (rest : List ℕ) → On c → step_by problem c number ≡ Some d → FinishesFrom problem rest d → taken c number ≡ Some d) where
   -- ## Words that lead somewhere
 
+  -- the numbers of a word lead from a configuration to another
   abbrev pub LeadsWith : List ℕ → Config → Config → Type 0
   LeadsWith [] c d = c ≡ d
   LeadsWith (number ∷ word) c d = (next : Config) × (taken c number ≡ Some next) × LeadsWith word next d
 
+  -- the numbers of a word lead from an initial network to a configuration
   abbrev pub Leads : List ℕ → Config → Type 0
   Leads [] c = ⊥
   Leads (number ∷ word) c = (network : Network) × (slice_get problem.initials number ≡ Some network) × LeadsWith word (start problem network) c
 
+  -- a word with a number more leads one step on
   leads_more : (word : List ℕ) (c d next : Config) (number : ℕ) → LeadsWith word c d → taken d number ≡ Some next → LeadsWith (word ++ number ∷ []) c next
   leads_more [] c d next number h step = (next, ap (λ x. taken x number) h ∙ step, refl)
   leads_more (n ∷ word) c d next number h step = (h.0, h.1, leads_more word h.0 d next number h.2 step)
 
+  -- so it does from an initial network
   leads_on : (word : List ℕ) (d next : Config) (number : ℕ) → Leads word d → taken d number ≡ Some next → Leads (word ++ number ∷ []) next
   leads_on [] d next number h step = absurd h
   leads_on (k ∷ word) d next number h step = (h.0, h.1, leads_more word (start problem h.0) d next number h.2 step)
 
+  -- a word that leads to where another finishes finishes with it
   leads_finish : (word rest : List ℕ) (c d : Config) → LeadsWith word c d → FinishesFrom problem rest d → FinishesFrom problem (word ++ rest) c
   leads_finish [] rest c d h finishes = subst (FinishesFrom problem rest) (sym h) finishes
   leads_finish (n ∷ word) rest c d h finishes = (h.0, sound_step c h.0 n h.1, leads_finish word rest h.0 d h.2 finishes)
 
+  -- so it does from an initial network
   finishes_by : (word rest : List ℕ) (d : Config) → Leads word d → FinishesFrom problem rest d → Finishes problem (word ++ rest)
   finishes_by [] rest d h finishes = absurd h
   finishes_by (k ∷ word) rest d h finishes = (h.0, h.1, leads_finish word rest (start problem h.0) d h.2 finishes)
 
+  -- what was reached is reached by its word, of that length
   abbrev pub Sound : ℕ → Reached → Type 0
   Sound steps r = Leads r.word r.config × (length r.word ≡ suc steps)
 
+  -- a configuration was reached by a word of at most that length
   abbrev pub Seen : ℕ → Config → Type 0
   Seen steps c = (word : List ℕ) × Leads word c × (length word ≤ suc steps)
 
   -- ## Initial networks
 
+  -- the starts are reached by words of one number
   starts_sound : (number : ℕ) (networks : List Network) → ((k : ℕ) → slice_get problem.initials (number + k) ≡ slice_get networks k) → AllByRecursion (Sound 0) (starts problem number networks)
   starts_sound number [] each = tt
   starts_sound number (network ∷ networks) each = (
@@ -60,14 +69,17 @@ module _ (problem : Problem) (taken : Stepping) (On : Config → Type 0)
     starts_sound (suc number) networks (λ k. ap (slice_get problem.initials) (let e : suc number + k ≡ number + suc k = omega arith in e) ∙ each (suc k)),
   )
 
+  -- the starts come after those of smaller numbers
   starts_above : (low number : ℕ) (networks : List Network) → low < number → AllByRecursion (Below (low ∷ [])) (starts problem number networks)
   starts_above low number [] h = tt
   starts_above low number (network ∷ networks) h = (inl h, starts_above low (suc number) networks (omega arith))
 
+  -- the starts come in the order of their words
   starts_ascend : (number : ℕ) (networks : List Network) → Ascends (starts problem number networks)
   starts_ascend number [] = tt
   starts_ascend number (network ∷ networks) = (starts_above number (suc number) networks (omega arith), starts_ascend (suc number) networks)
 
+  -- each initial network is among the starts
   pub starts_in : (number k : ℕ) (networks : List Network) (network : Network) → slice_get networks k ≡ Some network
       → In (record { word = (number + k) ∷ []; config = start problem network }) (starts problem number networks)
   starts_in number k [] network h = absurd cc
@@ -80,9 +92,11 @@ module _ (problem : Problem) (taken : Stepping) (On : Config → Type 0)
 
   -- ## Successors
 
+  -- one word is another with a number more
   abbrev Extends : Reached → Reached → Type 0
   Extends r s = (number : ℕ) × (s.word ≡ r.word ++ number ∷ [])
 
+  -- the successors of what was reached extend its word
   successors_extend : (r : Reached) (number count : ℕ) → AllByRecursion (Extends r) (successors_from taken r number count)
   successors_extend r number zero = tt
   successors_extend r number (suc count) = by (taken r.config number) (successors_extend r (suc number) count)
@@ -92,6 +106,7 @@ module _ (problem : Problem) (taken : Stepping) (On : Config → Type 0)
       by None more = more
       by (Some c) more = ((number, refl), more)
 
+  -- successors are reached by their words
   successors_sound : (steps : ℕ) (r : Reached) (number count : ℕ) → Sound steps r → AllByRecursion (Sound (suc steps)) (successors_from taken r number count)
   successors_sound steps r number zero s = tt
   successors_sound steps r number (suc count) s = by (taken r.config number) refl (successors_sound steps r (suc number) count s)
@@ -101,6 +116,7 @@ module _ (problem : Problem) (taken : Stepping) (On : Config → Type 0)
       by None e more = more
       by (Some c) e more = ((leads_on r.word r.config c number s.0 e, length-append r.word (number ∷ []) ∙ (let l = s.1 in let g : length r.word + 1 ≡ suc (suc steps) = omega arith in g)), more)
 
+  -- successors come after those of smaller numbers
   successors_above : (r : Reached) (low number count : ℕ) → low < number → AllByRecursion (Below (r.word ++ low ∷ [])) (successors_from taken r number count)
   successors_above r low number zero h = tt
   successors_above r low number (suc count) h = by (taken r.config number) (successors_above r low (suc number) count (omega arith))
@@ -110,6 +126,7 @@ module _ (problem : Problem) (taken : Stepping) (On : Config → Type 0)
       by None more = more
       by (Some c) more = (less_last r.word low number h, more)
 
+  -- successors come in the order of their words
   successors_ascend : (r : Reached) (number count : ℕ) → Ascends (successors_from taken r number count)
   successors_ascend r number zero = tt
   successors_ascend r number (suc count) = by (taken r.config number) (successors_ascend r (suc number) count)
@@ -127,9 +144,11 @@ module _ (problem : Problem) (taken : Stepping) (On : Config → Type 0)
       (successors_extend s 0 (choice_count problem s.config)))
       (successors_extend r 0 (choice_count problem r.config))
 
+  -- two lists, one before the other, seen from the second
   swap_all : (rs ss : List Reached) → AllByRecursion (λ s. AllByRecursion (λ t. Below t.word s) rs) ss → AllByRecursion (λ t. AllByRecursion (Below t.word) ss) rs
   swap_all rs ss h = all_from (λ t. AllByRecursion (Below t.word) ss) rs (λ t i. all_weaken (λ s. AllByRecursion (λ t. Below t.word s) rs) (Below t.word) ss (λ s g. all_in (λ t. Below t.word s) t rs g i) h)
 
+  -- what comes before all of a list comes before their successors
   across_all : (r : Reached) (rs : List Reached) → AllByRecursion (Below r.word) rs → AllByRecursion (λ t. AllByRecursion (Below t.word) (flat_map (successors problem taken) rs)) (successors problem taken r)
   across_all r rs low =
       swap_all (successors problem taken r) (flat_map (successors problem taken) rs)
@@ -139,11 +158,13 @@ module _ (problem : Problem) (taken : Stepping) (On : Config → Type 0)
       swap_back : (ts ss : List Reached) → AllByRecursion (λ t. AllByRecursion (Below t.word) ss) ts → AllByRecursion (λ s. AllByRecursion (λ t. Below t.word s) ts) ss
       swap_back ts ss h = all_from (λ s. AllByRecursion (λ t. Below t.word s) ts) ss (λ s i. all_weaken (λ t. AllByRecursion (Below t.word) ss) (λ t. Below t.word s) ts (λ t g. all_in (Below t.word) s ss g i) h)
 
+  -- the successors of what ascends ascend
   expand_ascends : (rs : List Reached) → Ascends rs → Ascends (flat_map (successors problem taken) rs)
   expand_ascends [] h = tt
   expand_ascends (r ∷ rs) h =
       ascends_join (successors problem taken r) (flat_map (successors problem taken) rs) (successors_ascend r 0 (choice_count problem r.config)) (expand_ascends rs h.1) (across_all r rs h.0)
 
+  -- a step that is possible is among the successors
   successor_in : (r : Reached) (number count n : ℕ) (d : Config) → taken r.config n ≡ Some d → number ≤ n → n < number + count
       → In (record { word = r.word ++ n ∷ []; config = d }) (successors_from taken r number count)
   successor_in r number zero n d step low high = absurd (omega arith)
@@ -167,21 +188,25 @@ module _ (problem : Problem) (taken : Stepping) (On : Config → Type 0)
       by (inl more) deeper = later (taken r.config number) (deeper more (omega arith))
       by (inr no_more) deeper = here (taken r.config number) refl (omega arith)
 
+  -- the same from the first number on
   pub in_successors : (r : Reached) (n : ℕ) (d : Config) → taken r.config n ≡ Some d → In (record { word = r.word ++ n ∷ []; config = d }) (successors problem taken r)
   in_successors r n d step =
       successor_in r 0 (choice_count problem r.config) n d step (omega arith) (let high = step_counted problem r.config d n (sound_step r.config d n step) in omega arith)
 
   module _ (same : Config → Config → Bool) (sound : IsSound same) (bound : ℕ) where
+    -- what is reached at a level
     abbrev pub at : ℕ → List Reached
     at steps = (level problem taken same bound steps).reached
 
     -- ## What is true of each level
 
+    -- a level is sound, in order, and complete but for what was seen
     pub record Facts (steps : ℕ) : Type 0 where
       pub are_sound : AllByRecursion (Sound steps) (at steps)
       pub are_seen : AllByRecursion (Seen steps) (level problem taken same bound steps).seen
       pub ascend : Ascends (at steps)
 
+    -- what is reached was seen
     seen_from : (steps : ℕ) (r : Reached) → Sound steps r → Seen steps r.config
     seen_from steps r s = (r.word, s.0, (let l = s.1 in omega arith))
 
@@ -189,26 +214,32 @@ module _ (problem : Problem) (taken : Stepping) (On : Config → Type 0)
     abbrev pub from : ℕ → List Reached
     from = candidates problem taken same bound
 
+    -- what was seen before a level
     abbrev pub before : ℕ → List Config
     before = seen_before problem taken same bound
 
+    -- a level keeps what is within the bound and new
     pub at_is : (steps : ℕ) → at steps ≡ keep_new same (before steps) (filter (is_within bound steps) (from steps))
     at_is zero = refl
     at_is (suc steps) = refl
 
+    -- what a level keeps from is reached by its words
     pub candidates_sound : (steps : ℕ) → ((earlier : ℕ) → steps ≡ suc earlier → Facts earlier) → AllByRecursion (Sound steps) (from steps)
     candidates_sound zero facts = starts_sound 0 problem.initials (λ k. ap (slice_get problem.initials) (let e : 0 + k ≡ k = omega arith in e))
     candidates_sound (suc steps) facts =
         all_flat_map (Sound (suc steps)) (Sound steps) (successors problem taken) (at steps) (λ r s. successors_sound steps r 0 (choice_count problem r.config) s) (facts steps refl).are_sound
 
+    -- it comes in the order of its words
     candidates_ascend : (steps : ℕ) → ((earlier : ℕ) → steps ≡ suc earlier → Facts earlier) → Ascends (from steps)
     candidates_ascend zero facts = starts_ascend 0 problem.initials
     candidates_ascend (suc steps) facts = expand_ascends (at steps) (facts steps refl).ascend
 
+    -- what was seen before was reached by shorter words
     seen_sound : (steps : ℕ) → ((earlier : ℕ) → steps ≡ suc earlier → Facts earlier) → AllByRecursion (λ c. (word : List ℕ) × Leads word c × (length word ≤ steps)) (before steps)
     seen_sound zero facts = tt
     seen_sound (suc steps) facts = (facts steps refl).are_seen
 
+    -- what was seen up to a level is what it reached and what was seen before
     made : (steps : ℕ) → ((earlier : ℕ) → steps ≡ suc earlier → Facts earlier) → (level problem taken same bound steps).seen ≡ map (λ r. r.config) (at steps) ++ before steps → Facts steps
     made steps facts is =
         let kept_sound = subst (AllByRecursion (Sound steps)) (sym (at_is steps))
@@ -222,6 +253,7 @@ module _ (problem : Problem) (taken : Stepping) (On : Config → Type 0)
           ascend = subst Ascends (sym (at_is steps)) (ascends_keep same (before steps) _ (ascends_filter (is_within bound steps) (from steps) (candidates_ascend steps facts)));
         }
 
+    -- each level is so
     pub facts : (steps : ℕ) → Facts steps
     facts zero = made zero (λ earlier e. absurd cc) refl
     facts (suc steps) = made (suc steps) (λ earlier e. subst Facts (let same : steps ≡ earlier = omega arith in same) (facts steps)) refl
@@ -265,6 +297,7 @@ module _ (problem : Problem) (taken : Stepping) (On : Config → Type 0)
             absurd (least (t.0.word ++ rest) (finishes_by t.0.word rest t.0.config s.0 ends)
             (inr ((let l = length-append t.0.word rest in let m = s.1 in let n = own.1 in omega arith), subst (Less (t.0.word ++ rest)) (sym is) (less_more t.0.word r.word rest rest t.2))))
 
+    -- a word ends at a level in a done configuration
     record Ends (word : List ℕ) : Type 0 where
       steps : ℕ
       long : length word ≡ suc steps
@@ -273,6 +306,7 @@ module _ (problem : Problem) (taken : Stepping) (On : Config → Type 0)
       stands : In last (at steps)
       done : IsDone problem last.config
 
+    -- a least word that was reached so far goes on at the next level
     walk : (rest : List ℕ) (steps : ℕ) (word : List ℕ) (r : Reached) → IsLeast word → length word ≤ suc bound → word ≡ r.word ++ rest → FinishesFrom problem rest r.config
         → On r.config → In r (at steps) → length r.word ≡ suc steps → Ends word
     walk [] steps word r least short is finishes on i long =
@@ -285,6 +319,7 @@ module _ (problem : Problem) (taken : Stepping) (On : Config → Type 0)
         (stays (suc steps) word rest next least short more finishes.2 (in_flat_map (successors problem taken) r next (at steps) i (in_successors r n finishes.0 (takes r.config finishes.0 n rest on finishes.1 finishes.2))))
         (length-append r.word (n ∷ []) ∙ (let e : length r.word + 1 ≡ suc (suc steps) = omega arith in e))
 
+    -- a least finishing word within the bound ends at a level
     ends : (word : List ℕ) → Finishes problem word → IsLeast word → length word ≤ suc bound → Ends word
     ends [] h least short = absurd h
     ends (k ∷ word) h least short =
@@ -295,9 +330,11 @@ module _ (problem : Problem) (taken : Stepping) (On : Config → Type 0)
 
     -- ## Levels without a done configuration
 
+    -- no earlier level has a done configuration
     abbrev Clear : ℕ → Type 0
     Clear steps = (earlier : ℕ) → earlier < steps → first_done problem (at earlier) ≡ None
 
+    -- then no shorter word ends
     no_end : (n : ℕ) (word : List ℕ) → Clear n → length word ≤ n → Ends word → ⊥
     no_end n word clear short e =
         let long = e.long in
@@ -329,15 +366,19 @@ module _ (problem : Problem) (taken : Stepping) (On : Config → Type 0)
     -- ## The first done configuration
 
     module _ (steps : ℕ) (r : Reached) (low : steps ≤ bound) (clear : Clear steps) (first : first_done problem (at steps) ≡ Some r) where
+      -- the first that is done is at its level
       stands : In r (at steps) × (is_done problem r.config ≡ true)
       stands = first_in problem (at steps) r first
 
+      -- it is reached by its word
       own : Sound steps r
       own = all_in (Sound steps) r (at steps) (facts steps).are_sound stands.0
 
+      -- no shorter word finishes
       shorter : (v : List ℕ) → Finishes problem v → length v < suc steps → ⊥
       shorter v g less = none_finishes steps clear (omega arith) steps (omega arith) v (omega arith) g
 
+      -- no smaller word of its length ends
       at_end : (word : List ℕ) → Less word r.word → length word ≡ suc steps → Ends word → ⊥
       at_end word less long e =
           let same_steps : e.steps ≡ steps = (let l = e.long in omega arith) in
@@ -347,6 +388,7 @@ module _ (problem : Problem) (taken : Stepping) (On : Config → Type 0)
           by (inl same) = less_itself word (subst (Less word) (same ∙ e.is) less)
           by (inr more) = less_itself word (less_trans word r.word word less (subst (Less r.word) e.is more))
 
+      -- no smaller word of its length finishes
       not_less : (word : List ℕ) → length word ≡ suc steps → Finishes problem word → Less word r.word → ⊥
       not_less word long =
           along_words (suc steps) (λ w. Finishes problem w → Less w r.word → ⊥)
@@ -357,6 +399,7 @@ module _ (problem : Problem) (taken : Stepping) (On : Config → Type 0)
           least w long ih less v g (inl under) = shorter v g (omega arith)
           least w long ih less v g (inr under) = ih v (under.0 ∙ long) under.1 g (less_trans v w r.word under.1 less)
 
+      -- each finishing word is no earlier
       no_later : (v : List ℕ) → Finishes problem v → (length v < suc steps) ⊎ (suc steps ≤ length v) → IsNoLater r.word v
       no_later v g (inl less) = absurd (shorter v g less)
       no_later v g (inr more) = by (cases_lt (suc steps) (length v))
@@ -371,6 +414,7 @@ module _ (problem : Problem) (taken : Stepping) (On : Config → Type 0)
               let long : length v ≡ suc steps = omega arith in
               compare long (less_or r.word v (own.1 ∙ sym long))
 
+      -- so its word is the least
       found : IsLeastWord problem bound (Some r.word)
       found = (
         subst (Finishes problem) (append-nil r.word) (finishes_by r.word [] r.config own.0 (done_is problem r.config stands.1)),
@@ -378,6 +422,7 @@ module _ (problem : Problem) (taken : Stepping) (On : Config → Type 0)
         λ v g. no_later v g (cases_lt (length v) (suc steps)),
       )
 
+    -- where no level has one, there is no least word
     none : ((steps : ℕ) → steps ≤ bound → first_done problem (at steps) ≡ None) → IsLeastWord problem bound None
     none clear word h = by (cases_lt (suc bound) (length word))
       where
@@ -386,10 +431,12 @@ module _ (problem : Problem) (taken : Stepping) (On : Config → Type 0)
         by (inr less) =
             absurd (none_finishes (suc bound) (λ earlier low. clear earlier (omega arith)) (omega arith) (suc bound) (omega arith) word less h)
 
+    -- after an empty level comes an empty one
     empties : (steps : ℕ) → at steps ≡ [] → at (suc steps) ≡ []
     empties steps nothing =
         at_is (suc steps) ∙ ap (λ rs. keep_new same (before (suc steps)) (filter (is_within bound (suc steps)) (flat_map (successors problem taken) rs))) nothing
 
+    -- the search by levels finds the least word
     pub levels_find_least : LevelsFindLeast problem taken same bound
     levels_find_least = record { found = λ steps r low clear first. found steps r low clear first; none = none; ends = empties }
 
@@ -399,17 +446,21 @@ module _ (problem : Problem) (taken : Stepping) (On : Config → Type 0)
     abbrev Held : ℕ → Config → Type 0
     Held steps c = (level : ℕ) × (r : Reached) × (level ≤ steps) × In r (at level) × (r.config ≡ c)
 
+    -- what is held by a level is held by later ones
     held_later : (steps more : ℕ) (c : Config) → steps ≤ more → Held steps c → Held more c
     held_later steps more c low h = (h.0, h.1, (let l = h.2 in omega arith), h.3, h.4)
 
+    -- what was seen up to a level, again
     seen_is : (steps : ℕ) → (level problem taken same bound steps).seen ≡ map (λ r. r.config) (at steps) ++ before steps
     seen_is zero = refl
     seen_is (suc steps) = refl
 
+    -- what was seen before a level is held by it
     held_from : (steps : ℕ) (c : Config) → ((earlier : ℕ) → steps ≡ suc earlier → In c (before steps) → Held earlier c) → In c (before steps) → Held steps c
     held_from zero c deeper i = absurd i
     held_from (suc steps) c deeper i = held_later steps (suc steps) c (omega arith) (deeper steps refl i)
 
+    -- what was seen up to a level is held by it
     held_seen : (steps : ℕ) (c : Config) → In c (level problem taken same bound steps).seen → Held steps c
     held_seen zero c i = by (in_split c (map (λ r. r.config) (at 0)) [] (subst (In c) (seen_is 0) i))
       where
@@ -422,6 +473,7 @@ module _ (problem : Problem) (taken : Stepping) (On : Config → Type 0)
         by deeper (inl j) = let found = in_map (λ r. r.config) c (at (suc steps)) j in (suc steps, found.0, omega arith, found.1, sym found.2)
         by deeper (inr j) = held_later steps (suc steps) c (omega arith) (deeper j)
 
+    -- what was seen before a level is held by it
     held_before : (steps : ℕ) (c : Config) → In c (before steps) → Held steps c
     held_before zero c i = absurd i
     held_before (suc steps) c i = held_later steps (suc steps) c (omega arith) (held_seen steps c i)
@@ -448,6 +500,7 @@ module _ (problem : Problem) (taken : Stepping) (On : Config → Type 0)
         by false old (inr (inl e)) = inl (s, inl refl, sym e)
         by false old (inr (inr j)) = inr j
 
+    -- a candidate within the bound is held
     held_candidate : (steps : ℕ) (r : Reached) → In r (from steps) → is_within bound steps r ≡ true → Held steps r.config
     held_candidate steps r i fits = by (new_or_seen (before steps) (filter (is_within bound steps) (from steps)) r (in_filter (is_within bound steps) r (from steps) i fits))
       where
@@ -464,6 +517,7 @@ module _ (problem : Problem) (taken : Stepping) (On : Config → Type 0)
         by true e more = (e, more)
         by false e more = more
 
+    -- what a level reaches is within the bound
     at_within : (steps : ℕ) (r : Reached) → In r (at steps) → is_within bound steps r ≡ true
     at_within steps r i =
         all_in (λ r. is_within bound steps r ≡ true) r (at steps)
@@ -471,6 +525,7 @@ module _ (problem : Problem) (taken : Stepping) (On : Config → Type 0)
         (all_keep (λ r. is_within bound steps r ≡ true) same (before steps) (filter (is_within bound steps) (from steps)) (passing_filter (is_within bound steps) (from steps))))
         i
 
+    -- something is left out because of the bound
     abbrev Out : Type 0
     Out = LeavesOut problem taken same bound
 
@@ -487,18 +542,21 @@ module _ (problem : Problem) (taken : Stepping) (On : Config → Type 0)
             let place = in_at r (from steps) i in
             inr (record { steps = steps; position = place.0; candidate = r; stands = place.1; beyond = beyond; unseen = e })
 
+    -- what an initial network starts with is a candidate
     start_candidate : (number : ℕ) (network : Network) → slice_get problem.initials number ≡ Some network
         → In (record { word = number ∷ []; config = start problem network }) (from 0)
     start_candidate number network is =
         subst (λ j. In (record { word = j ∷ []; config = start problem network }) (starts problem 0 problem.initials)) (let e : 0 + number ≡ number = omega arith in e)
         (starts_in 0 number problem.initials network is)
 
+    -- what a step leads to from what is held is a candidate
     next_candidate : (steps : ℕ) (c d : Config) (number : ℕ) (h : Held steps c) → taken c number ≡ Some d
         → In (record { word = h.1.word ++ number ∷ []; config = d }) (from (suc h.0))
     next_candidate steps c d number h step =
         in_flat_map (successors problem taken) h.1 (record { word = h.1.word ++ number ∷ []; config = d }) (at h.0) h.3
         (in_successors h.1 number d (ap (λ x. taken x number) h.4 ∙ step))
 
+    -- what a word leads to is held, or something is left out
     held_or_out : (word : List ℕ) (steps : ℕ) (c d : Config) → LeadsWith word c d → Held steps c → Held (steps + length word) d ⊎ Out
     held_or_out [] steps c d leads h = inl (subst (Held (steps + 0)) leads (held_later steps (steps + 0) c (omega arith) h))
     held_or_out (n ∷ word) steps c d leads h =
@@ -512,6 +570,7 @@ module _ (problem : Problem) (taken : Stepping) (On : Config → Type 0)
 
     -- ## Within the bound nothing is left out
 
+    -- a step closes at most one node
     open_left : (word : List ℕ) (c d : Config) → LeadsWith word c d → length c.open_nodes ≤ length word + length d.open_nodes
     open_left [] c d leads = (let e = ap (λ x. length x.open_nodes) leads in omega arith)
     open_left (n ∷ word) c d leads =
@@ -519,6 +578,7 @@ module _ (problem : Problem) (taken : Stepping) (On : Config → Type 0)
         let one = open_step problem c leads.0 n (sound_step c leads.0 n leads.1) in
         omega arith
 
+    -- what a word leads to within the bound is held
     held_within : (word : List ℕ) (steps : ℕ) (c d : Config) → LeadsWith word c d → steps + length word + length d.open_nodes ≤ bound → Held steps c → Held (steps + length word) d
     held_within [] steps c d leads short h = subst (Held (steps + 0)) leads (held_later steps (steps + 0) c (omega arith) h)
     held_within (n ∷ word) steps c d leads short h =
@@ -530,26 +590,31 @@ module _ (problem : Problem) (taken : Stepping) (On : Config → Type 0)
         let more = held_within word (suc steps) leads.0 d leads.2 (omega arith) (held_later (suc h.0) (suc steps) leads.0 (omega arith) held) in
         subst (λ k. Held k d) (let e : suc steps + length word ≡ steps + suc (length word) = omega arith in e) more
 
+    -- what was seen stays seen
     seen_grows : (steps more : ℕ) (c : Config) → In c (level problem taken same bound steps).seen → In c (level problem taken same bound (steps + more)).seen
     seen_grows steps zero c i = subst (λ k. In c (level problem taken same bound k).seen) (let e : steps ≡ steps + 0 = omega arith in e) i
     seen_grows steps (suc more) c i =
         subst (λ k. In c (level problem taken same bound k).seen) (let e : suc (steps + more) ≡ steps + suc more = omega arith in e)
         (subst (In c) (sym (seen_is (suc (steps + more)))) (in_right c (map (λ r. r.config) (at (suc (steps + more)))) (before (suc (steps + more))) (seen_grows steps more c i)))
 
+    -- what is held was seen
     held_in : (steps : ℕ) (c : Config) → Held steps c → In c (level problem taken same bound steps).seen
     held_in steps c h =
         let here : In c (level problem taken same bound h.0).seen =
         subst (In c) (sym (seen_is h.0)) (in_left c (map (λ r. r.config) (at h.0)) (before h.0) (subst (λ d. In d (map (λ r. r.config) (at h.0))) h.4 (in_mapped (λ r. r.config) h.1 (at h.0) h.3))) in
         subst (λ k. In c (level problem taken same bound k).seen) (let l = h.2 in let e : h.0 + (steps - h.0) ≡ steps = omega arith in e) (seen_grows h.0 (steps - h.0) c here)
 
+    -- a configuration is reached in so many steps
     abbrev pub ReachesWith : ℕ → Config → Type 0
     ReachesWith steps c =
         (number : ℕ) × (network : Network) × (slice_get problem.initials number ≡ Some network) × (word : List ℕ) × (length word ≡ steps) × LeadsWith word (start problem network) c
 
+    -- what a word leads to is reached in as many steps as it has after its first number
     leads_reach : (word : List ℕ) (steps : ℕ) (c : Config) → Leads word c → length word ≡ suc steps → ReachesWith steps c
     leads_reach [] steps c h long = absurd h
     leads_reach (k ∷ word) steps c h long = (k, h.0, h.1, word, (let e : length word ≡ steps = omega arith in e), h.2)
 
+    -- what is reached, but in no number of steps within the bound, leaves something out
     pub left_out : (c : Config) (steps : ℕ) → ReachesWith steps c → ((m : ℕ) → ReachesWith m c → m + length c.open_nodes ≤ bound → ⊥) → Out
     left_out c steps h beyond = by (candidate_or_out 0 _ (start_candidate h.0 h.1 h.2))
       where
@@ -565,15 +630,18 @@ module _ (problem : Problem) (taken : Stepping) (On : Config → Type 0)
         by (inr out) = out
         by (inl held) = last (held_or_out h.3 0 (start problem h.1) c h.5 held)
 
+    -- what an earlier level holds was seen before
     earlier_in : (steps m : ℕ) (c : Config) → m < steps → Held m c → In c (before steps)
     earlier_in zero m c low h = absurd (omega arith)
     earlier_in (suc steps) m c low h = held_in steps c (held_later m steps c (omega arith) h)
 
+    -- what is left out is reached
     pub out_reached : (out : Out) → ReachesWith out.steps out.candidate.config
     out_reached out =
         let own = all_in (Sound out.steps) out.candidate (from out.steps) (candidates_sound out.steps (λ e same_steps. facts e)) (at_in out.candidate (from out.steps) out.position out.stands) in
         leads_reach out.candidate.word out.steps out.candidate.config own.0 own.1
 
+    -- what is left out is reached in no number of steps within the bound
     pub out_beyond : ((c : Config) → same c c ≡ true) → (out : Out) (m : ℕ) → ReachesWith m out.candidate.config → m + length out.candidate.config.open_nodes ≤ bound → ⊥
     out_beyond itself out m h short =
         let c = out.candidate.config in

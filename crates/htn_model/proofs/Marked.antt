@@ -204,6 +204,7 @@ module _ (naming : Naming) (file : PlanFile) where
       by (Some c) here there more = more c (marks_child slots ids nodes i c marks.6 here) there
 
   module _ (slots : Slots) (ids : Place → ℕ) (trees : Nodes) (marks : AllMarks naming file slots ids 0 trees) where
+    -- each node of the trees has its line
     marks_of : (p : Place) (m : Node) → node_at trees p ≡ Some m → Marks naming file (λ q. slots (p ++ q)) (λ q. ids (p ++ q)) m
     marks_of [] m e = absurd cc
     marks_of (i ∷ p) m e = by (child_at trees i) refl e
@@ -212,12 +213,14 @@ module _ (naming : Naming) (file : PlanFile) where
         by None here there = let none = nothing_below p in absurd cc
         by (Some c) here there = mutual_below p (λ q. slots (i ∷ q)) (λ q. ids (i ∷ q)) c m (marks_child slots ids trees i c marks here) there
 
+    -- the line of the action at a place
     pub record LeafLine (p : Place) (g : GroundTask) : Type 0 where
       pub line : ActionLine
       pub stands : slice_get file.actions (slots p) ≡ Some line
       pub is : line.id ≡ ids p
       pub named : naming.named line.name line.arguments ≡ Some g
 
+    -- each action has its line
     pub leaf_line : (p : Place) (g : GroundTask) → node_at trees p ≡ Some (leaf g) → LeafLine p g
     leaf_line p g e =
         let m = marks_of p (leaf g) e in
@@ -228,6 +231,7 @@ module _ (naming : Naming) (file : PlanFile) where
           named = m.3;
         }
 
+    -- the line of the compound node at a place
     pub record CompoundLine (p : Place) (t : GroundTask) (number : ℕ) (nodes : Nodes) : Type 0 where
       pub line : DecompositionLine
       pub stands : IsIn line file.decompositions
@@ -236,28 +240,35 @@ module _ (naming : Naming) (file : PlanFile) where
       pub method : line.method ≡ naming.method_name t number
       pub children : IsRearrangementOf line.children (map (λ a. ids (p ++ a ∷ [])) (subtask_positions 0 (roots nodes)))
 
+    -- each compound node has its line
     pub compound_line : (p : Place) (t : GroundTask) (number : ℕ) (nodes : Nodes) → node_at trees p ≡ Some (compound t number nodes) → CompoundLine p t number nodes
     compound_line p t number nodes e =
         let m = marks_of p (compound t number nodes) e in
         record { line = m.0; stands = m.1; is = m.2 ∙ ap ids (append-nil p); named = m.3; method = m.4; children = m.5 }
 
     module _ (forest : IsForest file) (listed : IsRearrangementOf file.roots (map (id_below ids) (subtask_positions 0 (roots trees)))) where
+      -- no id is listed twice
       listed_distinct : IsWithoutRepeats (listed_ids file)
       listed_distinct = distinct_rearranged (defined_ids file) (listed_ids file) forest.listed_once forest.defined_once
 
+      -- no id is listed twice as a child
       below_distinct : IsWithoutRepeats (all_children file.decompositions)
       below_distinct = distinct_right file.roots (all_children file.decompositions) listed_distinct
 
+      -- the root line lists the ids of the trees
       root_id : (a : ℕ) → IsIn a (subtask_positions 0 (roots trees)) → IsIn (ids (a ∷ [])) file.roots
       root_id a i = in_arranged (ids (a ∷ [])) file.roots _ listed (in_mapped (id_below ids) a _ i)
 
+      -- a compound node's line lists the ids of its children
       child_id : (p : Place) (t : GroundTask) (number : ℕ) (nodes : Nodes) (c : CompoundLine p t number nodes) (a : ℕ) → IsIn a (subtask_positions 0 (roots nodes))
           → IsIn (ids (p ++ a ∷ [])) c.line.children
       child_id p t number nodes c a i = in_arranged (ids (p ++ a ∷ [])) c.line.children _ c.children (in_mapped (λ b. ids (p ++ b ∷ [])) a _ i)
 
+      -- no id is both a root and a child
       not_both : (x : ℕ) (line : DecompositionLine) → IsIn x file.roots → IsIn line file.decompositions → IsIn x line.children → ⊥
       not_both x line i j k = distinct_apart x file.roots (all_children file.decompositions) listed_distinct i (child_listed x line file.decompositions j k)
 
+      -- no two nodes have one id
       one_place : (n : ℕ) (p q : Place) → length p < n → HasId (node_at trees p) → HasId (node_at trees q) → ids p ≡ ids q → p ≡ q
       one_place zero p q low hp hq e = absurd (omega arith)
       one_place (suc n) p q low hp hq e = by (parent_of p trees hp) (parent_of q trees hq) (one_place n)
@@ -297,11 +308,13 @@ module _ (naming : Naming) (file : PlanFile) where
       pub one_to_one : (p q : Place) → HasId (node_at trees p) → HasId (node_at trees q) → ids p ≡ ids q → p ≡ q
       one_to_one p q = one_place (suc (length p)) p q (omega arith)
 
+      -- the node of a line
       pub record PlaceOf (id : ℕ) : Type 0 where
         pub place : Place
         pub has_id : HasId (node_at trees place)
         pub is : ids place ≡ id
 
+      -- a child of a line with a node has one
       child_place : (id : ℕ) (line : DecompositionLine) → IsIn line file.decompositions → PlaceOf line.id → IsIn id line.children → PlaceOf id
       child_place id line there p i = by (node_at trees p.place) refl p.has_id
         where
@@ -322,6 +335,7 @@ module _ (naming : Naming) (file : PlanFile) where
                 is = sym found.2;
               }
 
+      -- each line that is reached has a node
       place_reached : (id : ℕ) → IsReached file id → PlaceOf id
       place_reached id (from_root x i) =
           let found = in_map (id_below ids) x (subtask_positions 0 (roots trees)) (in_rearranged x file.roots _ listed i) in
@@ -332,6 +346,7 @@ module _ (naming : Naming) (file : PlanFile) where
       pub place_of : (id : ℕ) → IsIn id (defined_ids file) → PlaceOf id
       place_of id i = place_reached id (forest.reached id i)
 
+      -- each action line is that of an action
       pub leaf_of : (i : ℕ) (line : ActionLine) → slice_get file.actions i ≡ Some line → (p : Place) × (g : GroundTask) × (node_at trees p ≡ Some (leaf g)) × (slots p ≡ i)
       leaf_of i line there =
           by (place_of line.id (in_left line.id (action_ids file.actions) _ (action_id_listed line file.actions (at_in line file.actions i there))))
@@ -348,6 +363,7 @@ module _ (naming : Naming) (file : PlanFile) where
                   let c = compound_line p.place t number nodes e in
                   absurd (kinds_apart file forest line c.line (at_in line file.actions i there) c.stands (sym p.is ∙ sym c.is))
 
+      -- each decomposition line is that of a compound node
       pub compound_of : (line : DecompositionLine) → IsIn line file.decompositions
           → (p : Place) × (t : GroundTask) × (number : ℕ) × (nodes : Nodes) × (node_at trees p ≡ Some (compound t number nodes)) × (ids p ≡ line.id)
       compound_of line there = by (place_of line.id (in_right line.id (action_ids file.actions) _ (id_listed line file.decompositions there)))

@@ -5,6 +5,7 @@ use Rattle.htn_model.specs.Problem.{Problem, Order, Network}
 use Rattle.htn_model.specs.PlanFile.{Naming}
 use Rattle.htn_model.specs.Fits.{PlanTree, action_at, decomposition, PlanTrees, AreSpans, Fits, NetworkFits, IsEarliest}
 
+-- spans are so between wider gaps
 pub wider : (order : Order) (start finish : ℕ → ℕ) (g h g' h' : ℕ) → g' ≤ g → h ≤ h' → AreSpans order start finish g h → AreSpans order start finish g' h'
 wider order start finish g h g' h' low high spans = record {
   from = λ a. let f = spans.from a in omega arith;
@@ -14,6 +15,7 @@ wider order start finish g h g' h' low high spans = record {
 }
 
 module _ (naming : Naming) (problem : Problem) (states : ℕ → State) where
+  -- plans that have room have it between wider gaps
   pub network_monotone : (network : Network) (plans : PlanTrees) (g h g' h' : ℕ) → g' ≤ g → h ≤ h'
       → NetworkFits naming problem states network plans g h → NetworkFits naming problem states network plans g' h'
   network_monotone network plans g h g' h' low high (positions, matching, start, finish, spans, steps, all) =
@@ -33,5 +35,6 @@ module _ (naming : Naming) (problem : Problem) (states : ℕ → State) where
   pub earliest_decides : (p : PlanTree) (g h k : ℕ) → IsEarliest naming problem states p g h → h ≤ k → Fits naming problem states p g k
   earliest_decides p g h k earliest high = fits_monotone p g h g k (let e : g ≤ g = omega arith in e) high earliest.fits
 
+  -- a line has one earliest finish from a gap on
   pub one_earliest : (p : PlanTree) (g h k : ℕ) → IsEarliest naming problem states p g h → IsEarliest naming problem states p g k → h ≡ k
   one_earliest p g h k first second = let a = first.least k second.fits in let b = second.least h first.fits in omega arith

@@ -14,10 +14,12 @@ use Rattle.htn_model.proofs.Decoupled.{nothing_below}
 
 -- ## Positions
 
+-- a place is the same as itself
 pub same_place_itself : (p : Place) → is_same_place p p ≡ true
 same_place_itself [] = refl
 same_place_itself (i ∷ p) = ap₂ ◌&&◌ (eq-eqb i i refl) (same_place_itself p)
 
+-- places that the test finds the same are equal
 pub same_place : (p q : Place) → is_same_place p q ≡ true → p ≡ q
 same_place [] [] h = refl
 same_place [] (j ∷ q) h = absurd cc
@@ -28,6 +30,7 @@ same_place (i ∷ p) (j ∷ q) h = by (eqb i j) refl h (same_place p q)
     by true e g more = ap₂ ◌∷◌ (eqb-true i j e) (more g)
     by false e g more = absurd cc
 
+-- at the position of a place stands the place
 at_position : (p : Place) (xs : List Place) → In p xs → slice_get xs (position p xs) ≡ Some p
 at_position p [] i = absurd i
 at_position p (x ∷ xs) i = by (is_same_place p x) refl i (at_position p xs)
@@ -48,17 +51,21 @@ At P place n q = (r : Place) × (q ≡ place ++ r) × P (node_below (Some n) r)
 abbrev pub FromAt : (Option Node → Type 0) → Place → ℕ → Nodes → Place → Type 0
 FromAt P place k ns q = (i : ℕ) × (r : Place) × (q ≡ place ++ (k + i) ∷ r) × P (node_below (child_at ns i) r)
 
+-- places at equal positions are equal
 shifted : (place r : Place) (a b : ℕ) → a ≡ b → place ++ a ∷ r ≡ place ++ b ∷ r
 shifted place r a b e = ap (λ m. place ++ m ∷ r) e
 
+-- what stands below a child stands below the node
 child_below : (P : Option Node → Type 0) (place : Place) (t : GroundTask) (number : ℕ) (nodes : Nodes) (q : Place)
     → FromAt P place 0 nodes q → At P place (compound t number nodes) q
 child_below P place t number nodes q (i, r, e, is) = (i ∷ r, e ∙ shifted place r (0 + i) i (omega arith), is)
 
+-- what stands below the first child stands below the children
 first_child : (P : Option Node → Type 0) (place : Place) (k : ℕ) (n : Node) (ns : Nodes) (q : Place)
     → At P (place ++ k ∷ []) n q → FromAt P place k (node n ns) q
 first_child P place k n ns q (r, e, is) = (0, r, e ∙ append_assoc place (k ∷ []) r ∙ shifted place r k (k + 0) (omega arith), is)
 
+-- what stands below a later child stands below the children
 later_child : (P : Option Node → Type 0) (place : Place) (k : ℕ) (n : Node) (ns : Nodes) (q : Place)
     → FromAt P place (suc k) ns q → FromAt P place k (node n ns) q
 later_child P place k n ns q (i, r, e, is) = (suc i, r, e ∙ shifted place r (suc k + i) (k + suc i) (omega arith), is)
@@ -80,6 +87,7 @@ mutual
       (all_map (FromAt IsPrimitive place (suc k) ns) (FromAt IsPrimitive place k (node n ns)) (primitives_from place (suc k) ns)
       (later_child IsPrimitive place k n ns) (primitives_from_stand place (suc k) ns))
 
+-- a node is compound
 abbrev pub IsCompound : Option Node → Type 0
 IsCompound None = ⊥
 IsCompound (Some (leaf g)) = ⊥
@@ -105,11 +113,13 @@ mutual
       (all_map (FromAt IsCompound place (suc k) ns) (FromAt IsCompound place k (node n ns)) (compounds_from place (suc k) ns)
       (later_child IsCompound place k n ns) (compounds_from_stand place (suc k) ns))
 
+-- what stands below the trees stands at its place
 pub top : (P : Option Node → Type 0) (trees : Nodes) (q : Place) → FromAt P [] 0 trees q → P (node_at trees q)
 top P trees q (i, r, e, is) = subst (λ p. P (node_at trees p)) (sym (e ∙ shifted [] r (0 + i) i (omega arith))) is
 
 -- ## Each place of such a node is in the list
 
+-- nothing stands below nothing
 not_below : (P : Option Node → Type 0) (r : Place) → (P None → ⊥) → P (node_below None r) → ⊥
 not_below P r not h = not (subst P (nothing_below r) h)
 
@@ -155,16 +165,19 @@ mutual
       in_right _ (compounds (place ++ k ∷ []) n) (compounds_from place (suc k) ns)
       (subst (λ q. In q (compounds_from place (suc k) ns)) (shifted place r (suc k + i) (k + suc i) (omega arith)) (compound_in_from place (suc k) ns i r h))
 
+-- each leaf and step is among their places
 pub in_primitives : (trees : Nodes) (p : Place) → IsPrimitive (node_at trees p) → In p (primitives_from [] 0 trees)
 in_primitives trees [] h = absurd h
 in_primitives trees (i ∷ r) h =
     subst (λ q. In q (primitives_from [] 0 trees)) (shifted [] r (0 + i) i (omega arith)) (primitive_in_from [] 0 trees i r h)
 
+-- each compound node is among their places
 pub in_compounds : (trees : Nodes) (p : Place) → IsCompound (node_at trees p) → In p (compounds_from [] 0 trees)
 in_compounds trees [] h = absurd h
 in_compounds trees (i ∷ r) h =
     subst (λ q. In q (compounds_from [] 0 trees)) (shifted [] r (0 + i) i (omega arith)) (compound_in_from [] 0 trees i r h)
 
+-- what is in a list is in each rearrangement of it
 pub in_arranged : (p : Place) (ps qs : List Place) → IsRearrangement ps qs → In p qs → In p ps
 in_arranged p [] qs r i = absurd (subst (In p) r i)
 in_arranged p (x ∷ ps) qs (left, right, e, r) i = by (in_split p left (x ∷ right) (subst (In p) e i)) (in_arranged p ps (left ++ right) r)
@@ -176,14 +189,17 @@ in_arranged p (x ∷ ps) qs (left, right, e, r) i = by (in_split p left (x ∷ r
 
 -- ## The shadow
 
+-- a list is a rearrangement of itself
 arranged_itself : {X : Type 0} (xs : List X) → IsRearrangementOf xs xs
 arranged_itself [] = refl
 arranged_itself (x ∷ xs) = ([], xs, refl, arranged_itself xs)
 
 module _ (naming : Naming) (problem : Problem) (s : Solution) (solves : IsSolution problem s) (names : NamesNodes naming s) where
+  -- the node at a place of the solution
   abbrev nodes_at : Place → Option Node
   nodes_at p = node_at s.trees p
 
+  -- each node with a line is among the numbered places
   in_numbered : (p : Place) → HasId (nodes_at p) → In p (numbered_places s)
   in_numbered p h = by (nodes_at p) refl h
     where
@@ -196,6 +212,7 @@ module _ (naming : Naming) (problem : Problem) (s : Solution) (solves : IsSoluti
       by (Some (step literals)) e g = absurd g
       by (Some (compound t number nodes)) e g = in_right p _ _ (in_compounds s.trees p (subst IsCompound (sym e) tt))
 
+  -- no two nodes have one number
   one_to_one : (p q : Place) → HasId (nodes_at p) → HasId (nodes_at q) → id_in s p ≡ id_in s q → p ≡ q
   one_to_one p q hp hq same =
       let at_p = at_position p (numbered_places s) (in_numbered p hp) in
@@ -203,6 +220,7 @@ module _ (naming : Naming) (problem : Problem) (s : Solution) (solves : IsSoluti
       let both : Some p ≡ Some q = sym at_p ∙ ap (slice_get (numbered_places s)) same ∙ at_q in
       cc
 
+  -- the lines of actions are those of the leaves in sequence
   are_action_lines : (ps : List Place) → AllByRecursion (λ p. IsPrimitive (nodes_at p)) ps
       → AreActionLines naming s.trees (id_in s) ps (map (action_line_at naming s) (filter (λ p. is_leaf (nodes_at p)) ps))
   are_action_lines [] all = end
@@ -217,6 +235,7 @@ module _ (naming : Naming) (problem : Problem) (s : Solution) (solves : IsSoluti
       by (Some (step literals)) e is more = no_line p ps _ (subst IsStep (sym e) tt) more
       by (Some (compound t number nodes)) e is more = absurd is
 
+  -- the line of a compound node is its own
   is_decomposition_line : (p : Place) → IsCompound (nodes_at p) → IsDecompositionLine naming s.trees (id_in s) p (decomposition_line_at naming s p)
   is_decomposition_line p h = by (nodes_at p) refl h
     where
@@ -236,11 +255,13 @@ module _ (naming : Naming) (problem : Problem) (s : Solution) (solves : IsSoluti
             (arranged_itself (decomposition_line_at naming s p).children);
       }
 
+  -- the decomposition lines are those of the compound nodes
   are_decomposition_lines : (ps : List Place) → AllByRecursion (λ p. IsCompound (nodes_at p)) ps
       → AreDecompositionLines naming s.trees (id_in s) ps (map (decomposition_line_at naming s) ps)
   are_decomposition_lines [] all = refl
   are_decomposition_lines (p ∷ ps) all = ([], _, map (decomposition_line_at naming s) ps, refl, is_decomposition_line p all.0, are_decomposition_lines ps all.1)
 
+-- a solution's plan file is a shadow of it
 pub numbered_is_shadow : (naming : Naming) (problem : Problem) → NumberedIsShadow naming problem
 numbered_is_shadow naming problem s solves names = record {
   id_at = id_in s;

@@ -21,15 +21,19 @@ use Rattle.htn_model.proofs.Replay.{play}
 
 module _ (problem : Problem) (grounded : IsGrounded problem) (network : Network) (is_network : IsNetwork network) (trees : Nodes)
     (are_roots : roots trees ≡ network.children) (are_trees : AreTrees problem trees) where
+  -- the front that the trees begin with
   abbrev front : List Placed
   front = placed [] 0 trees
 
+  -- what stands in it is a tree at its place
   is_root : (a : ℕ) (p : PlacedAt [] 0 trees a) → front_at front a ≡ record { place = a ∷ []; node = p.child }
   is_root a p = p.is ∙ ap (λ j. record { place = j ∷ []; node = p.child }) (let e : 0 + a ≡ a = omega arith in e)
 
+  -- a node of the front is the one at its place in the trees
   Good : Placed → Type 0
   Good y = Shows problem network.order trees y.place (order_of problem y.node) (children_of y.node) × (node_at trees y.place ≡ Some y.node) × IsTree problem y.node
 
+  -- so is each of it
   good_at : (a : ℕ) → a < length front → Good (front_at front a)
   unfolding Good
   good_at a h =
@@ -40,9 +44,11 @@ module _ (problem : Problem) (grounded : IsGrounded problem) (network : Network)
         tree_at problem trees a p.child are_trees p.stands,
       )
 
+  -- two nodes of the front have places apart
   abbrev Parts : Placed → Placed → Type 0
   Parts y z = Apart y.place z.place
 
+  -- the trees begin with a front
   pub front_start : IsFront problem network.order trees front
   unfolding Good
   front_start = record {
@@ -52,12 +58,15 @@ module _ (problem : Problem) (grounded : IsGrounded problem) (network : Network)
     are_trees = λ a h. (good_at a h).2;
   }
 
+  -- its nodes are those of the network
   roots_start : network.children ≡ front_roots front
   roots_start = sym (placed_roots [] 0 trees ∙ are_roots)
 
+  -- there are as many
   length_start : length network.children ≡ length front
   length_start = ap length roots_start ∙ length-map front (λ y. root y.node)
 
+  -- their order is that of the network
   order_start : (a b : ℕ) → is_before network.order a b ≡ front_order (before problem network.order trees) front a b
   order_start a b = elim (cases_lt a (length front)) [
     | inl low ↦ elim (cases_lt b (length front)) [
@@ -70,33 +79,42 @@ module _ (problem : Problem) (grounded : IsGrounded problem) (network : Network)
         ∙ sym (ap (λ y. before problem network.order trees y.place (front_at front b).place) (get_or_past front a nowhere past))
   ]
 
+  -- the configuration that the network starts with has the front
   pub matches_start : Matches problem network.order trees front (start problem network)
   matches_start = record { roots = roots_start; orders = order_start }
 
 -- ## A solution's front
 
 module _ (problem : Problem) (grounded : IsGrounded problem) (s : Solution) (solves : IsSolution problem s) where
+  -- the initial network of the solution
   abbrev network : Network
   network = solves.network
 
+  -- the front that the solution begins with
   abbrev first_front : List Placed
   first_front = placed [] 0 s.trees
 
+  -- its network is one
   is_network : IsNetwork network
   is_network = grounded.initials s.number network solves.is_initial
 
+  -- its order is that of its number
   pub own_order : order_of_network (slice_get problem.initials s.number) ≡ network.order
   own_order = ap order_of_network solves.is_initial
 
+  -- the solution begins with a front
   solution_front : IsFront problem network.order s.trees first_front
   solution_front = front_start problem grounded network is_network s.trees solves.are_roots solves.are_trees
 
+  -- its network starts with a configuration that has the front
   solution_matches : Matches problem network.order s.trees first_front (start problem network)
   solution_matches = matches_start problem grounded network is_network s.trees solves.are_roots solves.are_trees
 
+  -- so the machine can follow its code from there
   pub followed_of : Followed problem grounded network.order s.trees first_front s.linearisation (start problem network)
   followed_of = record { is_front = solution_front; matches = solution_matches; goal = solves.reaches_goal }
 
+  -- and all that is left under the front is the linearisation
   left_of : Left problem grounded network.order s.trees is_network.closed first_front s.linearisation (start problem network)
   left_of = record {
     is_front = solution_front;
@@ -106,6 +124,7 @@ module _ (problem : Problem) (grounded : IsGrounded problem) (s : Solution) (sol
     goal = solves.reaches_goal;
   }
 
+  -- a solution has a code that finishes, longer by one than its nodes
   code_of : (word : List ℕ) × IsCode problem s word × (length word ≡ suc (total_size s.trees)) × Finishes problem word
   code_of =
       let w = word_of problem grounded network.order s.trees is_network.closed first_front s.linearisation (start problem network) left_of in (
@@ -115,15 +134,18 @@ module _ (problem : Problem) (grounded : IsGrounded problem) (s : Solution) (sol
         (network, solves.is_initial, w.finishes),
       )
 
+  -- a peeling in the solution's order is one in the network's
   peels_of : (word : List ℕ) → Peels (forest_order problem s) word first_front s.linearisation → Peels (before problem network.order s.trees) word first_front s.linearisation
   peels_of word p = subst (λ o. Peels (before problem o s.trees) word first_front s.linearisation) own_order p
 
+  -- the trees of a solution are those that its code builds
   trees_from : (word : List ℕ) → Peels (forest_order problem s) word first_front s.linearisation → s.trees ≡ nodes_of (rebuild problem word (start problem network))
   trees_from word p =
       sym (nodes_of-list_of s.trees) ∙ ap nodes_of (sym (placed_nodes [] 0 s.trees)
       ∙ rebuilt problem grounded network.order s.trees word first_front s.linearisation (start problem network)
       followed_of (peels_of word p))
 
+  -- a solution has one code
   one_code_of : (v w : List ℕ) → IsCode problem s v → IsCode problem s w → v ≡ w
   one_code_of [] w p q = absurd p
   one_code_of (m ∷ v) [] p q = absurd q
@@ -133,6 +155,7 @@ module _ (problem : Problem) (grounded : IsGrounded problem) (s : Solution) (sol
 
 -- ## The solution of a word
 
+-- a finishing word is the code of a solution
 solution_of : (problem : Problem) → IsGrounded problem → (word : List ℕ) → Finishes problem word → (s : Solution) × IsSolution problem s × IsCode problem s word
 solution_of problem grounded [] h = absurd h
 solution_of problem grounded (number ∷ word) h =
@@ -167,6 +190,7 @@ solution_of problem grounded (number ∷ word) h =
 
 -- ## One solution
 
+-- a word is the code of one solution at most
 one_solution_of : (problem : Problem) → IsGrounded problem → (r s : Solution) (word : List ℕ) → IsSolution problem r → IsSolution problem s
     → IsCode problem r word → IsCode problem s word → r ≡ s
 one_solution_of problem grounded r s [] a b p q = absurd p
@@ -184,6 +208,7 @@ one_solution_of problem grounded r s (number ∷ word) a b p q =
 
 -- ## The solution that a word rebuilds
 
+-- the solution that a word builds
 abbrev pub rebuilt_solution : Problem → Network → ℕ → List ℕ → Solution
 rebuilt_solution problem network number word = record {
   number = number;
@@ -191,6 +216,7 @@ rebuilt_solution problem network number word = record {
   linearisation = route problem word (start problem network) (child_places [] 0 (length network.children));
 }
 
+-- a solution is the one that its code builds
 solution_rebuilt : (problem : Problem) (grounded : IsGrounded problem) (s : Solution) (number : ℕ) (word : List ℕ) (solves : IsSolution problem s)
     → IsCode problem s (number ∷ word) → s ≡ rebuilt_solution problem solves.network number word
 solution_rebuilt problem grounded s number word solves code =
@@ -216,6 +242,7 @@ rebuilds problem grounded number word h =
     solution_rebuilt problem grounded s number word solves found.2 ∙ ap (λ n. rebuilt_solution problem n number word) networks in
     (subst (IsSolution problem) same solves, subst (λ r. IsCode problem r (number ∷ word)) same found.2)
 
+-- solutions and finishing words are one to one
 pub one_to_one : (problem : Problem) → IsGrounded problem → OneToOne problem
 one_to_one problem grounded = record {
   code = λ s solves. code_of problem grounded s solves;

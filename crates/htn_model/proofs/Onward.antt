@@ -17,15 +17,18 @@ visited (precondition literals) place rest = place ∷ rest
 visited (action g) place rest = place ∷ rest
 visited (task t) place rest = rest
 
+-- an action or a step puts its place in front
 visited_primitive : (child : Child) (place : Place) (rest : List Place) → is_compound child ≡ false → visited child place rest ≡ place ∷ rest
 visited_primitive (precondition literals) place rest h = refl
 visited_primitive (action g) place rest h = refl
 visited_primitive (task t) place rest h = absurd cc
 
 module _ (problem : Problem) (grounded : IsGrounded problem) (order : Order) (trees : Nodes) where
+  -- the inherited order of places
   abbrev precedes : Place → Place → Bool
   precedes = before problem order trees
 
+  -- the order of a front
   abbrev fo : List Placed → ℕ → ℕ → Bool
   fo = front_order precedes
 
@@ -47,6 +50,7 @@ module _ (problem : Problem) (grounded : IsGrounded problem) (order : Order) (tr
     pub followed : Followed (splice choice.position (children_at (front_at front choice.position)) front) rest (result_of c choice)
     pub peels : next (splice choice.position (children_at (front_at front choice.position)) front) rest
 
+  -- the number of an instance peels the front as it steps the machine
   onward_compound : (front : List Placed) (list : List Place) (c : Config) (i number : ℕ) (next : Peeling) → Followed front list c
       → first_free_compound (front_roots front) (fo front) ≡ Some i → HasNumber (front_at front i).node number
       → next (splice i (children_at (front_at front i)) front) list → Onward front list c number next
@@ -77,6 +81,7 @@ module _ (problem : Problem) (grounded : IsGrounded problem) (order : Order) (tr
         peels = peels;
       }
 
+  -- the number of a free node peels the front as it steps the machine
   onward_primitive : (front : List Placed) (list rest : List Place) (c : Config) (i number : ℕ) (next : Peeling) → Followed front list c
       → first_free_compound (front_roots front) (fo front) ≡ None → nth_free (length front) (fo front) number ≡ Some i → list ≡ (front_at front i).place ∷ rest
       → next (splice i [] front) rest → Onward front list c number next
@@ -115,6 +120,7 @@ module _ (problem : Problem) (grounded : IsGrounded problem) (order : Order) (tr
   by front list c number next f (Some i) first p = onward_compound front list c i number next f first p.0 p.1
   by front list c number next f None none p = onward_primitive front list p.1 c p.0 number next f none p.2 p.3 p.4
 
+  -- each number peels the front as it steps the machine
   pub onward : (front : List Placed) (list : List Place) (c : Config) (number : ℕ) (next : Peeling) → Followed front list c
       → PeelsBy precedes number next (first_free_compound (front_roots front) (fo front)) front list → Onward front list c number next
   onward front list c number next f p = by front list c number next f (first_free_compound (front_roots front) (fo front)) refl p

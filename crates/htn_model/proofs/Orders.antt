@@ -4,44 +4,53 @@ use Rattle.std.proofs.lemmas.Bool.{both_ways, cases_eq, eq-eqb, ne_eqb}
 use Rattle.htn_model.specs.Problem.{Order, is_before, Network, IsClosed, IsNetwork, Problem, IsGrounded}
 use Rattle.htn_model.specs.Tree.{Node, leaf, step, compound, Nodes, Place, child_at, children_of, children_in, node_below, node_at, order_of_network, order_of, order_in, before}
 
+-- the order of no nodes is closed
 pub nothing_closed : IsClosed []
 nothing_closed = record { irreflexive = λ a. refl; transitive = λ a b c h g. h }
 
+-- the order of a network that may be there is closed
 closed_network : (problem : Problem) → IsGrounded problem → (network : Option Network)
     → ((given : Network) → network ≡ Some given → IsNetwork given) → IsClosed (order_of_network network)
 closed_network problem grounded None each = nothing_closed
 closed_network problem grounded (Some network) each = (each network refl).closed
 
+-- the order of a node's children is closed
 pub order_of_closed : (problem : Problem) → IsGrounded problem → (n : Node) → IsClosed (order_of problem n)
 order_of_closed problem grounded (leaf g) = nothing_closed
 order_of_closed problem grounded (step literals) = nothing_closed
 order_of_closed problem grounded (compound t number nodes) =
     closed_network problem grounded (slice_get (problem.methods_of t) number) (grounded.methods t number)
 
+-- so it is of a node that may be there
 order_in_closed : (problem : Problem) → IsGrounded problem → (n : Option Node) → IsClosed (order_in problem n)
 order_in_closed problem grounded None = nothing_closed
 order_in_closed problem grounded (Some n) = order_of_closed problem grounded n
 
 -- ## Where two places begin alike, and where they differ at once
 
+-- the inherited order of the places below a node
 abbrev below : Problem → Option Node → Place → Place → Bool
 below problem n = before problem (order_in problem n) (children_in n)
 
+-- two places below one child are ordered there
 begin_alike : (problem : Problem) (order : Order) (trees : Nodes) (i j : ℕ) (p q : Place) → i ≡ j
     → before problem order trees (i ∷ p) (j ∷ q) ≡ below problem (child_at trees i) p q
 begin_alike problem order trees i j p q same = rw (eq-eqb i j same) refl
 
+-- two places below different children are ordered as these are
 differ : (problem : Problem) (order : Order) (trees : Nodes) (i j : ℕ) (p q : Place) → (i ≡ j → ⊥)
     → before problem order trees (i ∷ p) (j ∷ q) ≡ is_before order i j
 differ problem order trees i j p q other = rw (ne_eqb i j other) refl
 
 -- ## A strict order
 
+-- no place comes before itself
 pub before_irreflexive : (problem : Problem) (order : Order) (trees : Nodes) (p : Place) → before problem order trees p p ≡ false
 before_irreflexive problem order trees [] = refl
 before_irreflexive problem order trees (i ∷ p) = begin_alike problem order trees i i p p refl ∙ before_irreflexive problem _ _ p
 
 module _ (problem : Problem) (order : Order) (trees : Nodes) (closed : IsClosed order) where
+  -- a place before one that is before another, whichever children they are below
   step_over : (i j k : ℕ) (p q r : Place)
       → (below problem (child_at trees i) p q ≡ true → below problem (child_at trees i) q r ≡ true → below problem (child_at trees i) p r ≡ true)
       → before problem order trees (i ∷ p) (j ∷ q) ≡ true → before problem order trees (j ∷ q) (k ∷ r) ≡ true → before problem order trees (i ∷ p) (k ∷ r) ≡ true
@@ -61,6 +70,7 @@ module _ (problem : Problem) (order : Order) (trees : Nodes) (closed : IsClosed 
     ])
   ]
 
+-- a place before one that is before another is before that
 pub before_transitive : (problem : Problem) → IsGrounded problem → (order : Order) (trees : Nodes) → IsClosed order
     → (p q r : Place) → before problem order trees p q ≡ true → before problem order trees q r ≡ true → before problem order trees p r ≡ true
 before_transitive problem grounded order trees closed [] q r h g = absurd cc
@@ -78,27 +88,32 @@ Apart [] q = ⊥
 Apart (i ∷ p) [] = ⊥
 Apart (i ∷ p) (j ∷ q) = (i ≡ j → ⊥) ⊎ Apart p q
 
+-- what is below a place apart from another is apart from it
 pub apart_left : (p q r : Place) → Apart p q → Apart (p ++ r) q
 apart_left [] q r h = absurd h
 apart_left (i ∷ p) [] r h = absurd h
 apart_left (i ∷ p) (j ∷ q) r (inl other) = inl other
 apart_left (i ∷ p) (j ∷ q) r (inr h) = inr (apart_left p q r h)
 
+-- if one place is apart from another, so is that from it
 pub apart_flip : (p q : Place) → Apart p q → Apart q p
 apart_flip [] q h = absurd h
 apart_flip (i ∷ p) [] h = absurd h
 apart_flip (i ∷ p) (j ∷ q) (inl other) = inl (λ e. other (sym e))
 apart_flip (i ∷ p) (j ∷ q) (inr h) = inr (apart_flip p q h)
 
+-- two children of a node are apart
 pub apart_siblings : (p : Place) (a b : ℕ) → (a ≡ b → ⊥) → Apart (p ++ a ∷ []) (p ++ b ∷ [])
 apart_siblings [] a b other = inl other
 apart_siblings (i ∷ p) a b other = inr (apart_siblings p a b other)
 
+-- no place is apart from itself
 pub not_apart : (p : Place) → Apart p p → ⊥
 not_apart [] h = h
 not_apart (i ∷ p) (inl other) = other refl
 not_apart (i ∷ p) (inr h) = not_apart p h
 
+-- what is below a place comes before others as it does
 pub inherits_left : (problem : Problem) (order : Order) (trees : Nodes) (p q r : Place) → Apart p q
     → before problem order trees (p ++ r) q ≡ before problem order trees p q
 inherits_left problem order trees [] q r h = absurd h
@@ -108,6 +123,7 @@ inherits_left problem order trees (i ∷ p) (j ∷ q) r (inl other) =
 inherits_left problem order trees (i ∷ p) (j ∷ q) r (inr h) =
     ap (λ b. cond (eqb i j) b (is_before order i j)) (inherits_left problem _ _ p q r h)
 
+-- what is below a place comes after others as it does
 pub inherits_right : (problem : Problem) (order : Order) (trees : Nodes) (p q r : Place) → Apart p q
     → before problem order trees p (q ++ r) ≡ before problem order trees p q
 inherits_right problem order trees [] q r h = absurd h
@@ -124,9 +140,11 @@ pub record Shows (problem : Problem) (order : Order) (trees : Nodes) (place : Pl
   pub ordered : (r s : Place) → before problem order trees (place ++ r) (place ++ s) ≡ before problem inner nodes r s
   pub finds : (i : ℕ) (r : Place) → node_at trees (place ++ i ∷ r) ≡ node_at nodes (i ∷ r)
 
+-- the trees show themselves at no place
 pub shows_itself : (problem : Problem) (order : Order) (trees : Nodes) → Shows problem order trees [] order trees
 shows_itself problem order trees = record { ordered = λ r s. refl; finds = λ i r. refl }
 
+-- what is shown at a place shows its children there
 pub shows_child : (problem : Problem) (order : Order) (trees : Nodes) (place : Place) (inner : Order) (nodes : Nodes) (a : ℕ) (n : Node)
     → Shows problem order trees place inner nodes → child_at nodes a ≡ Some n
     → Shows problem order trees (place ++ a ∷ []) (order_of problem n) (children_of n)
@@ -139,6 +157,7 @@ shows_child problem order trees place inner nodes a n shown stands = record {
       ∙ ap (λ m. node_below m (i ∷ r)) stands;
 }
 
+-- the child is the node at its place
 pub finds_child : (problem : Problem) (order : Order) (trees : Nodes) (place : Place) (inner : Order) (nodes : Nodes) (a : ℕ) (n : Node)
     → Shows problem order trees place inner nodes → child_at nodes a ≡ Some n → node_at trees (place ++ a ∷ []) ≡ Some n
 finds_child problem order trees place inner nodes a n shown stands = shown.finds a [] ∙ stands

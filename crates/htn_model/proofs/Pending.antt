@@ -9,52 +9,63 @@ use Rattle.htn_model.proofs.Splices.{split_at}
 
 -- ## All members
 
+-- what holds of two lists holds of both joined
 pub all_join : {X : Type 0} (P : X → Type 0) (xs ys : List X) → AllByRecursion P xs → AllByRecursion P ys → AllByRecursion P (xs ++ ys)
 all_join P [] ys h g = g
 all_join P (x ∷ xs) ys h g = (h.0, all_join P xs ys h.1 g)
 
+-- what holds of joined lists holds of each
 pub all_parts : {X : Type 0} (P : X → Type 0) (xs ys : List X) → AllByRecursion P (xs ++ ys) → AllByRecursion P xs × AllByRecursion P ys
 all_parts P [] ys h = (tt, h)
 all_parts P (x ∷ xs) ys h = let more = all_parts P xs ys h.1 in ((h.0, more.0), more.1)
 
+-- what holds of a list holds of its rearrangements
 pub all_rearranged : (P : Place → Type 0) (ps qs : List Place) → IsRearrangement ps qs → AllByRecursion P ps → AllByRecursion P qs
 all_rearranged P [] qs r h = subst (AllByRecursion P) (sym r) tt
 all_rearranged P (p ∷ ps) qs r h =
     let parts = all_parts P r.0 r.1 (all_rearranged P ps (r.0 ++ r.1) r.3 h.1) in
     subst (AllByRecursion P) (sym r.2) (all_join P r.0 (p ∷ r.1) parts.0 (h.0, parts.1))
 
+-- what holds of a rearrangement holds of the list
 pub all_arranged : (P : Place → Type 0) (ps qs : List Place) → IsRearrangement ps qs → AllByRecursion P qs → AllByRecursion P ps
 all_arranged P [] qs r h = tt
 all_arranged P (p ∷ ps) qs r h =
     let parts = all_parts P r.0 (p ∷ r.1) (subst (AllByRecursion P) r.2 h) in
     (parts.1.0, all_arranged P ps (r.0 ++ r.1) r.3 (all_join P r.0 r.1 parts.0 parts.1.1))
 
+-- a list with a value isn't empty
 pub not_nothing : {X : Type 0} (xs : List X) (y : X) (ys : List X) → [] ≡ xs ++ y ∷ ys → ⊥
 not_nothing [] y ys h = cc
 not_nothing (x ∷ xs) y ys h = cc
 
+-- only nothing is rearranged to nothing
 pub rearranged_nothing : (ps : List Place) → IsRearrangement ps [] → ps ≡ []
 rearranged_nothing [] r = refl
 rearranged_nothing (p ∷ ps) r = absurd (not_nothing r.0 p r.1 r.2)
 
 -- ## What is pending under a front
 
+-- the leaves and steps under a front
 abbrev pub pending : List Placed → List Place
 pending [] = []
 pending (x ∷ xs) = primitives x.place x.node ++ pending xs
 
+-- those under joined fronts are those of both
 pub pending-append : (xs ys : List Placed) → pending (xs ++ ys) ≡ pending xs ++ pending ys
 pending-append [] ys = refl
 pending-append (x ∷ xs) ys = ap (λ l. primitives x.place x.node ++ l) (pending-append xs ys) ∙ sym (append_assoc (primitives x.place x.node) (pending xs) (pending ys))
 
+-- those under placed children are those of the children
 pub pending-placed : (place : Place) (i : ℕ) (ns : Nodes) → pending (placed place i ns) ≡ primitives_from place i ns
 pending-placed place i no_nodes = refl
 pending-placed place i (node n ns) = ap (λ l. primitives (place ++ i ∷ []) n ++ l) (pending-placed place (suc i) ns)
 
+-- those under a front are those before, at and after a position
 pub pending_split : (front : List Placed) (i : ℕ) → i < length front
     → pending front ≡ pending (take i front) ++ (primitives (front_at front i).place (front_at front i).node ++ pending (drop (suc i) front))
 pending_split front i h = ap pending (split_at i front nowhere h) ∙ pending-append (take i front) (front_at front i ∷ drop (suc i) front)
 
+-- those under a front with others in one's place
 pub pending_splice : (front : List Placed) (i : ℕ) (ys : List Placed) → pending (splice i ys front) ≡ pending (take i front) ++ (pending ys ++ pending (drop (suc i) front))
 pending_splice front i ys = pending-append (take i front) (ys ++ drop (suc i) front) ∙ ap (λ l. pending (take i front) ++ l) (pending-append ys (drop (suc i) front))
 
@@ -74,6 +85,7 @@ pending_decomposed front i h is =
     same : (x : Placed) → is_compound (root x.node) ≡ true → pending (children_at x) ≡ primitives x.place x.node
     same x is = by x.place x.node is
 
+-- an action or a step is the one leaf or step under itself
 pub primitives_one : (place : Place) (n : Node) → is_compound (root n) ≡ false → primitives place n ≡ place ∷ []
 primitives_one place (leaf g) is = refl
 primitives_one place (step literals) is = refl
@@ -81,12 +93,15 @@ primitives_one place (compound t number nodes) is = absurd cc
 
 -- ## Below a place
 
+-- a place is below another, or is it
 abbrev pub Under : Place → Place → Type 0
 Under place p = (r : Place) × (p ≡ place ++ r)
 
+-- what is below a child is below the node
 under_child : (place : Place) (i : ℕ) (p : Place) → Under (place ++ i ∷ []) p → Under place p
 under_child place i p u = (i ∷ u.0, u.1 ∙ append_assoc place (i ∷ []) u.0)
 
+-- what follows of each value holds of the list
 pub all_map : {X : Type 0} (P Q : X → Type 0) (xs : List X) → ((x : X) → P x → Q x) → AllByRecursion P xs → AllByRecursion Q xs
 all_map P Q [] f h = tt
 all_map P Q (x ∷ xs) f h = (f x h.0, all_map P Q xs f h.1)
@@ -106,11 +121,13 @@ mutual
 
 -- ## Where a pending place stands
 
+-- a cut in the first of two lists
 record Cut {X : Type 0} (xs ys left : List X) (p : X) (right : List X) : Type 0 where
   rest : List X
   first : xs ≡ left ++ p ∷ rest
   second : right ≡ rest ++ ys
 
+-- a cut in two joined lists is in the first or in the second
 cut : {X : Type 0} (xs ys left : List X) (p : X) (right : List X) → xs ++ ys ≡ left ++ p ∷ right
     → Cut xs ys left p right ⊎ ((more : List X) × (left ≡ xs ++ more) × (ys ≡ more ++ p ∷ right))
 cut [] ys left p right h = inr (left, refl, h)
@@ -133,6 +150,7 @@ pub record Above (front : List Placed) (left : List Place) (p : Place) (right : 
   pub earlier : left ≡ pending (take position front) ++ before
   pub later : right ≡ after ++ pending (drop (suc position) front)
 
+-- what is under a later node of the front is above
 above_later : (x : Placed) (xs : List Placed) (more : List Place) (p : Place) (left right : List Place) → left ≡ primitives x.place x.node ++ more → Above xs more p right → Above (x ∷ xs) left p right
 above_later x xs more p left right e a = record {
   position = suc a.position;
@@ -144,6 +162,7 @@ above_later x xs more p left right e a = record {
   later = a.later;
 }
 
+-- each leaf or step under a front is under a node of it
 pub above : (front : List Placed) (left : List Place) (p : Place) (right : List Place) → pending front ≡ left ++ p ∷ right → Above front left p right
 above [] left p right h = absurd (not_nothing left p right h)
 above (x ∷ xs) left p right h = by (above xs) (cut (primitives x.place x.node) (pending xs) left p right h)
@@ -161,6 +180,7 @@ pending_each P [] j h all = absurd (omega arith)
 pending_each P (x ∷ xs) zero h all = (all_parts P (primitives x.place x.node) (pending xs) all).0
 pending_each P (x ∷ xs) (suc j) h all = pending_each P xs j (omega arith) (all_parts P (primitives x.place x.node) (pending xs) all).1
 
+-- what holds of all leaves and steps but one node's holds of another's
 pub pending_others : (P : Place → Type 0) (front : List Placed) (q j : ℕ) → j < length front → (j ≡ q → ⊥)
     → AllByRecursion P (pending (take q front)) → AllByRecursion P (pending (drop (suc q) front))
     → AllByRecursion P (primitives (front_at front j).place (front_at front j).node)
@@ -173,23 +193,28 @@ pending_others P (x ∷ xs) (suc q) (suc j) h other low high =
 
 -- ## Sizes
 
+-- how many nodes the trees of a front have
 abbrev pub front_size : List Placed → ℕ
 front_size [] = 0
 front_size (x ∷ xs) = size x.node + front_size xs
 
+-- joined fronts have the nodes of both
 size-append : (xs ys : List Placed) → front_size (xs ++ ys) ≡ front_size xs + front_size ys
 size-append [] ys = omega arith
 size-append (x ∷ xs) ys = let more = size-append xs ys in omega arith
 
+-- placed children have the nodes of the children
 pub size-placed : (place : Place) (i : ℕ) (ns : Nodes) → front_size (placed place i ns) ≡ total_size ns
 size-placed place i no_nodes = refl
 size-placed place i (node n ns) = ap (λ m. size n + m) (size-placed place (suc i) ns)
 
+-- a tree has one node more than its children
 size_of : (n : Node) → size n ≡ suc (total_size (children_of n))
 size_of (leaf g) = refl
 size_of (step literals) = refl
 size_of (compound t number nodes) = refl
 
+-- with a node replaced by its children a front has one node less
 pub size_splice : (front : List Placed) (i : ℕ) → i < length front → front_size front ≡ suc (front_size (splice i (children_at (front_at front i)) front))
 size_splice front i h =
     let x = front_at front i in
@@ -201,6 +226,7 @@ size_splice front i h =
     let own = size_of x.node in
     omega arith
 
+-- a front without nodes is empty
 pub nothing_sized : (front : List Placed) → front_size front ≡ 0 → front ≡ []
 nothing_sized [] h = refl
 nothing_sized (x ∷ xs) h = let own = size_of x.node in absurd (omega arith)

@@ -65,10 +65,12 @@ module _ (file : PlanFile) (forest : IsForest file) where
   Next id [] = IsIn id file.roots
   Next id (above ∷ way) = (line : DecompositionLine) × IsIn line file.decompositions × (line.id ≡ above) × IsIn id line.children
 
+  -- each line of the way is a child of the next
   abbrev IsWay : List ℕ → Type 0
   IsWay [] = Unit {0}
   IsWay (id ∷ way) = Next id way × IsWay way
 
+  -- the way without its first line
   abbrev past_first : List ℕ → List ℕ
   past_first [] = []
   past_first (x ∷ xs) = xs
@@ -118,6 +120,7 @@ module _ (file : PlanFile) (forest : IsForest file) where
       show : ShowTrees naming file ids plans
       within : AreWithin depth plans
 
+    -- the plan tree of a line, of at most that depth
     pub record Tree (id depth : ℕ) : Type 0 where
       pub tree : PlanTree
       pub shows : ShowsTree naming file id tree
@@ -139,12 +142,14 @@ module _ (file : PlanFile) (forest : IsForest file) where
         let (index, stands) = in_at line file.actions there in
         record { tree = action_at g index; shows = (line, stands, is, names); within = tt }
 
+    -- a way down that meets no line twice
     record Way (way : List ℕ) (left : ℕ) : Type 0 where
       ways : IsWay way
       distinct : IsWithoutRepeats way
       within : (x : ℕ) → IsIn x way → IsIn x (decomposition_ids file.decompositions)
       long : length way + left ≡ length file.decompositions
 
+    -- a way goes on to a line that it hasn't met
     longer : (way : List ℕ) (left id : ℕ) → Way way (suc left) → Next id way → IsIn id (decomposition_ids file.decompositions) → Way (id ∷ way) left
     longer way left id w next i = record {
       ways = (next, w.ways);
@@ -153,6 +158,7 @@ module _ (file : PlanFile) (forest : IsForest file) where
       long = (let l = w.long in omega arith);
     }
 
+    -- a way that has met all lines goes on to none
     at_end : (way : List ℕ) (id : ℕ) → Way way 0 → Next id way → IsIn id (decomposition_ids file.decompositions) → ⊥
     at_end way id w next i =
         let many = no_longer (id ∷ way) (decomposition_ids file.decompositions) (next_new id way next w.ways w.distinct, w.distinct)
@@ -182,5 +188,6 @@ module _ (file : PlanFile) (forest : IsForest file) where
     pub root_tree : (id : ℕ) → IsIn id file.roots → Tree id (length file.decompositions)
     root_tree id i = tree_of (length file.decompositions) [] (record { ways = tt; distinct = tt; within = λ x j. absurd j; long = (omega arith) }) id i
 
+    -- the lines of a forest are plan trees
     pub forest_planted : (plans : PlanTrees) × ShowTrees naming file file.roots plans
     forest_planted = let trees = each_tree file.roots (length file.decompositions) root_tree in (trees.plans, trees.show)

@@ -174,9 +174,11 @@ module _ (naming : Naming) (problem : Problem) (trees : Nodes) (id_at : Place �
       by (inr j) deeper = let (p, there, found) = deeper j in (p, inr there, found)
 
 module _ (naming : Naming) (problem : Problem) (file : PlanFile) (s : Solution) (solves : IsSolution problem s) (shadow : IsShadow naming file s) where
+  -- the trees of the solution
   abbrev trees : Nodes
   trees = s.trees
 
+  -- the ids of its lines
   abbrev id_at : Place → ℕ
   id_at = shadow.id_at
 
@@ -219,6 +221,7 @@ module _ (naming : Naming) (problem : Problem) (file : PlanFile) (s : Solution) 
       let tasks : is.task ≡ t = cc in
       subst (λ i. Names naming file i t) is.id (a_task line t there (is.named ∙ ap Some tasks))
 
+  -- the trees at a place, from a position on, are these
   abbrev Finds : Place → ℕ → Nodes → Type 0
   Finds place i ns = (k : ℕ) → node_at trees (place ++ (i + k) ∷ []) ≡ child_at ns k
 

@@ -38,6 +38,7 @@ in_arranged x (y ∷ xs) ys (left, right, e, r) i = by (in_narrower x y left rig
 
 -- ## A member's place
 
+-- a list is cut at a value
 pub record Splits {X : Type 0} (x : X) (xs : List X) : Type 0 where
   pub left : List X
   pub right : List X
@@ -61,6 +62,7 @@ map_rearranged f (x ∷ xs) ys (left, right, e, r) = (
   subst (IsRearrangementOf (map f xs)) (map-append f left right) (map_rearranged f xs (left ++ right) r),
 )
 
+-- a cut of the mapped list is one of the list
 record Unmapped {X Y : Type 0} (f : X → Y) (left : List Y) (y : Y) (right : List Y) (xs : List X) : Type 0 where
   before : List X
   x : X

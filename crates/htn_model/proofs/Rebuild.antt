@@ -16,16 +16,20 @@ use Rattle.htn_model.proofs.Words.{no_children_at}
 use Rattle.htn_model.proofs.Onward.{visited, Followed, Onward, onward}
 use Rattle.htn_model.proofs.Regrown.{nodes_of-list_of, make, graft, regrown, rebuild, graft_back}
 
+-- the trees of a front
 abbrev pub front_nodes : List Placed → List Node
 front_nodes front = map (λ x. x.node) front
 
+-- those of placed children are the children
 pub placed_nodes : (place : Place) (i : ℕ) (ns : Nodes) → front_nodes (placed place i ns) ≡ list_of ns
 placed_nodes place i no_nodes = refl
 placed_nodes place i (node n ns) = ap (λ l. n ∷ l) (placed_nodes place (suc i) ns)
 
+-- the tree at a position of a front
 pub front_node : (front : List Placed) (i : ℕ) → i < length front → get_or (front_nodes front) i (step []) ≡ (front_at front i).node
 front_node front i h = get_or-map (λ x. x.node) front i nowhere (step []) h
 
+-- the trees of a front with a node replaced by its children
 pub node_list : (front : List Placed) (i : ℕ) → front_nodes (splice i (children_at (front_at front i)) front) ≡ splice i (list_of (children_of (front_at front i).node)) (front_nodes front)
 node_list front i = map_splice (λ x. x.node) i (children_at (front_at front i)) front ∙ ap (λ ys. splice i ys (front_nodes front)) (placed_nodes (front_at front i).place 0 (children_of (front_at front i).node))
 
@@ -35,23 +39,28 @@ make_primitive (leaf g) number ns h = refl
 make_primitive (step literals) number ns h = refl
 make_primitive (compound t k nodes) number ns h = absurd cc
 
+-- there are as many trees as nodes that they are of
 length_list : (ns : Nodes) → length (list_of ns) ≡ length (roots ns)
 length_list no_nodes = refl
 length_list (node n ns) = ap suc (length_list ns)
 
 -- ## The places that a word visits
 
+-- the places of a front
 abbrev pub front_places : List Placed → List Place
 front_places front = map (λ x. x.place) front
 
+-- the places of so many children
 abbrev pub child_places : Place → ℕ → ℕ → List Place
 child_places place i zero = []
 child_places place i (suc m) = (place ++ i ∷ []) ∷ child_places place (suc i) m
 
+-- those of placed children
 pub placed_places : (place : Place) (i : ℕ) (ns : Nodes) → front_places (placed place i ns) ≡ child_places place i (length (roots ns))
 placed_places place i no_nodes = refl
 placed_places place i (node n ns) = ap (λ l. (place ++ i ∷ []) ∷ l) (placed_places place (suc i) ns)
 
+-- the places that a choice adds and goes on with
 abbrev pub routed : Config → List Place → (Config → List Place → List Place) → Option Choice → List Place
 routed c places deeper None = []
 routed c places deeper (Some choice) =
@@ -65,18 +74,22 @@ route problem [] c places = []
 route problem (number ∷ word) c places = routed c places (route problem word) (choose problem c number)
 
 module _ (problem : Problem) (grounded : IsGrounded problem) (order : Order) (trees : Nodes) where
+  -- the inherited order of places
   abbrev precedes : Place → Place → Bool
   precedes = before problem order trees
 
+  -- the order of a front
   abbrev fo : List Placed → ℕ → ℕ → Bool
   fo = front_order precedes
 
   -- ## The trees of a solution are those that its code builds
 
+  -- a peeling by the word shows the trees that it builds
   abbrev Rebuilds : List ℕ → Type 0
   Rebuilds word = (front : List Placed) (list : List Place) (c : Config) → Followed problem grounded order trees front list c → Peels precedes word front list
       → front_nodes front ≡ rebuild problem word c
 
+  -- a number more builds the node that it peels
   made_again : (front : List Placed) (list : List Place) (c : Config) (number : ℕ) (next : Peeling) (o : Onward problem grounded order trees front list c number next)
       → make (root (front_at front o.choice.position).node) number (list_of (children_of (front_at front o.choice.position).node)) ≡ (front_at front o.choice.position).node
   made_again front list c number next o =
@@ -102,6 +115,7 @@ module _ (problem : Problem) (grounded : IsGrounded problem) (order : Order) (tr
       ∙ graft_back i m (root x.node) number ys (front_nodes front) (step []) low (length_list (children_of x.node) ∙ ap length o.expands.children)
       (made_again front list c number (Peels precedes word) o ∙ sym (front_node front i o.within)))
 
+  -- each word builds the trees that it peels
   pub rebuilt : (word : List ℕ) → Rebuilds word
   rebuilt [] front list c f peels = ap front_nodes peels.0
   rebuilt (number ∷ word) front list c f peels =
@@ -109,6 +123,7 @@ module _ (problem : Problem) (grounded : IsGrounded problem) (order : Order) (tr
 
   -- ## The places that a solution's code visits
 
+  -- each word gives the linearisation of the front that it peels
   pub routes : (word : List ℕ) (front : List Placed) (list : List Place) (c : Config) → Followed problem grounded order trees front list c → Peels precedes word front list
       → list ≡ route problem word c (front_places front)
   routes [] front list c f peels = peels.1
@@ -129,6 +144,7 @@ module _ (problem : Problem) (grounded : IsGrounded problem) (order : Order) (tr
 
   -- ## One front and one word have one list of places
 
+  -- two lists that one number peels are the same if what is left of them is
   same_by : (front : List Placed) (ps qs : List Place) (number : ℕ) (word : List ℕ)
       → ((front : List Placed) (ps qs : List Place) → Peels precedes word front ps → Peels precedes word front qs → ps ≡ qs)
       → (o : Option ℕ) → PeelsBy precedes number (Peels precedes word) o front ps → PeelsBy precedes number (Peels precedes word) o front qs → ps ≡ qs
@@ -138,26 +154,31 @@ module _ (problem : Problem) (grounded : IsGrounded problem) (order : Order) (tr
       let rests = deeper (splice p.0 [] front) p.1 q.1 p.4 (subst (λ i. Peels precedes word (splice i [] front) q.1) (sym same) q.4) in
       p.3 ∙ ap₂ (λ i l. (front_at front i).place ∷ l) same rests ∙ sym q.3
 
+  -- a word peels one list of places
   pub same_list : (word : List ℕ) (front : List Placed) (ps qs : List Place) → Peels precedes word front ps → Peels precedes word front qs → ps ≡ qs
   same_list [] front ps qs p q = p.1 ∙ sym q.1
   same_list (number ∷ word) front ps qs p q = same_by front ps qs number word (same_list word) (first_free_compound (front_roots front) (fo front)) p q
 
   -- ## One front and one list have one word
 
+  -- a front and a list are peeled by one word
   abbrev OneWord : List ℕ → Type 0
   OneWord v = (front : List Placed) (list : List Place) (w : List ℕ) → IsFront problem order trees front → Peels precedes v front list → Peels precedes w front list → v ≡ w
 
+  -- nothing is peeled of an empty front
   nothing_peeled : (number : ℕ) (word : List ℕ) (front : List Placed) (list : List Place) → front ≡ [] → Peels precedes (number ∷ word) front list → ⊥
   nothing_peeled number word front list none peels =
       let p : Peels precedes (number ∷ word) [] list = subst (λ f. Peels precedes (number ∷ word) f list) none peels in
       (let e = p.2 in cc)
 
+  -- a front has no place twice
   same_place : (front : List Placed) (i j : ℕ) → IsFront problem order trees front → i < length front → j < length front → (front_at front i).place ≡ (front_at front j).place → i ≡ j
   same_place front i j is_front h g same = elim (cases_eq i j) [
     | inl e ↦ e
     | inr other ↦ absurd (not_apart _ (subst (Apart (front_at front i).place) (sym same) (is_front.apart i j h g other)))
   ]
 
+  -- two numbers that peel one front with one list are the same
   one_by : (front : List Placed) (list : List Place) (m n : ℕ) (v w : List ℕ) → IsFront problem order trees front → OneWord v
       → (o : Option ℕ) → first_free_compound (front_roots front) (fo front) ≡ o
       → PeelsBy precedes m (Peels precedes v) o front list → PeelsBy precedes n (Peels precedes w) o front list → m ∷ v ≡ n ∷ w
@@ -182,6 +203,7 @@ module _ (problem : Problem) (grounded : IsGrounded problem) (order : Order) (tr
       (one_place (is_free (length front) (fo front)) (length front) p.0 m n p.2 (q.2 ∙ ap Some (sym i)))
       (deeper (splice p.0 [] front) p.1 w next p.4 second)
 
+  -- a front and a list are peeled by one word
   pub one_word : (v : List ℕ) → OneWord v
   one_word [] front list [] is_front p q = refl
   one_word [] front list (n ∷ w) is_front p q = absurd (nothing_peeled n w front list p.0 q)

@@ -14,18 +14,22 @@ use Rattle.htn_model.proofs.Steps.{Decomposes, Executes, chosen, step_choice}
 
 -- ## Trees as a list
 
+-- a list of trees as children and back is the list
 pub list_of-nodes_of : (ns : List Node) → list_of (nodes_of ns) ≡ ns
 list_of-nodes_of [] = refl
 list_of-nodes_of (n ∷ ns) = ap (λ l. n ∷ l) (list_of-nodes_of ns)
 
+-- children as a list of trees and back are the children
 pub nodes_of-list_of : (ns : Nodes) → nodes_of (list_of ns) ≡ ns
 nodes_of-list_of no_nodes = refl
 nodes_of-list_of (node n ns) = ap (node n) (nodes_of-list_of ns)
 
+-- what a list of trees is of
 pub roots_of : (ns : List Node) → roots (nodes_of ns) ≡ map root ns
 roots_of [] = refl
 roots_of (n ∷ ns) = ap (λ l. root n ∷ l) (roots_of ns)
 
+-- a list of trees is one as children
 pub trees_of : (problem : Problem) (ns : List Node) → AllByRecursion (IsTree problem) ns → AreTrees problem (nodes_of ns)
 trees_of problem [] h = tt
 trees_of problem (n ∷ ns) h = (h.0, trees_of problem ns h.1)
@@ -42,6 +46,7 @@ make (task t) number ns = compound t number (nodes_of ns)
 abbrev pub graft : ℕ → ℕ → Child → ℕ → List Node → List Node
 graft i m child number next = take i next ++ make child number (take m (drop i next)) ∷ drop (i + m) next
 
+-- the trees that a choice leaves, grown back
 abbrev pub regrown : Config → ℕ → (Config → List Node) → Option Choice → List Node
 regrown c number deeper None = []
 regrown c number deeper (Some choice) =
@@ -64,6 +69,7 @@ regraft i m y next h =
     ∙ ap (λ ys. take i next ++ ys) (take-append-drop m (drop i next))
     ∙ take-append-drop i next
 
+-- a node whose children are put back is the one that was there
 pub graft_back : (i m : ℕ) (child : Child) (number : ℕ) (ys ns : List Node) (d : Node) → i < length ns → length ys ≡ m → make child number ys ≡ get_or ns i d
     → graft i m child number (splice i ys ns) ≡ ns
 graft_back i m child number ys ns d h long same =
@@ -74,20 +80,24 @@ graft_back i m child number ys ns d h long same =
 
 -- ## The trees are trees of the open nodes
 
+-- the first of some trees are trees
 all_take : (problem : Problem) (i : ℕ) (ns : List Node) → AllByRecursion (IsTree problem) ns → AllByRecursion (IsTree problem) (take i ns)
 all_take problem zero ns h = tt
 all_take problem (suc i) [] h = tt
 all_take problem (suc i) (n ∷ ns) h = (h.0, all_take problem i ns h.1)
 
+-- the last of some trees are trees
 all_drop : (problem : Problem) (i : ℕ) (ns : List Node) → AllByRecursion (IsTree problem) ns → AllByRecursion (IsTree problem) (drop i ns)
 all_drop problem zero ns h = h
 all_drop problem (suc i) [] h = tt
 all_drop problem (suc i) (n ∷ ns) h = all_drop problem i ns h.1
 
+-- trees and trees are trees
 all_join : (problem : Problem) (ms ns : List Node) → AllByRecursion (IsTree problem) ms → AllByRecursion (IsTree problem) ns → AllByRecursion (IsTree problem) (ms ++ ns)
 all_join problem [] ns h g = g
 all_join problem (m ∷ ms) ns h g = (h.0, all_join problem ms ns h.1 g)
 
+-- a word builds trees of the open nodes
 pub record Regrows (problem : Problem) (word : List ℕ) (c : Config) : Type 0 where
   pub roots : map root (rebuild problem word c) ≡ c.open_nodes
   pub trees : AllByRecursion (IsTree problem) (rebuild problem word c)
@@ -97,30 +107,36 @@ record Grows (problem : Problem) (child : Child) (number : ℕ) (ns : List Node)
   root_is : root (make child number ns) ≡ child
   tree : IsTree problem (make child number ns)
 
+-- a decomposed task grows back to a tree
 grows_task : (problem : Problem) (child : Child) (number : ℕ) (ns : List Node) (t : GroundTask) (network : Network) → child ≡ task t
     → slice_get (problem.methods_of t) number ≡ Some network → map root ns ≡ network.children → AllByRecursion (IsTree problem) ns → Grows problem child number ns
 grows_task problem child number ns t network is method children trees =
     subst (λ x. Grows problem x number ns) (sym is) (record { root_is = refl; tree = (network, method, roots_of ns ∙ children, trees_of problem ns trees) })
 
+-- an action that is carried out is there
 action_there : (problem : Problem) (g : GroundTask) (state next : State) (o : Option Action) → problem.action_of g ≡ o → perform_action state o ≡ Some next
     → (a : Action) × (problem.action_of g ≡ Some a)
 action_there problem g state next None e h = absurd cc
 action_there problem g state next (Some a) e h = (a, e)
 
+-- an action or a step grows back to a tree
 grows_primitive : (problem : Problem) (child : Child) (number : ℕ) (ns : List Node) (state next : State) → perform problem state child ≡ Some next → Grows problem child number ns
 grows_primitive problem (precondition literals) number ns state next h = record { root_is = refl; tree = tt }
 grows_primitive problem (action g) number ns state next h = record { root_is = refl; tree = action_there problem g state next (problem.action_of g) refl h }
 grows_primitive problem (task t) number ns state next h = absurd cc
 
+-- a choice is of an open node
 pub choice_within : (problem : Problem) (c : Config) (number : ℕ) (choice : Choice) → Decomposes problem c number choice ⊎ Executes problem c number choice → choice.position < length c.open_nodes
 choice_within problem c number choice (inl d) = (passes _ _ 0 choice.position d.first).0
 choice_within problem c number choice (inr e) = (passes _ _ number choice.position e.nth).0
 
+-- what is chosen grows back to a tree
 grows : (problem : Problem) (c : Config) (number : ℕ) (choice : Choice) (ns : List Node) → Decomposes problem c number choice ⊎ Executes problem c number choice
     → map root ns ≡ choice.network.children → AllByRecursion (IsTree problem) ns → Grows problem (child_of c.open_nodes choice.position) number ns
 grows problem c number choice ns (inl d) children trees = grows_task problem _ number ns d.name choice.network d.is_task d.method children trees
 grows problem c number choice ns (inr e) children trees = grows_primitive problem _ number ns c.state choice.state e.performs
 
+-- a word with a number in front builds trees if the rest does
 one_back : (problem : Problem) (word : List ℕ) (c : Config) (number : ℕ) (choice : Choice) → choose problem c number ≡ Some choice
     → Regrows problem word (result_of c choice) → Regrows problem (number ∷ word) c
 one_back problem word c number choice chooses later =
@@ -145,6 +161,7 @@ one_back problem word c number choice chooses later =
           (all_join problem (take i next) _ (all_take problem i next later.trees) (grown.tree, all_drop problem (i + m) next later.trees));
     }
 
+-- each finishing word builds trees
 pub regrows : (problem : Problem) (word : List ℕ) (c : Config) → FinishesFrom problem word c → Regrows problem word c
 regrows problem [] c h = record { roots = sym h.0; trees = tt }
 regrows problem (number ∷ word) c h =

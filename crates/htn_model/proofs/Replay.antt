@@ -18,27 +18,33 @@ use Rattle.htn_model.proofs.Words.{method_of, expands_primitive, no_children_at}
 use Rattle.htn_model.proofs.Regrown.{list_of-nodes_of, make, graft, regrown, rebuild, regraft, regrows, choice_within}
 use Rattle.htn_model.proofs.Rebuild.{front_nodes, front_node, node_list}
 
+-- a front without trees is empty
 no_front : (front : List Placed) → front_nodes front ≡ [] → front ≡ []
 no_front [] h = refl
 no_front (x ∷ xs) h = absurd cc
 
+-- what holds of the leaves and steps of each node of a front holds of all
 all_pending : (P : Place → Type 0) (front : List Placed)
     → ((a : ℕ) → a < length front → AllByRecursion P (primitives (front_at front a).place (front_at front a).node)) → AllByRecursion P (pending front)
 all_pending P [] each = tt
 all_pending P (x ∷ xs) each = all_join P (primitives x.place x.node) (pending xs) (each 0 (omega arith)) (all_pending P xs (λ a h. each (suc a) (omega arith)))
 
+-- what is carried out is no compound task
 not_task : (problem : Problem) (state next : State) (child : Child) → perform problem state child ≡ Some next → is_compound child ≡ false
 not_task problem state next (precondition literals) h = refl
 not_task problem state next (action g) h = refl
 not_task problem state next (task t) h = absurd cc
 
 module _ (problem : Problem) (grounded : IsGrounded problem) (order : Order) (trees : Nodes) where
+  -- the inherited order of places
   abbrev precedes : Place → Place → Bool
   precedes = before problem order trees
 
+  -- the order of a front
   abbrev fo : List Placed → ℕ → ℕ → Bool
   fo = front_order precedes
 
+  -- a word peels the front with a list that rearranges its leaves and steps and keeps their order
   pub record Played (word : List ℕ) (front : List Placed) (c : Config) : Type 0 where
     pub list : List Place
     pub peels : Peels precedes word front list
@@ -52,11 +58,13 @@ module _ (problem : Problem) (grounded : IsGrounded problem) (order : Order) (tr
     pub matches : Matches problem order trees front c
     pub built : front_nodes front ≡ rebuild problem word c
 
+  -- each front that a word is ready for is so played
   abbrev Plays : List ℕ → Type 0
   Plays word = (front : List Placed) (c : Config) → Ready word front c → FinishesFrom problem word c → Played word front c
 
   -- ## What stands at the chosen position
 
+  -- a choice is at a position of the front, and the tree there is the one that the word builds
   record Chosen (word : List ℕ) (front : List Placed) (c : Config) (number : ℕ) (choice : Choice) : Type 0 where
     within : choice.position < length front
     enough : choice.position ≤ length (rebuild problem word (result_of c choice))
@@ -64,6 +72,7 @@ module _ (problem : Problem) (grounded : IsGrounded problem) (order : Order) (tr
     made : (front_at front choice.position).node ≡
         make (child_of c.open_nodes choice.position) number (take (length choice.network.children) (drop choice.position (rebuild problem word (result_of c choice))))
 
+  -- each choice is so
   chosen_at : (word : List ℕ) (front : List Placed) (c : Config) (number : ℕ) (choice : Choice) → Ready (number ∷ word) front c → choose problem c number ≡ Some choice
       → FinishesFrom problem word (result_of c choice) → Chosen word front c number choice
   chosen_at word front c number choice ready chooses finishes =
@@ -85,6 +94,7 @@ module _ (problem : Problem) (grounded : IsGrounded problem) (order : Order) (tr
             ∙ get_or_at (take i next) (make (child_of c.open_nodes i) number (take m (drop i next))) (drop (i + m) next) (step []) i (length-take-le i next enough);
       }
 
+  -- the trees of the next front are those that the rest of the word builds
   built_next : (word : List ℕ) (front : List Placed) (c : Config) (number : ℕ) (choice : Choice) → Chosen word front c number choice
       → list_of (children_of (front_at front choice.position).node) ≡ take (length choice.network.children) (drop choice.position (rebuild problem word (result_of c choice)))
       → front_nodes (splice choice.position (children_at (front_at front choice.position)) front) ≡ rebuild problem word (result_of c choice)
@@ -96,6 +106,7 @@ module _ (problem : Problem) (grounded : IsGrounded problem) (order : Order) (tr
 
   -- ## A decomposition
 
+  -- a word that decomposes a task first is played
   play_task : (word : List ℕ) (front : List Placed) (c : Config) (number : ℕ) (choice : Choice) → Ready (number ∷ word) front c → Decomposes problem c number choice
       → Chosen word front c number choice → FinishesFrom problem word (result_of c choice) → Plays word → Played (number ∷ word) front c
   play_task word front c number choice ready d at finishes deeper =
@@ -151,6 +162,7 @@ module _ (problem : Problem) (grounded : IsGrounded problem) (order : Order) (tr
           subst (λ y. AllByRecursion (λ z. precedes z (front_at front i).place ≡ false) (primitives y.place y.node)) (sym q.element)
           (under (origin i (length (children_at (front_at front i))) a) (q.within h) q.from)
 
+  -- a word that carries something out first is played
   play_primitive : (word : List ℕ) (front : List Placed) (c : Config) (number : ℕ) (choice : Choice) → Ready (number ∷ word) front c → Executes problem c number choice
       → Chosen word front c number choice → FinishesFrom problem word (result_of c choice) → Plays word → Played (number ∷ word) front c
   play_primitive word front c number choice ready e at finishes deeper =
@@ -189,6 +201,7 @@ module _ (problem : Problem) (grounded : IsGrounded problem) (order : Order) (tr
         goal = subst (λ o. ReachesGoal problem (option_and_then (λ s. run problem trees s played.list) o)) (sym performs) played.goal;
       }
 
+  -- a word with a number in front is played if the rest is
   play_one : (word : List ℕ) (front : List Placed) (c : Config) (number : ℕ) (choice : Choice) → Ready (number ∷ word) front c → choose problem c number ≡ Some choice
       → FinishesFrom problem word (result_of c choice) → Plays word → Decomposes problem c number choice ⊎ Executes problem c number choice → Played (number ∷ word) front c
   play_one word front c number choice ready chooses finishes deeper (inl d) =
@@ -196,6 +209,7 @@ module _ (problem : Problem) (grounded : IsGrounded problem) (order : Order) (tr
   play_one word front c number choice ready chooses finishes deeper (inr e) =
       play_primitive word front c number choice ready e (chosen_at word front c number choice ready chooses finishes) finishes deeper
 
+  -- each finishing word is played
   pub play : (word : List ℕ) → Plays word
   play [] front c ready done =
       let none = no_front front ready.built in

@@ -19,10 +19,12 @@ use Rattle.htn_model.proofs.Sketches.{Draft, config_of, shown_step, step_shown, 
 
 -- ## Tests of all numbers below a bound
 
+-- whether a test holds of all numbers below a bound
 abbrev pub all_below : ℕ → (ℕ → Bool) → Bool
 all_below zero test = true
 all_below (suc n) test = test n && all_below n test
 
+-- then it holds of each
 pub below_all : (n : ℕ) (test : ℕ → Bool) (i : ℕ) → all_below n test ≡ true → i < n → test i ≡ true
 below_all zero test i h within = absurd (omega arith)
 below_all (suc n) test i h within = by (cases_order i n) (below_all n test i (and_parts _ _ h).1)
@@ -34,9 +36,11 @@ below_all (suc n) test i h within = by (cases_order i n) (below_all n test i (an
 
 -- ## Steps
 
+-- a draft of a done configuration tests as done
 done_is : (k : Sketch) (d : Draft) → IsDone (sketched k) (config_of d) → shown_done k d ≡ true
 done_is k d h = sym (done_shown k d) ∙ and_from _ _ (ap is_empty h.0) h.1
 
+-- a draft that tests as done is of a done configuration
 nothing_left : (k : Sketch) (d : Draft) → shown_done k d ≡ true → IsDone (sketched k) (config_of d)
 nothing_left k d h =
     let parts = and_parts _ _ (done_shown k d ∙ h) in (empty d.open_nodes parts.0, parts.1)
@@ -66,9 +70,11 @@ abbrev pub none_below : Sketch → ℕ → Draft → Bool
 none_below k zero d = true
 none_below k (suc n) d = not (shown_done k d) && all_below (choice_count (sketched k) (config_of d)) (λ m. on_step (none_below k n) (shown_step k d m))
 
+-- one more keeps the order of lengths
 one_longer : (n m : ℕ) → n ≤ m → suc n ≤ suc m
 one_longer n m h = omega arith
 
+-- where the search finds none below a length, no shorter word finishes
 pub long_enough : (k : Sketch) (n : ℕ) (d : Draft) → none_below k n d ≡ true → (word : List ℕ) → FinishesFrom (sketched k) word (config_of d) → n ≤ length word
 long_enough k zero d h word f = omega arith
 long_enough k (suc n) d h [] f = absurd (both_ways (shown_done k d) (not_done (shown_done k d) (and_parts _ _ h).0) (done_is k d f))
@@ -86,6 +92,7 @@ abbrev pub none_at_all : Sketch → ℕ → Draft → Bool
 none_at_all k zero d = false
 none_at_all k (suc n) d = not (shown_done k d) && all_below (choice_count (sketched k) (config_of d)) (λ m. on_step (none_at_all k n) (shown_step k d m))
 
+-- where the search finds none at all, no word finishes
 pub never : (k : Sketch) (n : ℕ) (d : Draft) → none_at_all k n d ≡ true → (word : List ℕ) → FinishesFrom (sketched k) word (config_of d) → ⊥
 never k zero d h word f = absurd cc
 never k (suc n) d h [] f = both_ways (shown_done k d) (not_done (shown_done k d) (and_parts _ _ h).0) (done_is k d f)
@@ -106,9 +113,11 @@ stays_within k zero steps most d = false
 stays_within k (suc n) steps most d =
     leb (steps + length d.open_nodes) most && all_below (choice_count (sketched k) (config_of d)) (λ m. on_step (stays_within k n (suc steps) most) (shown_step k d m))
 
+-- a step more, by one less of the word
 one_step : (steps long count most : ℕ) → suc steps + long + count ≤ most → steps + suc long + count ≤ most
 one_step steps long count most h = omega arith
 
+-- where the search stays within a bound, so do all that live numbers reach
 pub few_open : (k : Sketch) (n steps most : ℕ) (d : Draft) → stays_within k n steps most d ≡ true → (word : List ℕ) (c : Config) → LeadsLive (sketched k) word (config_of d) c
     → steps + length word + length c.open_nodes ≤ most
 few_open k zero steps most d h word c leads = absurd cc
@@ -126,14 +135,17 @@ few_open k (suc n) steps most d h (m ∷ word) c leads =
 
 -- ## A word finishes, and none as long is smaller
 
+-- a test of what a step leads to, false where it leads nowhere
 abbrev pub leads_on : (Draft → Bool) → Option Draft → Bool
 leads_on test None = false
 leads_on test (Some d) = test d
 
+-- whether a word finishes, as a test
 abbrev pub finishes_by : Sketch → List ℕ → Draft → Bool
 finishes_by k [] d = shown_done k d
 finishes_by k (m ∷ word) d = leads_on (finishes_by k word) (shown_step k d m)
 
+-- a word that tests so finishes
 pub it_finishes : (k : Sketch) (word : List ℕ) (d : Draft) → finishes_by k word d ≡ true → FinishesFrom (sketched k) word (config_of d)
 it_finishes k [] d h = nothing_left k d h
 it_finishes k (m ∷ word) d h = by (shown_step k d m) h (step_shown k d m) (it_finishes k word)
@@ -143,10 +155,12 @@ it_finishes k (m ∷ word) d h = by (shown_step k d m) h (step_shown k d m) (it_
     by None h e later = absurd cc
     by (Some next) h e later = (config_of next, e, later next h)
 
+-- whether no smaller word of that length finishes, as a test
 abbrev pub none_smaller : Sketch → List ℕ → Draft → Bool
 none_smaller k [] d = true
 none_smaller k (m ∷ word) d = all_below m (λ j. on_step (none_below k (suc (length word))) (shown_step k d j)) && on_step (none_smaller k word) (shown_step k d m)
 
+-- where it tests so, the word is no greater than any that finishes
 pub no_greater : (k : Sketch) (word : List ℕ) (d : Draft) → none_smaller k word d ≡ true → (other : List ℕ) → FinishesFrom (sketched k) other (config_of d)
     → length word ≡ length other → IsNoGreater word other
 no_greater k [] d h other f long = tt
@@ -178,25 +192,31 @@ no_greater k (m ∷ word) d h (j ∷ other) f long = by (cases_order m j) (no_gr
 
 -- ## From the initial networks on
 
+-- the draft that a network starts with
 abbrev pub draft_of : Sketch → Network → Draft
 draft_of k network = record { atoms = k.initial_atoms; open_nodes = network.children; order = network.order }
 
+-- a test of a network, true where there is none
 abbrev pub on_network : (Network → Bool) → Option Network → Bool
 on_network test None = true
 on_network test (Some network) = test network
 
+-- a test of a network, false where there is none
 abbrev pub at_network : (Network → Bool) → Option Network → Bool
 at_network test None = false
 at_network test (Some network) = test network
 
+-- a test of all initial networks holds of each
 network_tested : (k : Sketch) (n number : ℕ) (network : Network) (test : Network → Bool) → all_below n (λ j. on_network test (slice_get k.initials j)) ≡ true
     → number < n → slice_get k.initials number ≡ Some network → test network ≡ true
 network_tested k n number network test h within stands =
     sym (ap (on_network test) stands) ∙ below_all n (λ j. on_network test (slice_get k.initials j)) number h within
 
+-- whether no word within a bound finishes, as a test
 abbrev pub none_within : Sketch → ℕ → Bool
 none_within k bound = all_below (length k.initials) (λ j. on_network (λ network. none_below k (suc bound) (draft_of k network)) (slice_get k.initials j))
 
+-- where it tests so, there is no least word
 pub no_word : (k : Sketch) (bound : ℕ) → none_within k bound ≡ true → IsLeastWord (sketched k) bound None
 no_word k bound h [] f = absurd f
 no_word k bound h (number ∷ word) f =
@@ -204,9 +224,11 @@ no_word k bound h (number ∷ word) f =
     let more = long_enough k (suc bound) (draft_of k f.0) tested word f.2 in
     omega arith
 
+-- whether no word finishes, as a test
 abbrev pub none_ever : Sketch → ℕ → Bool
 none_ever k n = all_below (length k.initials) (λ j. on_network (λ network. none_at_all k n (draft_of k network)) (slice_get k.initials j))
 
+-- where it tests so, no word finishes
 pub no_word_ever : (k : Sketch) (n : ℕ) → none_ever k n ≡ true → (word : List ℕ) → Finishes (sketched k) word → ⊥
 no_word_ever k n h [] f = f
 no_word_ever k n h (number ∷ word) f =
@@ -221,6 +243,7 @@ is_least k number word =
     && (all_below number (λ j. on_network (λ network. none_below k (suc (length word)) (draft_of k network)) (slice_get k.initials j))
     && on_network (λ network. none_smaller k word (draft_of k network)) (slice_get k.initials number))
 
+-- a word that tests as least is the least word
 pub least_word : (k : Sketch) (bound number : ℕ) (word : List ℕ) → is_least k number word ≡ true → leb (length word) bound ≡ true
     → IsLeastWord (sketched k) bound (Some (number ∷ word))
 least_word k bound number word h within =
@@ -260,9 +283,11 @@ least_word k bound number word h within =
         by (inl less) = inl (omega arith)
         by (inr more) = let e : length word ≡ length other = omega (arith, long, more) in inr (ap suc e, first e (cases_order number j))
 
+-- whether all that is reached stays within a bound, as a test
 abbrev pub all_within : Sketch → ℕ → ℕ → Bool
 all_within k n most = all_below (length k.initials) (λ j. on_network (λ network. stays_within k n 0 most (draft_of k network)) (slice_get k.initials j))
 
+-- where it tests so, the bound isn't met
 pub not_met : (k : Sketch) (n most bound : ℕ) → all_within k n most ≡ true → most ≤ bound → IsMet (sketched k) bound → ⊥
 not_met k n most bound h low met =
     let r = met.reached in
@@ -274,14 +299,17 @@ not_met k n most bound h low met =
 
 -- ## Answers
 
+-- a solution whose code tests as least is the answer
 pub is_answer : (k : Sketch) (bound number : ℕ) (word : List ℕ) (s : Solution) → IsGrounded (sketched k) → is_least k number word ≡ true → leb (length word) bound ≡ true
     → IsSolution (sketched k) s → IsCode (sketched k) s (number ∷ word) → IsAnswer (sketched k) bound (Some s)
 is_answer k bound number word s grounded least within solves code =
     (least_word_answers (sketched k) grounded).answer bound (Some (number ∷ word)) (Some s) (least_word k bound number word least within) (solves, code)
 
+-- where no word within the bound tests to finish, there is no answer
 pub no_answer : (k : Sketch) (bound : ℕ) → IsGrounded (sketched k) → none_within k bound ≡ true → IsAnswer (sketched k) bound None
 no_answer k bound grounded h = (least_word_answers (sketched k) grounded).answer bound None None (no_word k bound h) tt
 
+-- where no word tests to finish, the problem is unsolvable
 pub unsolvable : (k : Sketch) (n : ℕ) → IsGrounded (sketched k) → none_ever k n ≡ true → IsUnsolvable (sketched k)
 unsolvable k n grounded h s solves =
     let code = (one_to_one (sketched k) grounded).code s solves in no_word_ever k n h code.0 code.3

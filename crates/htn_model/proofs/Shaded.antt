@@ -13,6 +13,7 @@ use Rattle.htn_model.proofs.Decoupled.{sits_child}
 use Rattle.htn_model.proofs.Forests.{networks_decouple}
 use Rattle.htn_model.specs.Problem.{IsGrounded}
 
+-- a step among the roots is a tree of the nodes
 step_there : (nodes : Nodes) (a : ℕ) (literals : List Literal) → slice_get (roots nodes) a ≡ Some (precondition literals) → child_at nodes a ≡ Some (step literals)
 step_there no_nodes a literals h = absurd cc
 step_there (node (leaf g) ns) zero literals h = absurd cc
@@ -21,6 +22,7 @@ step_there (node (compound t number nodes) ns) zero literals h = absurd cc
 step_there (node n ns) (suc a) literals h = step_there ns a literals h
 
 module _ (naming : Naming) (problem : Problem) (states : ℕ → State) where
+  -- steps that sit hold between start and finish
   steps_fit : (slots : Slots) (nodes : Nodes) (start finish : ℕ → ℕ) → AllSit problem states slots 0 nodes start finish → StepsFit states (roots nodes) start finish
   steps_fit slots nodes start finish all a literals is =
       let sits = sits_child problem states slots nodes start finish a (step literals) all (step_there nodes a literals is) in
@@ -62,6 +64,7 @@ module _ (naming : Naming) (problem : Problem) (states : ℕ → State) where
       all_fit_shaded plans slots nodes positions start finish trees all shades,
     )
 
+-- a forest that is placed in its order shows that its lines have room
 pub placed_forests_fit : (naming : Naming) (problem : Problem) → IsGrounded problem → PlacedForestsFit naming problem
 placed_forests_fit naming problem grounded states slots number network trees positions plans n is are_roots are_trees matching shades keeps =
     let (start, finish, spans, all) = (networks_decouple problem grounded).sits states slots network.order trees n (grounded.initials number network is).closed keeps in (

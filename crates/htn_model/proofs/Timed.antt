@@ -16,10 +16,12 @@ use Rattle.htn_model.proofs.Orders.{before_irreflexive}
 use Rattle.htn_model.proofs.Numbered.{same_place_itself, same_place, in_primitives, in_arranged}
 
 module _ (trees : Nodes) where
+  -- the slot of a place: how many leaves of the list come before it, and a number more
   abbrev pub slot_in : ℕ → List Place → Place → ℕ
   slot_in i [] p = i
   slot_in i (q ∷ qs) p = cond (is_same_place p q) i (slot_in (duration (node_at trees q) + i) qs p)
 
+  -- how many places of a list are leaves
   abbrev pub leaves : List Place → ℕ
   leaves [] = 0
   leaves (q ∷ qs) = duration (node_at trees q) + leaves qs
@@ -95,6 +97,7 @@ module _ (trees : Nodes) where
 
 module _ (naming : Naming) (problem : Problem) (file : PlanFile) (states : ℕ → State) (runs : LinesRun naming problem file states)
     (trees : Nodes) (id_at : Place → ℕ) where
+  -- the lines are those of the file from a number on
   abbrev From : ℕ → List ActionLine → Type 0
   From i lines = (k : ℕ) → slice_get lines k ≡ slice_get file.actions (i + k)
 

@@ -34,6 +34,7 @@ greatest g value (suc n) small =
       )
     ]
 
+-- each leaf and step below a node ends by a gap
 abbrev pub EndsBy : Slots → Option Node → ℕ → Type 0
 EndsBy slots m x = (p : Place) → IsPrimitive (node_below m p) → duration (node_below m p) + slots p ≤ x
 
@@ -43,39 +44,47 @@ pub record IsLastEnd (g : ℕ) (slots : Slots) (m : Option Node) (top : ℕ) : T
   pub upper : EndsBy slots m top
   pub least : (x : ℕ) → g ≤ x → EndsBy slots m x → top ≤ x
 
+-- a value in front of the others
 abbrev at_front : ℕ → (ℕ → ℕ) → ℕ → ℕ
 at_front x value zero = x
 at_front x value (suc i) = value i
 
+-- where the last of the leaves and steps below each child ends
 pub record LastEnds (g : ℕ) (slots : Slots) (k : ℕ) (nodes : Nodes) : Type 0 where
   pub tops : ℕ → ℕ
   pub count : ℕ
   pub each : (i : ℕ) → IsLastEnd g (λ p. slots ((k + i) ∷ p)) (child_at nodes i) (tops i)
   pub small : (i : ℕ) → count ≤ i → tops i ≤ g
 
+-- nothing ends by any gap
 none_ends : (slots : Slots) (x : ℕ) → EndsBy slots None x
 none_ends slots x p h = absurd (none_primitive (node_below None p) (nothing_below p) h)
 
+-- nothing ends where it starts
 nothing_last : (g : ℕ) (slots : Slots) → IsLastEnd g slots None g
 nothing_last g slots = record { low = omega arith; upper = none_ends slots g; least = λ x l u. l }
 
+-- a node without children ends by a gap if it does itself
 alone : (slots : Slots) (m : Node) (x : ℕ) → children_in (Some m) ≡ no_nodes → (IsPrimitive (Some m) → duration (Some m) + slots [] ≤ x) → EndsBy slots (Some m) x
 alone slots m x childless ends [] h = ends h
 alone slots m x childless ends (i ∷ p) h =
     absurd (none_primitive (node_below None p) (nothing_below p) (subst (λ ns. IsPrimitive (node_below (child_at ns i) p)) childless h))
 
+-- a leaf or step ends where it does
 primitive_end : (g : ℕ) (slots : Slots) (m : Node) → children_in (Some m) ≡ no_nodes → IsPrimitive (Some m) → (top : ℕ) × IsLastEnd g slots (Some m) top
 primitive_end g slots m childless primitive = elim (cases_lt g (duration (Some m) + slots [])) [
   | inl above ↦ (duration (Some m) + slots [], record { low = omega arith; upper = alone slots m _ childless (λ h. omega arith); least = λ x l u. u [] primitive })
   | inr below ↦ (g, record { low = omega arith; upper = alone slots m g childless (λ h. below); least = λ x l u. l })
 ]
 
+-- a compound node ends by a gap if each child does
 compound_ends : (slots : Slots) (m : Node) (nodes : Nodes) (x : ℕ) → children_in (Some m) ≡ nodes → (IsPrimitive (Some m) → ⊥)
     → ((i : ℕ) → EndsBy (λ p. slots (i ∷ p)) (child_at nodes i) x) → EndsBy slots (Some m) x
 compound_ends slots m nodes x is not_itself each [] h = absurd (not_itself h)
 compound_ends slots m nodes x is not_itself each (i ∷ p) h =
     subst (λ ns. duration (node_below (child_at ns i) p) + slots (i ∷ p) ≤ x) (sym is) (each i p (subst (λ ns. IsPrimitive (node_below (child_at ns i) p)) is h))
 
+-- children at equal positions end where one does
 pub shifted : (g : ℕ) (slots : Slots) (m : Option Node) (i j top : ℕ) → i ≡ j → IsLastEnd g (λ p. slots (i ∷ p)) m top → IsLastEnd g (λ p. slots (j ∷ p)) m top
 shifted g slots m i j top same is = subst (λ k. IsLastEnd g (λ p. slots (k ∷ p)) m top) same is
 

@@ -21,9 +21,11 @@ same_first P (z ∷ xs) (w ∷ ys) x y more others e all_x not_x all_y not_y =
     same_first P xs ys x y more others tails all_x.1 not_x all_y.1 not_y
 
 module _ (naming : Naming) (problem : Problem) where
+  -- the state after lines, from one that may be there
   abbrev after_line : Option State → List ActionLine → Option State
   after_line state lines = option_and_then (λ next. run_lines naming problem next lines) state
 
+  -- lines run one after the other
   run_append : (state : State) (xs ys : List ActionLine) → run_lines naming problem state (xs ++ ys) ≡ after_line (run_lines naming problem state xs) ys
   run_append state [] ys = refl
   run_append state (x ∷ xs) ys = by (perform_line naming problem state x) (λ next. run_append next xs ys)
@@ -49,6 +51,7 @@ module _ (naming : Naming) (problem : Problem) where
       let both : None ≡ Some b = sym none ∙ runs in
       absurd cc
 
+  -- two first failing lines are the same
   same_failing : (xs ys : List ActionLine) (x y : ActionLine) (more others : List ActionLine) (state a b : State) → xs ++ x ∷ more ≡ ys ++ y ∷ others
       → run_lines naming problem state xs ≡ Some a → perform_line naming problem a x ≡ None
       → run_lines naming problem state ys ≡ Some b → perform_line naming problem b y ≡ None → x ≡ y
@@ -71,33 +74,39 @@ module _ (naming : Naming) (problem : Problem) where
       by (Some s) is same go_x go_y more = more s (ap (λ r. after_line r xs) (sym is) ∙ go_x) (ap (λ r. after_line r ys) (sym is ∙ same) ∙ go_y)
 
   module _ (file : PlanFile) where
+    -- not all lines have instances where one is faulty
     all_or_faulty : {X : Type 0} (name : Option ℕ) → AllHave naming problem file → IsFirstFaulty naming problem file name → X
     all_or_faulty name all f =
         absurd (f.faulty (all_parts (Has naming problem file) f.before (f.line ∷ f.others) (subst (AllByRecursion (Has naming problem file)) f.lines all)).1.0)
 
+    -- two first faulty lines are the same
     same_faulty : (a b : Option ℕ) → IsFirstFaulty naming problem file a → IsFirstFaulty naming problem file b → a ≡ b
     same_faulty a b f g =
         f.name_is
         ∙ ap name_of (same_first (Has naming problem file) f.before g.before f.line g.line f.others g.others (sym f.lines ∙ g.lines) f.fine f.faulty g.fine g.faulty)
         ∙ sym g.name_is
 
+    -- no run ends where a line fails
     ends_or_fails : {X : Type 0} (id : ℕ) (goal : Bool) → IsFirstFailing naming problem file id → Ends naming problem file goal → X
     ends_or_fails id goal f (state, runs, holds_goal) =
         let none = ap (run_lines naming problem problem.initial_state) f.lines ∙ fails_whole problem.initial_state f.state f.before f.line f.others f.reaches f.fails in
         absurd cc
 
+    -- two first failing lines have one id
     same_id : (a b : ℕ) → IsFirstFailing naming problem file a → IsFirstFailing naming problem file b → a ≡ b
     same_id a b f g =
         f.id_is
         ∙ ap (λ l. l.id) (same_failing f.before g.before f.line g.line f.others g.others problem.initial_state f.state g.state (sym f.lines ∙ g.lines) f.reaches f.fails g.reaches g.fails)
         ∙ sym g.id_is
 
+    -- the goal doesn't both hold and fail
     one_goal : {X : Type 0} → Ends naming problem file true → Ends naming problem file false → X
     one_goal (s, runs_s, is) (t, runs_t, fails) =
         let same : s ≡ t = cc in
         let both : true ≡ false = sym (subst (λ u. holds u problem.goal ≡ true) same is) ∙ fails in
         absurd cc
 
+-- a file has no two verdicts
 pub verdicts_are_unique : (naming : Naming) (problem : Problem) → VerdictsAreUnique naming problem
 verdicts_are_unique naming problem file structure structure h g = refl
 verdicts_are_unique naming problem file structure (no_instance b) h g = absurd (h g.0)

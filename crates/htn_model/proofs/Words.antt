@@ -17,11 +17,13 @@ use Rattle.htn_model.proofs.Pending.{pending, all_rearranged, all_parts, not_not
 
 -- ## What a node's expansion is
 
+-- the network of a compound node's instance
 pub record Method (problem : Problem) (x : Placed) (t : GroundTask) (number : ℕ) : Type 0 where
   pub network : Network
   pub is : slice_get (problem.methods_of t) number ≡ Some network
   pub expands : Expands problem x network
 
+-- a tree of a compound node has it
 pub method_of : (problem : Problem) (x : Placed) (t : GroundTask) (number : ℕ) (nodes : Nodes) → x.node ≡ compound t number nodes → IsTree problem x.node → Method problem x t number
 method_of problem x t number nodes same tree =
     let h : IsTree problem (compound t number nodes) = subst (IsTree problem) same tree in
@@ -34,31 +36,39 @@ method_of problem x t number nodes same tree =
       };
     }
 
+-- an action or a step has no children
 pub expands_primitive : (problem : Problem) (x : Placed) → IsPrimitive problem x.node → Expands problem x no_network
 expands_primitive problem x p = record { children = ap roots p.no_children; orders = p.no_order }
 
+-- so it has none in the front
 pub no_children_at : (problem : Problem) (x : Placed) → IsPrimitive problem x.node → children_at x ≡ []
 no_children_at problem x p = ap (placed x.place 0) p.no_children
 
+-- a list of one value is cut at it
 one_in : (x : Place) (left : List Place) (p : Place) (right : List Place) → x ∷ [] ≡ left ++ p ∷ right → (left ≡ []) × (p ≡ x) × (right ≡ [])
 one_in x [] p right h = (refl, (let same : x ≡ p = cc in sym same), (let none : [] ≡ right = cc in sym none))
 one_in x (l ∷ left) p right h = let none : [] ≡ left ++ p ∷ right = cc in absurd (not_nothing left p right none)
 
+-- a run that reaches the goal has a state after its first step
 pub performed : (problem : Problem) (f : State → Option State) (o : Option State) → ReachesGoal problem (option_and_then f o)
     → (state : State) × (o ≡ Some state) × ReachesGoal problem (f state)
 performed problem f None h = absurd (let e = h.1 in cc)
 performed problem f (Some state) h = (state, refl, h)
 
 module _ (problem : Problem) (grounded : IsGrounded problem) (order : Order) (trees : Nodes) (closed : IsClosed order) where
+  -- the inherited order of places
   abbrev precedes : Place → Place → Bool
   precedes = before problem order trees
 
+  -- the order of a front
   abbrev fo : List Placed → ℕ → ℕ → Bool
   fo = front_order precedes
 
+  -- no node of a front comes before itself
   pub irreflexive : (front : List Placed) (a : ℕ) → fo front a a ≡ false
   irreflexive front a = before_irreflexive problem order trees (front_at front a).place
 
+  -- a node before one that is before another is before that
   pub transitive : (front : List Placed) (a b c : ℕ) → fo front a b ≡ true → fo front b c ≡ true → fo front a c ≡ true
   transitive front a b c = before_transitive problem grounded order trees closed (front_at front a).place (front_at front b).place (front_at front c).place
 
@@ -70,6 +80,7 @@ module _ (problem : Problem) (grounded : IsGrounded problem) (order : Order) (tr
     pub respects : Respects precedes list
     pub goal : ReachesGoal problem (run problem trees c.state list)
 
+  -- a word that peels a front with a list, has a number for each node, and finishes
   pub record Word (front : List Placed) (list : List Place) (c : Config) : Type 0 where
     pub word : List ℕ
     pub peels : Peels precedes word front list
@@ -78,6 +89,7 @@ module _ (problem : Problem) (grounded : IsGrounded problem) (order : Order) (tr
 
   -- ## Nothing is left
 
+  -- nothing is peeled by the empty word
   no_more : (list : List Place) (c : Config) → Left [] list c → Word [] list c
   no_more list c l =
       let none = rearranged_nothing list l.rearranged in
@@ -92,6 +104,7 @@ module _ (problem : Problem) (grounded : IsGrounded problem) (order : Order) (tr
 
   -- ## A compound node is free
 
+  -- a free compound node takes the number of its instance
   decomposed : (front : List Placed) (list : List Place) (c : Config) → Left front list c → (i : ℕ)
       → first_free_compound (front_roots front) (fo front) ≡ Some i
       → ((next : List Placed) (rest : List Place) (d : Config) → suc (front_size next) ≡ front_size front → Left next rest d → Word next rest d)
@@ -128,6 +141,7 @@ module _ (problem : Problem) (grounded : IsGrounded problem) (order : Order) (tr
 
   -- ## No compound node is free
 
+  -- a front with nodes has a free one
   some_free : (front : List Placed) → 0 < length front → (j : ℕ) × (j < length front) × (is_free (length front) (fo front) j ≡ true)
   some_free front some = elim (cases_Bool (is_free (length front) (fo front) 0)) [
     | inl t ↦ (0, some, t)
@@ -158,6 +172,7 @@ module _ (problem : Problem) (grounded : IsGrounded problem) (order : Order) (tr
         (ap (precedes y.place) deep.1 ∙ inherits_right problem order trees y.place x.place deep.0 (is_front.apart j q b.1 a.within other) ∙ b.3)))
   ]
 
+  -- where no compound node is free, the next place takes its position among the free
   executed : (front : List Placed) (p : Place) (rest : List Place) (c : Config) → Left front (p ∷ rest) c
       → first_free_compound (front_roots front) (fo front) ≡ None
       → ((next : List Placed) (rest : List Place) (d : Config) → suc (front_size next) ≡ front_size front → Left next rest d → Word next rest d)
@@ -213,6 +228,7 @@ module _ (problem : Problem) (grounded : IsGrounded problem) (order : Order) (tr
       pending_split front j.0 j.1 ∙ ap (λ l. pending (take j.0 front) ++ (l ++ pending (drop (suc j.0) front))) (primitives_one y.place y.node (free_primitive problem order trees front j.0 none j.1 j.2)) in
       not_nothing _ _ _ (sym l.rearranged ∙ split)
 
+  -- so it does, as there is a next place
   by_list : (front : List Placed) (list : List Place) (c : Config) → 0 < length front → Left front list c
       → first_free_compound (front_roots front) (fo front) ≡ None
       → ((next : List Placed) (rest : List Place) (d : Config) → suc (front_size next) ≡ front_size front → Left next rest d → Word next rest d)
@@ -220,18 +236,21 @@ module _ (problem : Problem) (grounded : IsGrounded problem) (order : Order) (tr
   by_list front [] c some l none deeper = absurd (list_goes_on front c l some none)
   by_list front (p ∷ rest) c some l none deeper = executed front p rest c l none deeper
 
+  -- the next number, by whether a compound node is free
   by_first : (front : List Placed) (list : List Place) (c : Config) → 0 < length front → Left front list c
       → ((next : List Placed) (rest : List Place) (d : Config) → suc (front_size next) ≡ front_size front → Left next rest d → Word next rest d)
       → (o : Option ℕ) → first_free_compound (front_roots front) (fo front) ≡ o → Word front list c
   by_first front list c some l deeper None none = by_list front list c some l none deeper
   by_first front list c some l deeper (Some i) first = decomposed front list c l i first deeper
 
+  -- the next number, unless nothing is left
   by_front : (front : List Placed) (list : List Place) (c : Config) → Left front list c
       → ((next : List Placed) (rest : List Place) (d : Config) → suc (front_size next) ≡ front_size front → Left next rest d → Word next rest d)
       → Word front list c
   by_front [] list c l deeper = no_more list c l
   by_front (x ∷ xs) list c l deeper = by_first (x ∷ xs) list c (omega arith) l deeper (first_free_compound (front_roots (x ∷ xs)) (fo (x ∷ xs))) refl
 
+  -- each front with what is left under it has a word
   words : (bound : ℕ) (front : List Placed) (list : List Place) (c : Config) → front_size front ≤ bound → Left front list c → Word front list c
   words zero front list c small l = by_front front list c l (λ next rest d e. absurd (omega arith))
   words (suc bound) front list c small l = by_front front list c l (λ next rest d e more. words bound next rest d (omega arith) more)

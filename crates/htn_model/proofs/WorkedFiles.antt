@@ -139,9 +139,11 @@ reversed_have = (
 
 -- ## Plans
 
+-- the lines below the errand
 abbrev below : PlanTrees
 below = plan (action_at (named 2) 2) (plan (action_at (named 1) 0) no_plans)
 
+-- the plan trees of a file by that method
 abbrev plans_by : Word → PlanTrees
 plans_by method = plan (action_at (named 3) 1) (plan (decomposition (named 0) method below) no_plans)
 
@@ -175,6 +177,7 @@ starts (suc zero) = 0
 starts (suc (suc zero)) = 2
 starts (suc (suc (suc a))) = 0
 
+-- where each position has finished
 abbrev finishes : ℕ → ℕ
 finishes zero = 0
 finishes (suc zero) = 1
@@ -218,9 +221,11 @@ none_before (suc zero) (suc zero) h = cc
 none_before (suc zero) (suc (suc b)) h = cc
 none_before (suc (suc a)) b h = cc
 
+-- a state for each gap
 abbrev States : Type 0
 States = ℕ → State
 
+-- the second tool is at hand
 abbrev tool_at_hand : List Literal
 tool_at_hand = atom true (record { predicate = 1; arguments = 1 ∷ [] }) ∷ []
 

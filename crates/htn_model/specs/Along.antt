@@ -17,10 +17,12 @@ abbrev pub LeadsTo : Problem → List ℕ → Config → Config → Type 0
 LeadsTo problem [] c last = c ≡ last
 LeadsTo problem (number ∷ word) c last = (next : Config) × (step_by problem c number ≡ Some next) × LeadsTo problem word next last
 
+-- the open nodes of a configuration are those of the front, and so is their order
 pub record HasFront (problem : Problem) (s : Solution) (front : List Placed) (c : Config) : Type 0 where
   pub open_nodes : c.open_nodes ≡ front_roots front
   pub order : (a b : ℕ) → is_before c.order a b ≡ front_order (forest_order problem s) front a b
 
+-- the word leads the machine to a configuration that has the front
 pub record Follows (problem : Problem) (s : Solution) (word : List ℕ) (front : List Placed) : Type 0 where
   pub network : Network
   pub is_initial : slice_get problem.initials s.number ≡ Some network

@@ -3,6 +3,7 @@ use Rattle.std.specs.Prelude.{ℕ, suc, List, [], ◌∷◌, ◌++◌, length, g
 use Rattle.std.specs.List.{range_with_len}
 use Rattle.htn_model.specs.Problem.{Child, precondition, is_compound}
 
+-- whether a list is empty
 abbrev pub is_empty : {X : Type 0} → List X → Bool
 is_empty [] = true
 is_empty (x ∷ xs) = false
@@ -23,6 +24,7 @@ nth_free n precedes k = slice_get (passing (is_free n precedes) n) k
 abbrev pub child_of : List Child → ℕ → Child
 child_of children i = get_or children i (precondition [])
 
+-- the position of the first compound task that is free, if there is one
 abbrev pub first_free_compound : List Child → (ℕ → ℕ → Bool) → Option ℕ
 first_free_compound children precedes =
     slice_get (passing (λ i. is_compound (child_of children i) && is_free (length children) precedes i) (length children)) 0

@@ -9,9 +9,11 @@ pub record Placed : Type 0 where
   pub place : Place
   pub node : Node
 
+-- what stands in a front where nothing does
 abbrev pub nowhere : Placed
 nowhere = record { place = []; node = step [] }
 
+-- what stands at a position of a front
 abbrev pub front_at : List Placed → ℕ → Placed
 front_at front i = get_or front i nowhere
 
@@ -20,12 +22,15 @@ abbrev pub placed : Place → ℕ → Nodes → List Placed
 placed place i no_nodes = []
 placed place i (node n ns) = record { place = place ++ i ∷ []; node = n } ∷ placed place (suc i) ns
 
+-- the children of a node with their places
 abbrev pub children_at : Placed → List Placed
 children_at x = placed x.place 0 (children_of x.node)
 
+-- what each node of a front is a tree of
 abbrev pub front_roots : List Placed → List Child
 front_roots front = map (λ x. root x.node) front
 
+-- which position of a front comes before which, by the order of places
 abbrev pub front_order : (Place → Place → Bool) → List Placed → ℕ → ℕ → Bool
 front_order precedes front a b = precedes (front_at front a).place (front_at front b).place
 
@@ -48,11 +53,13 @@ PeelsBy precedes number next None front list =
     × (list ≡ (front_at front i).place ∷ rest)
     × next (splice i [] front) rest
 
+-- the word peels the front, and the list has the places of leaves and steps in the order in which it takes them
 abbrev pub Peels : (Place → Place → Bool) → List ℕ → Peeling
 Peels precedes [] front list = (front ≡ []) × (list ≡ [])
 Peels precedes (number ∷ word) front list =
     PeelsBy precedes number (Peels precedes word) (first_free_compound (front_roots front) (front_order precedes front)) front list
 
+-- the word is the number of the initial network and then what peels the trees
 abbrev pub IsCode : Problem → Solution → List ℕ → Type 0
 IsCode problem s [] = ⊥
 IsCode problem s (number ∷ word) =

@@ -19,6 +19,7 @@ abbrev pub ForestSits : Problem → (ℕ → State) → Slots → Order → Node
 ForestSits problem states slots order trees n =
     (start : ℕ → ℕ) × (finish : ℕ → ℕ) × AreSpans order start finish 0 n × AllSit problem states slots 0 trees start finish
 
+-- a forest keeps its order exactly where it sits in spans
 pub record NetworksDecouple (problem : Problem) : Type 0 where
   pub sits : (states : ℕ → State) (slots : Slots) (order : Order) (trees : Nodes) (n : ℕ) → IsClosed order
       → ForestKeeps problem states slots order trees n → ForestSits problem states slots order trees n

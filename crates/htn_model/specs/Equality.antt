@@ -15,6 +15,7 @@ use Rattle.htn_model.specs.Machine.{Config, config_eq}
 
 -- ## Literals
 
+-- literals that the test finds equal are equal
 same_literal : (l m : Literal) → literal_eq l m ≡ true → l ≡ m
 same_literal (atom p a) (atom q b) e = ap₂ atom ((booleans_Decides p q).0 (first_so _ _ e)) ((atom_eq-decides a b).0 (second_so _ _ e))
 same_literal (atom p a) (equality q x y) e = absurd cc
@@ -26,21 +27,26 @@ same_literal (equality p x y) (equality q v w) e =
     let right = (unsigned_Decides y w).0 (second_so _ _ sides) in
     λ i. equality (sign i) (left i) (right i)
 
+-- the test finds a literal equal to itself
 literal_itself : (l : Literal) → literal_eq l l ≡ true
 literal_itself (atom p a) = both_true _ _ ((booleans_Decides p p).1 refl) ((atom_eq-decides a a).1 refl)
 literal_itself (equality p x y) = both_true _ _ ((booleans_Decides p p).1 refl) (both_true _ _ ((unsigned_Decides x x).1 refl) ((unsigned_Decides y y).1 refl))
 
+-- the test of literals tells equality
 pub literal_eq-decides : (l m : Literal) → Decides (literal_eq l m) (l ≡ m)
 literal_eq-decides l m = (same_literal l m, λ e. sym (ap (literal_eq l) e) ∙ literal_itself l)
 
+-- the test of literals is an equivalence
 pub literal_eq-laws : IsEquivalence literal_eq
 literal_eq-laws = decided literal_eq literal_eq-decides
 
+-- the same in the sense of `PartialEq`
 pub literal_eq-partial : IsPartialEquivalence literal_eq
 literal_eq-partial = partial_equiv_from_equiv literal_eq-laws
 
 -- ## Ground tasks
 
+-- the test of ground tasks tells equality
 pub ground_task_eq-decides : (g h : GroundTask) → Decides (ground_task_eq g h) (g ≡ h)
 ground_task_eq-decides g h =
     let names = unsigned_Decides g.name h.name in
@@ -51,14 +57,17 @@ ground_task_eq-decides g h =
       λ e. both_true _ _ (names.1 (ap (λ (t : GroundTask). t.name) e)) (arguments.1 (ap (λ (t : GroundTask). t.arguments) e)),
     )
 
+-- the test of ground tasks is an equivalence
 pub ground_task_eq-laws : IsEquivalence ground_task_eq
 ground_task_eq-laws = decided ground_task_eq ground_task_eq-decides
 
+-- the same in the sense of `PartialEq`
 pub ground_task_eq-partial : IsPartialEquivalence ground_task_eq
 ground_task_eq-partial = partial_equiv_from_equiv ground_task_eq-laws
 
 -- ## Children
 
+-- nodes of a network that the test finds equal are equal
 same_child : (x y : Child) → child_eq x y ≡ true → x ≡ y
 same_child (precondition ls) (precondition ms) e = ap precondition ((pointwise_decides literal_eq-decides ls ms).0 e)
 same_child (precondition ls) (action h) e = absurd cc
@@ -70,31 +79,39 @@ same_child (task t) (precondition ms) e = absurd cc
 same_child (task t) (action h) e = absurd cc
 same_child (task t) (task u) e = ap task ((ground_task_eq-decides t u).0 e)
 
+-- the test finds a node of a network equal to itself
 child_itself : (x : Child) → child_eq x x ≡ true
 child_itself (precondition ls) = (pointwise_decides literal_eq-decides ls ls).1 refl
 child_itself (action g) = (ground_task_eq-decides g g).1 refl
 child_itself (task t) = (ground_task_eq-decides t t).1 refl
 
+-- the test of nodes of a network tells equality
 pub child_eq-decides : (x y : Child) → Decides (child_eq x y) (x ≡ y)
 child_eq-decides x y = (same_child x y, λ e. sym (ap (child_eq x) e) ∙ child_itself x)
 
+-- the test of nodes of a network is an equivalence
 pub child_eq-laws : IsEquivalence child_eq
 child_eq-laws = decided child_eq child_eq-decides
 
+-- the same in the sense of `PartialEq`
 pub child_eq-partial : IsPartialEquivalence child_eq
 child_eq-partial = partial_equiv_from_equiv child_eq-laws
 
 -- ## Orders and networks
 
+-- the test of orders tells equality
 pub order_eq-decides : (o p : Order) → Decides (order_eq o p) (o ≡ p)
 order_eq-decides = pointwise_decides (pointwise_decides booleans_Decides)
 
+-- the test of orders is an equivalence
 pub order_eq-laws : IsEquivalence order_eq
 order_eq-laws = decided order_eq order_eq-decides
 
+-- the same in the sense of `PartialEq`
 pub order_eq-partial : IsPartialEquivalence order_eq
 order_eq-partial = partial_equiv_from_equiv order_eq-laws
 
+-- the test of networks tells equality
 pub network_eq-decides : (m n : Network) → Decides (network_eq m n) (m ≡ n)
 network_eq-decides m n =
     let children = pointwise_decides child_eq-decides m.children n.children in
@@ -105,24 +122,29 @@ network_eq-decides m n =
       λ e. both_true _ _ (children.1 (ap (λ (x : Network). x.children) e)) (orders.1 (ap (λ (x : Network). x.order) e)),
     )
 
+-- the test of networks is an equivalence
 pub network_eq-laws : IsEquivalence network_eq
 network_eq-laws = decided network_eq network_eq-decides
 
+-- the same in the sense of `PartialEq`
 pub network_eq-partial : IsPartialEquivalence network_eq
 network_eq-partial = partial_equiv_from_equiv network_eq-laws
 
 -- ## Instances
 
+-- optional numbers that the test finds equal are equal
 same_number : (o p : Option ℕ) → option_eq nat_eq o p ≡ true → o ≡ p
 same_number None None e = refl
 same_number None (Some y) e = absurd cc
 same_number (Some x) None e = absurd cc
 same_number (Some x) (Some y) e = ap Some ((unsigned_Decides x y).0 e)
 
+-- the test finds an optional number equal to itself
 number_itself : (o : Option ℕ) → option_eq nat_eq o o ≡ true
 number_itself None = refl
 number_itself (Some x) = (unsigned_Decides x x).1 refl
 
+-- the test of instances tells equality
 pub instance_eq-decides : (x y : Instance) → Decides (instance_eq x y) (x ≡ y)
 instance_eq-decides x y =
     let values = pointwise_decides unsigned_Decides x.values y.values in
@@ -137,14 +159,17 @@ instance_eq-decides x y =
           (networks.1 (ap (λ (i : Instance). i.network) e)),
     )
 
+-- the test of instances is an equivalence
 pub instance_eq-laws : IsEquivalence instance_eq
 instance_eq-laws = decided instance_eq instance_eq-decides
 
+-- the same in the sense of `PartialEq`
 pub instance_eq-partial : IsPartialEquivalence instance_eq
 instance_eq-partial = partial_equiv_from_equiv instance_eq-laws
 
 -- ## Configurations
 
+-- the test of configurations tells equality
 pub config_eq-decides : (c d : Config) → Decides (config_eq c d) (c ≡ d)
 config_eq-decides c d =
     let states = state_eq-decides c.state d.state in
@@ -160,14 +185,17 @@ config_eq-decides c d =
           (orders.1 (ap (λ (x : Config). x.order) e)),
     )
 
+-- the test of configurations is an equivalence
 pub config_eq-laws : IsEquivalence config_eq
 config_eq-laws = decided config_eq config_eq-decides
 
+-- the same in the sense of `PartialEq`
 pub config_eq-partial : IsPartialEquivalence config_eq
 config_eq-partial = partial_equiv_from_equiv config_eq-laws
 
 -- ## All of them
 
+-- each test of equality holds exactly of equal values
 pub record TestsDecide : Type 0 where
   pub atoms : (x y : Atom) → Decides (atom_eq x y) (x ≡ y)
   pub states : (x y : State) → Decides (state_eq x y) (x ≡ y)
@@ -179,6 +207,7 @@ pub record TestsDecide : Type 0 where
   pub instances : (x y : Instance) → Decides (instance_eq x y) (x ≡ y)
   pub configs : (x y : Config) → Decides (config_eq x y) (x ≡ y)
 
+-- each test of equality holds exactly of equal values
 pub tests_decide : TestsDecide
 tests_decide = record {
   atoms = atom_eq-decides;

@@ -9,41 +9,53 @@ use Rattle.htn_model.specs.Answer.{IsAnswer}
 use Rattle.htn_model.specs.Exhaustion.{is_dead, IsMet, IsUnsolvable}
 use Rattle.htn_model.specs.Sketch.{SketchAction, Sketch, sketched}
 
+-- an atom without arguments
 abbrev pub fact : ℕ → Atom
 fact n = record { predicate = n; arguments = [] }
 
+-- a ground task without arguments
 abbrev pub named : ℕ → GroundTask
 named n = record { name = n; arguments = [] }
 
+-- an action that makes a fact
 abbrev pub makes : ℕ → SketchAction
 makes n = record { precondition = []; deletes = []; adds = fact n ∷ [] }
 
+-- an action that needs a fact
 abbrev pub needs : ℕ → SketchAction
 needs n = record { precondition = atom true (fact n) ∷ []; deletes = []; adds = [] }
 
+-- an action that needs nothing and changes nothing
 abbrev pub idles : SketchAction
 idles = record { precondition = []; deletes = []; adds = [] }
 
+-- the order of one node
 abbrev pub one_alone : Order
 one_alone = (false ∷ []) ∷ []
 
+-- two nodes in any order
 abbrev pub two_unordered : Order
 two_unordered = (false ∷ false ∷ []) ∷ (false ∷ false ∷ []) ∷ []
 
+-- two nodes, the first before the second
 abbrev pub two_in_order : Order
 two_in_order = (false ∷ true ∷ []) ∷ (false ∷ false ∷ []) ∷ []
 
+-- three nodes in any order
 abbrev pub three_unordered : Order
 three_unordered = (false ∷ false ∷ false ∷ []) ∷ (false ∷ false ∷ false ∷ []) ∷ (false ∷ false ∷ false ∷ []) ∷ []
 
+-- three nodes in sequence
 abbrev pub three_in_order : Order
 three_in_order = (false ∷ true ∷ true ∷ []) ∷ (false ∷ false ∷ true ∷ []) ∷ (false ∷ false ∷ false ∷ []) ∷ []
 
+-- the network without nodes
 abbrev pub nothing : Network
 nothing = record { children = []; order = [] }
 
 -- ## An atom both deleted and added is true afterwards
 
+-- one action that deletes a fact and adds it, with the fact as goal
 abbrev pub renewing : Sketch
 renewing = record {
   initials = record { children = action (named 0) ∷ []; order = one_alone } ∷ [];
@@ -54,9 +66,11 @@ renewing = record {
   goal = atom true (fact 0) ∷ [];
 }
 
+-- that action alone
 abbrev pub renewed : Solution
 renewed = record { number = 0; trees = node (leaf (named 0)) no_nodes; linearisation = (0 ∷ []) ∷ [] }
 
+-- an atom that an action both deletes and adds is true after it
 pub record AddsComeLast : Type 0 where
   pub answer : IsAnswer (sketched renewing) 1 (Some renewed)
   pub too_few : IsAnswer (sketched renewing) 0 None
@@ -74,6 +88,7 @@ needing = record {
   goal = [];
 }
 
+-- the other action first, then the step of the precondition
 abbrev pub step_last : Solution
 step_last = record {
   number = 0;
@@ -81,6 +96,7 @@ step_last = record {
   linearisation = (1 ∷ []) ∷ (0 ∷ 0 ∷ []) ∷ [];
 }
 
+-- the precondition is tested after the action that makes it true
 pub record StepsAreTestedInPlace : Type 0 where
   pub answer : IsAnswer (sketched needing) 3 (Some step_last)
   -- the action is at position 1 of the free nodes, though the step before it can't be taken yet
@@ -89,6 +105,7 @@ pub record StepsAreTestedInPlace : Type 0 where
 
 -- ## Of two solutions of one size that of the smaller code is the answer
 
+-- a task with two methods, both of no nodes
 abbrev pub two_methods : Sketch
 two_methods = record {
   initials = record { children = task (named 0) ∷ []; order = one_alone } ∷ [];
@@ -99,9 +116,11 @@ two_methods = record {
   goal = [];
 }
 
+-- the task decomposed by the method of that number
 abbrev pub by_method : ℕ → Solution
 by_method number = record { number = 0; trees = node (compound (named 0) number no_nodes) no_nodes; linearisation = [] }
 
+-- two actions that change nothing, in any order
 abbrev pub two_actions : Sketch
 two_actions = record {
   initials = record { children = action (named 0) ∷ action (named 1) ∷ []; order = two_unordered } ∷ [];
@@ -112,9 +131,11 @@ two_actions = record {
   goal = [];
 }
 
+-- both actions, carried out in these places
 abbrev pub first_then : ℕ → ℕ → Solution
 first_then a b = record { number = 0; trees = node (leaf (named 0)) (node (leaf (named 1)) no_nodes); linearisation = (a ∷ []) ∷ (b ∷ []) ∷ [] }
 
+-- the first method answers, and the actions as they are declared; the other ways are solutions too
 pub record LeastCodeAnswers : Type 0 where
   pub first_method : IsAnswer (sketched two_methods) 1 (Some (by_method 0))
   pub second_method : IsSolution (sketched two_methods) (by_method 1)
@@ -135,6 +156,7 @@ chain x y = record {
   goal = [];
 }
 
+-- the two actions around the task that has no nodes
 abbrev pub chained : Solution
 chained = record {
   number = 0;
@@ -142,6 +164,7 @@ chained = record {
   linearisation = (0 ∷ []) ∷ (2 ∷ []) ∷ [];
 }
 
+-- the second action comes after the first, so one that needs what the other makes can't come first
 pub record OrderGoesThroughEmptyTasks : Type 0 where
   pub answer : IsAnswer (sketched (chain (makes 0) (needs 0))) 4 (Some chained)
   pub other_way : IsUnsolvable (sketched (chain (needs 0) (makes 0)))
@@ -160,11 +183,13 @@ three_before = record {
   goal = [];
 }
 
+-- an action that comes before a task comes before its children, so there is no solution
 abbrev pub ChildrenInheritOrder : Type 0
 ChildrenInheritOrder = IsUnsolvable (sketched three_before)
 
 -- ## Endless decomposition
 
+-- a task whose one method has this network
 abbrev pub endless : Network → Sketch
 endless network = record {
   initials = record { children = task (named 0) ∷ []; order = one_alone } ∷ [];
@@ -175,9 +200,11 @@ endless network = record {
   goal = [];
 }
 
+-- a task that leads to itself alone
 abbrev pub itself : Sketch
 itself = endless (record { children = task (named 0) ∷ []; order = one_alone })
 
+-- a task that leads to itself twice
 abbrev pub twice : Sketch
 twice = endless (record { children = task (named 0) ∷ task (named 0) ∷ []; order = two_unordered })
 
@@ -203,9 +230,11 @@ touching = record {
   goal = [];
 }
 
+-- an initial network with one action on an object
 abbrev pub touched : ℕ → ℕ → Solution
 touched number object = record { number = number; trees = node (leaf (record { name = 0; arguments = object ∷ [] })) no_nodes; linearisation = (0 ∷ []) ∷ [] }
 
+-- a network that tests one fact of an object
 abbrev pub having : ℕ → Network
 having object = record { children = precondition (atom true (record { predicate = 0; arguments = object ∷ [] }) ∷ []) ∷ []; order = one_alone }
 
@@ -220,6 +249,7 @@ hidden = record {
   goal = [];
 }
 
+-- the task decomposed by its second instance
 abbrev pub had : Solution
 had = record {
   number = 0;
@@ -227,6 +257,7 @@ had = record {
   linearisation = (0 ∷ 0 ∷ []) ∷ [];
 }
 
+-- the code begins with the number of the initial network, and has that of each instance
 pub record NumbersAreChosen : Type 0 where
   pub first_network : IsAnswer (sketched touching) 1 (Some (touched 0 1))
   pub second_network : IsSolution (sketched touching) (touched 1 2)

@@ -12,6 +12,7 @@ abbrev pub is_dead_literal : Problem → Literal → Bool
 is_dead_literal problem (atom positive a) = not (problem.is_changed a.predicate) && not (literal_holds problem.initial_state (atom positive a))
 is_dead_literal problem (equality positive x y) = not (literal_holds problem.initial_state (equality positive x y))
 
+-- whether a node is a precondition with a dead literal
 abbrev pub is_dead_child : Problem → Child → Bool
 is_dead_child problem (precondition literals) = list_any (is_dead_literal problem) literals
 is_dead_child problem (action g) = false
@@ -27,6 +28,7 @@ LeadsLive problem [] c last = c ≡ last
 LeadsLive problem (number ∷ word) c last =
     (choice : Choice) × (choose problem c number ≡ Some choice) × (is_dead problem choice.network ≡ false) × LeadsLive problem word (result_of c choice) last
 
+-- a configuration is reached from an initial network in so many steps, none of them dead
 pub record Reaches (problem : Problem) (steps : ℕ) (c : Config) : Type 0 where
   pub number : ℕ
   pub network : Network
@@ -42,6 +44,7 @@ pub record IsMet (problem : Problem) (bound : ℕ) : Type 0 where
   pub reached : Reaches problem steps config
   pub beyond : (m : ℕ) → Reaches problem m config → m + length config.open_nodes ≤ bound → ⊥
 
+-- a problem has no solution of any size
 abbrev pub IsUnsolvable : Problem → Type 0
 IsUnsolvable problem = (s : Solution) → IsSolution problem s → ⊥
 
@@ -59,6 +62,7 @@ FinishesLive problem (number ∷ word) =
     × LeadsLive problem word (start problem network) last
     × IsDone problem last
 
+-- a word finishes exactly where it finishes without a dead instance
 abbrev pub DeadNumbersNeverFinish : Problem → Type 0
 DeadNumbersNeverFinish problem = (word : List ℕ) → Finishes problem word ↔ FinishesLive problem word
 

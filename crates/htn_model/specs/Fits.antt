@@ -16,6 +16,7 @@ mutual
     no_plans : PlanTrees
     plan : PlanTree → PlanTrees → PlanTrees
 
+-- the node of a network that a plan is below
 abbrev pub child_of : PlanTree → Child
 child_of (action_at g i) = action g
 child_of (decomposition t method plans) = task t
@@ -49,6 +50,7 @@ pub record AreSpans (order : Order) (start finish : ℕ → ℕ) (g h : ℕ) : T
 abbrev pub StepFits : (ℕ → State) → List Literal → ℕ → ℕ → Type 0
 StepFits states literals g h = (gap : ℕ) × (g ≤ gap) × (gap ≤ h) × (holds (states gap) literals ≡ true)
 
+-- each precondition of the network holds somewhere from its start to its finish
 abbrev pub StepsFit : (ℕ → State) → List Child → (start finish : ℕ → ℕ) → Type 0
 StepsFit states children start finish =
     (a : ℕ) (literals : List Literal) → slice_get children a ≡ Some (precondition literals) → StepFits states literals (start a) (finish a)
@@ -74,6 +76,7 @@ abbrev mutual
   AllFit naming problem states (a ∷ positions) (plan p plans) start finish =
       Fits naming problem states p (start a) (finish a) × AllFit naming problem states positions plans start finish
 
+-- the plans have room from gap g to gap h as the nodes of the network, in its order and with its preconditions
 abbrev pub NetworkFits : Naming → Problem → (ℕ → State) → Network → PlanTrees → ℕ → ℕ → Type 0
 NetworkFits naming problem states network plans g h =
     HasRoom states network plans (λ positions start finish. AllFit naming problem states positions plans start finish) g h

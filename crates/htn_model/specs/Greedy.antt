@@ -19,6 +19,7 @@ module _ (naming : Naming) (problem : Problem) (states : ℕ → State) (network
     pub step : (literals : List Literal) → slice_get network.children a ≡ Some (precondition literals) → StepFits states literals x y
     pub plan : PlanHasRoom naming problem states positions plans a x y
 
+  -- y is the first gap at which a position that starts at x can have finished
   pub record IsEarliestAt (a x y : ℕ) : Type 0 where
     pub room : HasRoomAt a x y
     pub least : (k : ℕ) → HasRoomAt a x k → y ≤ k
@@ -40,6 +41,7 @@ module _ (naming : Naming) (problem : Problem) (states : ℕ → State) (network
   abbrev pub Tables : ℕ → Type 0
   Tables n = (a x : ℕ) → ((y : ℕ) × IsEarliestAt a x y) ⊎ ((k : ℕ) → k ≤ n → HasRoomAt a x k → ⊥)
 
+  -- the greedy spans have room exactly where some spans have
   pub record GreedyDecides : Type 0 where
     -- greedy spans are spans up to each gap by which all have finished
     pub fit : (g h : ℕ) (start finish : ℕ → ℕ) → IsMatching network.children positions plans → IsGreedy g start finish → ((a : ℕ) → finish a ≤ h)
@@ -55,6 +57,7 @@ module _ (naming : Naming) (problem : Problem) (states : ℕ → State) (network
 abbrev pub LineTable : Naming → Problem → (ℕ → State) → ℕ → PlanTree → Type 0
 LineTable naming problem states n p = (x : ℕ) → ((y : ℕ) × IsEarliest naming problem states p x y) ⊎ ((k : ℕ) → k ≤ n → Fits naming problem states p x k → ⊥)
 
+-- each of the plans has a table
 abbrev pub LineTables : Naming → Problem → (ℕ → State) → ℕ → PlanTrees → Type 0
 LineTables naming problem states n no_plans = ⊤
 LineTables naming problem states n (plan p plans) = LineTable naming problem states n p × LineTables naming problem states n plans
@@ -65,6 +68,7 @@ FitsGreedily naming problem states network plans g h =
     (positions : List ℕ) × IsMatching network.children positions plans × (start : ℕ → ℕ) × (finish : ℕ → ℕ)
     × IsGreedy naming problem states network positions plans g start finish × ((a : ℕ) → finish a ≤ h)
 
+-- the greedy spans decide for each network and for each line
 pub record GreedySpansDecide (naming : Naming) (problem : Problem) : Type 0 where
   pub at_positions : (states : ℕ → State) (network : Network) (positions : List ℕ) (plans : PlanTrees) → IsNetwork network
       → GreedyDecides naming problem states network positions plans

@@ -9,6 +9,7 @@ use Rattle.htn_model.specs.Instances.{initials, methods_of, action_of, literals_
 abbrev pub is_changed : Task → ℕ → Bool
 is_changed t predicate = list_any (λ a. list_any (λ e. nat_eq e.predicate predicate) (a.deletes ++ a.adds)) t.actions
 
+-- the networks of the instances of a task's schemas, its actions, initial state and goal
 abbrev pub problem_of : Task → Problem
 problem_of t = record {
   initials = map (λ i. i.network) (initials t);

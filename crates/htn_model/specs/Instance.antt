@@ -12,9 +12,11 @@ pub record Instance : Type 0 where
   pub values : List ℕ
   pub network : Network
 
+-- whether two instances have the same method, values and network
 abbrev pub instance_eq : Instance → Instance → Bool
 instance_eq = eq_of_both (eq_of_both (on (λ i. i.method) (option_eq nat_eq)) (on (λ i. i.values) (pointwise nat_eq))) (on (λ i. i.network) network_eq)
 
+-- instances as values: their parts in turn
 abbrev pub instance_code : Coded Instance
 instance_code =
     code_by (Option ℕ × (List ℕ × Network)) (coded× (coded_option coded_ℕ) (coded× (coded_list coded_ℕ) network_code))

@@ -18,12 +18,15 @@ abbrev pub value_of : List ℕ → Term → ℕ
 value_of values (parameter p) = slice_index values p
 value_of values (object o) = o
 
+-- an atom with values for its parameters
 abbrev pub ground_atom : List ℕ → AtomSchema → Atom
 ground_atom values a = record { predicate = a.predicate; arguments = map (value_of values) a.arguments }
 
+-- a task with values for its parameters
 abbrev pub ground_task : List ℕ → TaskSchema → GroundTask
 ground_task values s = record { name = s.name; arguments = map (value_of values) s.arguments }
 
+-- an equality with values for its parameters
 abbrev pub ground_equality : List ℕ → EqualitySchema → Literal
 ground_equality values e = equality e.is_positive (value_of values e.left) (value_of values e.right)
 
@@ -65,6 +68,7 @@ state_formulas formulas = filter (λ f. not (is_equation f)) formulas
 
 -- ## Conditions
 
+-- the equality that a formula is, if it is one
 abbrev pub equalities_in : Formula → List EqualitySchema
 equalities_in (literal positive a) = []
 equalities_in (equation e) = e ∷ []
@@ -78,6 +82,7 @@ equalities_of formulas = flat_map equalities_in formulas
 abbrev pub atom_places : Task → AtomSchema → List (Term × ℕ)
 atom_places t a = zip a.arguments (predicate_types t a.predicate)
 
+-- the arguments of a task with the types of their places
 abbrev pub task_places : Task → TaskSchema → List (Term × ℕ)
 task_places t s = zip s.arguments (task_types t s.name)
 
@@ -107,19 +112,23 @@ abbrev pub conditions : List ℕ → List EqualitySchema → List (Term × ℕ) 
 conditions parameters equalities places =
     record { parameters = parameters; equalities = equalities; places = filter (λ p. is_among (length parameters) p.0) places }
 
+-- what the values of a method's parameters have to meet: types, equalities, and the places at which they stand
 abbrev pub method_conditions : Task → MethodSchema → Conditions
 method_conditions t m =
     conditions m.parameters (equalities_of m.precondition ++ m.constraints)
     (task_places t m.task ++ flat_map (task_places t) m.network.subtasks ++ flat_map (formula_places t) m.precondition)
 
+-- what the values of an action's parameters have to meet
 abbrev pub action_conditions : Task → ActionSchema → Conditions
 action_conditions t a =
     conditions a.parameters (equalities_of a.precondition)
     (flat_map (formula_places t) a.precondition ++ flat_map (atom_places t) a.deletes ++ flat_map (atom_places t) a.adds)
 
+-- what the values of the initial network's parameters have to meet
 abbrev pub initial_conditions : Task → InitialSchema → Conditions
 initial_conditions t n = conditions n.parameters n.constraints (flat_map (task_places t) n.network.subtasks)
 
+-- whether an equality holds of these values
 abbrev pub equality_holds : List ℕ → EqualitySchema → Bool
 equality_holds values e = beq e.is_positive (nat_eq (value_of values e.left) (value_of values e.right))
 
@@ -160,6 +169,7 @@ steps_of t values precondition = cond (has_step precondition) (problem.precondit
 abbrev pub step_first : Order → Order
 step_first order = (false ∷ map (λ row. true) order) ∷ map (λ row. false ∷ row) order
 
+-- the order of a network, with the step of the precondition in front of all if there is one
 abbrev pub order_with_step : List Formula → Order → Order
 order_with_step precondition order = cond (has_step precondition) (step_first order) order
 
@@ -170,6 +180,7 @@ network_of t values precondition n =
 
 -- ## Instances
 
+-- the instance of a method by these values
 abbrev pub method_instance : Task → ℕ → MethodSchema → List ℕ → Instance
 method_instance t number m values =
     record { method = Some number; values = values; network = network_of t values m.precondition m.network }
@@ -183,6 +194,7 @@ instances_of_method t g number m =
 abbrev pub methods_of : Task → GroundTask → List Instance
 methods_of t g = flat_map (λ p. instances_of_method t g p.0 p.1) (enumerate_from 0 t.methods)
 
+-- the instance of the initial network by these values
 abbrev pub initial_instance : Task → List ℕ → Instance
 initial_instance t values = record { method = None; values = values; network = network_of t values [] t.initial_network.network }
 
@@ -190,6 +202,7 @@ initial_instance t values = record { method = None; values = values; network = n
 abbrev pub initials : Task → List Instance
 initials t = map (initial_instance t) (instances t (initial_conditions t t.initial_network))
 
+-- an action with values for its parameters
 abbrev pub ground_action : Task → List ℕ → ActionSchema → Action
 ground_action t values a = record {
   precondition = literals_of t values (state_formulas a.precondition);

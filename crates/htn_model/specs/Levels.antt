@@ -12,6 +12,7 @@ pub record Reached : Type 0 where
   pub word : List ℕ
   pub config : Config
 
+-- whether nothing is open and the goal holds
 abbrev pub is_done : Problem → Config → Bool
 is_done problem c = is_empty c.open_nodes && holds c.state problem.goal
 
@@ -21,10 +22,12 @@ method_count problem (precondition literals) = 0
 method_count problem (action g) = 0
 method_count problem (task t) = length (problem.methods_of t)
 
+-- how many numbers a step may have: the methods of the compound task at a position, or the free nodes if there is none
 abbrev pub choice_count_by : Problem → Config → Option ℕ → ℕ
 choice_count_by problem c (Some i) = method_count problem (child_of c.open_nodes i)
 choice_count_by problem c None = length (passing (is_free (length c.open_nodes) (is_before c.order)) (length c.open_nodes))
 
+-- how many numbers a step from a configuration may have
 abbrev pub choice_count : Problem → Config → ℕ
 choice_count problem c = choice_count_by problem c (first_free_compound c.open_nodes (is_before c.order))
 
@@ -42,6 +45,7 @@ abbrev pub successors_from : Stepping → Reached → ℕ → ℕ → List Reach
 successors_from step r number zero = []
 successors_from step r number (suc count) = reached_by r number (step r.config number) (successors_from step r (suc number) count)
 
+-- what one step leads to, number by number
 abbrev pub successors : Problem → Stepping → Reached → List Reached
 successors problem step r = successors_from step r 0 (choice_count problem r.config)
 
@@ -64,16 +68,19 @@ pub record Level : Type 0 where
   pub reached : List Reached
   pub seen : List Config
 
+-- a level of what is reached: what is within the bound and new, the first of equal ones alone
 abbrev pub kept_level : (Config → Config → Bool) → ℕ → ℕ → List Config → List Reached → Level
 kept_level same bound steps seen rs =
     let kept = keep_new same seen (filter (is_within bound steps) rs) in
     record { reached = kept; seen = map (λ r. r.config) kept ++ seen }
 
+-- what is reached after so many steps, and all that was seen up to there
 abbrev pub level : Problem → Stepping → (Config → Config → Bool) → ℕ → ℕ → Level
 level problem step same bound zero = kept_level same bound 0 [] (starts problem 0 problem.initials)
 level problem step same bound (suc steps) =
     kept_level same bound (suc steps) (level problem step same bound steps).seen (flat_map (successors problem step) (level problem step same bound steps).reached)
 
+-- the first that is done
 abbrev pub first_done : Problem → List Reached → Option Reached
 first_done problem rs = find (λ r. is_done problem r.config) rs
 
@@ -85,5 +92,6 @@ pub record LevelsFindLeast (problem : Problem) (step : Stepping) (same : Config 
   pub none : ((steps : ℕ) → steps ≤ bound → first_done problem (level problem step same bound steps).reached ≡ None) → IsLeastWord problem bound None
   pub ends : (steps : ℕ) → (level problem step same bound steps).reached ≡ [] → (level problem step same bound (suc steps)).reached ≡ []
 
+-- a test holds of equal configurations only
 abbrev pub IsSound : (Config → Config → Bool) → Type 0
 IsSound same = (c d : Config) → same c d ≡ true → c ≡ d

@@ -35,29 +35,35 @@ after state action = union (difference state action.deletes) action.adds
 
 -- ## As values
 
+-- whether two literals are equal
 abbrev pub literal_eq : Literal → Literal → Bool
 literal_eq (atom p a) (atom q b) = beq p q && atom_eq a b
 literal_eq (atom p a) (equality q x y) = false
 literal_eq (equality p x y) (atom q b) = false
 literal_eq (equality p x y) (equality q v w) = beq p q && (nat_eq x v && nat_eq y w)
 
+-- a literal as a sign with an atom, or with two objects
 abbrev pub literal_parts : Literal → (Bool × Atom) ⊎ (Bool × (ℕ × ℕ))
 literal_parts (atom p a) = inl (p, a)
 literal_parts (equality p x y) = inr (p, (x, y))
 
+-- the literal of these parts
 abbrev pub literal_of : (Bool × Atom) ⊎ (Bool × (ℕ × ℕ)) → Literal
 literal_of (inl l) = atom l.0 l.1
 literal_of (inr l) = equality l.0 l.1.0 l.1.1
 
+-- a literal is that of its parts
 pub literal_of-parts : (l : Literal) → literal_of (literal_parts l) ≡ l
 literal_of-parts (atom p a) = refl
 literal_of-parts (equality p x y) = refl
 
+-- literals as values: their parts in turn
 abbrev pub literal_code : Coded Literal
 literal_code =
     code_by ((Bool × Atom) ⊎ (Bool × (ℕ × ℕ))) (coded⊎ (coded× coded_bool atom_code) (coded× coded_bool (coded× coded_ℕ coded_ℕ)))
     literal_parts literal_of literal_of-parts
 
+-- actions as values: their parts in turn
 abbrev pub action_code : Coded Action
 action_code =
     code_by (List Literal × (State × State)) (coded× (coded_list literal_code) (coded× state_code state_code))

@@ -15,14 +15,17 @@ pub record Config : Type 0 where
   pub open_nodes : List Child
   pub order : Order
 
+-- whether two configurations have the same state, open nodes and order
 abbrev pub config_eq : Config → Config → Bool
 config_eq = eq_of_both (eq_of_both (on (λ c. c.state) state_eq) (on (λ c. c.open_nodes) (pointwise child_eq))) (on (λ c. c.order) order_eq)
 
+-- configurations as values: their parts in turn
 abbrev pub config_code : Coded Config
 config_code =
     code_by (State × (List Child × Order)) (coded× state_code (coded× (coded_list child_code) order_code))
     (λ c. (c.state, (c.open_nodes, c.order))) (λ p. record { state = p.0; open_nodes = p.1.0; order = p.1.1 }) (λ _. refl)
 
+-- the order of n nodes that a test tells
 abbrev pub table : ℕ → (ℕ → ℕ → Bool) → Order
 table n f = map (λ a. map (f a) (range_with_len 0 n)) (range_with_len 0 n)
 
@@ -41,6 +44,7 @@ replaced c i network state =
     let open_nodes = splice i network.children c.open_nodes in
     record { state = state; open_nodes = open_nodes; order = table (length open_nodes) (replaced_order c.order i (length network.children) network.order) }
 
+-- the network without nodes
 abbrev pub no_network : Network
 no_network = record { children = []; order = [] }
 
@@ -50,6 +54,7 @@ pub record Choice : Type 0 where
   pub network : Network
   pub state : State
 
+-- the network of that number that a task may be decomposed into; none for another node
 abbrev pub network_at : Problem → Child → ℕ → Option Network
 network_at problem (precondition literals) number = None
 network_at problem (action g) number = None
@@ -64,22 +69,28 @@ choose_from problem c number None =
     (λ i. option_map (λ state. record { position = i; network = no_network; state = state }) (perform problem c.state (child_of c.open_nodes i)))
     (nth_free (length c.open_nodes) (is_before c.order) number)
 
+-- the choice that a number makes in a configuration
 abbrev pub choose : Problem → Config → ℕ → Option Choice
 choose problem c number = choose_from problem c number (first_free_compound c.open_nodes (is_before c.order))
 
+-- the configuration after a choice
 abbrev pub result_of : Config → Choice → Config
 result_of c choice = replaced c choice.position choice.network choice.state
 
+-- the configuration after the step of a number
 abbrev pub step_by : Problem → Config → ℕ → Option Config
 step_by problem c number = option_map (result_of c) (choose problem c number)
 
+-- nothing is open, and the goal holds
 abbrev pub IsDone : Problem → Config → Type 0
 IsDone problem c = (c.open_nodes ≡ []) × (holds c.state problem.goal ≡ true)
 
+-- the numbers of the word lead from a configuration to one that is done
 abbrev pub FinishesFrom : Problem → List ℕ → Config → Type 0
 FinishesFrom problem [] c = IsDone problem c
 FinishesFrom problem (number ∷ word) c = (next : Config) × (step_by problem c number ≡ Some next) × FinishesFrom problem word next
 
+-- the configuration that an initial network begins with
 abbrev pub start : Problem → Network → Config
 start problem network = record { state = problem.initial_state; open_nodes = network.children; order = network.order }
 
@@ -97,6 +108,7 @@ OpenNodesTakeSteps problem = (word : List ℕ) (c : Config) → FinishesFrom pro
 abbrev pub IsProper : Config → Type 0
 IsProper c = IsSquare (length c.open_nodes) c.order
 
+-- configurations where a word may lead are proper, and proper ones with the same parts and entries are equal
 pub record ConfigsAreProper (problem : Problem) : Type 0 where
   pub starts : (network : Network) → IsNetwork network → IsProper (start problem network)
   pub steps : (c next : Config) (number : ℕ) → step_by problem c number ≡ Some next → IsProper next

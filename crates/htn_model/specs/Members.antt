@@ -6,6 +6,7 @@ use Rattle.htn_model.specs.Atom.{Atom, atom_cmp}
 use Rattle.htn_model.specs.State.{State, contains, set_of, atoms_of, union, difference}
 use Rattle.htn_model.specs.Literal.{Action, after}
 
+-- which atoms are true in what the operations make, and that states with the same true atoms are equal
 pub record StatesAreSets : Type 0 where
   pub made : (atoms : List Atom) (a : Atom) → (contains (set_of atoms) a ≡ true) ↔ Contains atoms a
   pub united : (s t : State) (a : Atom) → contains (union s t) a ≡ (contains s a || contains t a)

@@ -11,6 +11,7 @@ abbrev pub candidates : Problem → Stepping → (Config → Config → Bool) �
 candidates problem step same bound zero = starts problem 0 problem.initials
 candidates problem step same bound (suc steps) = flat_map (successors problem step) (level problem step same bound steps).reached
 
+-- what was seen before the level of so many steps
 abbrev pub seen_before : Problem → Stepping → (Config → Config → Bool) → ℕ → ℕ → List Config
 seen_before problem step same bound zero = []
 seen_before problem step same bound (suc steps) = (level problem step same bound steps).seen
@@ -24,6 +25,7 @@ pub record LeavesOut (problem : Problem) (step : Stepping) (same : Config → Co
   pub beyond : is_within bound steps candidate ≡ false
   pub unseen : list_any (same candidate.config) (seen_before problem step same bound steps) ≡ false
 
+-- a test holds of equal configurations and of no others
 abbrev pub Decides : (Config → Config → Bool) → Type 0
 Decides same = (c d : Config) → (same c d ≡ true) ↔ (c ≡ d)
 

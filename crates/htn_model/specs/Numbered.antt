@@ -6,6 +6,7 @@ use Rattle.htn_model.specs.Tree.{Node, leaf, step, compound, children_in, Place,
 use Rattle.htn_model.specs.PlanFile.{ActionLine, DecompositionLine, PlanFile, Naming}
 use Rattle.htn_model.specs.Shadow.{shown_from, compounds_from, ids_of, HasId, IsShadow}
 
+-- whether a node is an action
 abbrev pub is_leaf : Option Node → Bool
 is_leaf None = false
 is_leaf (Some (leaf g)) = true
@@ -16,6 +17,7 @@ is_leaf (Some (compound t number nodes)) = false
 abbrev pub action_places : Solution → List Place
 action_places s = filter (λ p. is_leaf (node_at s.trees p)) s.linearisation
 
+-- the places of compound nodes, each before those below it
 abbrev pub compound_places : Solution → List Place
 compound_places s = compounds_from [] 0 s.trees
 
@@ -23,6 +25,7 @@ compound_places s = compounds_from [] 0 s.trees
 abbrev pub numbered_places : Solution → List Place
 numbered_places s = action_places s ++ compound_places s
 
+-- whether two places are the same
 abbrev pub is_same_place : Place → Place → Bool
 is_same_place [] [] = true
 is_same_place [] (j ∷ q) = false
@@ -34,9 +37,11 @@ abbrev pub position : Place → List Place → ℕ
 position p [] = 0
 position p (q ∷ qs) = cond (is_same_place p q) 0 (suc (position p qs))
 
+-- the number of a node in its plan file: its position among those that are numbered
 abbrev pub id_in : Solution → Place → ℕ
 id_in s p = position p (numbered_places s)
 
+-- a task that stands where there is none
 abbrev pub no_task : GroundTask
 no_task = record { name = 0; arguments = [] }
 
@@ -47,17 +52,20 @@ task_at (Some (leaf g)) = g
 task_at (Some (step literals)) = no_task
 task_at (Some (compound t number nodes)) = t
 
+-- the number of the instance at a node, 0 where it isn't compound
 abbrev pub number_at : Option Node → ℕ
 number_at None = 0
 number_at (Some (leaf g)) = 0
 number_at (Some (step literals)) = 0
 number_at (Some (compound t number nodes)) = number
 
+-- the line of the action at a place
 abbrev pub action_line_at : Naming → Solution → Place → ActionLine
 action_line_at naming s p =
     let g = task_at (node_at s.trees p) in
     record { id = id_in s p; name = naming.task_name g; arguments = naming.argument_names g }
 
+-- the line of the compound node at a place
 abbrev pub decomposition_line_at : Naming → Solution → Place → DecompositionLine
 decomposition_line_at naming s p =
     let t = task_at (node_at s.trees p) in

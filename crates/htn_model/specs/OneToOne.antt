@@ -6,6 +6,7 @@ use Rattle.htn_model.specs.Code.{IsCode}
 use Rattle.htn_model.specs.Machine.{Finishes}
 use Rattle.htn_model.specs.Answer.{IsAnswer, IsLeastWord, AnswersBy}
 
+-- each finishing word is the code of one solution, and each solution's code is one finishing word
 pub record OneToOne (problem : Problem) : Type 0 where
   -- a solution of n nodes has a code, of n + 1 numbers, which finishes
   pub code : (s : Solution) → IsSolution problem s

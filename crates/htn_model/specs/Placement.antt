@@ -10,6 +10,7 @@ use Rattle.htn_model.specs.Fits.{AreSpans}
 abbrev pub Slots : Type 0
 Slots = Place → ℕ
 
+-- a node is an action or a step
 abbrev pub IsPrimitive : Option Node → Type 0
 IsPrimitive None = ⊥
 IsPrimitive (Some (leaf g)) = ⊤

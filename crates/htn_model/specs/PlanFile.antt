@@ -6,11 +6,13 @@ use Rattle.htn_model.specs.Problem.{GroundTask}
 abbrev pub Word : Type 0
 Word = List ℕ
 
+-- an action line: its number, and the action with its arguments by name
 pub record ActionLine : Type 0 where
   pub id : ℕ
   pub name : Word
   pub arguments : List Word
 
+-- a decomposition line: its number, task, arguments and method by name, and the numbers of its children
 pub record DecompositionLine : Type 0 where
   pub id : ℕ
   pub task : Word
@@ -18,6 +20,7 @@ pub record DecompositionLine : Type 0 where
   pub method : Word
   pub children : List ℕ
 
+-- a plan file: its lines of each kind, in their order, and the numbers of the root line
 pub record PlanFile : Type 0 where
   pub actions : List ActionLine
   pub roots : List ℕ
@@ -38,6 +41,7 @@ abbrev pub IsRearrangementOf : {X : Type 0} → List X → List X → Type 0
 IsRearrangementOf [] ys = ys ≡ []
 IsRearrangementOf {X = X} (x ∷ xs) ys = (left : List X) × (right : List X) × (ys ≡ left ++ x ∷ right) × IsRearrangementOf xs (left ++ right)
 
+-- a value stands in a list
 abbrev pub IsIn : {X : Type 0} → X → List X → Type 0
 IsIn x [] = ⊥
 IsIn x (y ∷ ys) = (x ≡ y) ⊎ IsIn x ys
@@ -49,24 +53,30 @@ IsWithoutRepeats (x ∷ xs) = (IsIn x xs → ⊥) × IsWithoutRepeats xs
 
 -- ## A forest
 
+-- the numbers of action lines
 abbrev pub action_ids : List ActionLine → List ℕ
 action_ids [] = []
 action_ids (line ∷ lines) = line.id ∷ action_ids lines
 
+-- the numbers of decomposition lines
 abbrev pub decomposition_ids : List DecompositionLine → List ℕ
 decomposition_ids [] = []
 decomposition_ids (line ∷ lines) = line.id ∷ decomposition_ids lines
 
+-- the numbers that decomposition lines list as children
 abbrev pub all_children : List DecompositionLine → List ℕ
 all_children [] = []
 all_children (line ∷ lines) = line.children ++ all_children lines
 
+-- the numbers of all lines
 abbrev pub defined_ids : PlanFile → List ℕ
 defined_ids file = action_ids file.actions ++ decomposition_ids file.decompositions
 
+-- the numbers that the root line and the decomposition lines list
 abbrev pub listed_ids : PlanFile → List ℕ
 listed_ids file = file.roots ++ all_children file.decompositions
 
+-- a number is listed by the root line, or by a decomposition line that is reached
 pub data IsReached (file : PlanFile) : ℕ → Type 0 where
   from_root : (id : ℕ) → IsIn id file.roots → IsReached file id
   from_parent : (id : ℕ) (line : DecompositionLine) → IsIn line file.decompositions → IsReached file line.id → IsIn id line.children → IsReached file id

@@ -7,6 +7,7 @@ use Rattle.std.specs.Char.{is_ascii_uppercase}
 abbrev pub is_blank : ℕ → Bool
 is_blank b = b == 9 || b == 12 || b == 13 || b == 32 || b == 40 || b == 41
 
+-- whether a byte is one of ASCII's visible characters
 abbrev pub is_printable : ℕ → Bool
 is_printable b = nat_le 33 b && nat_le b 126
 

@@ -23,6 +23,7 @@ pub data Child : Type 0 where
   action : GroundTask → Child
   task : GroundTask → Child
 
+-- whether a node is a compound task
 abbrev pub is_compound : Child → Bool
 is_compound (precondition literals) = false
 is_compound (action g) = false
@@ -32,6 +33,7 @@ is_compound (task t) = true
 abbrev pub Order : Type 0
 Order = List (List Bool)
 
+-- whether the order puts one node before another
 abbrev pub is_before : Order → ℕ → ℕ → Bool
 is_before order a b = get_or (get_or order a []) b false
 
@@ -49,12 +51,14 @@ pub record IsClosed (order : Order) : Type 0 where
 abbrev pub IsSquare : ℕ → Order → Type 0
 IsSquare n order = (length order ≡ n) × AllByRecursion (λ row. length row ≡ n) order
 
+-- the order of a network is closed, and a square table of its nodes
 pub record IsNetwork (network : Network) : Type 0 where
   pub closed : IsClosed network.order
   pub square : IsSquare (length network.children) network.order
 
 -- ## Problems
 
+-- a ground problem: its initial networks, the instances of methods and actions, the initial state and the goal
 pub record Problem : Type 0 where
   pub initials : List Network
   -- the instances of a compound task, by their numbers
@@ -69,11 +73,13 @@ pub record Problem : Type 0 where
 abbrev pub AreChanged : (ℕ → Bool) → State → Type 0
 AreChanged is_changed s = (a : Atom) → contains s a ≡ true → is_changed a.predicate ≡ true
 
+-- each network of a problem is one, and effects change only predicates that are said to change
 pub record IsGrounded (problem : Problem) : Type 0 where
   pub initials : (k : ℕ) (network : Network) → slice_get problem.initials k ≡ Some network → IsNetwork network
   pub methods : (t : GroundTask) (k : ℕ) (network : Network) → slice_get (problem.methods_of t) k ≡ Some network → IsNetwork network
   pub effects : (g : GroundTask) (a : Action) → problem.action_of g ≡ Some a → AreChanged problem.is_changed a.adds × AreChanged problem.is_changed a.deletes
 
+-- the state after an action, if there is one and its precondition holds
 abbrev pub perform_action : State → Option Action → Option State
 perform_action state None = None
 perform_action state (Some a) = cond (holds state a.precondition) (Some (after state a)) None
@@ -86,13 +92,16 @@ perform problem state (task t) = None
 
 -- ## As values
 
+-- whether two ground tasks have the same name and arguments
 abbrev pub ground_task_eq : GroundTask → GroundTask → Bool
 ground_task_eq = eq_of_both (on (λ t. t.name) nat_eq) (on (λ t. t.arguments) (pointwise nat_eq))
 
+-- ground tasks as values: their parts in turn
 abbrev pub ground_task_code : Coded GroundTask
 ground_task_code =
     code_by (ℕ × List ℕ) (coded× coded_ℕ (coded_list coded_ℕ)) (λ t. (t.name, t.arguments)) (λ p. record { name = p.0; arguments = p.1 }) (λ _. refl)
 
+-- whether two nodes of a network are equal
 abbrev pub child_eq : Child → Child → Bool
 child_eq (precondition ls) (precondition ms) = pointwise literal_eq ls ms
 child_eq (precondition ls) (action h) = false
@@ -104,35 +113,43 @@ child_eq (task t) (precondition ms) = false
 child_eq (task t) (action h) = false
 child_eq (task t) (task u) = ground_task_eq t u
 
+-- a node as a precondition, an action or a task
 abbrev pub child_parts : Child → List Literal ⊎ (GroundTask ⊎ GroundTask)
 child_parts (precondition literals) = inl literals
 child_parts (action g) = inr (inl g)
 child_parts (task t) = inr (inr t)
 
+-- the node of these parts
 abbrev pub child_of_parts : List Literal ⊎ (GroundTask ⊎ GroundTask) → Child
 child_of_parts (inl literals) = precondition literals
 child_of_parts (inr (inl g)) = action g
 child_of_parts (inr (inr t)) = task t
 
+-- a node is that of its parts
 pub child_of_parts-parts : (x : Child) → child_of_parts (child_parts x) ≡ x
 child_of_parts-parts (precondition literals) = refl
 child_of_parts-parts (action g) = refl
 child_of_parts-parts (task t) = refl
 
+-- nodes of networks as values: their parts in turn
 abbrev pub child_code : Coded Child
 child_code =
     code_by (List Literal ⊎ (GroundTask ⊎ GroundTask)) (coded⊎ (coded_list literal_code) (coded⊎ ground_task_code ground_task_code))
     child_parts child_of_parts child_of_parts-parts
 
+-- whether two orders have the same entries
 abbrev pub order_eq : Order → Order → Bool
 order_eq = pointwise (pointwise beq)
 
+-- orders as values: their entries in turn
 abbrev pub order_code : Coded Order
 order_code = coded_list (coded_list coded_bool)
 
+-- whether two networks have the same nodes and the same order
 abbrev pub network_eq : Network → Network → Bool
 network_eq = eq_of_both (on (λ n. n.children) (pointwise child_eq)) (on (λ n. n.order) order_eq)
 
+-- networks as values: their parts in turn
 abbrev pub network_code : Coded Network
 network_code =
     code_by (List Child × Order) (coded× (coded_list child_code) order_code) (λ n. (n.children, n.order)) (λ p. record { children = p.0; order = p.1 }) (λ _. refl)

@@ -13,18 +13,23 @@ use Rattle.htn_model.specs.Examples.{one_alone, three_in_order}
 abbrev pub places : List ℕ
 places = 0 ∷ 1 ∷ 2 ∷ []
 
+-- a road leads from a place to another
 abbrev pub road : ℕ → ℕ → Atom
 road a b = record { predicate = 0; arguments = a ∷ b ∷ [] }
 
+-- the truck is at a place
 abbrev pub truck_at : ℕ → Atom
 truck_at p = record { predicate = 1; arguments = 3 ∷ p ∷ [] }
 
+-- the task that the truck gets to a place
 abbrev pub go : ℕ → GroundTask
 go p = record { name = 0; arguments = 3 ∷ p ∷ [] }
 
+-- the action that the truck drives from a place to another
 abbrev pub drive : ℕ → ℕ → GroundTask
 drive a b = record { name = 1; arguments = 3 ∷ a ∷ b ∷ [] }
 
+-- the truck is at the first place, and a road leads to the second
 abbrev pub can_drive : ℕ → ℕ → List Literal
 can_drive a b = atom true (truck_at a) ∷ atom true (road a b) ∷ []
 
@@ -40,6 +45,7 @@ drive_on p a b = record { children = precondition (can_drive a b) ∷ action (dr
 abbrev pub for_pairs : {X : Type 0} → (ℕ → ℕ → X) → List X
 for_pairs f = flat_map (λ a. map (f a) places) places
 
+-- the action with its precondition and effects
 abbrev pub driving : ℕ → ℕ → GroundTask × SketchAction
 driving a b = (drive a b, record { precondition = can_drive a b; deletes = truck_at a ∷ []; adds = truck_at b ∷ [] })
 
@@ -58,6 +64,7 @@ trip = record {
 abbrev pub driven : ℕ → ℕ → ℕ → Node → Node
 driven number a b rest = compound (go 2) number (node (step (can_drive a b)) (node (leaf (drive a b)) (node rest no_nodes)))
 
+-- drive to the second place and then to the third, and stay
 abbrev pub trip_plan : Solution
 trip_plan = record {
   number = 0;

@@ -44,6 +44,7 @@ abbrev pub list_of : Formulas → List Formula
 list_of no_formulas = []
 list_of (formula f fs) = f ∷ list_of fs
 
+-- a list of formulas as a body
 abbrev pub formulas_of : List Formula → Formulas
 formulas_of [] = no_formulas
 formulas_of (f ∷ fs) = formula f (formulas_of fs)

@@ -22,10 +22,12 @@ abbrev mutual
   compounds_from place i no_nodes = []
   compounds_from place i (node n ns) = compounds (place ++ i ∷ []) n ++ compounds_from place (suc i) ns
 
+-- the numbers of the nodes at these places
 abbrev pub ids_of : (Place → ℕ) → List Place → List ℕ
 ids_of id_at [] = []
 ids_of id_at (p ∷ ps) = id_at p ∷ ids_of id_at ps
 
+-- a node is the step of a precondition
 abbrev pub IsStep : Option Node → Type 0
 IsStep None = ⊥
 IsStep (Some (leaf g)) = ⊥
@@ -52,18 +54,21 @@ pub record IsDecompositionLine (naming : Naming) (trees : Nodes) (id_at : Place 
   pub method : line.method ≡ naming.method_name task number
   pub children : IsRearrangementOf line.children (ids_of id_at (shown_from p 0 nodes))
 
+-- the lines are those of the compound nodes at these places, in some order
 abbrev pub AreDecompositionLines : Naming → Nodes → (Place → ℕ) → List Place → List DecompositionLine → Type 0
 AreDecompositionLines naming trees id_at [] lines = lines ≡ []
 AreDecompositionLines naming trees id_at (p ∷ ps) lines =
     (left : List DecompositionLine) × (line : DecompositionLine) × (right : List DecompositionLine) × (lines ≡ left ++ line ∷ right)
     × IsDecompositionLine naming trees id_at p line × AreDecompositionLines naming trees id_at ps (left ++ right)
 
+-- a node is an action or compound, and so has a line
 abbrev pub HasId : Option Node → Type 0
 HasId None = ⊥
 HasId (Some (leaf g)) = ⊤
 HasId (Some (step literals)) = ⊥
 HasId (Some (compound t number nodes)) = ⊤
 
+-- the lines of a file are the actions and compound nodes of a solution, under numbers of their own
 pub record IsShadow (naming : Naming) (file : PlanFile) (s : Solution) : Type 0 where
   pub id_at : Place → ℕ
   pub one_to_one : (p q : Place) → HasId (node_at s.trees p) → HasId (node_at s.trees q) → id_at p ≡ id_at q → p ≡ q
@@ -71,6 +76,7 @@ pub record IsShadow (naming : Naming) (file : PlanFile) (s : Solution) : Type 0 
   pub roots : IsRearrangementOf file.roots (ids_of id_at (shown_from [] 0 s.trees))
   pub decompositions : AreDecompositionLines naming s.trees id_at (compounds_from [] 0 s.trees) file.decompositions
 
+-- a file is the shadow of a solution
 pub record IsAccepted (naming : Naming) (problem : Problem) (file : PlanFile) : Type 0 where
   pub solution : Solution
   pub solves : IsSolution problem solution

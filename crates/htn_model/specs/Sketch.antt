@@ -7,11 +7,13 @@ use Rattle.htn_model.specs.State.{set_of}
 use Rattle.htn_model.specs.Literal.{Literal, Action}
 use Rattle.htn_model.specs.Problem.{GroundTask, ground_task_eq, Network, Problem}
 
+-- an action with lists of atoms for its effects
 pub record SketchAction : Type 0 where
   pub precondition : List Literal
   pub deletes : List Atom
   pub adds : List Atom
 
+-- a ground problem as lists
 pub record Sketch : Type 0 where
   pub initials : List Network
   -- each compound task with its instances, by their numbers
@@ -22,10 +24,12 @@ pub record Sketch : Type 0 where
   pub initial_atoms : List Atom
   pub goal : List Literal
 
+-- what a task stands beside in a table
 abbrev pub look_up : {X : Type 0} → List (GroundTask × X) → GroundTask → Option X
 look_up [] g = None
 look_up (e ∷ es) g = cond (ground_task_eq e.0 g) (Some e.1) (look_up es g)
 
+-- the action of a sketch
 abbrev pub drawn : SketchAction → Action
 drawn a = record { precondition = a.precondition; deletes = set_of a.deletes; adds = set_of a.adds }
 

@@ -12,6 +12,7 @@ use Rattle.htn_model.specs.Atom.{Atom, atom_code, atom_cmp, atom_eq, atom_hash}
 abbrev pub State : Type 0
 State = FinMap atom_cmp (Unit {0})
 
+-- states as values: their atoms in turn
 abbrev pub state_code : Coded State
 state_code = code atom_code coded_unit
 

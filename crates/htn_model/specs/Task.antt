@@ -28,6 +28,7 @@ pub record MethodSchema : Type 0 where
   pub constraints : List EqualitySchema
   pub network : NetworkSchema
 
+-- an action: its parameters by type, its precondition, and what it deletes and adds
 pub record ActionSchema : Type 0 where
   pub name : Name
   pub parameters : List ℕ
@@ -97,14 +98,17 @@ types_named_in predicates tasks methods actions initial goal =
     ++ flat_map (λ a. a.parameters ++ flat_map formula_types a.precondition) actions
     ++ initial.parameters ++ flat_map formula_types goal
 
+-- the types that a task names, by number
 abbrev pub named_types : Task → List ℕ
 named_types t = types_named_in t.predicates t.tasks t.methods t.actions t.initial_network t.goal
 
 -- ## Names
 
+-- the names of the types
 abbrev pub type_names : Task → List Name
 type_names t = map (λ d. d.name) t.types
 
+-- the names of the predicates
 abbrev pub predicate_names : Task → List Name
 predicate_names t = map (λ d. d.name) t.predicates
 
@@ -112,6 +116,7 @@ predicate_names t = map (λ d. d.name) t.predicates
 abbrev pub task_names : Task → List Name
 task_names t = map (λ d. d.name) t.tasks ++ map (λ a. a.name) t.actions
 
+-- the names of the methods
 abbrev pub method_names : Task → List Name
 method_names t = map (λ m. m.name) t.methods
 
@@ -130,17 +135,21 @@ abbrev pub IsTerm : Task → ℕ → Term → Type 0
 IsTerm t count (parameter p) = p < count
 IsTerm t count (object o) = o < length t.objects
 
+-- the numbers are those of types
 abbrev pub AreTypes : Task → List ℕ → Type 0
 AreTypes t types = All (λ type. type < length t.types) types
 
+-- a declared predicate with as many arguments as it has places
 pub record IsAtomSchema (t : Task) (count : ℕ) (a : AtomSchema) : Type 0 where
   pub declared : a.predicate < length t.predicates
   pub arity : length a.arguments ≡ length (predicate_types t a.predicate)
   pub arguments : All (IsTerm t count) a.arguments
 
+-- both sides of an equality are terms
 abbrev pub IsEqualitySchema : Task → ℕ → EqualitySchema → Type 0
 IsEqualitySchema t count e = IsTerm t count e.left × IsTerm t count e.right
 
+-- a declared task or action with as many arguments as it has places
 pub record IsTaskSchema (t : Task) (count : ℕ) (s : TaskSchema) : Type 0 where
   pub declared : s.name < length t.tasks + length t.actions
   pub arity : length s.arguments ≡ length (task_types t s.name)
@@ -162,6 +171,7 @@ pub record IsNetworkSchema (t : Task) (count : ℕ) (n : NetworkSchema) : Type 0
   pub square : IsSquare (length n.subtasks) n.order
   pub closed : IsClosed n.order
 
+-- a method of a compound task whose parts are well typed
 pub record IsMethodSchema (t : Task) (m : MethodSchema) : Type 0 where
   pub parameters : AreTypes t m.parameters
   pub task : IsTaskSchema t (length m.parameters) m.task
@@ -170,12 +180,14 @@ pub record IsMethodSchema (t : Task) (m : MethodSchema) : Type 0 where
   pub constraints : All (IsEqualitySchema t (length m.parameters)) m.constraints
   pub network : IsNetworkSchema t (length m.parameters) m.network
 
+-- an action whose parts are well typed
 pub record IsActionSchema (t : Task) (a : ActionSchema) : Type 0 where
   pub parameters : AreTypes t a.parameters
   pub precondition : All (IsFormula t (length a.parameters)) a.precondition
   pub deletes : All (IsAtomSchema t (length a.parameters)) a.deletes
   pub adds : All (IsAtomSchema t (length a.parameters)) a.adds
 
+-- an initial network whose parts are well typed
 pub record IsInitialSchema (t : Task) (n : InitialSchema) : Type 0 where
   pub parameters : AreTypes t n.parameters
   pub constraints : All (IsEqualitySchema t (length n.parameters)) n.constraints

@@ -16,11 +16,13 @@ mutual
     no_nodes : Nodes
     node : Node → Nodes → Nodes
 
+-- what a tree is a tree of, as a node of a network
 abbrev pub root : Node → Child
 root (leaf g) = action g
 root (step literals) = precondition literals
 root (compound t number nodes) = task t
 
+-- what each of the trees is a tree of
 abbrev pub roots : Nodes → List Child
 roots no_nodes = []
 roots (node n ns) = root n ∷ roots ns
@@ -30,6 +32,7 @@ abbrev pub list_of : Nodes → List Node
 list_of no_nodes = []
 list_of (node n ns) = n ∷ list_of ns
 
+-- a list of trees as children
 abbrev pub nodes_of : List Node → Nodes
 nodes_of [] = no_nodes
 nodes_of (n ∷ ns) = node n (nodes_of ns)
@@ -63,16 +66,19 @@ abbrev mutual
 abbrev pub Place : Type 0
 Place = List ℕ
 
+-- the tree at a position
 abbrev pub child_at : Nodes → ℕ → Option Node
 child_at no_nodes i = None
 child_at (node n ns) zero = Some n
 child_at (node n ns) (suc i) = child_at ns i
 
+-- the trees below a node
 abbrev pub children_of : Node → Nodes
 children_of (leaf g) = no_nodes
 children_of (step literals) = no_nodes
 children_of (compound t number nodes) = nodes
 
+-- the trees below a node, if there is one
 abbrev pub children_in : Option Node → Nodes
 children_in None = no_nodes
 children_in (Some n) = children_of n
@@ -82,21 +88,25 @@ abbrev pub node_below : Option Node → Place → Option Node
 node_below n [] = n
 node_below n (i ∷ place) = node_below (child_at (children_in n) i) place
 
+-- the node at a place, if there is one
 abbrev pub node_at : Nodes → Place → Option Node
 node_at trees [] = None
 node_at trees (i ∷ place) = node_below (child_at trees i) place
 
 -- ## The inherited order
 
+-- the order of a network, if there is one
 abbrev pub order_of_network : Option Network → Order
 order_of_network None = []
 order_of_network (Some network) = network.order
 
+-- the order of a node's children: that of the network into which it was decomposed
 abbrev pub order_of : Problem → Node → Order
 order_of problem (leaf g) = []
 order_of problem (step literals) = []
 order_of problem (compound t number nodes) = order_of_network (slice_get (problem.methods_of t) number)
 
+-- the order of a node's children, if there is a node
 abbrev pub order_in : Problem → Option Node → Order
 order_in problem None = []
 order_in problem (Some n) = order_of problem n
@@ -134,19 +144,23 @@ Respects precedes (p ∷ ps) = AllByRecursion (λ q. precedes q p ≡ false) ps 
 
 -- ## Solutions
 
+-- the number of the initial network, a tree for each of its nodes, and the places of actions and steps in sequence
 pub record Solution : Type 0 where
   pub number : ℕ
   pub trees : Nodes
   pub linearisation : List Place
 
+-- the state after the action or step of a node
 abbrev pub perform_at : Problem → State → Option Node → Option State
 perform_at problem state None = None
 perform_at problem state (Some n) = perform problem state (root n)
 
+-- the state after the actions and steps at these places
 abbrev pub run : Problem → Nodes → State → List Place → Option State
 run problem trees state [] = Some state
 run problem trees state (p ∷ ps) = option_and_then (λ next. run problem trees next ps) (perform_at problem state (node_at trees p))
 
+-- there is a state at the end, and the goal holds in it
 abbrev pub ReachesGoal : Problem → Option State → Type 0
 ReachesGoal problem last = (state : State) × (last ≡ Some state) × (holds state problem.goal ≡ true)
 
@@ -154,6 +168,7 @@ ReachesGoal problem last = (state : State) × (last ≡ Some state) × (holds st
 abbrev pub forest_order : Problem → Solution → Place → Place → Bool
 forest_order problem s = before problem (order_of_network (slice_get problem.initials s.number)) s.trees
 
+-- the trees decompose an initial network, and their actions and steps, in an order that they inherit, lead to the goal
 pub record IsSolution (problem : Problem) (s : Solution) : Type 0 where
   pub network : Network
   pub is_initial : slice_get problem.initials s.number ≡ Some network

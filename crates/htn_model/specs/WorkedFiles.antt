@@ -31,33 +31,41 @@ errand = record {
   goal = atom true (fact 0) ∷ [];
 }
 
+-- the errand as a problem
 abbrev pub problem : Problem
 problem = sketched errand
 
 -- ## Its names, each a word of one number
 
+-- the word of a number
 abbrev pub word : ℕ → Word
 word n = n ∷ []
 
+-- the number of a word
 abbrev pub number_in : Word → ℕ
 number_in [] = 0
 number_in (n ∷ more) = n
 
+-- the name of the first method
 abbrev pub rest : Word
 rest = word 7
 
+-- the name of the second and the third method
 abbrev pub work : Word
 work = word 8
 
+-- the name of the fourth method
 abbrev pub reverse_work : Word
 reverse_work = word 9
 
+-- the name of each method, one of them twice
 abbrev pub method_names : ℕ → Word
 method_names zero = rest
 method_names (suc zero) = work
 method_names (suc (suc zero)) = work
 method_names (suc (suc (suc number))) = reverse_work
 
+-- tasks and methods by these words
 abbrev pub names : Naming
 names = record {
   named = λ name arguments. Some (named (number_in name));
@@ -68,9 +76,11 @@ names = record {
 
 -- ## Files
 
+-- an action line without arguments
 abbrev pub action_line : ℕ → ℕ → ActionLine
 action_line id name = record { id = id; name = word name; arguments = [] }
 
+-- a line that decomposes the errand
 abbrev pub errand_line : ℕ → Word → List ℕ → DecompositionLine
 errand_line id method children = record { id = id; task = word 0; arguments = []; method = method; children = children }
 
@@ -100,6 +110,7 @@ beside_circle =
 abbrev pub listed_twice : PlanFile
 listed_twice = let file = file_of 1 2 work in record { actions = file.actions; roots = 1 ∷ 3 ∷ 1 ∷ []; decompositions = file.decompositions }
 
+-- each of the files has the verdict that it was made for
 pub record FilesHaveVerdicts : Type 0 where
   -- by the second method's second instance
   pub arranged : IsVerdict names problem (file_of 1 2 work) valid

@@ -5,9 +5,11 @@ use Rattle.std.proofs.lemmas.Bool.{cases_lt, cases_eq, eq-eqb, ne_eqb, both_ways
 use Rattle.std.proofs.lemmas.Nat.Bits.{bit_at-lt, bit_at_or, bit_at_set_same, bit_at_set_other, bit_at-zero, bit_at_cat_low, bit_at_cat_high, shr_and_one}
 use Rattle.htn_order.specs.BitRows.{is_set, number_of}
 
+-- a bit is 0 or 1
 low_bit : (a : ℕ) → a < 2 → (a ≡ 0) ⊎ (a ≡ 1)
 low_bit a h = elim (cases_lt a 1) [ inl less ↦ inl (omega arith) | inr more ↦ inr (omega arith) ]
 
+-- the greater of two bits is set exactly where one of them is
 either : (a b : ℕ) → a < 2 → b < 2 → eqb (max a b) 1 ≡ (eqb a 1 || eqb b 1)
 either a b h g = elim (low_bit a h) [
   | inl e ↦ elim (low_bit b g) [
@@ -20,16 +22,20 @@ either a b h g = elim (low_bit a h) [
   ]
 ]
 
+-- a bit of two words together is set exactly where it is in one of them
 pub is_set-or : (v w i : ℕ) → is_set (bit_or v w) i ≡ (is_set v i || is_set w i)
 is_set-or v w i = ap (λ b. eqb b 1) (bit_at_or v w i) ∙ either (bit_at v i) (bit_at w i) (bit_at-lt v i) (bit_at-lt w i)
 
+-- no bit of 0 is set
 pub is_set-zero : (i : ℕ) → is_set 0 i ≡ false
 is_set-zero i = ap (λ b. eqb b 1) (bit_at-zero i)
 
+-- with what holds, either holds
 or_true : (p : Bool) → (p || true) ≡ true
 or_true true = refl
 or_true false = refl
 
+-- with what fails, either is the other
 or_false : (p : Bool) → (p || false) ≡ p
 or_false true = refl
 or_false false = refl
@@ -60,10 +66,12 @@ bit_from_set v w i j alike = elim (low_bit (bit_at v i) (bit_at-lt v i)) [
 
 -- ## The number of some bits
 
+-- a test as a digit is below 2
 digit_lt : (b : Bool) → cond b 1 0 < 2
 digit_lt true = omega arith
 digit_lt false = omega arith
 
+-- the word of so many tests fits so many bits
 pub number_of_lt : (test : ℕ → Bool) (w : ℕ) → number_of test w < 2 ^ w
 unfolding number_of
 number_of_lt test zero = omega arith
@@ -78,10 +86,12 @@ number_of_lt test (suc w) = let low = number_of_lt test w in let d = digit_lt (t
       | inr o ↦ subst (λ d. d * p + n < q) (sym o) (omega arith)
     ]
 
+-- a test as a digit is set exactly where it holds
 digit_set : (b : Bool) → is_set (cond b 1 0) 0 ≡ b
 digit_set true = refl
 digit_set false = refl
 
+-- a bit of the word of tests is set exactly where its test holds
 pub is_set-number_of : (test : ℕ → Bool) (w i : ℕ) → i < w → is_set (number_of test w) i ≡ test i
 unfolding number_of
 is_set-number_of test zero i h = absurd (omega arith)

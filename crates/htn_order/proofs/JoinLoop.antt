@@ -12,10 +12,12 @@ JoinedBelow old a b k order =
     IsSquare (length old) order
     × ((x y : ℕ) → is_before order x y ≡ (is_before old x y || (ltb x k && ((eqb x a || is_before old x a) && (eqb y b || is_before old b y)))))
 
+-- with what fails, either is the other
 or_false : (p : Bool) → (p || false) ≡ p
 or_false true = refl
 or_false false = refl
 
+-- before the loop nothing is joined
 pub below_start : (old : Order) (a b : ℕ) → IsSquare (length old) old → JoinedBelow old a b 0 old
 below_start old a b square = (
   square,
@@ -45,12 +47,14 @@ not_b old a b k order apart behind so_far h e = refuse (at_or_before order k a h
     refuse (inl f) = apart (sym f ∙ e)
     refuse (inr r) = both_ways (is_before old b a) behind (sym (b_untouched old a b k order apart behind so_far a) ∙ subst (λ u. is_before order u a ≡ true) e r)
 
+-- a number other than k is below k exactly where it is below the one after
 ltb_more : (x k : ℕ) → (x ≡ k → ⊥) → ltb x (k + 1) ≡ ltb x k
 ltb_more x k other = elim (cases_lt x k) [
   | inl low ↦ lt-ltb x (k + 1) (omega arith) ∙ sym (lt-ltb x k low)
   | inr up ↦ (let apart : x ≢ k = other in le-ltb x (k + 1) (omega arith) ∙ sym (le-ltb x k up))
 ]
 
+-- which of three is asked first doesn't matter
 turn : (p q r : Bool) → ((p || q) || r) ≡ (p || (r || q))
 turn true q r = refl
 turn false true true = refl
@@ -58,6 +62,7 @@ turn false true false = refl
 turn false false true = refl
 turn false false false = refl
 
+-- a position up to the first of the pair is put before all from the second on
 pub below_put : (old : Order) (a b k : ℕ) (order mid new : Order) → k < length old → a ≢ b → is_before old b a ≡ false → JoinedBelow old a b k order
     → (eqb k a || is_before order k a) ≡ true → IsSquare (length old) new
     → ((x y : ℕ) → is_before mid x y ≡ (is_before order x y || (eqb x k && is_before order b y)))
@@ -83,6 +88,7 @@ below_put old a b k order mid new low apart behind so_far here square row last =
     first : (x : ℕ) → x ≡ k → (eqb x a || is_before old x a) ≡ true
     first x e = subst (λ u. (eqb u a || is_before old u a) ≡ true) (sym e) (ap (λ p. eqb k a || p) (sym (untouched old a b k order so_far k a (omega arith))) ∙ here)
 
+-- any other position is left as it is
 pub below_skip : (old : Order) (a b k : ℕ) (order : Order) → JoinedBelow old a b k order → (eqb k a || is_before order k a) ≡ false → JoinedBelow old a b (k + 1) order
 below_skip old a b k order so_far out = (
   so_far.0,
@@ -102,6 +108,7 @@ below_skip old a b k order so_far out = (
     neither p false true = refl
     neither p false false = refl
 
+-- after the loop all are joined
 pub below_end : (old : Order) (a b k : ℕ) (order : Order) → a < length old → IsSquare (length old) old → length old ≤ k → JoinedBelow old a b k order
     → (x y : ℕ) → is_before order x y ≡ joined old a b x y
 below_end old a b k order first square past so_far x y = so_far.1 x y ∙ (elim (cases_lt x k) [

@@ -12,27 +12,33 @@ use Rattle.htn_order.specs.BitRows.{IsPacked, bit, is_set, number_of, rows_of, u
 use Rattle.htn_order.proofs.Tables.{table_size, within, more_entries}
 use Rattle.htn_order.proofs.Bits.{is_set-or, is_set-with, bit_from_set, is_set-number_of, number_of_lt}
 
+-- the word of a position is one of its row's
 pub below_width : (n y : ℕ) → y < n → y / 64 < words_per_row n
 below_width n y h = omega arith
 
+-- a word of a row is one of the table's
 pub place_lt : (n width a k : ℕ) (words : List ℕ) → length words ≡ n * width → a < n → k < width → a * width + k < length words
 place_lt n width a k words e h g = subst (λ m. a * width + k < m) (sym e) (subst (λ m. a * width + k < m) (let c : width * n ≡ n * width = omega arith in c) (mul-add-lt a width k n h g))
 
 -- ## A word is written
 
+-- a word that was set has the value
 pub word_at-set_same : (width : ℕ) (words : List ℕ) (a k v : ℕ) → a * width + k < length words → word_at width (set words (a * width + k) v) a k ≡ v
 word_at-set_same width words a k v h = get_or-set_same words (a * width + k) v 0 h
 
+-- each other word stays
 pub word_at-set_other : (width : ℕ) (words : List ℕ) (a k v x j : ℕ) → k < width → j < width → ((x ≡ a) × (j ≡ k) → ⊥)
     → word_at width (set words (a * width + k) v) x j ≡ word_at width words x j
 word_at-set_other width words a k v x j h g other = get_or-set_other words (a * width + k) (x * width + j) v 0 (λ e. other (same_from_place x j a k width g h e))
 
+-- with what fails, either is the other
 or_false : (p : Bool) → (p || false) ≡ p
 or_false true = refl
 or_false false = refl
 
 -- ## A bit is set
 
+-- a bit that is put into its word is set, and each other is as before
 pub put_bit : (width : ℕ) (words : List ℕ) (a b x y : ℕ) → b / 64 < width → y / 64 < width → a * width + b / 64 < length words
     → bit width (set words (a * width + b / 64) (bit_or (word_at width words a (b / 64)) (1 * 2 ^ (b % 64) % 2 ^ 64))) x y ≡ (bit width words x y || (eqb x a && eqb y b))
 put_bit width words a b x y h g fits = elim (cases_eq x a) [
@@ -57,9 +63,11 @@ put_bit width words a b x y h g fits = elim (cases_eq x a) [
       | inr other ↦ ne_eqb (y % 64) (b % 64) (λ f. other (let p = div-add-mod' y 64 in let q = div-add-mod' b 64 in omega arith)) ∙ sym (ne_eqb y b other)
     ]
 
+-- two tests of equality that hold give both
 both : (a b x y : ℕ) → (eqb x a && eqb y b) ≡ true → (x ≡ a) × (y ≡ b)
 both a b x y m = let parts = and_parts (eqb x a) (eqb y b) m in (eqb-true x a parts.0, eqb-true y b parts.1)
 
+-- with a bit put, the table has that entry more
 pub put_entries : (n : ℕ) (words : List ℕ) (a b : ℕ) → length words ≡ n * words_per_row n → a < n → b < n → (x y : ℕ)
     → is_before (rows_of n (with_bit (words_per_row n) words a b)) x y ≡ (is_before (rows_of n words) x y || (eqb x a && eqb y b))
 put_entries n words a b long first second =
@@ -69,6 +77,7 @@ put_entries n words a b long first second =
 
 -- ## A row is added to another
 
+-- a bit of a united row is set where it was, or where it is in the other row
 pub united_bit : (width : ℕ) (words new : List ℕ) (a b x y : ℕ) → word_at width new x (y / 64) ≡ united width words a b x (y / 64)
     → bit width new x y ≡ (bit width words x y || (eqb x a && bit width words b y))
 united_bit width words new a b x y is = elim (cases_eq x a) [
@@ -79,6 +88,7 @@ united_bit width words new a b x y is = elim (cases_eq x a) [
       ∙ sym (ap (λ p. bit width words x y || (p && bit width words b y)) (ne_eqb x a other) ∙ or_false (bit width words x y))
 ]
 
+-- with rows united, the first has the entries of the second too
 pub united_entries : (n : ℕ) (words new : List ℕ) (a b : ℕ) → a < n → b < n
     → ((x k : ℕ) → k < words_per_row n → word_at (words_per_row n) new x k ≡ united (words_per_row n) words a b x k) → (x y : ℕ)
     → is_before (rows_of n new) x y ≡ (is_before (rows_of n words) x y || (eqb x a && is_before (rows_of n words) b y))
@@ -92,6 +102,7 @@ united_entries n words new a b first second is =
 
 -- ## A table determines its words
 
+-- each word of the bits is that of its table
 word_from_table : (n : ℕ) (words : List ℕ) → IsPacked n words → (i : ℕ) → i < n * words_per_row n → get_or words i 0 ≡ word_of (rows_of n words) i
 word_from_table n words packed i h =
     let width = words_per_row n in
@@ -122,6 +133,7 @@ word_from_table n words packed i h =
           | inr past ↦ here ∙ packed.spare a y row past (subst (λ m. m < width) (sym word) column) ∙ sym (table_past_right n (bit width words) a y past)
         ]
 
+-- the words are those of their table
 pub words_from_table : (n : ℕ) (words : List ℕ) → IsPacked n words → words ≡ words_of (rows_of n words)
 words_from_table n words packed =
     let size : length (rows_of n words) ≡ n = table_size n (bit (words_per_row n) words) in

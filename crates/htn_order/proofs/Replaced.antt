@@ -10,6 +10,7 @@ use Rattle.htn_order.proofs.Chains.{before_chain, chain_size, not_before_chain}
 
 -- ## Closed
 
+-- a table of a test that is irreflexive and transitive is closed
 pub table_closed : (n : ℕ) (f : ℕ → ℕ → Bool) → ((a : ℕ) → f a a ≡ false) → ((a b c : ℕ) → f a b ≡ true → f b c ≡ true → f a c ≡ true) → IsClosed (table n f)
 table_closed n f irreflexive transitive = record {
   irreflexive = λ a. false_from_ne_true (is_before (table n f) a a) (λ t. both_ways (f a a) (irreflexive a) (within n f a a t).2);
@@ -17,25 +18,30 @@ table_closed n f irreflexive transitive = record {
 }
 
 module _ (order : Order) (i m : ℕ) (inner : Order) where
+  -- of two nodes of the inner network its own order tells
   read_in : (a b : ℕ) → origin i m a ≡ i → origin i m b ≡ i → replaced_order order i m inner a b ≡ is_before inner (a - i) (b - i)
   read_in a b e f =
       ap₂ (λ p q. cond (p && q) (is_before inner (a - i) (b - i)) (is_before order (origin i m a) (origin i m b))) (eq-eqb (origin i m a) i e) (eq-eqb (origin i m b) i f)
 
+  -- before another by the order of the node that it stands for, if it is outside
   read_left : (a b : ℕ) → (origin i m a ≡ i → ⊥) → replaced_order order i m inner a b ≡ is_before order (origin i m a) (origin i m b)
   read_left a b e =
       ap (λ p. cond (p && eqb (origin i m b) i) (is_before inner (a - i) (b - i)) (is_before order (origin i m a) (origin i m b))) (ne_eqb (origin i m a) i e)
 
+  -- a node of the inner network comes before one outside as the replaced one does
   read_right : (a b : ℕ) → origin i m a ≡ i → (origin i m b ≡ i → ⊥) → replaced_order order i m inner a b ≡ is_before order i (origin i m b)
   read_right a b e f =
       ap₂ (λ p q. cond (p && q) (is_before inner (a - i) (b - i)) (is_before order (origin i m a) (origin i m b))) (eq-eqb (origin i m a) i e) (ne_eqb (origin i m b) i f)
       ∙ ap (λ u. is_before order u (origin i m b)) e
 
+  -- nothing comes before itself
   pub replaced_irreflexive : IsClosed order → IsClosed inner → (a : ℕ) → replaced_order order i m inner a a ≡ false
   replaced_irreflexive outer inside a = elim (cases_eq (origin i m a) i) [
     | inl e ↦ read_in a a e e ∙ inside.irreflexive (a - i)
     | inr e ↦ read_left a a e ∙ outer.irreflexive (origin i m a)
   ]
 
+  -- what comes before what comes before another comes before that
   pub replaced_transitive : IsClosed order → IsClosed inner → (a b c : ℕ) → replaced_order order i m inner a b ≡ true → replaced_order order i m inner b c ≡ true
       → replaced_order order i m inner a c ≡ true
   replaced_transitive outer inside a b c h g = elim (cases_eq (origin i m a) i) [
@@ -62,6 +68,7 @@ module _ (order : Order) (i m : ℕ) (inner : Order) where
     ]
   ]
 
+-- the order with a node replaced is closed
 pub replaced_closed : (n : ℕ) (order : Order) (i m : ℕ) (inner : Order) → IsClosed order → IsClosed inner → IsClosed (table n (replaced_order order i m inner))
 replaced_closed n order i m inner outer inside =
     table_closed n (replaced_order order i m inner) (replaced_irreflexive order i m inner outer inside) (replaced_transitive order i m inner outer inside)
@@ -74,6 +81,7 @@ data Side (i m a : ℕ) : Type 0 where
   Inside : i ≤ a → a < i + m → origin i m a ≡ i → Side i m a
   After : i + m ≤ a → origin i m a ≡ a + 1 - m → Side i m a
 
+-- a position is before the inner network, in it, or behind it
 side_of : (i m a : ℕ) → Side i m a
 side_of i m a = elim (cases_lt a i) [
   | inl low ↦ Before low (origin_below i m a low)
@@ -83,12 +91,14 @@ side_of i m a = elim (cases_lt a i) [
   ]
 ]
 
+-- in a chain a position comes before another exactly where it is smaller
 chain_test : (n x y : ℕ) → y < n → is_before (chain n) x y ≡ ltb x y
 chain_test n x y h = elim (cases_lt x y) [
   | inl low ↦ before_chain n x y low h ∙ sym (lt-ltb x y low)
   | inr back ↦ not_before_chain n x y (inr back) ∙ sym (le-ltb x y back)
 ]
 
+-- two comparisons that follow from one another have one answer
 ltb_alike : (x y a b : ℕ) → (x < y → a < b) → (a < b → x < y) → ltb x y ≡ ltb a b
 ltb_alike x y a b there back = elim (cases_lt x y) [
   | inl low ↦ lt-ltb x y low ∙ sym (lt-ltb a b (there low))
@@ -99,6 +109,7 @@ ltb_alike x y a b there back = elim (cases_lt x y) [
 ]
 
 module _ (n i m : ℕ) (h : i < n) where
+  -- from outside, a chain in a chain compares positions
   outside_left : (a b : ℕ) → (origin i m a ≡ i → ⊥) → Side i m a → Side i m b → b < n - 1 + m → replaced_order (chain n) i m (chain m) a b ≡ ltb a b
   outside_left a b out sa sb fits =
       read_left (chain n) i m (chain m) a b out ∙ chain_test n (origin i m a) (origin i m b) (low sb) ∙ ltb_alike (origin i m a) (origin i m b) a b (there sa sb) (back sa sb)
@@ -126,6 +137,7 @@ module _ (n i m : ℕ) (h : i < n) where
       back (After p e) (Inside q r f) g = omega arith
       back (After p e) (After q f) g = omega arith
 
+  -- from inside to outside, a chain in a chain compares positions
   outside_right : (a b : ℕ) → origin i m a ≡ i → (origin i m b ≡ i → ⊥) → Side i m a → Side i m b → b < n - 1 + m → replaced_order (chain n) i m (chain m) a b ≡ ltb a b
   outside_right a b e out sa sb fits =
       read_right (chain n) i m (chain m) a b e out ∙ chain_test n i (origin i m b) (low sb) ∙ ltb_alike i (origin i m b) a b (there sa sb) (back sa sb)
@@ -149,6 +161,7 @@ module _ (n i m : ℕ) (h : i < n) where
       back (Inside p r f) (After q k) g = omega arith
       back (After p f) sb g = omega arith
 
+  -- inside, a chain in a chain compares positions
   inside_both : (a b : ℕ) → origin i m a ≡ i → origin i m b ≡ i → Side i m a → Side i m b → replaced_order (chain n) i m (chain m) a b ≡ ltb a b
   inside_both a b e f sa sb =
       read_in (chain n) i m (chain m) a b e f ∙ chain_test m (a - i) (b - i) (low sb) ∙ ltb_alike (a - i) (b - i) a b (λ g. first sa sb g) (λ g. second sa sb g)
@@ -168,6 +181,7 @@ module _ (n i m : ℕ) (h : i < n) where
       second (Inside p q k) sb g = omega arith
       second (After p k) sb g = omega arith
 
+  -- a chain in the place of a chain's node makes a chain
   pub chain_in_chain : table (n - 1 + m) (replaced_order (chain n) i m (chain m)) ≡ chain (n - 1 + m)
   chain_in_chain = same_tables (n - 1 + m) (replaced_order (chain n) i m (chain m)) ltb (λ a b low fits. elim (cases_eq (origin i m a) i) [
     | inl e ↦ elim (cases_eq (origin i m b) i) [
@@ -177,6 +191,7 @@ module _ (n i m : ℕ) (h : i < n) where
     | inr e ↦ outside_left a b e (side_of i m a) (side_of i m b) fits
   ])
 
+-- a chain whose node is replaced by a chain is the chain of all nodes
 pub chain_replaced : (n i m : ℕ) → i < length (chain n)
     → chain (length (chain n) - 1 + length (chain m)) ≡ table (length (chain n) - 1 + length (chain m)) (replaced_order (chain n) i (length (chain m)) (chain m))
 chain_replaced n i m low =
@@ -188,6 +203,7 @@ chain_replaced n i m low =
 
 -- ## A new first position
 
+-- a network behind one node is ordered as the order with a first node says
 first_test : (m : ℕ) (inner : Order) (a b : ℕ) → a < m + 1 → b < m + 1 → replaced_order (chain 2) 1 m inner a b ≡ is_before_with_first inner a b
 first_test m inner a b low fits = elim (cases_eq b 0) [
   | inl zero_b ↦ (let o : origin 1 m b ≡ b = origin_below 1 m b (omega arith) in

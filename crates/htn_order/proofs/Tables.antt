@@ -5,13 +5,16 @@ use Rattle.htn_model.specs.Problem.{is_before}
 use Rattle.htn_model.specs.Machine.{table}
 use Rattle.htn_model.proofs.Splices.{table_within, table_past_left, table_past_right, table_square, same_order}
 
+-- a table of n has n rows
 pub table_size : (n : ℕ) (f : ℕ → ℕ → Bool) → length (table n f) ≡ n
 table_size n f = (table_square n f).0
 
+-- together with what fails, nothing holds
 and_false : (p : Bool) → (p && false) ≡ false
 and_false true = refl
 and_false false = refl
 
+-- an entry of a table is its test's, and past the end it is false
 pub entry : (n : ℕ) (f : ℕ → ℕ → Bool) (x y : ℕ) → is_before (table n f) x y ≡ (ltb x n && (ltb y n && f x y))
 entry n f x y = elim (cases_lt x n) [
   | inl low ↦ elim (cases_lt y n) [
@@ -27,6 +30,7 @@ within n f x y h =
     let first = and_parts (ltb x n) (ltb y n && f x y) (sym (entry n f x y) ∙ h) in
     let second = and_parts (ltb y n) (f x y) first.1 in (ltb-true x n first.0, ltb-true y n second.0, second.1)
 
+-- tests that agree below n make one table
 pub same_tables : (n : ℕ) (f g : ℕ → ℕ → Bool) → ((x y : ℕ) → x < n → y < n → f x y ≡ g x y) → table n f ≡ table n g
 same_tables n f g alike = same_order n (table n f) (table n g) (table_square n f) (table_square n g) (λ x y. elim (cases_lt x n) [
   | inl low ↦ elim (cases_lt y n) [
@@ -36,6 +40,7 @@ same_tables n f g alike = same_order n (table n f) (table n g) (table_square n f
   | inr past ↦ table_past_left n f x y past ∙ sym (table_past_left n g x y past)
 ])
 
+-- with what fails, either is the other
 or_false : (p : Bool) → (p || false) ≡ p
 or_false true = refl
 or_false false = refl

@@ -10,14 +10,17 @@ abbrev pub UnitedUpTo : ℕ → List ℕ → ℕ → ℕ → ℕ → List ℕ �
 UnitedUpTo width old a b k words =
     (x j : ℕ) → j < width → word_at width words x j ≡ cond (ltb j k) (united width old a b x j) (word_at width old x j)
 
+-- before the loop no word is united
 pub united_start : (width : ℕ) (old : List ℕ) (a b : ℕ) → UnitedUpTo width old a b 0 old
 united_start width old a b x j h = sym (ap (λ p. cond p (united width old a b x j) (word_at width old x j)) (le-ltb j 0 (omega arith)))
 
+-- after the loop each word is united
 pub united_end : (width : ℕ) (old : List ℕ) (a b k : ℕ) (words : List ℕ) → width ≤ k → UnitedUpTo width old a b k words
     → (x j : ℕ) → j < width → word_at width words x j ≡ united width old a b x j
 united_end width old a b k words past so_far x j h =
     so_far x j h ∙ ap (λ p. cond p (united width old a b x j) (word_at width old x j)) (lt-ltb j k (omega arith))
 
+-- one word more is united
 pub united_step : (width : ℕ) (old : List ℕ) (a b k : ℕ) (words : List ℕ) → k < width → a * width + k < length words → UnitedUpTo width old a b k words
     → UnitedUpTo width old a b (k + 1) (set words (a * width + k) (bit_or (word_at width words a k) (word_at width words b k)))
 united_step width old a b k words low fits so_far x j h = elim (cases_eq j k) [
@@ -48,6 +51,7 @@ united_step width old a b k words low fits so_far x j h = elim (cases_eq j k) [
     untouched : (u : ℕ) → word_at width words u k ≡ word_at width old u k
     untouched u = so_far u k low ∙ ap (λ p. cond p (united width old a b u k) (word_at width old u k)) (le-ltb k k (omega arith))
 
+-- united words fit 64 bits
 pub united_small : (n : ℕ) (old new : List ℕ) (a b : ℕ) → IsPacked n old → ((x k : ℕ) → k < words_per_row n → word_at (words_per_row n) new x k ≡ united (words_per_row n) old a b x k)
     → (i : ℕ) → get_or new i 0 < 2 ^ 64
 united_small n old new a b packed is i =
@@ -63,6 +67,7 @@ united_small n old new a b packed is i =
           (packed.small (i / width * width + i % width))
     ])
 
+-- where both fail, neither one nor the other holds
 both_false : (p q r : Bool) → p ≡ false → q ≡ false → (p || (r && q)) ≡ false
 both_false p q r e f = ap₂ (λ p q. p || q) e (and_right r q f)
 
@@ -77,6 +82,7 @@ united_packed n old new a b second packed long is = record {
       ∙ both_false (bit (words_per_row n) old x y) (bit (words_per_row n) old b y) (eqb x a) (packed.spare x y row past column) (packed.spare b y second past column);
 }
 
+-- words that are united up to the width are the united row
 pub united_words : (n : ℕ) (words old new : List ℕ) (width a b : ℕ) → width ≡ words_per_row n → old ≡ words
     → ((x k : ℕ) → k < width → word_at width new x k ≡ united width old a b x k) → (x k : ℕ) → k < words_per_row n
     → word_at (words_per_row n) new x k ≡ united (words_per_row n) words a b x k

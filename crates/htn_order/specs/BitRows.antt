@@ -15,6 +15,7 @@ words_per_row size = size / 64 + 1
 abbrev pub word_at : ℕ → List ℕ → ℕ → ℕ → ℕ
 word_at width words a k = get_or words (a * width + k) 0
 
+-- whether a word has the bit at a position
 abbrev pub is_set : ℕ → ℕ → Bool
 is_set word i = eqb (bit_at word i) 1
 
@@ -22,6 +23,7 @@ is_set word i = eqb (bit_at word i) 1
 abbrev pub bit : ℕ → List ℕ → ℕ → ℕ → Bool
 bit width words a b = is_set (word_at width words a (b / 64)) (b % 64)
 
+-- the table of the order whose bits are these words, row by row
 abbrev pub rows_of : ℕ → List ℕ → Order
 rows_of size words = table size (bit (words_per_row size) words)
 
@@ -48,6 +50,7 @@ number_of test (suc w) = cond (test w) 1 0 * 2 ^ w + number_of test w
 abbrev pub word_of : Order → ℕ → ℕ
 word_of order i = number_of (λ j. get_or (get_or order (i / words_per_row (length order)) []) (64 * (i % words_per_row (length order)) + j) false) 64
 
+-- the words of all bits of an order, row by row
 abbrev pub words_of : Order → List ℕ
 words_of order = map (word_of order) (range_with_len 0 (length order * words_per_row (length order)))
 

@@ -5,6 +5,7 @@ use Rattle.htn_order.specs.Shapes.{chain}
 use Rattle.htn_order.specs.declared.order.Form.{Form}
 use Rattle.htn_order.specs.declared.order.Form.TheVariants.{Chain, Rows}
 
+-- the order that a form stands for: total in the sequence of the list, or as the rows say
 abbrev pub order_of : Form → Order
 order_of (Chain size) = chain size
 order_of (Rows rows) = rows

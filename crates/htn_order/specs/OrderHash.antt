@@ -11,5 +11,6 @@ use Rattle.htn_order.specs.BitRows.{rows_hash}
 abbrev pub order_hash : Order → HashWrites
 order_hash order = cond (order_eq order (chain (length order))) (fed.usize (length order)) (rows_hash order)
 
+-- equal orders feed a hasher the same
 pub order_alike : Alike order_eq order_hash
 order_alike = same_Alike order_hash order_eq-decides

@@ -19,5 +19,6 @@ IsRowAdded test a k old new = (x y : ℕ) → is_before new x y ≡ (is_before o
 abbrev pub is_before_with_first : Order → ℕ → ℕ → Bool
 is_before_with_first order a b = cond (eqb b 0) false (cond (eqb a 0) true (is_before order (a - 1) (b - 1)))
 
+-- an order with a node more in front of all others
 abbrev pub with_first : Order → Order
 with_first order = table (length order + 1) (is_before_with_first order)

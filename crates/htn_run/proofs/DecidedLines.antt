@@ -160,6 +160,7 @@ module _ (naming : Naming) (problem : Problem) (file : PlanFile) where
   abbrev Arranged : List ℕ → List GroundTask → Type 0
   Arranged ids tasks = (arranged : List ℕ) × IsRearrangementOf ids arranged × AreNamed naming file arranged tasks
 
+  -- whether numbers, rearranged, name these tasks can be decided
   arranged : (ids : List ℕ) (tasks : List GroundTask) → Decided (Arranged ids tasks)
   arranged [] [] = inl ([], refl, refl)
   arranged [] (g ∷ tasks) = inr (λ h. let none : g ∷ tasks ≡ [] = subst (λ ids. AreNamed naming file ids (g ∷ tasks)) h.1 h.2 in absurd cc)

@@ -67,6 +67,7 @@ module _ (naming : Naming) (problem : Problem) (states : ℕ → State) where
     ]
 
     module _ (positions : List ℕ) (matching : IsMatching network.children positions plans) (g h : ℕ) where
+      -- spans in which the plans at these positions have room
       abbrev Spans : Type 0
       Spans = (start : ℕ → ℕ) × (finish : ℕ → ℕ) × HaveSpans naming problem states network positions plans g h start finish
 

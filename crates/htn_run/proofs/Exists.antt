@@ -33,10 +33,12 @@ abbrev Fails : {X : Type 0} → (X → Bool) → (X → Bool) → List X → Typ
 Fails {X = X} a b xs = (k : ℕ) × (x : X) × (slice_get xs k ≡ Some x) × (a x ≡ false) × (b x ≡ false)
 
 module _ {X : Type 0} (a b : X → Bool) where
+  -- where a list fails nowhere and its first value passes either test, the longer one fails nowhere
   fails_later : (x : X) (xs : List X) → (a x ≡ false → b x ≡ false → ⊥) → (Fails a b xs → ⊥) → Fails a b (x ∷ xs) → ⊥
   fails_later x xs here later (zero, y, is, p, q) = let same : x ≡ y = cc in here (ap a same ∙ p) (ap b same ∙ q)
   fails_later x xs here later (suc k, y, is, p, q) = later (k, y, is, p, q)
 
+  -- a list fails somewhere or nowhere
   fails_or_not : (xs : List X) → Fails a b xs ⊎ (Fails a b xs → ⊥)
   fails_or_not [] = inr (λ h. let none : None ≡ Some h.1 = h.2 in absurd cc)
   fails_or_not (x ∷ xs) = by (a x) (b x) refl refl (fails_or_not xs)
@@ -48,6 +50,7 @@ module _ {X : Type 0} (a b : X → Bool) where
       by false true p q (inl h) = inl (suc h.0, h.1, h.2, h.3, h.4)
       by false true p q (inr none) = inr (fails_later x xs (λ e f. both_ways (b x) f q) none)
 
+-- where no value passes, the filtered list is empty
 none_pass : {X : Type 0} (test : X → Bool) (xs : List X) → ((x : X) → test x ≡ false) → filter test xs ≡ []
 none_pass test [] h = refl
 none_pass test (x ∷ xs) h = ap (λ b. cond b (x ∷ filter test xs) (filter test xs)) (h x) ∙ none_pass test xs h
@@ -55,20 +58,24 @@ none_pass test (x ∷ xs) h = ap (λ b. cond b (x ∷ filter test xs) (filter te
 -- ## A ground problem
 
 module _ (problem : Problem) (grounded : IsGrounded problem) (bound : ℕ) where
+  -- the search by levels finds the least word
   least : LevelsFindLeast problem (live_step problem) config_eq bound
   least = live_numbers problem grounded config_eq bound (λ c d h. (config_eq-decides c d).0 h)
 
   -- ### The first level with a done configuration
 
+  -- no configuration of this level is done
   abbrev IsNone : ℕ → Type 0
   IsNone steps = first_done problem (level problem (live_step problem) config_eq bound steps).reached ≡ None
 
+  -- among the first levels one has a done configuration, or none has
   abbrev Search : ℕ → Type 0
   Search n =
       ((steps : ℕ) × (r : Reached) × (steps < n) × ((earlier : ℕ) → earlier < steps → IsNone earlier)
       × (first_done problem (level problem (live_step problem) config_eq bound steps).reached ≡ Some r))
       ⊎ ((steps : ℕ) → steps < n → IsNone steps)
 
+  -- the first levels can be searched
   searched : (n : ℕ) → Search n
   searched zero = inr (λ steps lt. absurd (omega arith))
   searched (suc n) = by (searched n) (first_done problem (level problem (live_step problem) config_eq bound n).reached) refl
@@ -85,11 +92,13 @@ module _ (problem : Problem) (grounded : IsGrounded problem) (bound : ℕ) where
 
   -- ### What the search leaves out
 
+  -- something is left out at this level because of the bound
   abbrev LeftAt : ℕ → Type 0
   LeftAt steps =
       Fails (is_within bound steps) (λ r. list_any (config_eq r.config) (seen_before problem (live_step problem) config_eq bound steps))
       (candidates problem (live_step problem) config_eq bound steps)
 
+  -- past the bound a level reaches nothing
   nothing_at : (steps : ℕ) → bound < steps → (level problem (live_step problem) config_eq bound steps).reached ≡ []
   nothing_at zero beyond = absurd (omega arith)
   nothing_at (suc steps) beyond =
@@ -98,6 +107,7 @@ module _ (problem : Problem) (grounded : IsGrounded problem) (bound : ℕ) where
       (none_pass (is_within bound (suc steps)) (flat_map (successors problem (live_step problem)) before.reached)
       (λ r. lt-leb (suc steps + length r.config.open_nodes) bound (omega arith)))
 
+  -- past the bound nothing is left out
   none_left : (steps : ℕ) → suc bound < steps → LeftAt steps → ⊥
   none_left zero beyond h = omega arith
   none_left (suc steps) beyond h =
@@ -105,6 +115,7 @@ module _ (problem : Problem) (grounded : IsGrounded problem) (bound : ℕ) where
       let none : None ≡ Some h.1 = ap (λ rs. slice_get rs h.0) (sym empty) ∙ h.2 in
       absurd cc
 
+  -- whether something is left out among the first levels can be decided
   left_or_not : (n : ℕ) → ((steps : ℕ) × LeftAt steps) ⊎ ((steps : ℕ) → steps < n → LeftAt steps → ⊥)
   left_or_not zero = inr (λ steps lt h. omega arith)
   left_or_not (suc n) =
@@ -123,6 +134,7 @@ module _ (problem : Problem) (grounded : IsGrounded problem) (bound : ℕ) where
           last steps lt h (inr (inl less)) = none steps less h
           last steps lt h (inr (inr more)) = omega arith
 
+  -- what is left out at a level is left out by the search
   left_out : ((steps : ℕ) × LeftAt steps) → LeavesOut problem (live_step problem) config_eq bound
   left_out (steps, (position, candidate, stands, beyond, unseen)) = record {
     steps = steps;
@@ -133,6 +145,7 @@ module _ (problem : Problem) (grounded : IsGrounded problem) (bound : ℕ) where
     unseen = unseen;
   }
 
+  -- whether the bound is met can be decided
   met_or_not : IsMet problem bound ⊎ (IsMet problem bound → ⊥)
   met_or_not = by (left_or_not (suc (suc bound)))
     where
@@ -153,20 +166,24 @@ module _ (problem : Problem) (grounded : IsGrounded problem) (bound : ℕ) where
 
   -- ### The answer
 
+  -- there is an answer with its text
   abbrev Comes : Type 0
   Comes =
       ((s : Solution) × IsAnswer problem bound (Some s))
       ⊎ ((IsAnswer problem bound None × IsMet problem bound) ⊎ (IsUnsolvable problem × (IsMet problem bound → ⊥)))
 
+  -- where there is a least word, there is an answer
   by_word : (word : List ℕ) → IsLeastWord problem bound (Some word) → Comes
   by_word word h =
       let found = (one_to_one problem grounded).solution word h.0 in
       inl (found.0, (least_word_answers problem grounded).answer bound (Some word) (Some found.0) h (found.1, found.2))
 
+  -- where there is no plan within the bound, there is an answer
   by_none : IsAnswer problem bound None → IsMet problem bound ⊎ (IsMet problem bound → ⊥) → Comes
   by_none none (inl met) = inr (inl (none, met))
   by_none none (inr not_met) = inr (inr (exhaustion_decides problem grounded bound not_met none, not_met))
 
+  -- a grounded problem and a bound have an answer
   comes : Comes
   comes = by (searched (suc bound))
     where
@@ -177,6 +194,7 @@ module _ (problem : Problem) (grounded : IsGrounded problem) (bound : ℕ) where
 
 -- ## A task
 
+-- a task and a bound have an outcome with its text
 said : (t : Task) → IsGrounded (problem_of t) → (bound : ℕ) → (outcome : Outcome) × (text : List ℕ) × Says t bound outcome text
 said t grounded bound = by (comes (problem_of t) grounded bound)
   where
@@ -185,11 +203,13 @@ said t grounded bound = by (comes (problem_of t) grounded bound)
     by (inr (inl h)) = (NoPlan, codes "none\n", (h.0, h.1, refl))
     by (inr (inr h)) = (Unsolvable, codes "unsolvable\n", (h.0, h.1, refl))
 
+-- texts that fit together have an answer for each bound
 pub answers_exist : AnswersExist
 answers_exist domain problem bound task is =
     let says = said task (is_grounded domain problem task is) bound in
     (says.0, says.1, (task, is, says.2))
 
+-- texts that fit together have a task
 pub texts_have_a_task : TextsHaveATask
 texts_have_a_task domain problem d p domain_spelled problem_spelled fits =
     let task = tasks_exist d p in (

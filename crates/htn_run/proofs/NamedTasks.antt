@@ -18,6 +18,7 @@ use Rattle.hddl_names.proofs.PlanNames.{folded_name}
 use Rattle.htn_run.specs.Headline.{IsTaskOfTexts}
 use Rattle.htn_run.proofs.SpelledNames.{AreDomainNames, IsGood, AreGood, IsGoodTask, IsGoodAction, IsGoodMethod, all_join, domain_names, problem_names}
 
+-- each of the texts is a name as a plan file can hold it
 abbrev AreNames : List Text → Type 0
 AreNames names = AllByRecursion IsName names
 
@@ -32,6 +33,7 @@ distinct_names names (text ∷ more) h k = distinct_names (with_name names text)
     by true = h
     by false = all_join IsName names (text ∷ []) h (k.0, tt)
 
+-- each of the typed names is one
 abbrev AreTyped : List Typed → Type 0
 AreTyped ts = AreNames (texts (mentions_of ts))
 
@@ -79,6 +81,7 @@ pub record IsNamed (t : Task) : Type 0 where
   pub methods : AreNames (method_names t)
 
 module _ (domain problem : List ℕ) (t : Task) (is : IsTaskOfTexts domain problem t) where
+  -- the names that the two texts declare
   abbrev vocabulary : Vocabulary
   vocabulary = vocabulary_of is.domain_tree is.problem_tree
 

@@ -23,12 +23,15 @@ use Rattle.htn_run.specs.Laws.{AnswersAreUnique, FaultyHaveNoAnswer, TextsHaveOn
 
 -- ## The texts
 
+-- a text spells one domain
 same_domain : (domain problem : List ℕ) (t u : Task) (is : IsTaskOfTexts domain problem t) (also : IsTaskOfTexts domain problem u) → is.domain_tree ≡ also.domain_tree
 same_domain domain problem t u is also = domain_laws.one domain is.domain_tree also.domain_tree is.domain_spelled also.domain_spelled
 
+-- a text spells one problem
 same_problem : (domain problem : List ℕ) (t u : Task) (is : IsTaskOfTexts domain problem t) (also : IsTaskOfTexts domain problem u) → is.problem_tree ≡ also.problem_tree
 same_problem domain problem t u is also = problem_laws.one problem is.problem_tree also.problem_tree is.problem_spelled also.problem_spelled
 
+-- two texts have one task
 pub texts_have_one_task : TextsHaveOneTask
 texts_have_one_task domain problem t u is also =
     tasks_are_unique also.domain_tree also.problem_tree t u
@@ -36,18 +39,22 @@ texts_have_one_task domain problem t u is also =
     (subst (λ d. IsTaskOf d is.problem_tree t) (same_domain domain problem t u is also) is.is_task))
     also.is_task
 
+-- the problem of the task of two texts is grounded
 pub is_grounded : (domain problem : List ℕ) (t : Task) → IsTaskOfTexts domain problem t → IsGrounded (problem_of t)
 is_grounded domain problem t is = tasks_are_grounded t (tasks_are_well_typed is.domain_tree is.problem_tree t is.fits is.is_task)
 
 -- ## One task
 
 module _ (t : Task) (grounded : IsGrounded (problem_of t)) (bound : ℕ) where
+  -- two plans that answer are the same
   one_plan : (s r : Solution) → IsAnswer (problem_of t) bound (Some s) → IsAnswer (problem_of t) bound (Some r) → s ≡ r
   one_plan s r h g = let same : Some s ≡ Some r = (least_word_answers (problem_of t) grounded).one_answer bound (Some s) (Some r) h g in cc
 
+  -- a plan and none don't both answer
   a_plan_or_none : (s : Solution) → IsAnswer (problem_of t) bound (Some s) → IsAnswer (problem_of t) bound None → ⊥
   a_plan_or_none s h none = let beyond = none s h.0 in let within = h.1 in omega arith
 
+  -- a task and a bound have one outcome with one text
   one_saying : (outcome other : Outcome) (text second : List ℕ) → Says t bound outcome text → Says t bound other second → (outcome ≡ other) × (text ≡ second)
   one_saying Found Found text second (s, h, e) (r, g, f) = (refl, e ∙ ap (λ x. written (numbered (naming_of t) x)) (one_plan s r h g) ∙ sym f)
   one_saying Found NoPlan text second (s, h, e) g = absurd (a_plan_or_none s h g.0)
@@ -61,11 +68,13 @@ module _ (t : Task) (grounded : IsGrounded (problem_of t)) (bound : ℕ) where
 
 -- ## Answers
 
+-- two texts and a bound have one answer
 pub answers_are_unique : AnswersAreUnique
 answers_are_unique domain problem bound outcome other text second (t, is, says) (u, also, said) =
     one_saying t (is_grounded domain problem t is) bound outcome other text second says
     (subst (λ x. Says x bound other second) (texts_have_one_task domain problem u t also is) said)
 
+-- texts with a fault have no answer
 pub faulty_have_no_answer : FaultyHaveNoAnswer
 faulty_have_no_answer domain problem bounds (fault.Domain f) bound outcome text of refuses (t, is, says) = refuses.0 is.domain_tree is.domain_spelled
 faulty_have_no_answer domain problem bounds (fault.Problem f) bound outcome text of (d, spelled, faulty) (t, is, says) = faulty.0 is.problem_tree is.problem_spelled

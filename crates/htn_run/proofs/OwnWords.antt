@@ -16,6 +16,7 @@ use Rattle.std.specs.List.{take_while}
 abbrev pub IsOwn : Word → Type 0
 IsOwn w = class_of w ≡ class.Name → is_name w.text ≡ true
 
+-- each of the words is one of the text's own
 abbrev pub AllOwn : List Word → Type 0
 AllOwn ws = AllByRecursion IsOwn ws
 

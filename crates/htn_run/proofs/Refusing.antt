@@ -10,10 +10,12 @@ use Rattle.htn_run.specs.declared.outcome.RunFault.TheVariants as fault
 pub refused_output : (domain problem : List ℕ) (bounds : Bounds) (f : RunFault) → Refuses domain problem bounds f → f ≢ Output
 refused_output domain problem bounds f h e = let P : RunFault → Type 0 = λ x. Refuses domain problem bounds x in subst P e h
 
+-- what follows of an answer follows of a result that may be one
 pub ok_more : {T E : Type 0} (P Q : T → Type 0) (r : Result T E) → ((t : T) → P t → Q t) → IfOk r P → IfOk r Q
 ok_more P Q (Ok t) more h = more t h
 ok_more P Q (Err e) more h = tt
 
+-- what follows of a fault follows of a result that may be one
 pub err_more : {T E : Type 0} (P Q : E → Type 0) (r : Result T E) → ((e : E) → P e → Q e) → IfErr r P → IfErr r Q
 err_more P Q (Ok t) more h = tt
 err_more P Q (Err e) more h = more e h

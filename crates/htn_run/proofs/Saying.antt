@@ -17,21 +17,26 @@ use Rattle.htn_run.specs.declared.outcome.Outcome.{Outcome}
 use Rattle.htn_run.specs.declared.outcome.Outcome.TheVariants.{Found, NoPlan, Unsolvable}
 
 module _ (task : Task) (bound : ℕ) (found : Answer) (answers : Answers (problem_of task) bound found) where
+  -- a plan that is found answers by its file's text
   pub says_plan : (plan : Solution) (file : PlanFile) → found ≡ answer.Plan plan → file ≡ numbered (naming_of task) (solution_of plan)
       → Says task bound Found (written file)
   says_plan plan file is value =
       subst (λ f. Says task bound Found (written f)) (sym value) (solution_of plan, (answers.plan (solution_of plan)).0 (plan, is, refl), refl)
 
+  -- where there is none within a bound that was met, `none` answers
   pub says_none : found ≡ answer.None → Says task bound NoPlan (codes "none\n")
   says_none is = let h = answers.none.0 is in (h.0, h.1, refl)
 
+  -- where there is no plan of any size, `unsolvable` answers
   pub says_unsolvable : found ≡ answer.Unsolvable → Says task bound Unsolvable (codes "unsolvable\n")
   says_unsolvable is = let h = answers.unsolvable.0 is in (h.0, h.1, refl)
 
+-- an output that took a beginning of the answer's text was cut short
 pub cut_short : (task : Task) (bound : ℕ) (outcome : Outcome) (text : List ℕ) (old new : Option (List ℕ)) → Says task bound outcome text
     → TakesBeginning old new text → IsCutShort task bound old new
 cut_short task bound outcome text old new says begun = record { outcome = outcome; text = text; says = says; begun = begun }
 
+-- what holds of all faults holds of a result that may be one
 pub at_error : {T E : Type 0} (P : E → Type 0) (r : Result T E) → ((e : E) → P e) → IfErr r P
 at_error P (Ok x) h = tt
 at_error P (Err e) h = h e

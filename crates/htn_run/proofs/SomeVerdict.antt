@@ -16,6 +16,7 @@ use Rattle.htn_run.proofs.DecidedLines.{forest_decided, instance_decided, line_r
 use Rattle.htn_run.proofs.DecidedRoom.{forest_fits_decided}
 
 module _ (naming : Naming) (problem : Problem) (grounded : IsGrounded problem) (file : PlanFile) where
+  -- the file has a verdict
   abbrev HasVerdict : Type 0
   HasVerdict = (v : Verdict) × IsVerdict naming problem file v
 

@@ -37,6 +37,7 @@ use Rattle.htn_run.proofs.OwnWords.{AllOwn, words_own}
 abbrev Keeps : {A : Type 0} → (A → Type 0) → Phrase A → Type 0
 Keeps {A = A} Good P = (ws : List Word) (a : A) (rest : List Word) → AllOwn ws → P ws a rest → Good a × AllOwn rest
 
+-- an item that begins with a name, and whatever follows it, gives good values
 abbrev KeepsItem : {A : Type 0} → (A → Type 0) → ItemPhrase A → Type 0
 KeepsItem Good item = (c : Class) (w : Word) → (c ≡ class.Name → is_name w.text ≡ true) → Keeps Good (item c w)
 
@@ -127,6 +128,7 @@ then_closing P p f = after Any P (λ a. Closing >> Gives (f a)) p (λ a. turned 
 empty : Keeps Any Empty
 empty = after {A = Unit {0}} Any Opening (λ u. Closing) opening (λ u. closing)
 
+-- the text of a name is one that a plan file can hold
 abbrev pub IsGood : Name → Type 0
 IsGood n = is_name n.text ≡ true
 
@@ -169,9 +171,11 @@ pub all_join : {X : Type 0} (P : X → Type 0) (xs ys : List X) → AllByRecursi
 all_join P [] ys h k = k
 all_join P (x ∷ xs) ys h k = (h.0, all_join P xs ys h.1 k)
 
+-- each name of the groups is good
 abbrev pub AreGood : List NameGroup → Type 0
 AreGood groups = AllByRecursion (λ g. AllByRecursion IsGood g.names) groups
 
+-- each name that was read so far is good
 abbrev AreGoodParts : NameParts → Type 0
 AreGoodParts d = AreGood d.groups × AllByRecursion IsGood d.names
 
@@ -256,6 +260,7 @@ equality_item _ w own = nothing Any
 
 -- ## Conditions, effects and constraints
 
+-- a part of a conjunction may be read whatever is inside
 abbrev KeepsPart : {A : Type 0} → PartPhrase A → Type 1
 KeepsPart {A = A} part = (inner : List A → Phrase (List A)) → ((xs : List A) → Keeps Any (inner xs)) → KeepsItem Any (part inner)
 
@@ -387,6 +392,7 @@ task_part d (class.Keyword key.Precondition) w own = if_holds Any (not d.has_pre
 task_part d (class.Keyword key.Effect) w own = if_holds Any (not d.has_effect) _ (turned Empty _ empty)
 task_part d _ w own = nothing Any
 
+-- the name of a task is good
 abbrev pub IsGoodTask : TaskText → Type 0
 IsGoodTask t = IsGood t.name
 
@@ -404,6 +410,7 @@ action_part d (class.Keyword key.Precondition) w own = if_absent Any d.precondit
 action_part d (class.Keyword key.Effect) w own = if_absent Any d.effect _ (turned IsEffect _ effect)
 action_part d _ w own = nothing Any
 
+-- the name of an action is good
 abbrev pub IsGoodAction : ActionText → Type 0
 IsGoodAction a = IsGood a.name
 
@@ -421,6 +428,7 @@ method_part d (class.Keyword key.Task) w own = if_absent Any d.task _ (turned Is
 method_part d (class.Keyword key.Precondition) w own = if_absent Any d.precondition _ (turned IsCondition _ condition)
 method_part d c w own = turned (IsNetworkPart d.network c w) _ (network_part d.network c w own)
 
+-- the name of a method is good
 abbrev pub IsGoodMethod : MethodText → Type 0
 IsGoodMethod m = IsGood m.name
 
@@ -435,10 +443,12 @@ method place =
     and_then IsGood IsGoodMethod AnyName _ good_name (λ name good.
     ended Any IsGoodMethod (method_of place name) IsMethodPart (λ d m f e. method_named place name d d.task m good e) (λ d f. method_part d) no_method_parts tt)
 
+-- each name of a section is good, if it was read
 abbrev IfThere : Option (List NameGroup) → Type 0
 IfThere None = Unit {0}
 IfThere (Some groups) = AreGood groups
 
+-- each name that was read of a domain is good
 abbrev IsGoodDraft : DomainParts → Type 0
 IsGoodDraft d = IfThere d.constants × AllByRecursion IsGoodTask d.tasks × AllByRecursion IsGoodMethod d.methods × AllByRecursion IsGoodAction d.actions
 
@@ -524,6 +534,7 @@ init = list_of (Opened (AnyName >>= IsAtomRest)) (opened Any (AnyName >>= IsAtom
 goal : Keeps Any IsGoal
 goal = then_closing IsCondition condition (λ cs. cs)
 
+-- each name that was read of a problem is good
 abbrev IsGoodProblem : ProblemParts → Type 0
 IsGoodProblem d = IfThere d.objects
 
@@ -548,6 +559,7 @@ problem_section : (d : ProblemParts) → IsGoodProblem d → KeepsItem IsGoodPro
 problem_section d good class.Open w own = next IsGoodProblem (IsProblemSectionBody w.place d) (problem_body w.place d good)
 problem_section d good _ w own = nothing IsGoodProblem
 
+-- each object of a problem has a good name
 abbrev HasGoodObjects : ProblemText → Type 0
 HasGoodObjects p = AreGood p.objects
 

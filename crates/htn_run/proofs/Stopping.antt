@@ -32,6 +32,7 @@ stops_by contents has_failed files request old new fault.NoThread refused cut = 
 
 module _ {O : Type 0} (contents : O → Option (List ℕ)) (has_failed : O → Bool) (files : List ℕ → File) (request : Request) (old : O) where
   module _ (new : O) where
+    -- status 5: a file can't be read, or the output failed and has a beginning of the answer
     pub at_five : (stop : Stop) → Stops contents has_failed files request old new stop → status_of stop ≡ 5
         → (LacksFile files request × (new ≡ old)) ⊎ (IsCutShort files (contents old) (contents new) request × (has_failed new ≡ true))
     at_five (Unreadable text) h is = inl h
@@ -43,6 +44,7 @@ module _ {O : Type 0} (contents : O → Option (List ℕ)) (has_failed : O → B
     at_five (Run fault.OutOfMemory) h is = absurd (omega arith)
     at_five (Run fault.NoThread) h is = absurd (omega arith)
 
+    -- status 3: one of the texts has a fault
     pub at_three : (stop : Stop) → Stops contents has_failed files request old new stop → status_of stop ≡ 3 → HasFault files request
     at_three (Unreadable text) h is = absurd (omega arith)
     at_three (Run fault.Output) h is = absurd (omega arith)

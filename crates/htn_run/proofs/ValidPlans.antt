@@ -50,6 +50,7 @@ position_low p (q ∷ ps) = by (is_same_place p q) (position_low p ps)
     by false low = omega (arith, low)
 
 module _ (domain problem : List ℕ) (t : Task) (is : IsTaskOfTexts domain problem t) (s : Solution) (short : length (written (numbered (naming_of t) s)) ≤ max_bytes) where
+  -- the plan file of the solution
   abbrev file : PlanFile
   file = numbered (naming_of t) s
 

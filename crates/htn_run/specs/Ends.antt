@@ -12,6 +12,7 @@ use Rattle.htn_run.specs.Requests as request
 abbrev pub Asked : {Z : Type 0} → List (String Z) → (Request → Type 0) → Type 0
 Asked words P = (r : Request) × IsAskedBy (map string_bytes words) r × P r
 
+-- the words of a process ask for no request
 abbrev pub NothingIsAsked : {Z : Type 0} → List (String Z) → Type 0
 NothingIsAsked words = AskNothing (map string_bytes words)
 

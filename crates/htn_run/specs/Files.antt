@@ -1,6 +1,7 @@
 -- What a source of files tells of a name, and what a read of it may give.
 use Rattle.std.specs.Prelude.{◌≡◌, ℕ, List, ⊤}
 
+-- what a source tells of a name
 pub data File : Type 0 where
   -- these bytes: the first 16,777,217, or all if it has fewer
   Bytes : List ℕ → File

@@ -35,6 +35,7 @@ line_text (Some id) = decimal id
 abbrev pub fault_text : List ℕ → Option ℕ → List ℕ
 fault_text cause line = cause ++ line_text line ++ codes "\n"
 
+-- the line that is written for a verdict
 abbrev pub verdict_text : Verdict → List ℕ
 verdict_text Structure = codes "invalid: Structure\n"
 verdict_text (NoInstance line) = fault_text (codes "invalid: NoInstance ") line

@@ -9,12 +9,14 @@ use Rattle.htn_run.specs.declared.outcome.RunFault.TheVariants.{Output, OutOfMem
 use Rattle.htn_run.specs.declared.stop.Stop.{Stop}
 use Rattle.htn_run.specs.declared.stop.Stop.TheVariants.{Unreadable, Run}
 
+-- the status of a run that ended in a fault: 5 for the output, 4 for want, 3 for a text
 abbrev pub status_of_fault : RunFault → ℕ
 status_of_fault Output = 5
 status_of_fault OutOfMemory = 4
 status_of_fault NoThread = 4
 status_of_fault _ = 3
 
+-- the status of a request that stopped: 5 where a file can't be read, else that of the fault
 abbrev pub status_of : Stop → ℕ
 status_of (Unreadable text) = 5
 status_of (Run fault) = status_of_fault fault
@@ -29,6 +31,7 @@ abbrev pub CutsShort : {O : Type 0} → (O → Option (List ℕ)) → (O → Boo
 CutsShort contents has_failed old new Output = ((text : List ℕ) × TakesBeginning (contents old) (contents new) text) × (has_failed new ≡ true)
 CutsShort contents has_failed old new fault = (fault ≡ OutOfMemory) × (new ≡ old)
 
+-- what a fault says of the files and leaves of the output
 abbrev pub StopsByFault : {O : Type 0} → (O → Option (List ℕ)) → (O → Bool) → (List ℕ → File) → Request → O → O → RunFault → Type 0
 StopsByFault contents has_failed files request old new Output = IsCutShort files (contents old) (contents new) request × (has_failed new ≡ true)
 StopsByFault contents has_failed files request old new OutOfMemory = new ≡ old

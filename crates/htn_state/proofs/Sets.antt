@@ -24,6 +24,7 @@ use Rattle.htn_state.proofs.Merged.{merge-members, merge-sorted}
 
 -- ## effects
 
+-- a filtered list has an atom exactly where the list has it and it is kept
 filter_members : (keep : Atom → Bool) (q : Atom) (xs : List Atom) → list_any (is_same q) (filter keep xs) ≡ (list_any (is_same q) xs && keep q)
 filter_members keep q [] = refl
 filter_members keep q (x ∷ xs) =
@@ -66,16 +67,19 @@ merged_effects xs ys deletes =
 pub atoms_of_view : (xs : List Atom) (s : State) → IsStrictlySortedBy atom_cmp xs → set_of xs ≡ s → atoms_of s ≡ xs
 atoms_of_view xs s sorted view = subst (λ (t : State). atoms_of t ≡ xs) view (atoms_of-set_of xs sorted)
 
+-- where a test finds an equal atom, the list contains it
 any_same : (q : Atom) (xs : List Atom) → list_any (is_same q) xs ≡ true → Contains xs q
 any_same q xs any =
     let found = Any-from_list_any (is_same q) xs any in
     let here : q ≡ found.1 = atom_cmp-same q found.1 ((Equal-is (atom_cmp q found.1)).0 found.4) in
     subst (λ (x : Atom). Contains xs x) (sym here) (found.0, found.2, found.3)
 
+-- where the list contains an atom, the test finds an equal one
 same_any : (q : Atom) (xs : List Atom) → Contains xs q → list_any (is_same q) xs ≡ true
 same_any q xs has =
     list_any_at (is_same q) xs has.0 q has.1 (ap (is_same q) has.2 ∙ ap is_eq (tied_itself atom_cmp-total q))
 
+-- atoms that the test finds equal are equal
 atom_eq-same : (x y : Atom) → atom_eq x y ≡ true → x ≡ y
 atom_eq-same x y e = (atom_eq-decides x y).0 e
 
@@ -88,15 +92,18 @@ set_of-dedup xs =
     (λ any. same_any q _ (Contains-dedup atom_eq-laws atom_eq-same xs q (any_same q xs any)))
     ∙ sym (contains-set_of xs q))
 
+-- lists with the same atoms in another sequence make the same set
 pub set_of-IsPermutation : (xs ys : List Atom) → IsPermutation xs ys → set_of ys ≡ set_of xs
 set_of-IsPermutation xs ys moved =
     same_state _ _ (λ q. contains-set_of ys q ∙ sym (list_any-IsPermutation (is_same q) xs ys moved) ∙ sym (contains-set_of xs q))
 
+-- a sorted list without repeats ascends strictly
 pub sorted-dedup : (xs : List Atom) → IsSorted atom_cmp xs → IsStrictlySortedBy atom_cmp (dedup atom_eq xs)
 sorted-dedup xs sorted = IsStrictlySortedBy-dedup atom_cmp-total atom_cmp-matches xs sorted
 
 -- ## a binary search
 
+-- a strictly ascending list is sorted for a search
 sorted_ties : (xs : List Atom) → IsStrictlySortedBy atom_cmp xs → IsSortedBy (λ a b. is_lt (atom_cmp a b)) xs
 sorted_ties xs sorted k d low high =
     ap is_lt (atom_cmp-total.antisymm (get_or xs (k + 1) d) (get_or xs k d) ∙ ap ordering_reverse (Less-from_sorted atom_cmp xs k (k + 1) d sorted (omega arith) high))
@@ -121,6 +128,7 @@ found xs q (Err i) sorted range at =
 pub effects_sorted : (xs ys : List Atom) (deletes : State) → IsStrictlySortedBy atom_cmp xs → IsStrictlySortedBy atom_cmp ys → IsStrictlySortedBy atom_cmp (merge (kept deletes xs) ys)
 effects_sorted xs ys deletes a b = merge-sorted (kept deletes xs) ys (IsStrictlySortedBy-filter atom_cmp (λ x. not (contains deletes x)) xs a) b
 
+-- what is kept of a state, merged with what is added, is the state after the effect
 pub effects_of_sets : (s deletes adds : State) → set_of (merge (kept deletes (atoms_of s)) (atoms_of adds)) ≡ union (difference s deletes) adds
 effects_of_sets s deletes adds =
     merged_effects (atoms_of s) (atoms_of adds) deletes

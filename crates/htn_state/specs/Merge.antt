@@ -10,6 +10,7 @@ use Rattle.htn_model.specs.State.{State, contains}
 abbrev pub kept : State → List Atom → List Atom
 kept deletes atoms = filter (λ a. not (contains deletes a)) atoms
 
+-- one of three values, by how two atoms compare
 abbrev pub by_order : {A : Type 0} → Ordering → A → A → A → A
 by_order Less a b c = a
 by_order Equal a b c = b

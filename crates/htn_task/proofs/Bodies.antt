@@ -6,9 +6,11 @@ use Rattle.htn_model.specs.Task.{formula_types, formulas_types}
 use Rattle.htn_task.specs.declared.formula.Formula.{Formula, ForAll, the_lemmas}
 use Rattle.htn_task.specs.Formulas.{formula_of, formulas_view}
 
+-- a `forall` as the model has it: its types, and its body as a list
 view-ForAll : (types : Vec ℕ Global) (body : Vec Formula Global) → formula_of (ForAll types body) ≡ model.for_all types.items (model.formulas_of (formulas_view body.items))
 view-ForAll types body = search (rules, the_lemmas)
 
+-- the types in a body are those of its formulas, one after the other
 types-body : (fs : List model.Formula) → formulas_types (model.formulas_of fs) ≡ flat_map formula_types fs
 types-body [] = refl
 types-body (f ∷ fs) = ap (λ l. formula_types f ++ l) (types-body fs)

@@ -12,10 +12,12 @@ use Rattle.std.proofs.lemmas.List.Sorted.{searchable_from_sorted}
 use Rattle.std.proofs.lemmas.Map.Keys.{Less-from_sorted}
 use Rattle.std.proofs.lemmas.Bool.{cases_lt}
 
+-- numbers that ascend are sorted for a search
 sorted_ties : (xs : List ℕ) → IsStrictlySortedBy nat_cmp xs → IsSortedBy (λ a b. is_lt (nat_cmp a b)) xs
 sorted_ties xs sorted k d low high =
     ap is_lt (nat_cmp_total.antisymm (get_or xs (k + 1) d) (get_or xs k d) ∙ ap ordering_reverse (Less-from_sorted nat_cmp xs k (k + 1) d sorted (omega arith) high))
 
+-- the search finds a number exactly where the list has it
 pub found : (xs : List ℕ) (q : ℕ) (r : Result ℕ ℕ) → IsStrictlySortedBy nat_cmp xs
     → IsSearchInRange r (length xs) → IsBinarySearchResult (λ y. nat_cmp y q) xs r → is_ok r ≡ list_any (nat_eq q) xs
 found xs q (Ok i) sorted range at =

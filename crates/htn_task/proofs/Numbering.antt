@@ -15,15 +15,19 @@ pub entry_of-entries : {A : Type 0} (es : List (Vec ℕ A × ℕ)) (name : Name)
 entry_of-entries [] name = refl
 entry_of-entries (e ∷ es) name = ap (λ r. cond (bytes_eq name e.0.items) (Some e.1) r) (entry_of-entries es name)
 
+-- a name that has a number keeps it
 pub with_number-old : (es : Entries) (name : Name) (n : ℕ) → is_some (entry_of es name) ≡ true → es ≡ with_number es name n
 with_number-old es name n there = ap (λ b. cond b es (es ++ (name, n) ∷ [])) (sym there)
 
+-- a name without a number gets the new one, at the end
 pub with_number-new : (es : Entries) (name : Name) (n : ℕ) → is_some (entry_of es name) ≡ false → es ++ (name, n) ∷ [] ≡ with_number es name n
 with_number-new es name n absent = ap (λ b. cond b es (es ++ (name, n) ∷ [])) (sym absent)
 
+-- a name put at the end of the map is put at the end of the entries
 pub entries_of-added : {A : Type 0} (es : List (Vec ℕ A × ℕ)) (k : Vec ℕ A) (n : ℕ) (name : Name) → k.items ≡ name → entries_of (es ++ (k, n) ∷ []) ≡ entries_of es ++ (name, n) ∷ []
 entries_of-added es k n name is = map-append (λ e. (e.0.items, e.1)) es ((k, n) ∷ []) ∙ ap (λ w. entries_of es ++ (w, n) ∷ []) is
 
+-- what isn't there is none
 pub none_from : {X : Type 0} (found : Option X) → is_some found ≡ false → found ≡ None
 none_from None e = refl
 none_from (Some x) e = absurd (true≢false e)
@@ -37,10 +41,12 @@ either : {X : Type 0} (b : Bool) (x : X) {rest : Option X} (first second : Optio
 either true x first second h = refl
 either false x first second h = h
 
+-- the number of a name after one more entry: what it had, or else the new one if it is its own
 entry_of-push : (w : Name) (es : Entries) (name : Name) (n : ℕ) → entry_of (es ++ (name, n) ∷ []) w ≡ option_or (entry_of es w) (number_if w name n)
 entry_of-push w [] name n = refl
 entry_of-push w (e ∷ es) name n = either (bytes_eq w e.0) e.1 (entry_of es w) (number_if w name n) (entry_of-push w es name n)
 
+-- the first place after one more value: what it was, or else the last if that one passes
 position_from-push : {X : Type 0} (p : X → Bool) (i : ℕ) (xs : List X) (x : X)
     → position_from p i (xs ++ x ∷ []) ≡ option_or (position_from p i xs) (cond (p x) (Some (i + length xs)) None)
 position_from-push p i [] x = ap (λ k. cond (p x) (Some k) None) (omega arith)
@@ -49,6 +55,7 @@ position_from-push p i (y ∷ ys) x =
     either (p y) i (position_from p (i + 1) ys) (cond (p x) (Some (i + length (y ∷ ys))) None)
     (position_from-push p (i + 1) ys x ∙ ap (λ k. option_or (position_from p (i + 1) ys) (cond (p x) (Some k) None)) same)
 
+-- the number of a name after one more name: what it had, or else the last if that one is it
 number_of-push : (names : List Name) (name : Name) (w : Name) → number_of (names ++ name ∷ []) w ≡ option_or (number_of names w) (number_if w name (length names))
 number_of-push names name w =
     let same : 0 + length names ≡ length names = omega arith in
@@ -66,6 +73,7 @@ kept es w name n there = by (entry_of es w) refl (bytes_eq w name) refl
     by None e false is = refl
     by None e true is = absurd (true≢false (sym there ∙ ap (λ v. is_some (entry_of es v)) (sym ((bytes_eq-Decides w name).0 is)) ∙ ap is_some e))
 
+-- one more name, numbered by how many stood before it unless it stood there, leaves each with its first place
 pub AreNumbersOf-next : (names : List Name) (es : Entries) (name : Name) → AreNumbersOf names es → AreNumbersOf (names ++ name ∷ []) (with_number es name (length names))
 AreNumbersOf-next names es name h = record {
   each = λ w.

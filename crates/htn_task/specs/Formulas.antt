@@ -10,8 +10,10 @@ formula_step (Formula-F.Literal positive a) = model.literal positive a
 formula_step (Formula-F.Equation e) = model.equation e
 formula_step (Formula-F.ForAll types body) = model.for_all types.items (model.formulas_of body.items)
 
+-- a formula as the model has it, from its leaves up
 abbrev pub formula_of : Formula → model.Formula
 formula_of = fold-Formula model.Formula formula_step
 
+-- each formula as the model has it
 abbrev pub formulas_view : List Formula → List model.Formula
 formulas_view formulas = map formula_of formulas

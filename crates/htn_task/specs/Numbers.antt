@@ -10,12 +10,15 @@ number_of names name = position (bytes_eq name) names
 
 -- ## Names with their numbers
 
+-- names, each with a number
 abbrev pub Entries : Type 0
 Entries = List (Name × ℕ)
 
+-- what vectors with numbers hold, as entries
 abbrev pub entries_of : {A : Type 0} → List (Vec ℕ A × ℕ) → Entries
 entries_of es = map (λ e. (e.0.items, e.1)) es
 
+-- the number of a name, if it has an entry
 abbrev pub entry_of : Entries → Name → Option ℕ
 entry_of es name = lookup (bytes_eq name) es
 

@@ -3,6 +3,7 @@ use Rattle.htn_model.specs.Task.{Task, type_names, predicate_names, task_names, 
 use Rattle.htn_task.specs.Numbers.{AreNumbersOf}
 use Rattle.htn_task.specs.declared.task_numbers.TaskNumbers.{TaskNumbers}
 
+-- each kind of name of the task is numbered by its places in its own list
 pub record AreNumbersIn (t : Task) (numbers : TaskNumbers) : Type 0 where
   pub objects : AreNumbersOf t.objects numbers.objects
   pub types : AreNumbersOf (type_names t) numbers.types

@@ -230,8 +230,8 @@ impl Task {
         &self.parts.goal
     }
 
-    /// The objects that have a type, ascending; none where no type has the number. The task of two texts has them for the
-    /// types of places, parameters and quantified variables.
+    /// The objects that have a type, ascending; none where no type has the number. The task of two texts has them for
+    /// the types of places, parameters and quantified variables.
     pub fn objects_of(&self, type_number: u16) -> &[u16]
         ensures value { result.now ≡ objects_of self.now type_number }
         ensures ascending { IsStrictlySortedBy nat_cmp result.now }

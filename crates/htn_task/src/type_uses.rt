@@ -63,8 +63,8 @@ fn push_action_types(actions: &[ActionSchema], found: &mut Vec<u16>) -> Result<(
     Ok(())
 }
 
-/// The numbers of the types of the places, the parameters and the quantified variables of these, or an error where memory
-/// was refused. A number may come more than once.
+/// The numbers of the types of the places, the parameters and the quantified variables of these, or an error where
+/// memory was refused. A number may come more than once.
 pub fn named_types(
     alloc: Global,
     predicates: &[Declaration],

@@ -55,6 +55,7 @@ numbers_stay old new n whole grown known = (
 -- ## What is remembered
 
 module _ (s : NetworkTable) (new : ChildTable) (kept : AreKept s.children new) (whole : IsWhole s) where
+  -- the table with the new nodes, and all else as it was
   abbrev after : NetworkTable
   after = record { children = new; networks = s.networks; open_lens = s.open_lens; bounds = s.bounds; expansions = s.expansions }
 

@@ -13,6 +13,7 @@ use Rattle.plan_text.proofs.Pieces.{length-pieces, pieces-cut, pieces-whole, wor
 pub rest_of : {X : Type 0} (xs : List X) (n : ℕ) → take (length xs - n) (drop n xs) ≡ drop n xs
 rest_of xs n = take_all (length xs - n) (drop n xs) (rw (length-drop n xs) (omega arith))
 
+-- up to a line feed stands the first line, and the lines of the rest follow
 pub lines_next : (count place : ℕ) (text : List ℕ) (n : ℕ) → (count ≡ 0 → ⊥) → Some n ≡ position is_line_feed text → take count (pieces is_line_feed place text) ≡ piece place (take n text) ∷ take (count - 1) (pieces is_line_feed (place + (n + 1)) (take (length text - (n + 1)) (drop (n + 1) text)))
 lines_next zero place text n some found = absurd (some refl)
 lines_next (suc m) place text n some found =
@@ -21,6 +22,7 @@ lines_next (suc m) place text n some found =
     let left : suc m - 1 ≡ m = omega arith in
     rw (cut, rest_of text (n + 1), left)
 
+-- without a line feed the text is one line
 pub lines_last : (count place : ℕ) (text : List ℕ) → (count ≡ 0 → ⊥) → None ≡ position is_line_feed text → take count (pieces is_line_feed place text) ≡ piece place text ∷ []
 lines_last zero place text some found = absurd (some refl)
 lines_last (suc m) place text some found =
@@ -31,6 +33,7 @@ lines_last (suc m) place text some found =
     take_nothing zero p = refl
     take_nothing (suc m) p = refl
 
+-- a text of blanks has no words
 pub words_none : (place : ℕ) (text : List ℕ) → None ≡ position (λ b. not (is_blank b)) text → words_at place text ≡ []
 words_none place text found = words_at-none place text (none_position (λ b. not (is_blank b)) text (sym found))
 
@@ -47,9 +50,11 @@ filled_next text k found zero e =
 filled_next text k found (suc n) e = omega arith
 
 module _ (place : ℕ) (text : List ℕ) (k : ℕ) (found : Some k ≡ position (λ b. not (is_blank b)) text) where
+  -- blanks before the words may be skipped
   skipped : words_at place text ≡ words_at (place + k) (drop k text)
   skipped = words_at-skip place text k (some_position (λ b. not (is_blank b)) text k (sym found)).0
 
+  -- up to a blank stands the first word, and the words of the rest follow
   pub words_next : (n : ℕ) → let rest : List ℕ = take (length text - k) (drop k text) in Some n ≡ position is_blank rest → words_at place text ≡ piece (place + k) (take n rest) ∷ words_at (place + k + n) (take (length rest - n) (drop n rest))
   words_next n cut =
       let rest = take (length text - k) (drop k text) in
@@ -59,6 +64,7 @@ module _ (place : ℕ) (text : List ℕ) (k : ℕ) (found : Some k ≡ position 
       let word = words_at-word (place + k) rest n first.0 first.1 some in
       skipped ∙ ap (words_at (place + k)) (sym (rest_of text k)) ∙ word ∙ ap (λ bytes. piece (place + k) (take n rest) ∷ words_at (place + k + n) bytes) (sym (rest_of rest n))
 
+  -- without a blank the rest is one word
   pub words_last : let rest : List ℕ = take (length text - k) (drop k text) in None ≡ position is_blank rest → words_at place text ≡ piece (place + k) rest ∷ []
   words_last cut =
       let rest = take (length text - k) (drop k text) in
@@ -67,6 +73,7 @@ module _ (place : ℕ) (text : List ℕ) (k : ℕ) (found : Some k ≡ position 
       let filled : is_filled (piece (place + k) rest) ≡ true = rw (rest_of text k, drop-cons text k 0 (some_position (λ b. not (is_blank b)) text k (sym found)).1) in
       skipped ∙ ap (words_at (place + k)) (sym (rest_of text k)) ∙ rw (whole, filled)
 
+-- a text of at most 16 MiB has at most one line more than that
 pub few_lines : (count place : ℕ) (text : List ℕ) → place + length text ≤ 16777216 → length (take count (pieces is_line_feed place text)) ≤ 16777217
 few_lines count place text short =
     let all = length-pieces is_line_feed place text in

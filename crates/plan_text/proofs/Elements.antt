@@ -13,6 +13,7 @@ use Rattle.plan_text.specs.Adding.{IsNumberFault}
 use Rattle.plan_text.specs.Seen.{seen, seen_all}
 use Rattle.plan_text.proofs.KindLaws.{first_all}
 
+-- a list is what stands before a place, the value there, and what stands after it
 pub split_at : {X : Type 0} (xs : List X) (i : ℕ) (x : X) → i < length xs → x ≡ get_or xs i x → xs ≡ take i xs ++ x ∷ drop (i + 1) xs
 split_at xs i x inside is =
     let back : drop i xs ≡ x ∷ drop (i + 1) xs = rw add-one (drop-cons xs i x inside ∙ ap (λ y. y ∷ drop (suc i) xs) (sym is)) in

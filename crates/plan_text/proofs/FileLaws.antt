@@ -18,6 +18,7 @@ use Rattle.plan_text.proofs.KindLaws.{one_kind, first_all}
 
 -- ## Lines and their kinds
 
+-- lines have one list of kinds
 pub one_list : (between : List Piece) (ks ls : List LineKind) → AreLines between ks → AreLines between ls → ks ≡ ls
 one_list [] [] [] a b = refl
 one_list [] [] (l ∷ ls) a b = absurd b
@@ -29,6 +30,7 @@ one_list (line ∷ between) (k ∷ ks) (l ∷ ls) a b =
     let others = one_list between ks ls a.1 b.1 in
     cc
 
+-- one line more has its kind more
 pub more_lines : (front : List Piece) (kinds : List LineKind) (line : Piece) (kind : LineKind) → AreLines front kinds → IsLine line kind → AreLines (front ++ line ∷ []) (kinds ++ kind ∷ [])
 more_lines [] [] line kind each is = (is, tt)
 more_lines [] (k ∷ kinds) line kind each is = absurd each
@@ -44,6 +46,7 @@ record Parted (front : List Piece) (line : Piece) (kinds : List LineKind) : Type
   each : AreLines front before
   is : IsLine line kind
 
+-- the kinds of lines around one are those before it, its own, and those after it
 parted : (front : List Piece) (line : Piece) (back : List Piece) (kinds : List LineKind) → AreLines (front ++ line ∷ back) kinds → Parted front line kinds
 parted [] line back [] each = absurd each
 parted [] line back (k ∷ kinds) each = record { before = []; kind = k; after = kinds; whole = refl; each = tt; is = each.0 }
@@ -52,9 +55,11 @@ parted (l ∷ front) line back (k ∷ kinds) each =
     let more = parted front line back kinds each.1 in
     record { before = k ∷ more.before; kind = more.kind; after = more.after; whole = ap (λ ks. k ∷ ks) more.whole; each = (each.0, more.each); is = more.is }
 
+-- what one kind more gives comes at the end
 more : {A : Type 0} (f : LineKind → List A) (kinds : List LineKind) (kind : LineKind) → flat_map f (kinds ++ kind ∷ []) ≡ flat_map f kinds ++ f kind
 more f kinds kind = flat_map-append f kinds (kind ∷ []) ∙ ap (λ xs. flat_map f kinds ++ xs) (append-nil (f kind))
 
+-- one line more adds what it gives
 contents_more : (kinds : List LineKind) (kind : LineKind) → with_line (contents_of kinds) kind ≡ contents_of (kinds ++ kind ∷ [])
 contents_more kinds kind = rw (more actions_of kinds kind, more root_lists_of kinds kind, more decompositions_of kinds kind)
 
@@ -69,16 +74,20 @@ read_more front old new line read added once = record {
 
 -- ## One file
 
+-- what is there twice alike is the same
 some_same : {X : Type 0} (x y : X) → Some x ≡ Some y → x ≡ y
 some_same x y e = cc
 
+-- the first of the lists of roots
 first_list : List (List ℕ) → List ℕ
 first_list [] = []
 first_list (ids ∷ lists) = ids
 
+-- the file of what was read
 abbrev file_in : Contents → PlanFile
 file_in c = record { actions = c.actions; roots = first_list c.root_lists; decompositions = c.decompositions }
 
+-- the lines between the markers hold one file at most
 pub one_file_between : (between : List Piece) (file other : PlanFile) → HoldsFile file between → HoldsFile other between → other ≡ file
 unfolding first_list
 one_file_between between file other a b =
@@ -86,6 +95,7 @@ one_file_between between file other a b =
     let same = sym b.contents ∙ ap contents_of (sym kinds) ∙ a.contents in
     ap file_in same
 
+-- a text holds one file at most
 pub one_file : (text : List ℕ) (file other : PlanFile) → FileText file text → FileText other text → other ≡ file
 one_file text file other a b =
     let same : b.between ≡ a.between = some_same b.between a.between (sym b.body_is ∙ a.body_is) in
@@ -93,6 +103,7 @@ one_file text file other a b =
 
 -- ## No file
 
+-- a list with a value that fails doesn't pass as a whole
 not_all : {X : Type 0} (p : X → Bool) (xs front : List X) (x : X) (back : List X) → xs ≡ front ++ x ∷ back → p x ≡ false → list_all p xs ≡ true → ⊥
 not_all p xs [] x back whole fails all =
     let first = first_all p x back (sym (ap (list_all p) whole) ∙ all) in cc
@@ -108,6 +119,7 @@ two_lists before numbers after some one =
     omega arith
 
 module _ (between : List Piece) (file : PlanFile) (holds : HoldsFile file between) where
+  -- a line with a fault stands in no file
   faulty_line : (fault : PlanFault) → fault ≢ OutOfMemory → HasFaultyLine between fault → ⊥
   faulty_line fault other h =
       let parts = parted h.front h.line h.back holds.kinds (subst (λ b. AreLines b holds.kinds) h.whole holds.each) in
@@ -129,6 +141,7 @@ module _ (between : List Piece) (file : PlanFile) (holds : HoldsFile file betwee
       refuted (TooLong place) other parts f = f
       refuted OutOfMemory other parts f = other refl
 
+  -- lines with a fault hold no file
   pub no_file_between : (fault : PlanFault) → fault ≢ OutOfMemory → IsFaultyBody fault between → ⊥
   no_file_between NoStart other h = h
   no_file_between NoEnd other h = h
@@ -144,11 +157,13 @@ module _ (between : List Piece) (file : PlanFile) (holds : HoldsFile file betwee
   no_file_between OutOfMemory other h = other refl
 
 module _ (text : List ℕ) (file : PlanFile) (is : FileText file text) where
+  -- a text with a fault holds no file
   faulty : (fault : PlanFault) → fault ≢ OutOfMemory → IsFaulty text fault → ⊥
   faulty fault other h =
       let same : is.between ≡ h.between = some_same is.between h.between (sym is.body_is ∙ h.body_is) in
       no_file_between h.between file (subst (HoldsFile file) same is.holds) fault other h.faulty
 
+  -- where a fault stands in a text, it holds no file
   pub no_file : (fault : PlanFault) → fault ≢ OutOfMemory → FaultAt fault text → ⊥
   no_file NoStart other h =
       let none_there : body text ≡ None = ap (option_and_then before_end) h.no_start in

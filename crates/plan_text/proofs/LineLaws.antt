@@ -16,17 +16,21 @@ pub both_ok : {T E A B C : Type 0} (r : Result T E) → OnOk r A → OnOk r B �
 both_ok (Ok x) a b joined = joined a b
 both_ok (Err e) a b joined = tt
 
+-- what doesn't fail holds
 not_not : (b : Bool) → not (not b) ≡ b
 not_not true = refl
 not_not false = refl
 
+-- tests that agree pass the same lists
 pub list_all_same : {X : Type 0} (p q : X → Bool) → ((x : X) → p x ≡ q x) → (xs : List X) → list_all p xs ≡ list_all q xs
 list_all_same p q same [] = refl
 list_all_same p q same (x ∷ xs) = rw (same x, list_all_same p q same xs)
 
+-- where no byte is illegal, all are legal
 all_legal : (bytes : List ℕ) → list_all (λ b. not (not (is_legal b))) bytes ≡ true → list_all is_legal bytes ≡ true
 all_legal bytes all = sym (list_all_same (λ b. not (not (is_legal b))) is_legal (λ b. not_not (is_legal b)) bytes) ∙ all
 
+-- the byte that is found is illegal
 pub illegal_here : (line : Piece) (n : ℕ) → Some n ≡ position (λ b. not (is_legal b)) line.bytes → HasIllegalByte (line.place + n) line
 illegal_here line n found =
     let at = found_at (λ b. not (is_legal b)) line.bytes n found in
@@ -40,9 +44,11 @@ illegal_here line n found =
       place_is = ap (λ len. line.place + len) at.len;
     }
 
+-- a line in which none is found is legal
 pub legal_line : (line : Piece) → None ≡ position (λ b. not (is_legal b)) line.bytes → IsLegal line
 legal_line line found = all_legal line.bytes (not_found (λ b. not (is_legal b)) line.bytes found)
 
+-- a fault of a byte is one of the line
 pub byte_fault : (fault : PlanFault) (root_lists : List (List ℕ)) (line : Piece) → IsByteFault fault line → IsFaultOf fault root_lists line
 byte_fault NoStart root_lists line h = absurd h
 byte_fault NoEnd root_lists line h = absurd h
@@ -55,6 +61,7 @@ byte_fault (TooLong place) root_lists line h = absurd h
 byte_fault OutOfMemory root_lists line h = absurd h
 
 module _ (root_lists : List (List ℕ)) (line : Piece) (kind : LineKind) (legal : IsLegal line) (is : IsOfKind (words line) kind) where
+  -- a fault of a kind is one of the line
   pub kind_fault : (fault : PlanFault) → IsKindFault fault line.place root_lists kind → IsFaultOf fault root_lists line
   kind_fault NoStart h = absurd h
   kind_fault NoEnd h = absurd h

@@ -23,20 +23,25 @@ use Rattle.plan_text.proofs.KindLaws.{first_all}
 
 -- ## Words of legal lines
 
+-- whether a byte is legal and no blank
 abbrev is_plain : ℕ → Bool
 is_plain b = is_legal b && not (is_blank b)
 
+-- each byte of a piece is plain
 abbrev IsPlainPiece : Piece → Type 0
 IsPlainPiece p = list_all is_plain p.bytes ≡ true
 
+-- a word with a byte whose bytes are all plain
 record IsPlain (w : Piece) : Type 0 where
   filled : 0 < length w.bytes
   bytes : list_all is_plain w.bytes ≡ true
 
+-- a plain byte in front leaves pieces plain
 front_plain : (place b : ℕ) (ps : List Piece) → is_plain b ≡ true → AllByRecursion IsPlainPiece ps → AllByRecursion IsPlainPiece (with_front place b ps)
 front_plain place b [] plain all = (rw plain, tt)
 front_plain place b (p ∷ ps) plain all = (rw plain all.0, all.1)
 
+-- a legal byte that is no blank is plain
 plain_byte : (b : ℕ) → is_legal b ≡ true → is_blank b ≡ false → is_plain b ≡ true
 plain_byte b legal clear = joined (is_legal b) (is_blank b) legal clear
   where
@@ -45,6 +50,7 @@ plain_byte b legal clear = joined (is_legal b) (is_blank b) legal clear
     joined true true h k = absurd cc
     joined false y h k = absurd cc
 
+-- the pieces between blanks of a legal line are plain
 pieces_plain : (place : ℕ) (bytes : List ℕ) → list_all is_legal bytes ≡ true → AllByRecursion IsPlainPiece (pieces is_blank place bytes)
 pieces_plain place [] legal = (refl, tt)
 pieces_plain place (b ∷ bytes) legal =
@@ -54,21 +60,25 @@ pieces_plain place (b ∷ bytes) legal =
     (λ cut. rw cut (refl, rest))
     (λ clear. rw clear (front_plain place b (pieces is_blank (place + 1) bytes) (plain_byte b h.0 clear) rest))
 
+-- what is filled has a byte
 filled_length : (bytes : List ℕ) → is_filled_by bytes ≡ true → 0 < length bytes
 filled_length [] filled = absurd cc
 filled_length (b ∷ bytes) filled = omega arith
 
+-- those of plain pieces that are filled are plain words
 filled_plain : (ps : List Piece) → AllByRecursion IsPlainPiece ps → AllByRecursion IsPlain (filter is_filled ps)
 filled_plain [] all = tt
 filled_plain (p ∷ ps) all = when (is_filled_by p.bytes)
     (λ filled. rw filled (record { filled = filled_length p.bytes filled; bytes = all.0 }, filled_plain ps all.1))
     (λ empty. rw empty (filled_plain ps all.1))
 
+-- the words of a legal line are plain
 words_plain : (line : Piece) → IsLegal line → AllByRecursion IsPlain (words line)
 words_plain line legal = filled_plain (pieces is_blank line.place line.bytes) (pieces_plain line.place line.bytes legal)
 
 -- ## Folded words
 
+-- a printable byte that is no capital is one of a name
 low_byte : (b : ℕ) → is_printable b ≡ true → is_blank b ≡ false → is_ascii_uppercase b ≡ false → is_name_byte b ≡ true
 low_byte b printable clear low = joined (is_printable b) (is_blank b) (is_ascii_uppercase b) printable clear low
   where
@@ -78,15 +88,19 @@ low_byte b printable clear low = joined (is_printable b) (is_blank b) (is_ascii_
     joined true true z h k l = absurd cc
     joined false y z h k l = absurd cc
 
+-- a capital in lower case is a byte of a name
 letter_byte : (b : ℕ) → 65 ≤ b → b < 91 → is_name_byte (b + 32) ≡ true
 letter_byte b low high = grind (arith, nat_tests)
 
+-- a byte below the letter A is no capital
 below_letters : (b : ℕ) → b < 65 → is_ascii_uppercase b ≡ false
 below_letters b h = grind (arith, nat_tests)
 
+-- a byte above the letter Z is no capital
 above_letters : (b : ℕ) → 91 ≤ b → is_ascii_uppercase b ≡ false
 above_letters b h = grind (arith, nat_tests)
 
+-- a plain byte in lower case is one of a name
 name_byte : (b : ℕ) → is_plain b ≡ true → is_name_byte (to_ascii_lowercase b) ≡ true
 name_byte b plain = when (is_blank b)
     (λ cut. absurd (blank_no (is_printable b) (rw cut at plain)))
@@ -106,12 +120,14 @@ name_byte b plain = when (is_blank b)
     shown true h = refl
     shown false h = h
 
+-- plain bytes in lower case are those of a name
 name_bytes : (bytes : List ℕ) → list_all is_plain bytes ≡ true → list_all is_name_byte (map to_ascii_lowercase bytes) ≡ true
 name_bytes [] plain = refl
 name_bytes (b ∷ bytes) plain =
     let h = first_all is_plain b bytes plain in
     rw (name_byte b h.0) (name_bytes bytes h.1)
 
+-- a byte that is a sign in lower case is that sign
 sign_kept : (a n : ℕ) → to_ascii_lowercase a ≡ n → n < 97 → a ≡ n
 sign_kept a n e low = when (ltb a 65)
     (λ below. rw below at e)
@@ -119,6 +135,7 @@ sign_kept a n e low = when (ltb a 65)
     (λ letter. let same : a + 32 ≡ n = rw (from, letter) at e in let h = ltb-false a 65 from in absurd (omega arith))
     (λ above. rw (from, above) at e))
 
+-- what is the arrow in lower case is the arrow
 arrow_kept : (bytes : List ℕ) → map to_ascii_lowercase bytes ≡ 45 ∷ 62 ∷ [] → bytes ≡ 45 ∷ 62 ∷ []
 arrow_kept [] e = absurd cc
 arrow_kept (a ∷ []) e = absurd cc
@@ -130,6 +147,7 @@ arrow_kept (a ∷ b ∷ []) e =
     cc
 arrow_kept (a ∷ b ∷ c ∷ bytes) e = absurd cc
 
+-- a word that isn't the arrow isn't so in lower case
 no_arrow : (w : Piece) → is_no_arrow w ≡ true → folded w ≢ arrow
 no_arrow w clear e =
     let same : w.bytes ≡ 45 ∷ 62 ∷ [] = arrow_kept w.bytes e in
@@ -137,6 +155,7 @@ no_arrow w clear e =
     let h = rw found at clear in
     cc
 
+-- a plain word that isn't the arrow is a name in lower case
 name_of : (w : Piece) → IsPlain w → is_no_arrow w ≡ true → IsName (folded w)
 name_of w plain clear = record {
   filled = rw (length_of_map to_ascii_lowercase w.bytes) plain.filled;
@@ -144,12 +163,14 @@ name_of w plain clear = record {
   other = no_arrow w clear;
 }
 
+-- the same of each word of a list
 names_of : (ws : List Piece) → AllByRecursion IsPlain ws → list_all is_no_arrow ws ≡ true → AllByRecursion IsName (map folded ws)
 names_of [] plain clear = tt
 names_of (w ∷ ws) plain clear =
     let h = first_all is_no_arrow w ws clear in
     (name_of w plain.0 h.0, names_of ws plain.1 h.1)
 
+-- small numbers fit 64 bits
 ids_of : (ws : List Piece) → list_all is_small ws ≡ true → AllByRecursion IsId (map number ws)
 ids_of [] small = tt
 ids_of (w ∷ ws) small =
@@ -158,14 +179,17 @@ ids_of (w ∷ ws) small =
 
 -- ## What lines give
 
+-- what holds of two joined lists holds of each
 pub all_front : {X : Type 0} (P : X → Type 0) (xs ys : List X) → AllByRecursion P (xs ++ ys) → AllByRecursion P xs × AllByRecursion P ys
 all_front P [] ys all = (tt, all)
 all_front P (x ∷ xs) ys all = let rest = all_front P xs ys all.1 in ((all.0, rest.0), rest.1)
 
+-- what holds of two lists holds of both joined
 pub all_both : {X : Type 0} (P : X → Type 0) (xs ys : List X) → AllByRecursion P xs → AllByRecursion P ys → AllByRecursion P (xs ++ ys)
 all_both P [] ys front back = back
 all_both P (x ∷ xs) ys front back = (front.0, all_both P xs ys front.1 back)
 
+-- an action line that is read can be written
 valid_actions : (ws : List Piece) (kind : LineKind) → AllByRecursion IsPlain ws → IsOfKind ws kind → list_all is_small (numbers_of kind) ≡ true → AllByRecursion IsActionLine (actions_of kind)
 valid_actions ws blank plain is small = tt
 valid_actions ws (roots numbers) plain is small = tt
@@ -176,12 +200,14 @@ valid_actions ws (action id name arguments) plain is small =
     (record { id = ids.0; name = name_of name all.1.0 clear.0; arguments = names_of arguments all.1.1 clear.1 }, tt)
 valid_actions ws (decomposition id task arguments method children) plain is small = tt
 
+-- a root line that is read can be written
 valid_roots : (ws : List Piece) (kind : LineKind) → AllByRecursion IsPlain ws → IsOfKind ws kind → list_all is_small (numbers_of kind) ≡ true → AllByRecursion (λ ids. AllByRecursion IsId ids) (root_lists_of kind)
 valid_roots ws blank plain is small = tt
 valid_roots ws (roots numbers) plain is small = (ids_of numbers small, tt)
 valid_roots ws (action id name arguments) plain is small = tt
 valid_roots ws (decomposition id task arguments method children) plain is small = tt
 
+-- a decomposition line that is read can be written
 valid_decompositions : (ws : List Piece) (kind : LineKind) → AllByRecursion IsPlain ws → IsOfKind ws kind → list_all is_small (numbers_of kind) ≡ true → AllByRecursion IsDecompositionLine (decompositions_of kind)
 valid_decompositions ws blank plain is small = tt
 valid_decompositions ws (roots numbers) plain is small = tt
@@ -201,6 +227,7 @@ valid_decompositions ws (decomposition id task arguments method children) plain 
     )
 
 module _ {A : Type 0} (P : A → Type 0) (f : LineKind → List A) (valid : (ws : List Piece) (kind : LineKind) → AllByRecursion IsPlain ws → IsOfKind ws kind → list_all is_small (numbers_of kind) ≡ true → AllByRecursion P (f kind)) where
+  -- what each line gives can be written, so all of it can
   all_valid : (between : List Piece) (kinds : List LineKind) → AreLines between kinds → AllByRecursion P (flat_map f kinds)
   all_valid [] [] each = tt
   all_valid [] (k ∷ kinds) each = absurd each
@@ -209,9 +236,11 @@ module _ {A : Type 0} (P : A → Type 0) (f : LineKind → List A) (valid : (ws 
       all_both P (f k) (flat_map f kinds) (valid (words line) k (words_plain line each.0.legal) each.0.of_kind each.0.small) (all_valid between kinds each.1)
 
 module _ (between : List Piece) (contents : Contents) (file : PlanFile) (read : IsRead between contents) (is : contents ≡ record { actions = file.actions; root_lists = file.roots ∷ []; decompositions = file.decompositions }) where
+  -- what was read is what the file has
   same : contents_of read.kinds ≡ record { actions = file.actions; root_lists = file.roots ∷ []; decompositions = file.decompositions }
   same = sym read.contents_is ∙ is
 
+  -- the lines hold the file
   pub holds_file : HoldsFile file between
   holds_file = record { kinds = read.kinds; each = read.each; contents = same }
 
@@ -223,6 +252,7 @@ module _ (between : List Piece) (contents : Contents) (file : PlanFile) (read : 
     decompositions = subst (AllByRecursion IsDecompositionLine) (ap (λ c. c.decompositions) same) (all_valid IsDecompositionLine decompositions_of valid_decompositions between read.kinds read.each);
   }
 
+-- contents from their parts
 abbrev pub record_of : List ActionLine → List (List ℕ) → List DecompositionLine → Contents
 record_of as_ lists ds = record { actions = as_; root_lists = lists; decompositions = ds }
 
@@ -230,5 +260,6 @@ record_of as_ lists ds = record { actions = as_; root_lists = lists; decompositi
 pub drafted : (as_ : List ActionLine) (found : Option (Vec ℕ Global)) (ds : List DecompositionLine) (contents : Contents) (ids : Vec ℕ Global) → record_of as_ (root_lists_in found) ds ≡ contents → found ≡ Some ids → contents ≡ record_of as_ (ids.items ∷ []) ds
 drafted as_ found ds contents ids view_is is = sym view_is ∙ ap (λ r. record_of as_ (root_lists_in r) ds) is
 
+-- where no list of roots was read, no line is a root line
 pub no_roots : (between : List Piece) (contents : Contents) → IsRead between contents → contents.root_lists ≡ [] → NamesNoRoots between
 no_roots between contents read nothing = record { kinds = read.kinds; each = read.each; no_roots = sym (ap (λ c. c.root_lists) read.contents_is) ∙ nothing }

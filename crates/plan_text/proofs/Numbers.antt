@@ -12,12 +12,15 @@ pub at_least : (n : ℕ) (ds : List ℕ) → n ≤ digits_value_after 10 n ds
 at_least n [] = omega arith
 at_least n (d ∷ ds) = let more = at_least (n * 10 + digit_value d) ds in omega arith
 
+-- one digit more of the number
 pub digits_step : (ds : List ℕ) (i n : ℕ) → i < length ds → digits_value_after 10 n (drop i ds) ≡ digits_value_after 10 (n * 10 + digit_value (get_or ds i 0)) (drop (i + 1) ds)
 digits_step ds i n inside = rw (add-one, drop-cons ds i 0)
 
+-- the value of a digit
 pub digit_of : (d : ℕ) → is_ascii_digit d ≡ true → digit_value d ≡ d - 48
 digit_of d digit = grind (arith, nat_tests)
 
+-- each byte of a number is a digit
 pub all_at : (ds : List ℕ) (i : ℕ) → i < length ds → list_all is_ascii_digit ds ≡ true → is_ascii_digit (get_or ds i 0) ≡ true
 all_at ds i inside all = when (is_ascii_digit (get_or ds i 0))
     (λ digit. digit)

@@ -8,6 +8,7 @@ use Rattle.plan_text.proofs.Cases.{when}
 
 -- the pieces up to the first cut
 module _ (is_cut : ℕ → Bool) where
+  -- up to a cut stands the first piece, and the pieces of the rest follow
   pub pieces-cut : (place : ℕ) (bytes : List ℕ) (n : ℕ) → n ≡ position_or_len is_cut bytes → n < length bytes → pieces is_cut place bytes ≡ piece place (take n bytes) ∷ pieces is_cut (place + (n + 1)) (drop (n + 1) bytes)
   pieces-cut place [] n e h = absurd (omega arith)
   pieces-cut place (b ∷ bytes) n e h = when (is_cut b)
@@ -20,6 +21,7 @@ module _ (is_cut : ℕ → Bool) where
       let moved : (place + 1) + (m + 1) ≡ place + (suc m + 1) = omega arith in
       rw (len, clear, rest, moved, add-one (suc m), add-one m))
 
+  -- without a cut the text is one piece
   pub pieces-whole : (place : ℕ) (bytes : List ℕ) → length bytes ≤ position_or_len is_cut bytes → pieces is_cut place bytes ≡ piece place bytes ∷ []
   pieces-whole place [] h = refl
   pieces-whole place (b ∷ bytes) h = when (is_cut b)
@@ -28,6 +30,7 @@ module _ (is_cut : ℕ → Bool) where
       let len : position_or_len is_cut (b ∷ bytes) ≡ 1 + position_or_len is_cut bytes = rw clear in
       rw (clear, pieces-whole (place + 1) bytes (omega arith)))
 
+  -- there is at most one piece more than there are bytes
   pub length-pieces : (place : ℕ) (bytes : List ℕ) → length (pieces is_cut place bytes) ≤ length bytes + 1
   length-pieces place [] = omega arith
   length-pieces place (b ∷ bytes) = when (is_cut b)
@@ -58,6 +61,7 @@ words_at-none place (b ∷ bytes) h = when (is_blank b)
     rw (blank, words_at-none (place + 1) bytes (omega arith)))
     (λ filled. absurd (let n : position_or_len (λ b. not (is_blank b)) (b ∷ bytes) ≡ 0 = rw filled in omega arith))
 
+-- a front of some length is filled
 filled_front : (bytes : List ℕ) (n : ℕ) → n < length bytes → 0 < n → is_filled_by (take n bytes) ≡ true
 filled_front [] n inside some = absurd (omega arith)
 filled_front (b ∷ bytes) zero inside some = absurd (omega arith)

@@ -16,12 +16,14 @@ use Rattle.plan_text.specs.Out.{Writes, TakesBeginning}
 use Rattle.plan_text.proofs.Cutting.{rest_of}
 use Rattle.plan_text.proofs.Elements.{split_at}
 
+-- one run of bytes after another is both
 pub appends_more : (a b c : Option (List ℕ)) (x y : List ℕ) → Appends a b x → Appends b c y → Appends a c (x ++ y)
 appends_more None b c x y first second = tt
 appends_more (Some u) None c x y first second = absurd first
 appends_more (Some u) (Some v) None x y first second = absurd second
 appends_more (Some u) (Some v) (Some w) x y first second = second ∙ ap (λ z. z ++ y) first ∙ append_assoc u x y
 
+-- an output that keeps what it has takes no bytes
 pub appends_nothing : (a b : Option (List ℕ)) → Keeps a b → Appends a b []
 appends_nothing None b kept = tt
 appends_nothing (Some u) None kept = absurd kept
@@ -32,6 +34,7 @@ pub regrouped : (bytes front rest : List ℕ) (n : ℕ) → bytes ≡ front ++ r
 regrouped bytes front rest n whole =
     whole ∙ ap (λ r. front ++ r) (sym (take-append-drop n rest)) ∙ sym (append_assoc front (take n rest) (drop n rest)) ∙ ap (λ r. (front ++ take n rest) ++ r) (sym (rest_of rest n))
 
+-- an output takes no bytes where it is left alone
 pub appends_none : (a : Option (List ℕ)) → Appends a a []
 appends_none None = tt
 appends_none (Some u) = sym (append-nil u)
@@ -70,19 +73,23 @@ numbers_at ns i inside =
         let back : drop i ns ≡ get_or ns i 0 ∷ drop (i + 1) ns = rw add-one (drop-cons ns i 0 inside) in
         sym (take-append-drop i ns) ∙ ap (λ ys. take i ns ++ ys) back
 
+-- four runs, grouped otherwise
 pub grouped : (a b c d : List ℕ) → a ++ (b ++ (c ++ d)) ≡ ((a ++ b) ++ c) ++ d
 grouped a b c d = simp append_assoc
 
+-- five runs, grouped otherwise
 unnested : (a b c d e : List ℕ) → ((a ++ b) ++ (c ++ d)) ++ e ≡ a ++ (b ++ (c ++ (d ++ e)))
 unnested a b c d e = simp append_assoc
 
 -- ## The whole text
 
+-- a decomposition line is its head, its tail and a line feed
 pub decomposition_is : (line : DecompositionLine) → decomposition_text line ≡ (head_text line.id line.task line.arguments ++ tail_text line.method line.children) ++ 10 ∷ []
 decomposition_is line =
     let cut = flat_map-append spaced (line.task ∷ line.arguments) (arrow ∷ line.method ∷ map decimal line.children) in
     ap (λ t. (decimal line.id ++ t) ++ 10 ∷ []) cut ∙ ap (λ t. t ++ 10 ∷ []) (sym (append_assoc (decimal line.id) (flat_map spaced (line.task ∷ line.arguments)) (tail_text line.method line.children)))
 
+-- a written file is its start marker, its lines in order, and its end marker
 pub written_is : (file : PlanFile) → written file ≡ codes "==>\n" ++ (flat_map action_text file.actions ++ (line_of (root_words file.roots) ++ (flat_map decomposition_text file.decompositions ++ codes "<==\n")))
 written_is file =
     let aw = map action_words file.actions in

@@ -11,6 +11,7 @@ use Rattle.plan_text.proofs.Cases.{when}
 use Rattle.plan_text.proofs.KindLaws.{first_all}
 
 module _ (is_cut : ℕ → Bool) where
+  -- where no byte cuts, the first doesn't and no later one does
   first_clear : (b : ℕ) (bytes : List ℕ) → list_all (λ x. not (is_cut x)) (b ∷ bytes) ≡ true → (is_cut b ≡ false) × (list_all (λ x. not (is_cut x)) bytes ≡ true)
   first_clear b bytes clear = when (is_cut b)
       (λ cut. let e = rw cut at clear in absurd cc)
@@ -46,10 +47,12 @@ abbrev pub joined : List Word → List ℕ
 joined [] = []
 joined (w ∷ ws) = w ++ flat_map spaced ws
 
+-- a line is its words joined, and a line feed
 pub line_is : (ws : List Word) → line_of ws ≡ joined ws ++ 10 ∷ []
 line_is [] = refl
 line_is (w ∷ ws) = refl
 
+-- words that are joined by spaces are cut into themselves
 pub words-joined : (place : ℕ) (ws : List Word) → AllByRecursion IsSolid ws → map (λ p. p.bytes) (words_at place (joined ws)) ≡ ws
 words-joined place [] solid = refl
 words-joined place (w ∷ []) solid =
@@ -67,6 +70,7 @@ abbrev pub placed : ℕ → List (List Word) → List Piece
 placed place [] = []
 placed place (ws ∷ wss) = piece place (joined ws) ∷ placed (place + (length (joined ws) + 1)) wss
 
+-- the joined words have no line feed
 pub record IsInLine (ws : List Word) : Type 0 where
   pub clear : list_all (λ b. not (is_line_feed b)) (joined ws) ≡ true
 
@@ -75,6 +79,7 @@ abbrev pub after : ℕ → List (List Word) → ℕ
 after place [] = place
 after place (ws ∷ wss) = after (place + (length (joined ws) + 1)) wss
 
+-- written lines are cut into themselves, each at its place
 pub lines-written : (place : ℕ) (wss : List (List Word)) (rest : List ℕ) → AllByRecursion IsInLine wss → pieces is_line_feed place (flat_map line_of wss ++ rest) ≡ placed place wss ++ pieces is_line_feed (after place wss) rest
 lines-written place [] rest clear = refl
 lines-written place (ws ∷ wss) rest clear =
@@ -84,6 +89,7 @@ lines-written place (ws ∷ wss) rest clear =
     let more = lines-written (place + (length (joined ws) + 1)) wss rest clear.1 in
     ap (pieces is_line_feed place) text ∙ cut ∙ ap (λ ps. piece place (joined ws) ∷ ps) more
 
+-- joined lines have the places of the first, and then those after them
 pub placed-append : (place : ℕ) (xs ys : List (List Word)) → placed place (xs ++ ys) ≡ placed place xs ++ placed (after place xs) ys
 placed-append place [] ys = refl
 placed-append place (ws ∷ xs) ys = ap (λ ps. piece place (joined ws) ∷ ps) (placed-append (place + (length (joined ws) + 1)) xs ys)

@@ -8,10 +8,12 @@ use Rattle.plan_text.specs.Piece.{Piece}
 use Rattle.plan_text.specs.Line.{LineKind, roots, Contents, actions_of, root_lists_of, decompositions_of, numbers_of, AreLines, contents_of}
 use Rattle.plan_text.specs.Fault.{IsFirstLarge, HasIllegalByte}
 
+-- the lists of roots that were read: one or none
 abbrev pub root_lists_in : Option (Vec ℕ Global) → List (List ℕ)
 root_lists_in None = []
 root_lists_in (Some ids) = ids.items ∷ []
 
+-- what was read before with what a line gives after it
 abbrev pub with_line : Contents → LineKind → Contents
 with_line c kind = record {
   actions = c.actions ++ actions_of kind;

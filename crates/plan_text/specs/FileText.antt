@@ -6,12 +6,15 @@ use Rattle.plan_text.specs.Piece.{Piece, max_bytes, lines, words}
 use Rattle.plan_text.specs.Line.{LineKind, AreLines, contents_of}
 use Rattle.htn_model.specs.PlanFile.{Word, PlanFile}
 
+-- the word of the line before a plan
 abbrev pub start_marker : Word
 start_marker = codes "==>"
 
+-- the word of the line after a plan
 abbrev pub end_marker : Word
 end_marker = codes "<=="
 
+-- whether a line has this word and no other
 abbrev pub is_only : Word → List Piece → Bool
 is_only w [] = false
 is_only w (p ∷ []) = bytes_eq p.bytes w

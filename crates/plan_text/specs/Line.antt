@@ -20,9 +20,11 @@ pub data LineKind : Type 0 where
 abbrev pub is_number : Piece → Bool
 is_number w = list_all is_ascii_digit w.bytes
 
+-- whether a word is the arrow before a method
 abbrev pub is_arrow : Piece → Bool
 is_arrow w = bytes_eq w.bytes arrow
 
+-- whether a word is another than the arrow
 abbrev pub is_no_arrow : Piece → Bool
 is_no_arrow w = not (is_arrow w)
 
@@ -30,17 +32,20 @@ is_no_arrow w = not (is_arrow w)
 abbrev pub is_root : Piece → Bool
 is_root w = str_eq_ignore_ascii_case w.bytes (codes "root")
 
+-- the words of the root line: `root`, and then numbers alone
 pub record IsRootsOf (words numbers : List Piece) : Type 0 where
   pub head : Piece
   pub whole : words ≡ head ∷ numbers
   pub root : is_root head ≡ true
   pub all_numbers : list_all is_number numbers ≡ true
 
+-- the words of an action line: a number and then the action with its arguments, none of them the arrow
 pub record IsActionOf (words : List Piece) (id name : Piece) (arguments : List Piece) : Type 0 where
   pub whole : words ≡ id ∷ name ∷ arguments
   pub number : is_number id ≡ true
   pub no_arrow : list_all is_no_arrow (name ∷ arguments) ≡ true
 
+-- the words of a decomposition line: a number, a task with arguments, the arrow, a method and the numbers of children
 pub record IsDecompositionOf (words : List Piece) (id task : Piece) (arguments : List Piece) (method : Piece) (children : List Piece) : Type 0 where
   pub sign : Piece
   pub whole : words ≡ (id ∷ task ∷ arguments) ++ sign ∷ method ∷ children
@@ -64,6 +69,7 @@ numbers_of (roots numbers) = numbers
 numbers_of (action id name arguments) = id ∷ []
 numbers_of (decomposition id task arguments method children) = id ∷ children
 
+-- the number that the digits of a word spell
 abbrev pub number : Piece → ℕ
 number w = digits_value 10 w.bytes
 
@@ -75,6 +81,7 @@ is_small w = nat_lt (number w) (2 ^ 64)
 abbrev pub is_legal : ℕ → Bool
 is_legal b = is_blank b || is_printable b
 
+-- each byte of a line is one that a plan may have
 abbrev pub IsLegal : Piece → Type 0
 IsLegal line = list_all is_legal line.bytes ≡ true
 
@@ -97,18 +104,21 @@ AreLines (line ∷ lines) (kind ∷ kinds) = IsLine line kind × AreLines lines 
 abbrev pub folded : Piece → Word
 folded w = map to_ascii_lowercase w.bytes
 
+-- the action lines that a line gives: itself or none
 abbrev pub actions_of : LineKind → List ActionLine
 actions_of blank = []
 actions_of (roots numbers) = []
 actions_of (action id name arguments) = record { id = number id; name = folded name; arguments = map folded arguments } ∷ []
 actions_of (decomposition id task arguments method children) = []
 
+-- the lists of roots that a line gives: its own or none
 abbrev pub root_lists_of : LineKind → List (List ℕ)
 root_lists_of blank = []
 root_lists_of (roots numbers) = map number numbers ∷ []
 root_lists_of (action id name arguments) = []
 root_lists_of (decomposition id task arguments method children) = []
 
+-- the decomposition lines that a line gives: itself or none
 abbrev pub decompositions_of : LineKind → List DecompositionLine
 decompositions_of blank = []
 decompositions_of (roots numbers) = []
@@ -122,6 +132,7 @@ pub record Contents : Type 0 where
   pub root_lists : List (List ℕ)
   pub decompositions : List DecompositionLine
 
+-- what lines give together, each kind in the order of the lines
 abbrev pub contents_of : List LineKind → Contents
 contents_of kinds = record {
   actions = flat_map actions_of kinds;

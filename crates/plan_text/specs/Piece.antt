@@ -12,6 +12,7 @@ pub record Piece : Type 0 where
   pub place : ℕ
   pub bytes : List ℕ
 
+-- these bytes at that place
 abbrev pub piece : ℕ → List ℕ → Piece
 piece place bytes = record { place = place; bytes = bytes }
 
@@ -28,6 +29,7 @@ pieces is_cut place (b ∷ bytes) =
     if is_cut b then piece place [] ∷ pieces is_cut (place + 1) bytes
     else with_front place b (pieces is_cut (place + 1) bytes)
 
+-- whether a byte ends a line
 abbrev pub is_line_feed : ℕ → Bool
 is_line_feed b = b == 10
 
@@ -35,10 +37,12 @@ is_line_feed b = b == 10
 abbrev pub lines : List ℕ → List Piece
 lines text = pieces is_line_feed 0 text
 
+-- whether there is a byte
 abbrev pub is_filled_by : List ℕ → Bool
 is_filled_by [] = false
 is_filled_by (b ∷ bytes) = true
 
+-- whether a piece has a byte
 abbrev pub is_filled : Piece → Bool
 is_filled p = is_filled_by p.bytes
 

@@ -8,12 +8,15 @@ use Rattle.plan_text.specs.declared.line.LineKind.TheVariants.{Blank, Roots, Act
 use Rattle.plan_text.specs.Piece as spec
 use Rattle.plan_text.specs.Line as kind
 
+-- a piece with its bytes
 abbrev pub seen : Piece → spec.Piece
 seen p = record { place = p.place; bytes = p.bytes.now }
 
+-- each piece with its bytes
 abbrev pub seen_all : List Piece → List spec.Piece
 seen_all ps = map seen ps
 
+-- a kind of line with the bytes of its pieces
 abbrev pub seen_kind : LineKind → kind.LineKind
 seen_kind Blank = kind.blank
 seen_kind (Roots numbers) = kind.roots (seen_all numbers.now)

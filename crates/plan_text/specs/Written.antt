@@ -15,12 +15,15 @@ abbrev pub line_of : List Word → List ℕ
 line_of [] = 10 ∷ []
 line_of (w ∷ ws) = w ++ flat_map spaced ws ++ 10 ∷ []
 
+-- the words of an action line
 abbrev pub action_words : ActionLine → List Word
 action_words line = decimal line.id ∷ line.name ∷ line.arguments
 
+-- the words of the root line
 abbrev pub root_words : List ℕ → List Word
 root_words ids = codes "root" ∷ map decimal ids
 
+-- the words of a decomposition line
 abbrev pub decomposition_words : DecompositionLine → List Word
 decomposition_words line = decimal line.id ∷ line.task ∷ line.arguments ++ arrow ∷ line.method ∷ map decimal line.children
 
@@ -31,5 +34,6 @@ written_lines file =
     ++ root_words file.roots ∷ map decomposition_words file.decompositions
     ++ (end_marker ∷ []) ∷ []
 
+-- all lines of a plan file, each with its line feed
 abbrev pub written : PlanFile → List ℕ
 written file = flat_map line_of (written_lines file)

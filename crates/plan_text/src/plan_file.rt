@@ -128,8 +128,9 @@ impl DecompositionLine {
     }
 }
 
-/// A plan of a hierarchical task network: its actions in order of execution, the nodes of the initial task network, and a
-/// decomposition for each compound node. Each name, argument and method is a word that a line of a plan text can hold.
+/// A plan of a hierarchical task network: its actions in order of execution, the nodes of the initial task network, and
+/// a decomposition for each compound node. Each name, argument and method is a word that a line of a plan text can
+/// hold.
 #[derive(Debug, Drop)]
 pub struct PlanFile {
     actions: Vec<ActionLine>,

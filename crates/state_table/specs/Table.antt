@@ -12,6 +12,7 @@ pub record Table : Type 0 where
   pub statics : State
   pub atoms : List Atom
 
+-- tables as values: their three parts in turn
 abbrev pub table_code : Coded Table
 table_code =
     code_by (List Bool × (State × List Atom))
@@ -26,6 +27,7 @@ is_changed fluents predicate = get_or fluents predicate false
 abbrev pub is_fluent_by : List Bool → Atom → Bool
 is_fluent_by fluents a = is_changed fluents a.predicate
 
+-- whether an effect names an atom's predicate, by the table
 abbrev pub is_fluent : Table → Atom → Bool
 is_fluent t = is_fluent_by t.fluents
 

@@ -8,6 +8,7 @@ use Rattle.hddl_meaning.specs.Networks.{is_text, labelled, pair_of}
 use Rattle.hddl_build.proofs.Steps.{flat_step, flat_end}
 use Rattle.hddl_build.proofs.network.written_pairs.Goals as goal
 
+-- the pair that an ordering gives
 pair_at : NetworkText → OrderingText → List (ℕ × ℕ)
 pair_at n o = pair_of (labelled n o.before) (labelled n o.after)
 

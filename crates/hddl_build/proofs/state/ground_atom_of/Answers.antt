@@ -9,6 +9,7 @@ use Rattle.hddl_meaning.specs.Building.{term_of}
 use Rattle.hddl_build.proofs.Groups.{map-map}
 use Rattle.hddl_build.proofs.state.ground_atom_of.Goals as goal
 
+-- an atom with its name at a place
 atom_at : ℕ → List ℕ → Atom
 atom_at predicate arguments = record { predicate = predicate; arguments = arguments }
 

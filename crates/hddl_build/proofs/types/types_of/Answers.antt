@@ -9,6 +9,7 @@ use Rattle.hddl_build.proofs.Groups.{types_by_group}
 use Rattle.hddl_build.proofs.Steps.{flat_step, flat_end}
 use Rattle.hddl_build.proofs.types.types_of.Goals as goal
 
+-- the types of a group, one for each variable
 group_types : List Text → VariableGroup → List ℕ
 group_types names g = map (λ _. number_in names (text_or_object (option_map mention_of g.of_type))) g.variables
 

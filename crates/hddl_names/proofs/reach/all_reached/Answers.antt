@@ -5,6 +5,7 @@ use Rattle.indexmap.specs.IndexSet.{insert_all}
 use Rattle.hddl_names.proofs.Fronts.{front_start, front_more, front_end, front_small}
 use Rattle.hddl_names.proofs.reach.all_reached.Goals as goal
 
+-- where nothing stands at a place, it is past the end
 past : (xs : List ℕ) (i : ℕ) → None ≡ slice_get xs i → length xs ≤ i
 past xs i none = ⊎_elim (λ lt. absurd (let some = slice_get-get_or xs i 0 lt in cc)) (λ le. le) (cases_lt i (length xs))
 

@@ -9,6 +9,7 @@ use Rattle.htn_command.specs.CommandLine.{number}
 use Rattle.htn_command.proofs.Building.{Is, narrowed, with_one}
 use Rattle.htn_command.proofs.request.plan.Goals as goal
 
+-- an argument whose values go through this parser
 abbrev with_parser : Rule → ValueParser → Rule
 with_parser rule parser = record rule { parser = Some parser }
 

@@ -20,6 +20,7 @@ each_drawn g c =
     let ended = any_of_all (λ (p : PassState). p.ended ≡ true) passes (omega arith) c.in_ok-passes.ensures.own.1 in
     subst (λ (n : ℕ). HasEachBelow n (all_drawn passes)) (c.close-closed.ensures.ended ended ∙ c.in_ok-desk.ensures.desk.0) c.close-closed.ensures.drawn
 
+-- the least place that the desk tells is the least that any pass reported
 least_reported : (g : Over) (c : After-least g) (place : ℕ) → c.least.result ≡ Some place → IsLeast (all_reported c.in_ok-passes.passes.items) place
 least_reported g c place is = MatchOption-at_some _ _ place (sym c.least.ensures ∙ is) c.close-closed.ensures.least
 

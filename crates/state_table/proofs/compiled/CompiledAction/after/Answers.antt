@@ -3,6 +3,7 @@ use Rattle.state_table.specs.Bits.{has, has_changed}
 use Rattle.state_table.proofs.Effects.{after_is, after_within}
 use Rattle.state_table.proofs.compiled.CompiledAction.after.Goals as goal
 
+-- which bits the next state has: those that are kept, and those that are added
 next_has : (c : goal.In_ok-next) → (x : ℕ) → has c.in_ok-next.next x ≡ has_changed c.args.state.now c.args.self.now.deletes.items c.args.self.now.adds.items x
 next_has c x =
     c.in_ok-next.ensures.has x
