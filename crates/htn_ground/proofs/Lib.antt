@@ -16,11 +16,7 @@ pub mod Classified
 pub mod Steps
 pub mod Pinned
 pub mod Numbered
-pub mod TreeSizes
-pub mod MethodOf
 pub mod Fitting
 pub mod Gathered
 pub mod Unshown
 pub mod Covered
-pub mod Standing
-pub mod Ranked

@@ -9,5 +9,4 @@ pub mod Fixed
 pub mod Methods
 pub mod Distinct
 pub mod Shown
-pub mod Trees
 pub mod Naming

@@ -17,7 +17,6 @@ ghost use Rattle.htn_ground.specs.Search.{AreBound, AreLiteralsOf, live_from};
 ghost use Rattle.htn_ground.specs.Shown.{Ignores};
 
 use crate::conditions::{Conditions, Place};
-use crate::counts::count_completions;
 use crate::distinct::distinct_assignments;
 use crate::fixed::FixedLiteral;
 use crate::literals::value_of;
@@ -180,7 +179,7 @@ fn narrow(
 }
 
 /// For each parameter the objects of its type that the conditions on one parameter allow.
-pub(crate) fn narrow_all(
+fn narrow_all(
     alloc: Global,
     task: &Task,
     conditions: &Conditions,
@@ -196,7 +195,7 @@ pub(crate) fn narrow_all(
 }
 
 /// The equalities between two parameters.
-pub(crate) fn relations_between(
+fn relations_between(
     alloc: Global,
     equalities: &[EqualitySchema],
 ) -> Result<Vec<Relation>, AllocError>
@@ -267,25 +266,6 @@ pub(crate) fn distinct_values(
     let state = task.initial_atoms();
     let found = distinct_assignments(alloc, &lists, &relations, literals, state, shown)?;
     Ok(found)
-}
-
-/// How many instances a schema has under these conditions, if that fits.
-pub(crate) fn count_values(
-    alloc: Global,
-    task: &Task,
-    conditions: &Conditions,
-) -> Result<Option<u64>, AllocError>
-    requires { AreBound conditions.now }
-    ensures { IfOk result (λ n. n ≡ fitting (length (model.instances task.now conditions.now))) }
-{
-    if !constants_hold(task, conditions) {
-        return Ok(Some(0));
-    }
-    let lists = narrow_all(alloc, task, conditions)?;
-    let relations = relations_between(alloc, conditions.equalities())?;
-    let mut values = ObjectList::new(alloc);
-    let count = count_completions(&lists, &relations, &mut values)?;
-    Ok(count)
 }
 
 /// Whether an equality holds of values.

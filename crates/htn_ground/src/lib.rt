@@ -16,8 +16,6 @@ mod instances;
 mod literals;
 mod methods;
 mod network;
-mod node;
-mod numbers;
 mod object_list;
 mod relation;
 mod search;
@@ -33,9 +31,7 @@ pub use instance::Instance;
 pub use instances::is_instance;
 pub use literals::goal_literals;
 pub use methods::{
-    action_of, initial_instance, initials, live_methods_of, method_instance, method_of, methods_of,
+    action_of, initial_instance, initials, live_methods_of, method_instance, methods_of,
 };
-pub use node::{Node, Solution, compound};
-pub use numbers::{initial_number_of, number_of};
 pub use object_list::ObjectList;
 pub use shown::{is_hidden, shown_parameters};

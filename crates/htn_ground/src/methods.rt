@@ -4,7 +4,7 @@ ghost use Rattle.std.specs.List.{enumerate_from};
 ghost use Rattle.htn_model.specs.Instances as model;
 ghost use Rattle.htn_model.specs.Task.{IsMethodSchema};
 ghost use Rattle.htn_ground.specs.Counted.{fitted, fitting};
-ghost use Rattle.htn_ground.specs.Methods.{fits_task, instances_for, live_instances, method_of, numbered_instances};
+ghost use Rattle.htn_ground.specs.Methods.{fits_task, instances_for, live_instances, numbered_instances};
 ghost use Rattle.htn_ground.specs.Search.{AreBound, AreLiteralsOf, live_from};
 
 use crate::conditions::{
@@ -14,7 +14,7 @@ use crate::dead::{fixed_literals, is_dead};
 use crate::fixed::FixedLiteral;
 use crate::ground_task::GroundTask;
 use crate::instance::Instance;
-use crate::instances::{count_values, is_instance, live_values};
+use crate::instances::{is_instance, live_values};
 use crate::literals::{ground_atom, state_literals};
 use crate::network::{children_for, order_for};
 use crate::object_list::ObjectList;
@@ -84,23 +84,6 @@ fn values_for(
     Ok(found)
 }
 
-/// How many instances of a method there are for a ground task, if that fits.
-pub(crate) fn count_for(
-    alloc: Global,
-    task: &Task,
-    goal: &GroundTask,
-    method: &MethodSchema,
-) -> Result<Option<u64>, AllocError>
-    requires { IsMethodSchema task.now method.now }
-    ensures { IfOk result (λ n. n ≡ fitting (length (instances_for task.now goal.now method.now))) }
-{
-    let Some(conditions) = conditions_for(alloc, task, goal, method)? else {
-        return Ok(Some(0));
-    };
-    let count = count_values(alloc, task, &conditions)?;
-    Ok(count)
-}
-
 /// The instance of a method at values.
 pub fn method_instance(
     alloc: Global,
@@ -156,33 +139,6 @@ pub fn methods_of(
         push_instances(alloc, task, number, method, values, &mut found)?;
     }
     Ok(found)
-}
-
-/// The method of the instance with this number, among those of a ground task's methods; none where so
-/// many there aren't. The instances are counted, by products of lists where the equalities allow it, and
-/// neither made nor gone through; a count that does not fit is greater than every number. An error means
-/// that memory was refused.
-pub fn method_of(
-    alloc: Global,
-    task: &Task,
-    goal: &GroundTask,
-    number: u64,
-) -> Result<Option<u16>, AllocError>
-    ensures { IfOk result (λ m. m ≡ method_of task.now goal.now number) }
-{
-    let mut first: u64 = 0;
-    for (place, method) in task.methods().iter().enumerate() {
-        let method_number = number_at(place)?;
-        let counted = count_for(alloc, task, goal, method)?;
-        let Some(count) = counted else {
-            return Ok(Some(method_number));
-        };
-        if number - first < count {
-            return Ok(Some(method_number));
-        }
-        first += count;
-    }
-    Ok(None)
 }
 
 /// Appends those instances of a method at numbered values that are not dead, with their numbers. An

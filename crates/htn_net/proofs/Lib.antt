@@ -1,6 +1,4 @@
-pub mod Cached
 pub mod Chosen
-pub mod Counts
 pub mod Distinct
 pub mod First
 pub mod Listed

@@ -1,8 +1,6 @@
--- The choices of a compound task's instances, as they stand in the cache.
-use Rattle.std.proofs.Common.{◌≡◌, ℕ, zero, suc, ◌+◌, ◌<◌, Bool, true, false, cond, List, [], ◌∷◌, filter, map, length, get_or, slice_get, Some, None, not, All, option_and_then, refl, sym, ap, ◌∙◌, subst, arith}
-use Rattle.std.specs.List.{enumerate_from, range_with_len}
-use Rattle.std.proofs.lemmas.List.{length-map}
-use Rattle.std.proofs.lemmas.List.FromFn.{length-map-range_with_len, get_or-map-range_with_len}
+-- The choices of a compound task's instances.
+use Rattle.std.proofs.Common.{◌≡◌, ℕ, zero, suc, ◌+◌, Bool, true, false, cond, List, [], ◌∷◌, filter, map, get_or, slice_get, Some, not, All, sym, ap, ◌∙◌, subst, arith}
+use Rattle.std.specs.List.{enumerate_from}
 use Rattle.std.proofs.lemmas.Option.{slice_get-get_or}
 use Rattle.std.proofs.lemmas.Simd.{map-map}
 use Rattle.htn_model.specs.Choice.{child_of, first_free_compound}
@@ -13,20 +11,11 @@ use Rattle.htn_model.specs.Instances.{methods_of}
 use Rattle.htn_model.specs.Machine.{Config, choose}
 use Rattle.htn_model.specs.Problem.{GroundTask, is_before, task}
 use Rattle.htn_model.specs.Task.{Task}
-use Rattle.word_machine.specs.Machine.{IsLiveNumbers}
-use Rattle.htn_answer.proofs.Words.{slice_get-map_back}
-use Rattle.htn_net.specs.Cache.{cached}
-use Rattle.htn_ground.specs.Distinct.{distinct, live_methods as ground_methods}
-use Rattle.htn_net.specs.Choices.{IsChoice, IsOffered, AreDecompositions, decomposed_choices, decompositions}
-use Rattle.htn_net.specs.Listed.{listed_methods, listing_machine}
+use Rattle.htn_net.specs.Choices.{IsChoice, decomposed_choices}
 use Rattle.htn_net.specs.declared.choice.Change.TheVariants as chosen
 use Rattle.htn_net.specs.declared.choice.Choice.{Choice}
 use Rattle.htn_net.specs.Live.{live_methods}
-use Rattle.htn_net.specs.declared.cache.LiveCache.{LiveCache}
-use Rattle.htn_net.specs.declared.choice.LiveChange.TheVariants.{Decomposed}
-use Rattle.htn_net.specs.declared.choice.LiveChoice.{LiveChoice}
 use Rattle.std.proofs.lemmas.List.Elements.{All-map}
-use Rattle.htn_net.proofs.Listed.{instance_listed, listed_instances, ranks_live}
 use Rattle.htn_net.proofs.Numbers.{all_kept, choose_instance}
 
 -- what stands among numbered elements stands in the list at its number
@@ -48,13 +37,6 @@ numbered_at {X} q a (x ∷ xs) k p h = by (q (a, x)) k (λ l e. numbered_at q (a
     by true zero further e = let same : (a, x) ≡ p = cc in (0, (let z : a + 0 ≡ a = omega arith in z ∙ ap (λ (y : ℕ × X). y.0) same), ap (λ (y : ℕ × X). Some y.1) same)
     by true (suc l) further e = later l (further l) e
     by false l further e = later l (further l) e
-
-map_same : (xs : List ℕ) → map (λ (x : ℕ). x) xs ≡ xs
-map_same [] = refl
-map_same (x ∷ xs) = ap (λ l. x ∷ l) (map_same xs)
-
-no_instance : Instance
-no_instance = record { method = None; values = []; network = record { children = []; order = [] } }
 
 module _ (t : Task) (c : Config) (i : ℕ) (g : GroundTask) (first : first_free_compound c.open_nodes (is_before c.order) ≡ Some i) (stands : child_of c.open_nodes i ≡ task g) where
   -- numbered instances are chosen by their numbers
@@ -81,37 +63,3 @@ module _ (t : Task) (c : Config) (i : ℕ) (g : GroundTask) (first : first_free_
 -- the numbers of the choices of numbered instances
 pub numbers_of : (i : ℕ) (found : List (ℕ × Instance)) → map (λ (x : Choice). x.number) (decomposed_choices i found) ≡ map (λ (p : ℕ × Instance). p.0) found
 numbers_of i found = map-map (λ (x : Choice). x.number) (λ (p : ℕ × Instance). record { number = p.0; position = i; change = chosen.Decomposed p.1 }) found
-
-module _ (t : Task) (cache : LiveCache) (c : Config) (i : ℕ) (g : GroundTask) (first : first_free_compound c.open_nodes (is_before c.order) ≡ Some i) (stands : child_of c.open_nodes i ≡ task g)
-    (ready : cached cache g ≡ Some (distinct (ground_methods t g))) (choices : List LiveChoice) (are : AreDecompositions cache g i choices) where
-  right : are.found ≡ map (λ (p : ℕ × Instance). p.1) (listed_methods t g)
-  right = let e : Some are.found ≡ Some (distinct (ground_methods t g)) = sym are.stands ∙ ready in let f : are.found ≡ distinct (ground_methods t g) = cc in f ∙ sym (listed_instances t g)
-
-  abbrev choice : ℕ → LiveChoice
-  choice place = record { rank = place; position = i; change = Decomposed are.entry place }
-
-  offered_at : (k : ℕ) (x : Instance) → slice_get are.found k ≡ Some x → IsOffered t cache c (choice k)
-  offered_at k x at =
-      let listed = slice_get-map_back (λ (p : ℕ × Instance). p.1) (listed_methods t g) k x (ap (λ l. slice_get l k) (sym right) ∙ at) in (
-        x,
-        ap (option_and_then (λ l. slice_get l k)) are.at ∙ at,
-        instance_listed t c i g first stands k listed.0 listed.1 ∙ ap (λ (y : Instance). Some (record { position = i; network = y.network; state = c.state })) listed.2,
-      )
-
-  pub decompositions_offered : All (IsOffered t cache c) choices
-  decompositions_offered = subst (λ (l : List LiveChoice). All (IsOffered t cache c) l) (sym are.each) each
-    where
-      each : All (IsOffered t cache c) (decompositions i are.entry (length are.found))
-      each k d inside =
-          let long : length (decompositions i are.entry (length are.found)) ≡ length are.found = length-map-range_with_len choice 0 (length are.found) in
-          let low : k < length are.found = omega arith in
-          let x = get_or are.found k no_instance in
-          subst (IsOffered t cache c) (sym (get_or-map-range_with_len choice 0 (length are.found) k k d low (let e : 0 + k ≡ k = omega arith in e)))
-          (offered_at k x (slice_get-get_or are.found k no_instance low))
-
-  pub decompositions_ranks : IsLiveNumbers (listing_machine t) c (map (λ (x : LiveChoice). x.rank) choices)
-  decompositions_ranks =
-      subst (IsLiveNumbers (listing_machine t) c)
-      (sym (ap (map (λ (x : LiveChoice). x.rank)) are.each ∙ map-map (λ (x : LiveChoice). x.rank) choice (range_with_len 0 (length are.found)) ∙ map_same (range_with_len 0 (length are.found))
-      ∙ ap (range_with_len 0) (ap length right ∙ length-map (listed_methods t g) (λ (p : ℕ × Instance). p.1))))
-      (ranks_live t c i g first stands)

@@ -15,15 +15,7 @@ initial_whole t typed i here =
     let at : slice_get (initials t) here.0 ≡ Some i = slice_get-get_or (initials t) here.0 i here.1 ∙ ap Some here.2 in
     ((tasks_are_grounded t typed).initials here.0 i.network (slice_get-map (λ (x : Instance). x.network) (initials t) here.0 ∙ ap (option_map (λ (x : Instance). x.network)) at)).square.0
 
-pub initials_whole : (t : Task) → IsWellTyped t → All (λ (i : Instance). length i.network.order ≡ length i.network.children) (initials t)
-initials_whole t typed k d inside = initial_whole t typed (get_or (initials t) k d) (k, inside, get_or_any (initials t) k d)
-  where
-    get_or_any : (xs : List Instance) (i : ℕ) (e : Instance) → get_or xs i (get_or xs i e) ≡ get_or xs i e
-    get_or_any [] i e = refl
-    get_or_any (x ∷ xs) zero e = refl
-    get_or_any (x ∷ xs) (suc i) e = get_or_any xs i e
-
--- and so do those that are listed
+-- and so do those of the initial network that are listed
 pub listed_whole : (t : Task) → IsWellTyped t → All (λ (i : Instance). length i.network.order ≡ length i.network.children) (map (λ (p : ℕ × Instance). p.1) (listed_initials t))
 listed_whole t typed k d inside =
     let all = map (λ (p : ℕ × Instance). p.1) (listed_initials t) in

@@ -1,24 +1,19 @@
 -- What the program's choices are to the model.
-use Rattle.std.specs.Prelude.{◌≡◌, ℕ, List, Some, length, map}
+use Rattle.std.specs.Prelude.{◌≡◌, ℕ, List, Some, false, length, map, slice_get}
 use Rattle.std.specs.List.{range_with_len}
 use Rattle.std.specs.Arc.{arc_value}
 use Rattle.htn_model.specs.Choice.{first_free_compound, child_of}
+use Rattle.htn_model.specs.Grounding.{problem_of}
 use Rattle.htn_model.specs.Instance.{Instance}
+use Rattle.htn_model.specs.Instances.{methods_of}
 use Rattle.htn_model.specs.Machine as model
 use Rattle.htn_model.specs.Machine.{Config, no_network, choose}
-use Rattle.htn_model.specs.Problem.{GroundTask, Network, Problem, is_before, task}
+use Rattle.htn_model.specs.Problem.{GroundTask, Network, Problem, is_before, is_compound, task}
 use Rattle.htn_model.specs.State.{State}
 use Rattle.htn_model.specs.Task.{Task}
-use Rattle.htn_ground.specs.Distinct.{distinct, live_methods}
-use Rattle.htn_net.specs.Cache.{cached, entry_at, instance_at}
-use Rattle.htn_net.specs.Listed.{choose_listed}
-use Rattle.htn_net.specs.declared.cache.LiveCache.{LiveCache}
 use Rattle.htn_net.specs.declared.choice.Change.{Change}
 use Rattle.htn_net.specs.declared.choice.Change.TheVariants.{Decomposed, Performed}
 use Rattle.htn_net.specs.declared.choice.Choice.{Choice}
-use Rattle.htn_net.specs.declared.choice.LiveChange.{LiveChange}
-use Rattle.htn_net.specs.declared.choice.LiveChange.TheVariants as live
-use Rattle.htn_net.specs.declared.choice.LiveChoice.{LiveChoice}
 use Rattle.htn_net.specs.declared.choice.Performance.{Performance}
 
 -- what takes the node's place
@@ -31,8 +26,21 @@ abbrev pub state_then : State → Change → State
 state_then state (Decomposed instance) = state
 state_then state (Performed after) = arc_value after
 
+-- what becomes of the open node at a position
+abbrev pub chosen_of : Config → ℕ × Change → model.Choice
+chosen_of c x = record { position = x.0; network = network_of x.1; state = state_then c.state x.1 }
+
 abbrev pub choice_of : Config → Choice → model.Choice
-choice_of c x = record { position = x.position; network = network_of x.change; state = state_then c.state x.change }
+choice_of c x = chosen_of c (x.position, x.change)
+
+-- the number is that of the instance among all of the compound task at the position; or a step or an action stands there
+abbrev pub IsNumberOf : Task → Config → ℕ → ℕ × Change → Type 0
+IsNumberOf t c number (position, Decomposed instance) = (g : GroundTask) × (child_of c.open_nodes position ≡ task g) × (slice_get (methods_of t g) number ≡ Some instance)
+IsNumberOf t c number (position, Performed after) = is_compound (child_of c.open_nodes position) ≡ false
+
+-- the number chooses this
+abbrev pub IsChosen : Task → Config → ℕ → ℕ × Change → Type 0
+IsChosen t c number x = (choose (problem_of t) c number ≡ Some (chosen_of c x)) × IsNumberOf t c number x
 
 -- the choice is that of its number
 abbrev pub IsChoice : Problem → Config → Choice → Type 0
@@ -45,31 +53,3 @@ IsPerformance problem c p = choose problem c p.number ≡ Some (record { positio
 -- a choice for each numbered instance of the task at a position
 abbrev pub decomposed_choices : ℕ → List (ℕ × Instance) → List Choice
 decomposed_choices position found = map (λ p. record { number = p.0; position = position; change = Decomposed p.1 }) found
-
--- ## Choices of a search
-
-abbrev pub IsChange : Task → LiveCache → Config → ℕ → ℕ → LiveChange → Type 0
-IsChange t cache c rank position (live.Decomposed entry place) =
-    (i : Instance) × (instance_at cache entry place ≡ Some i) × (choose_listed t c rank ≡ Some (record { position = position; network = i.network; state = c.state }))
-IsChange t cache c rank position (live.Performed after) = choose_listed t c rank ≡ Some (record { position = position; network = no_network; state = arc_value after })
-
--- the choice is that of its rank, and where it decomposes, its instance stands in the cache
-abbrev pub IsOffered : Task → LiveCache → Config → LiveChoice → Type 0
-IsOffered t cache c x = IsChange t cache c x.rank x.position x.change
-
--- the instances of the first free compound task, if there is one, stand in the cache
-abbrev pub IsReady : Task → LiveCache → Config → Type 0
-IsReady t cache c =
-    (i : ℕ) (g : GroundTask) → first_free_compound c.open_nodes (is_before c.order) ≡ Some i → child_of c.open_nodes i ≡ task g → cached cache g ≡ Some (distinct (live_methods t g))
-
--- a choice for each of so many instances of an entry
-abbrev pub decompositions : ℕ → ℕ → ℕ → List LiveChoice
-decompositions position entry count = map (λ place. record { rank = place; position = position; change = live.Decomposed entry place }) (range_with_len 0 count)
-
--- the choices are those of an entry that stands for the ground task
-pub record AreDecompositions (cache : LiveCache) (g : GroundTask) (position : ℕ) (choices : List LiveChoice) : Type 0 where
-  pub entry : ℕ
-  pub found : List Instance
-  pub stands : cached cache g ≡ Some found
-  pub at : entry_at cache entry ≡ Some found
-  pub each : choices ≡ decompositions position entry (length found)

@@ -1,4 +1,3 @@
-pub mod Cache
 pub mod Choices
 pub mod Grounded
 pub mod Hashes

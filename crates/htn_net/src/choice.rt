@@ -2,7 +2,6 @@
 
 ghost use Rattle.std.specs.Prelude.{◌≡◌};
 ghost use Rattle.htn_net.specs.declared.choice.Change.TheVariants.{Performed};
-ghost use Rattle.htn_net.specs.declared.choice.LiveChange.TheVariants as live;
 
 use htn_ground::Instance;
 use htn_state::State;
@@ -38,25 +37,6 @@ impl Choice {
     }
 }
 
-/// What becomes of the node that a number chooses in a search, which keeps the instances in its cache.
-#[derive(Drop)]
-pub enum LiveChange {
-    /// A compound task is decomposed by an instance in the cache: its entry, and its place there.
-    Decomposed(usize, usize),
-    /// A step or an action is carried out: it is gone, and this is the state then.
-    Performed(Arc<State>),
-}
-
-/// What a rank of a configuration stands for in a search, which lists of the instances that are not
-/// dead each network once.
-#[derive(Drop)]
-pub struct LiveChoice {
-    /// The place of the instance among those that are listed; or the number of a free node.
-    pub(crate) rank: u64,
-    pub(crate) position: usize,
-    pub(crate) change: LiveChange,
-}
-
 /// A free step or action is carried out.
 #[derive(Drop)]
 pub(crate) struct Performance {
@@ -76,16 +56,6 @@ impl Performance {
             number: self.number,
             position: self.position,
             change: Change::Performed(self.state),
-        }
-    }
-
-    pub(crate) fn into_live_choice(self) -> LiveChoice
-        ensures { result ≡ record { rank = self.number; position = self.position; change = live.Performed self.state } }
-    {
-        LiveChoice {
-            rank: self.number,
-            position: self.position,
-            change: LiveChange::Performed(self.state),
         }
     }
 }

@@ -1,18 +1,13 @@
 //! Configurations of the word machine of a planning task, and their steps.
 #![tactic(auto)]
 
-mod cache;
 mod choice;
 mod choices;
 mod config;
-mod machine;
 mod perform;
 mod splice;
 mod start;
 mod step;
 
-pub use cache::LiveCache;
-pub use choice::{Change, Choice, LiveChange, LiveChoice};
+pub use choice::{Change, Choice};
 pub use config::Config;
-pub use machine::WordMachine;
-pub use start::starts;

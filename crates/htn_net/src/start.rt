@@ -1,14 +1,13 @@
-//! The configurations at the start.
-ghost use Rattle.std.specs.Prelude.{◌≡◌, All, Contains, IfOk, length, map};
+//! The configuration at the start.
+ghost use Rattle.std.specs.Prelude.{◌≡◌, Contains, IfOk};
 ghost use Rattle.std.specs.Arc.{arc_value};
 ghost use Rattle.htn_model.specs.Grounding.{problem_of};
 ghost use Rattle.htn_model.specs.Instances as model;
 ghost use Rattle.htn_model.specs.Machine.{start};
 ghost use Rattle.htn_model.specs.Task.{IsWellTyped};
-ghost use Rattle.htn_net.specs.Listed.{listing_machine};
 
 use crate::config::Config;
-use htn_ground::{Instance, distinct_initials, initials};
+use htn_ground::Instance;
 use htn_state::State;
 use htn_task::Task;
 use std::alloc::{AllocError, Global};
@@ -34,40 +33,4 @@ impl Config {
         let config = Config::of(state, instance)?;
         Ok(config)
     }
-}
-
-/// The configurations in which the nodes of these instances are open in a state.
-fn opened(
-    alloc: Global,
-    state: &Arc<State>,
-    instances: &[Instance],
-) -> Result<Vec<Config>, AllocError>
-    requires { All (λ i. length i.network.order ≡ length i.network.children) instances.now }
-    ensures { IfOk result (λ v. v.items ≡ map (λ i. record { state = arc_value state.now; open_nodes = i.network.children; order = i.network.order }) instances.now) }
-{
-    let mut found = Vec::new(alloc);
-    for instance in instances {
-        found.push(Config::of(Arc::try_clone(state)?, instance)?)?;
-    }
-    Ok(found)
-}
-
-/// The configurations at the start, in the order of the instances of the initial network.
-pub fn starts(alloc: Global, task: &Task) -> Result<Vec<Config>, AllocError>
-    ensures { IfOk result (λ v. v.items ≡ map (start (problem_of task.now)) (problem_of task.now).initials) }
-{
-    let state = initial_state(alloc, task)?;
-    let instances = initials(alloc, task)?;
-    let found = opened(alloc, &state, &instances)?;
-    Ok(found)
-}
-
-/// The same, without each whose network an earlier one has.
-pub(crate) fn distinct_starts(alloc: Global, task: &Task) -> Result<Vec<Config>, AllocError>
-    ensures { IfOk result (λ v. v.items ≡ (listing_machine task.now).initials) }
-{
-    let state = initial_state(alloc, task)?;
-    let instances = distinct_initials(alloc, task)?;
-    let found = opened(alloc, &state, &instances)?;
-    Ok(found)
 }

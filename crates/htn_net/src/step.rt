@@ -1,5 +1,5 @@
 //! The steps of a configuration.
-ghost use Rattle.std.specs.Prelude.{◌≡◌, IfOk, IfSome, None, Some, slice_get};
+ghost use Rattle.std.specs.Prelude.{◌≡◌, ℕ, IfOk, IfSome, None, Some, slice_get};
 ghost use Rattle.std.specs.Option.{option_map};
 ghost use Rattle.htn_model.specs.Choice.{first_free_compound};
 ghost use Rattle.htn_model.specs.Grounding.{problem_of};
@@ -7,15 +7,13 @@ ghost use Rattle.htn_model.specs.Instance as instance;
 ghost use Rattle.htn_model.specs.Instances as model;
 ghost use Rattle.htn_model.specs.Machine as machine;
 ghost use Rattle.htn_model.specs.Problem.{is_before};
-ghost use Rattle.htn_net.specs.Choices.{IsChoice, choice_of};
+ghost use Rattle.htn_net.specs.Choices.{IsChoice, IsNumberOf, chosen_of};
 ghost use Rattle.htn_net.specs.Listed.{choose_listed, number_at};
 
 use crate::choice::{Change, Choice};
 use crate::config::Config;
 use crate::perform::perform;
-use htn_ground::{
-    GroundTask, Instance, distinct_live_methods_of, live_methods_of, methods_of, number_of,
-};
+use htn_ground::{GroundTask, Instance, distinct_live_methods_of, live_methods_of, methods_of};
 use htn_task::Task;
 use std::alloc::{AllocError, Global};
 
@@ -53,16 +51,17 @@ fn instance_of(
     Ok(Some(instances.swap_remove(place)))
 }
 
-/// What a number chooses where no compound task is free.
+/// What a number chooses where no compound task is free: the position of an open node, and what becomes
+/// of it.
 fn choose_free(
     alloc: Global,
     task: &Task,
     config: &Config,
     number: u64,
-) -> Result<Option<Choice>, AllocError>
+) -> Result<Option<(usize, Change)>, AllocError>
     requires { first_free_compound config.now.open_nodes (is_before config.now.order) ≡ None }
-    ensures choice { IfOk result (λ o. option_map (λ x. choice_of config.now x) o ≡ machine.choose (problem_of task.now) config.now number) }
-    ensures number { IfOk result (λ o. IfSome o (λ x. x.number ≡ number)) }
+    ensures choice { IfOk result (λ o. option_map (chosen_of config.now) o ≡ machine.choose (problem_of task.now) config.now number) }
+    ensures number { IfOk result (λ o. IfSome o (IsNumberOf task.now config.now number)) }
 {
     let Some(position) = config.order().nth_free(number as usize) else {
         return Ok(None);
@@ -70,23 +69,20 @@ fn choose_free(
     let Some(state) = perform(alloc, task, config, config.node_at(position))? else {
         return Ok(None);
     };
-    Ok(Some(Choice {
-        number,
-        position,
-        change: Change::Performed(state),
-    }))
+    Ok(Some((position, Change::Performed(state))))
 }
 
 impl Config {
-    /// What a number chooses; none where it is not one that the configuration allows.
+    /// What a number chooses: the position of an open node, and what becomes of it; none where it is not
+    /// one that the configuration allows.
     pub fn choose(
         &self,
         alloc: Global,
         task: &Task,
         number: u64,
-    ) -> Result<Option<Choice>, AllocError>
-        ensures choice { IfOk result (λ o. option_map (λ x. choice_of self.now x) o ≡ machine.choose (problem_of task.now) self.now number) }
-        ensures number { IfOk result (λ o. IfSome o (λ x. x.number ≡ number)) }
+    ) -> Result<Option<(usize, Change)>, AllocError>
+        ensures choice { IfOk result (λ o. option_map (chosen_of self.now) o ≡ machine.choose (problem_of task.now) self.now number) }
+        ensures number { IfOk result (λ o. IfSome o (IsNumberOf task.now self.now number)) }
     {
         let Some((position, goal)) = self.first_free_task() else {
             return choose_free(alloc, task, self, number);
@@ -94,26 +90,20 @@ impl Config {
         let Some(instance) = instance_of(alloc, task, goal, number)? else {
             return Ok(None);
         };
-        Ok(Some(Choice {
-            number,
-            position,
-            change: Change::Decomposed(instance),
-        }))
+        Ok(Some((position, Change::Decomposed(instance))))
     }
 
     /// What a rank chooses in a search, which lists of the instances that are not dead each network
-    /// once, with its number; none where it is not one that is listed. A number that doesn't fit 64
-    /// bits is refused as memory is.
+    /// once; none where it is not one that is listed. No number is counted.
     pub fn choose_listed(
         &self,
         alloc: Global,
         task: &Task,
         rank: u64,
-    ) -> Result<Option<Choice>, AllocError>
-        ensures choice { IfOk result (λ o. option_map (λ x. choice_of self.now x) o ≡ choose_listed task.now self.now rank) }
-        ensures number { IfOk result (λ o. IfSome o (λ x. number_at task.now self.now rank ≡ Some x.number)) }
+    ) -> Result<Option<(usize, Change)>, AllocError>
+        ensures choice { IfOk result (λ o. option_map (chosen_of self.now) o ≡ choose_listed task.now self.now rank) }
+        ensures number { IfOk result (λ o. IfSome o (λ x. (number : ℕ) × (number_at task.now self.now rank ≡ Some number) × IsNumberOf task.now self.now number x)) }
     {
-        let _initial = task.initial_atoms();
         let Some((position, goal)) = self.first_free_task() else {
             return choose_free(alloc, task, self, rank);
         };
@@ -123,14 +113,25 @@ impl Config {
             return Ok(None);
         }
         let instance = listed.swap_remove(place);
-        let Some(number) = number_of(alloc, task, goal, &instance)? else {
-            return Err(AllocError);
-        };
-        Ok(Some(Choice {
-            number,
-            position,
-            change: Change::Decomposed(instance),
-        }))
+        Ok(Some((position, Change::Decomposed(instance))))
+    }
+
+    /// The configuration in which this has become of the open node at a position.
+    pub fn after(
+        &self,
+        alloc: Global,
+        task: &Task,
+        position: usize,
+        change: &Change,
+    ) -> Result<Config, AllocError>
+        requires { (number : ℕ) × (machine.choose (problem_of task.now) self.now number ≡ Some (chosen_of self.now (position, change.now))) }
+        ensures { IfOk result (λ next. next ≡ machine.result_of self.now (chosen_of self.now (position, change.now))) }
+    {
+        let _initial = task.initial_atoms();
+        match change {
+            Change::Decomposed(instance) => self.decomposed(alloc, position, instance),
+            Change::Performed(state) => self.performed(alloc, position, state),
+        }
     }
 
     /// The configuration that a choice leads to.
@@ -138,10 +139,7 @@ impl Config {
         requires { IsChoice (problem_of task.now) self.now choice.now }
         ensures { IfOk result (λ next. machine.step_by (problem_of task.now) self.now choice.now.number ≡ Some next) }
     {
-        let _initial = task.initial_atoms();
-        match &choice.change {
-            Change::Decomposed(instance) => self.decomposed(alloc, choice.position, instance),
-            Change::Performed(state) => self.performed(alloc, choice.position, state),
-        }
+        let next = self.after(alloc, task, choice.position, &choice.change)?;
+        Ok(next)
     }
 }

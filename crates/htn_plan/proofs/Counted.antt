@@ -2,12 +2,12 @@
 use Rattle.std.proofs.Common.{◌≡◌, ℕ, suc, ◌+◌, List, [], ◌∷◌, ◌++◌, length, take, slice_index_or, refl, ap, arith, ◌<◌}
 use Rattle.htn_model.specs.Task.{Task}
 use Rattle.htn_plan.specs.declared.preorder.Item.{Item as RustItem}
-use Rattle.htn_plan.specs.Gathered.{Gathered, gather, gather_all}
+use Rattle.htn_plan.specs.Gathered.{Gathered, MethodNaming, gather, gather_all}
 use Rattle.htn_plan.specs.Items.{item_of, items_of}
 use Rattle.htn_plan.specs.Preorder.{Item, action, step_item, task, compound_count}
 use Rattle.htn_plan.proofs.Lists.{take_map}
 
-pub count_join : (xs ys : List Item) → compound_count (xs ++ ys) ≡ compound_count xs + compound_count ys
+pub count_join : {Method : Type 0} (xs ys : List (Item Method)) → compound_count (xs ++ ys) ≡ compound_count xs + compound_count ys
 count_join [] ys = omega arith
 count_join (action id ∷ xs) ys = count_join xs ys
 count_join (step_item ∷ xs) ys = count_join xs ys
@@ -22,6 +22,7 @@ count_one xs k x m n h e before now =
     let c = ap (λ j. compound_count (items_of (take j xs))) one in
     omega (arith, a, b, c, before, now)
 
-pub gather_last : (t : Task) (end : ℕ) (xs : List Item) (x : Item) (g : Gathered) → gather_all t end (xs ++ x ∷ []) g ≡ gather_all t end xs (gather t end x g)
-gather_last t end [] x g = refl
-gather_last t end (y ∷ xs) x g = ap (gather t end y) (gather_last t end xs x g)
+pub gather_last : {Method : Type 0} (t : Task) (names : MethodNaming Method) (end : ℕ) (xs : List (Item Method)) (x : Item Method) (g : Gathered)
+    → gather_all t names end (xs ++ x ∷ []) g ≡ gather_all t names end xs (gather t names end x g)
+gather_last t names end [] x g = refl
+gather_last t names end (y ∷ xs) x g = ap (gather t names end y) (gather_last t names end xs x g)

@@ -5,7 +5,7 @@ use Rattle.htn_model.specs.PlanFile.{ActionLine, DecompositionLine, PlanFile}
 use Rattle.htn_model.specs.Task.{Task}
 use Rattle.htn_model.specs.Tree.{Node, leaf, step, compound, Nodes, no_nodes, node, list_of, node_at, Place, Solution}
 use Rattle.htn_plan.specs.declared.ids.ActionIds.{ActionIds}
-use Rattle.htn_plan.specs.Gathered.{gather_all, nothing, somes}
+use Rattle.htn_plan.specs.Gathered.{by_number, gather_all, nothing, somes}
 use Rattle.htn_plan.specs.Ids.{AreNumbered, first_actions, id_among, id_of}
 use Rattle.htn_ground.specs.Naming.{naming_of}
 use Rattle.htn_plan.specs.Preorder.{Item, action, task, items, items_from, compound_count}
@@ -27,9 +27,9 @@ module _ (f g : Place → Option ℕ) (same : (p : Place) → f p ≡ g p) where
 abbrev pub with_parts : List ActionLine → List ℕ → List DecompositionLine → PlanFile
 with_parts actions roots decompositions = record { actions = actions; roots = roots; decompositions = decompositions }
 
-pub filed : (t : Task) (s : Solution) (ids : ActionIds) (actions : List ActionLine) (k : ℕ) (xs : List Item) (end : ℕ) (roots : List ℕ) (lines : List DecompositionLine)
+pub filed : (t : Task) (s : Solution) (ids : ActionIds) (actions : List ActionLine) (k : ℕ) (xs : List (Item ℕ)) (end : ℕ) (roots : List ℕ) (lines : List DecompositionLine)
     → length s.linearisation ≤ k → AreNumbered t s k actions ids → xs ≡ items_from (id_of ids) [] 0 s.trees → end ≡ length actions + compound_count xs
-    → roots ≡ somes (gather_all t end xs nothing).ids → lines ≡ (gather_all t end xs nothing).lines
+    → roots ≡ somes (gather_all t (by_number t) end xs nothing).ids → lines ≡ (gather_all t (by_number t) end xs nothing).lines
     → with_parts actions roots lines ≡ numbered (naming_of t) s
 filed t s ids actions k xs end roots lines whole (are, each, known) xs_are end_is roots_are lines_are =
     ap (λ ls. with_parts ls roots lines) the_actions
@@ -54,8 +54,8 @@ filed t s ids actions k xs end roots lines whole (are, each, known) xs_are end_i
         let b = ap compound_count the_items ∙ items_from_count (λ p. id_among s (action_places s) p) [] 0 s.trees in
         omega (arith, a, b, end_is)
 
-    the_gathered : gather_all t end xs nothing ≡ gather_all t (total s) (items_from (λ p. id_among s (action_places s) p) [] 0 s.trees) nothing
-    the_gathered = ap₂ (λ n ys. gather_all t n ys nothing) the_end the_items
+    the_gathered : gather_all t (by_number t) end xs nothing ≡ gather_all t (by_number t) (total s) (items_from (λ p. id_among s (action_places s) p) [] 0 s.trees) nothing
+    the_gathered = ap₂ (λ n ys. gather_all t (by_number t) n ys nothing) the_end the_items
 
     the_roots : roots ≡ (numbered (naming_of t) s).roots
     the_roots = roots_are ∙ ap (λ b. somes b.ids) the_gathered ∙ gathered_roots t s

@@ -1,9 +1,11 @@
 -- Lists of the program's nodes, as forests.
 use Rattle.std.proofs.Common.{◌≡◌, ℕ, zero, suc, ◌<◌, ◌≤◌, List, [], ◌∷◌, length, drop, Option, Some, None, slice_get, slice_index_or, IfSome, MatchOption, Bor, Vec, Global, rules, refl, ap, sym, ◌∙◌, arith}
-use Rattle.htn_ground.specs.declared.node.Node.{Node as RustNode, Compound, the_lemmas}
+use Rattle.htn_tree.specs.declared.node.Node.{Node as RustNode, Compound, Leaf, Step, the_lemmas}
+use Rattle.htn_model.specs.Instance.{Instance}
+use Rattle.htn_model.specs.Literal.{Literal}
 use Rattle.htn_model.specs.Problem.{GroundTask}
-use Rattle.htn_ground.specs.Trees.{node_of, nodes_view}
-use Rattle.htn_model.specs.Tree.{Node, compound, Nodes, nodes_of, list_of, child_at, children_of, Place, node_at, node_below}
+use Rattle.htn_tree.specs.Trees.{Numbering, node_of, nodes_view}
+use Rattle.htn_model.specs.Tree.{Node, compound, leaf, step, Nodes, nodes_of, list_of, child_at, children_of, Place, node_at, node_below}
 use Rattle.htn_plan.proofs.Lists.{drop_at}
 
 pub nothing_below : (r : Place) → node_below None r ≡ None
@@ -19,20 +21,6 @@ child_of_list [] i = refl
 child_of_list (n ∷ ns) zero = refl
 child_of_list (n ∷ ns) (suc i) = child_of_list ns i
 
-pub child_some : (xs : List RustNode) (i : ℕ) (n : RustNode) → i < length xs → n ≡ slice_index_or xs i n → child_at (nodes_of (nodes_view xs)) i ≡ Some (node_of n)
-child_some [] i n h e = absurd (omega arith)
-child_some (x ∷ xs) zero n h e = ap (λ y. Some (node_of y)) (sym e)
-child_some (x ∷ xs) (suc i) n h e = child_some xs i n (omega arith) e
-
-pub child_none : (xs : List RustNode) (i : ℕ) → length xs ≤ i → child_at (nodes_of (nodes_view xs)) i ≡ None
-child_none [] i h = refl
-child_none (x ∷ xs) zero h = absurd (omega arith)
-child_none (x ∷ xs) (suc i) h = child_none xs i (omega arith)
-
-pub as_many : (xs : List RustNode) → length (list_of (nodes_of (nodes_view xs))) ≡ length xs
-as_many [] = refl
-as_many (x ∷ xs) = ap suc (as_many xs)
-
 pub below_first : (trees : Nodes) (place : Place) (i : ℕ) (below : Place) → place ≡ i ∷ below → child_at trees i ≡ None → node_at trees place ≡ None
 below_first trees place i below e h = ap (node_at trees) e ∙ ap (λ n. node_below n below) h ∙ nothing_below below
 
@@ -41,11 +29,35 @@ pub below_later : (n : Node) (below : Place) (k : ℕ) (x : Option Node) → k <
 below_later n below k x h e none =
     sym e ∙ ap (node_below (Some n)) (drop_at below k 0 h) ∙ ap (λ m. node_below m (drop (suc k) below)) none ∙ nothing_below (drop (suc k) below)
 
-pub child_found : (xs : List RustNode) (i : ℕ) (r : Option (Bor RustNode)) (H : Bor RustNode → Type 0) → IfSome r (λ x. x.now ≡ slice_index_or xs i x.now)
-    → MatchOption r (length xs ≤ i) (λ x. (i < length xs) × H x)
-    → MatchOption r (child_at (nodes_of (nodes_view xs)) i ≡ None) (λ n. child_at (nodes_of (nodes_view xs)) i ≡ Some (node_of n.now))
-child_found xs i None H is at = child_none xs i at
-child_found xs i (Some n) H is at = child_some xs i n.now at.0 is
+-- ## As the numbers of their instances show them
 
-pub compound_seen : (g : GroundTask) (number : ℕ) (children : Vec RustNode Global) → node_of (Compound g number children) ≡ compound g number (nodes_of (nodes_view children.items))
-compound_seen g number children = search (rules, the_lemmas)
+module _ (numbers : Numbering) where
+  pub child_some : (xs : List RustNode) (i : ℕ) (n : RustNode) → i < length xs → n ≡ slice_index_or xs i n → child_at (nodes_of (nodes_view numbers xs)) i ≡ Some (node_of numbers n)
+  child_some [] i n h e = absurd (omega arith)
+  child_some (x ∷ xs) zero n h e = ap (λ y. Some (node_of numbers y)) (sym e)
+  child_some (x ∷ xs) (suc i) n h e = child_some xs i n (omega arith) e
+
+  pub child_none : (xs : List RustNode) (i : ℕ) → length xs ≤ i → child_at (nodes_of (nodes_view numbers xs)) i ≡ None
+  child_none [] i h = refl
+  child_none (x ∷ xs) zero h = absurd (omega arith)
+  child_none (x ∷ xs) (suc i) h = child_none xs i (omega arith)
+
+  pub as_many : (xs : List RustNode) → length (list_of (nodes_of (nodes_view numbers xs))) ≡ length xs
+  as_many [] = refl
+  as_many (x ∷ xs) = ap suc (as_many xs)
+
+  pub child_found : (xs : List RustNode) (i : ℕ) (r : Option (Bor RustNode)) (H : Bor RustNode → Type 0) → IfSome r (λ x. x.now ≡ slice_index_or xs i x.now)
+      → MatchOption r (length xs ≤ i) (λ x. (i < length xs) × H x)
+      → MatchOption r (child_at (nodes_of (nodes_view numbers xs)) i ≡ None) (λ n. child_at (nodes_of (nodes_view numbers xs)) i ≡ Some (node_of numbers n.now))
+  child_found xs i None H is at = child_none xs i at
+  child_found xs i (Some n) H is at = child_some xs i n.now at.0 is
+
+  pub compound_seen : (g : GroundTask) (instance : Instance) (children : Vec RustNode Global)
+      → node_of numbers (Compound g instance children) ≡ compound g (numbers g instance) (nodes_of (nodes_view numbers children.items))
+  compound_seen g instance children = search (rules, the_lemmas)
+
+  pub leaf_seen : (g : GroundTask) → node_of numbers (Leaf g) ≡ leaf g
+  leaf_seen g = search (rules, the_lemmas)
+
+  pub step_seen : (literals : List Literal) → node_of numbers (Step literals) ≡ step literals
+  step_seen literals = search (rules, the_lemmas)

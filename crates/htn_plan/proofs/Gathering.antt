@@ -8,7 +8,7 @@ use Rattle.htn_model.specs.Problem.{GroundTask}
 use Rattle.htn_model.specs.Shadow.{compounds, compounds_from, ids_of, shown_from}
 use Rattle.htn_model.specs.Task.{Task}
 use Rattle.htn_model.specs.Tree.{Node, leaf, step, compound, Nodes, no_nodes, node, list_of, children_in, Place, node_at, Solution}
-use Rattle.htn_plan.specs.Gathered.{Gathered, gather, gather_all, line_of, nothing, somes}
+use Rattle.htn_plan.specs.Gathered.{Gathered, by_number, gather, gather_all, line_of, nothing, somes}
 use Rattle.htn_ground.specs.Naming.{naming_of}
 use Rattle.htn_plan.specs.Ids.{id_among}
 use Rattle.htn_plan.specs.Preorder.{Item, items, items_from, task, compound_count}
@@ -60,9 +60,9 @@ module _ (s : Solution) where
 
 -- ## Gathered
 
-pub gather_join : (t : Task) (end : ℕ) (xs ys : List Item) (b : Gathered) → gather_all t end (xs ++ ys) b ≡ gather_all t end xs (gather_all t end ys b)
+pub gather_join : (t : Task) (end : ℕ) (xs ys : List (Item ℕ)) (b : Gathered) → gather_all t (by_number t) end (xs ++ ys) b ≡ gather_all t (by_number t) end xs (gather_all t (by_number t) end ys b)
 gather_join t end [] ys b = refl
-gather_join t end (x ∷ xs) ys b = ap (gather t end x) (gather_join t end xs ys b)
+gather_join t end (x ∷ xs) ys b = ap (gather t (by_number t) end x) (gather_join t end xs ys b)
 
 module _ (t : Task) (s : Solution) where
   abbrev line_at : Place → DecompositionLine
@@ -91,8 +91,8 @@ module _ (t : Task) (s : Solution) where
   shown_ids place i (node (step literals) ns) = shown_ids place (suc i) ns
   shown_ids place i (node (compound g number nodes) ns) = ap (λ ids. id_in s (place ++ i ∷ []) ∷ ids) (shown_ids place (suc i) ns)
 
-  abbrev Gives : List Item → Gathered → List (Option ℕ) → List Place → Type 0
-  Gives xs b ids places = gather_all t (total s) xs b ≡ record { ids = ids ++ b.ids; lines = map line_at places }
+  abbrev Gives : List (Item ℕ) → Gathered → List (Option ℕ) → List Place → Type 0
+  Gives xs b ids places = gather_all t (by_number t) (total s) xs b ≡ record { ids = ids ++ b.ids; lines = map line_at places }
 
   abbrev lines_below : Place → Nodes → List Place → List DecompositionLine
   lines_below place nodes after = map line_at (compounds_from place 0 nodes ++ after)
@@ -100,11 +100,11 @@ module _ (t : Task) (s : Solution) where
   -- a compound node over its children
   over : (place : Place) (g : GroundTask) (number : ℕ) (nodes : Nodes) (b : Gathered) (after front : List Place) → node_at s.trees place ≡ Some (compound g number nodes)
       → compound_places s ≡ front ++ place ∷ (compounds_from place 0 nodes ++ after)
-      → gather t (total s) (task g number (length (list_of nodes))) (record { ids = all_shown place 0 nodes ++ b.ids; lines = map line_at (compounds_from place 0 nodes ++ after) })
+      → gather t (by_number t) (total s) (task g number (length (list_of nodes))) (record { ids = all_shown place 0 nodes ++ b.ids; lines = map line_at (compounds_from place 0 nodes ++ after) })
       ≡ record { ids = Some (id_in s place) ∷ b.ids; lines = line_at place ∷ map line_at (compounds_from place 0 nodes ++ after) }
   over place g number nodes b after front stands split =
-      ap₂ (λ id count. record { ids = Some id ∷ drop count (all_shown place 0 nodes ++ b.ids); lines = line_of t id g number (somes (take count (all_shown place 0 nodes ++ b.ids))) ∷ lines_below place nodes after }) the_id (as_many_shown place 0 nodes)
-      ∙ ap₂ (λ ids children. record { ids = Some (id_in s place) ∷ ids; lines = line_of t (id_in s place) g number children ∷ lines_below place nodes after })
+      ap₂ (λ id count. record { ids = Some id ∷ drop count (all_shown place 0 nodes ++ b.ids); lines = line_of t id g (by_number t g number) (somes (take count (all_shown place 0 nodes ++ b.ids))) ∷ lines_below place nodes after }) the_id (as_many_shown place 0 nodes)
+      ∙ ap₂ (λ ids children. record { ids = Some (id_in s place) ∷ ids; lines = line_of t (id_in s place) g (by_number t g number) children ∷ lines_below place nodes after })
       (drop_exactly (all_shown place 0 nodes) b.ids) (ap somes (take_exactly (all_shown place 0 nodes) b.ids) ∙ shown_ids place 0 nodes)
       ∙ ap (λ line. record { ids = Some (id_in s place) ∷ b.ids; lines = line ∷ lines_below place nodes after }) (sym the_line)
     where
@@ -113,8 +113,8 @@ module _ (t : Task) (s : Solution) where
           ap (λ n. total s - suc n) (length_map line_at (compounds_from place 0 nodes ++ after))
           ∙ sym (compound_id s place front (compounds_from place 0 nodes ++ after) (ap is_leaf stands) split)
 
-      the_line : line_at place ≡ line_of t (id_in s place) g number (ids_of (id_in s) (shown_from place 0 nodes))
-      the_line = ap (λ n. line_of t (id_in s place) (task_at n) (number_at n) (ids_of (id_in s) (shown_from place 0 (children_in n)))) stands
+      the_line : line_at place ≡ line_of t (id_in s place) g (by_number t g number) (ids_of (id_in s) (shown_from place 0 nodes))
+      the_line = ap (λ n. line_of t (id_in s place) (task_at n) (by_number t (task_at n) (number_at n)) (ids_of (id_in s) (shown_from place 0 (children_in n)))) stands
 
   mutual
     node_gives : (place : Place) (n : Node) (b : Gathered) (after front : List Place) → node_at s.trees place ≡ Some n
@@ -124,7 +124,7 @@ module _ (t : Task) (s : Solution) where
         ap₂ (λ id lines. record { ids = Some id ∷ b.ids; lines = lines }) (leaf_id s place (ap is_leaf stands)) are
     node_gives place (step literals) b after front stands split are = ap (λ lines. record { ids = None ∷ b.ids; lines = lines }) are
     node_gives place (compound g number nodes) b after front stands split are =
-        ap (gather t (total s) (task g number (length (list_of nodes))))
+        ap (gather t (by_number t) (total s) (task g number (length (list_of nodes))))
         (nodes_give place 0 nodes b after (front ++ place ∷ []) (all_stand s.trees place (compound g number nodes) stands)
         (split ∙ sym (append_assoc front (place ∷ []) (compounds_from place 0 nodes ++ after))) are)
         ∙ over place g number nodes b after front stands split
@@ -135,7 +135,7 @@ module _ (t : Task) (s : Solution) where
     nodes_give place i no_nodes b after front stand split are = ap (λ lines. record { ids = b.ids; lines = lines }) are
     nodes_give place i (node n ns) b after front stand split are =
         gather_join t (total s) (items id_at (place ++ i ∷ []) n) (items_from id_at place (suc i) ns) b
-        ∙ ap (gather_all t (total s) (items id_at (place ++ i ∷ []) n))
+        ∙ ap (gather_all t (by_number t) (total s) (items id_at (place ++ i ∷ []) n))
         (nodes_give place (suc i) ns b after (front ++ compounds (place ++ i ∷ []) n) (others_stand s.trees place i n ns stand)
         (later ∙ sym (append_assoc front (compounds (place ++ i ∷ []) n) (compounds_from place (suc i) ns ++ after))) are)
         ∙ node_gives (place ++ i ∷ []) n (record { ids = all_shown place (suc i) ns ++ b.ids; lines = map line_at (compounds_from place (suc i) ns ++ after) })
@@ -146,11 +146,11 @@ module _ (t : Task) (s : Solution) where
         later : compound_places s ≡ front ++ (compounds (place ++ i ∷ []) n ++ (compounds_from place (suc i) ns ++ after))
         later = split ∙ ap (λ places. front ++ places) (append_assoc (compounds (place ++ i ∷ []) n) (compounds_from place (suc i) ns) after)
 
-  whole : gather_all t (total s) (items_from id_at [] 0 s.trees) nothing ≡ record { ids = all_shown [] 0 s.trees ++ []; lines = map line_at (compound_places s ++ []) }
+  whole : gather_all t (by_number t) (total s) (items_from id_at [] 0 s.trees) nothing ≡ record { ids = all_shown [] 0 s.trees ++ []; lines = map line_at (compound_places s ++ []) }
   whole = nodes_give [] 0 s.trees nothing [] [] (roots_stand s.trees) (sym (append-nil (compound_places s))) refl
 
-  pub gathered_lines : (gather_all t (total s) (items_from id_at [] 0 s.trees) nothing).lines ≡ map line_at (compound_places s)
+  pub gathered_lines : (gather_all t (by_number t) (total s) (items_from id_at [] 0 s.trees) nothing).lines ≡ map line_at (compound_places s)
   gathered_lines = ap (λ b. b.lines) whole ∙ ap (map line_at) (append-nil (compound_places s))
 
-  pub gathered_roots : somes (gather_all t (total s) (items_from id_at [] 0 s.trees) nothing).ids ≡ ids_of (id_in s) (shown_from [] 0 s.trees)
+  pub gathered_roots : somes (gather_all t (by_number t) (total s) (items_from id_at [] 0 s.trees) nothing).ids ≡ ids_of (id_in s) (shown_from [] 0 s.trees)
   gathered_roots = ap (λ b. somes b.ids) whole ∙ ap somes (append-nil (all_shown [] 0 s.trees)) ∙ shown_ids [] 0 s.trees

@@ -1,4 +1,5 @@
 pub mod Lists
+pub mod Methods
 pub mod Positions
 pub mod Forests
 pub mod Numbers

@@ -1,17 +1,30 @@
 -- The decomposition lines of nodes in preorder, gathered from the last node to the first.
 use Rattle.std.specs.Prelude.{ℕ, suc, ◌-◌, List, [], ◌∷◌, length, take, drop, map, Option, Some, None, unwrap_or}
-use Rattle.htn_model.specs.PlanFile.{DecompositionLine}
+use Rattle.htn_model.specs.Instance.{Instance}
+use Rattle.htn_model.specs.PlanFile.{DecompositionLine, Word}
 use Rattle.htn_model.specs.Problem.{GroundTask}
 use Rattle.htn_model.specs.Task.{Task}
-use Rattle.htn_ground.specs.Naming.{task_name, object_name, method_name}
+use Rattle.htn_ground.specs.Naming.{task_name, object_name, method_name, numbered_method_name}
 use Rattle.htn_plan.specs.Preorder.{Item, action, step_item, task}
 
-abbrev pub line_of : Task → ℕ → GroundTask → ℕ → List ℕ → DecompositionLine
-line_of t id g number children = record {
+-- the name of what decomposes a ground task
+abbrev pub MethodNaming : Type 0 → Type 0
+MethodNaming Method = GroundTask → Method → Word
+
+-- that of an instance's method
+abbrev pub by_instance : Task → MethodNaming Instance
+by_instance t g instance = numbered_method_name t instance.method
+
+-- that of the method whose instance has the number
+abbrev pub by_number : Task → MethodNaming ℕ
+by_number t = method_name t
+
+abbrev pub line_of : Task → ℕ → GroundTask → Word → List ℕ → DecompositionLine
+line_of t id g method children = record {
   id = id;
   task = task_name t g.name;
   arguments = map (object_name t) g.arguments;
-  method = method_name t g number;
+  method = method;
   children = children;
 }
 
@@ -29,14 +42,14 @@ abbrev pub nothing : Gathered
 nothing = record { ids = []; lines = [] }
 
 -- with one more node in front, where ids are below the end
-abbrev pub gather : Task → ℕ → Item → Gathered → Gathered
-gather t end (action id) g = record { ids = Some (unwrap_or id end) ∷ g.ids; lines = g.lines }
-gather t end step_item g = record { ids = None ∷ g.ids; lines = g.lines }
-gather t end (task goal number count) g = record {
+abbrev pub gather : {Method : Type 0} → Task → MethodNaming Method → ℕ → Item Method → Gathered → Gathered
+gather t names end (action id) g = record { ids = Some (unwrap_or id end) ∷ g.ids; lines = g.lines }
+gather t names end step_item g = record { ids = None ∷ g.ids; lines = g.lines }
+gather t names end (task goal method count) g = record {
   ids = Some (end - suc (length g.lines)) ∷ drop count g.ids;
-  lines = line_of t (end - suc (length g.lines)) goal number (somes (take count g.ids)) ∷ g.lines;
+  lines = line_of t (end - suc (length g.lines)) goal (names goal method) (somes (take count g.ids)) ∷ g.lines;
 }
 
-abbrev pub gather_all : Task → ℕ → List Item → Gathered → Gathered
-gather_all t end [] g = g
-gather_all t end (item ∷ items) g = gather t end item (gather_all t end items g)
+abbrev pub gather_all : {Method : Type 0} → Task → MethodNaming Method → ℕ → List (Item Method) → Gathered → Gathered
+gather_all t names end [] g = g
+gather_all t names end (item ∷ items) g = gather t names end item (gather_all t names end items g)

@@ -1,7 +1,7 @@
 -- A walk through a forest that is under way.
 use Rattle.std.specs.Prelude.{ℕ, suc, ◌+◌, ◌-◌, List, [], ◌∷◌, ◌++◌, drop, Option}
 use Rattle.htn_model.specs.Tree.{Nodes, nodes_of, Place, total_size}
-use Rattle.htn_ground.specs.Trees.{nodes_view}
+use Rattle.htn_tree.specs.Trees.{Numbering, nodes_view}
 use Rattle.htn_plan.specs.declared.preorder.Frame.{Frame}
 use Rattle.htn_plan.specs.Preorder.{Item, items_from}
 
@@ -10,8 +10,8 @@ pub record Level : Type 0 where
   pub taken : ℕ
   pub rest : Nodes
 
-abbrev pub level_of : Frame → Level
-level_of f = record { taken = f.taken; rest = nodes_of (drop f.taken (nodes_view f.children.now)) }
+abbrev pub level_of : Numbering → Frame → Level
+level_of numbers f = record { taken = f.taken; rest = nodes_of (drop f.taken (nodes_view numbers f.children.now)) }
 
 -- the place that was taken last, where the lowest level comes first
 abbrev pub place_of : List Level → Place
@@ -19,7 +19,7 @@ place_of [] = []
 place_of (l ∷ ls) = place_of ls ++ (l.taken - 1) ∷ []
 
 -- what is still to come
-abbrev pub pending : (Place → Option ℕ) → List Level → List Item
+abbrev pub pending : (Place → Option ℕ) → List Level → List (Item ℕ)
 pending id_at [] = []
 pending id_at (l ∷ ls) = items_from id_at (place_of ls) l.taken l.rest ++ pending id_at ls
 

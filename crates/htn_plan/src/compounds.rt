@@ -8,7 +8,7 @@ ghost use Rattle.htn_plan.specs.Preorder as seen;
 
 use crate::lines::decomposition_line;
 use crate::preorder::Item;
-use htn_ground::GroundTask;
+use htn_ground::{GroundTask, Instance};
 use htn_task::Task;
 use plan_text::DecompositionLine;
 use std::alloc::{AllocError, Global};
@@ -84,17 +84,17 @@ impl Gathering {
         alloc: Global,
         task: &Task,
         goal: &GroundTask,
-        number: u64,
+        instance: &Instance,
         count: usize,
         end: u64,
     ) -> Result<(), AllocError>
-        ensures { OnOk result (self.new ≡ spec.gather task.now end (seen.task goal.now number count) self.old) }
+        ensures { OnOk result (self.new ≡ spec.gather task.now (spec.by_instance task.now) end (seen.task goal.now instance.now count) self.old) }
     {
         let id = end
             .saturating_sub(self.lines.len() as u64)
             .saturating_sub(1);
         let children = take_ids(alloc, &mut self.ids, count)?;
-        self.lines.push(decomposition_line(alloc, task, goal, number, id, children)?)?;
+        self.lines.push(decomposition_line(alloc, task, goal, instance, id, children)?)?;
         self.ids.push(Some(id))?;
         Ok(())
     }
@@ -107,13 +107,13 @@ impl Gathering {
         item: Item<'_>,
         end: u64,
     ) -> Result<(), AllocError>
-        ensures { OnOk result (self.new ≡ spec.gather task.now end (item_of item.entry) self.old) }
+        ensures { OnOk result (self.new ≡ spec.gather task.now (spec.by_instance task.now) end (item_of item.entry) self.old) }
     {
         match item {
             Item::Action(id) => self.ids.push(Some(id.unwrap_or(end)))?,
             Item::Step => self.ids.push(None)?,
-            Item::Compound(goal, number, count) => {
-                self.add_compound(alloc, task, goal, number, count, end)?
+            Item::Compound(goal, instance, count) => {
+                self.add_compound(alloc, task, goal, instance, count, end)?
             }
         }
         Ok(())
@@ -127,8 +127,8 @@ pub(crate) fn number_compounds(
     mut items: Vec<Item<'_>>,
     end: u64,
 ) -> Result<(Vec<u64>, Vec<DecompositionLine>), AllocError>
-    ensures roots { IfOk result (λ r. r.0.items ≡ spec.somes (spec.gather_all task.now end (items_of items.entry.items) spec.nothing).ids) }
-    ensures lines { IfOk result (λ r. r.1.items ≡ (spec.gather_all task.now end (items_of items.entry.items) spec.nothing).lines) }
+    ensures roots { IfOk result (λ r. r.0.items ≡ spec.somes (spec.gather_all task.now (spec.by_instance task.now) end (items_of items.entry.items) spec.nothing).ids) }
+    ensures lines { IfOk result (λ r. r.1.items ≡ (spec.gather_all task.now (spec.by_instance task.now) end (items_of items.entry.items) spec.nothing).lines) }
     ensures each { IfOk result (λ r. AllByRecursion IsDecompositionLine r.1.items) }
 {
     let mut gathered = Gathering::new(alloc);

@@ -1,19 +1,19 @@
 //! The plan file of a solution.
 ghost use Rattle.std.specs.Prelude.{◌≡◌, ◌+◌, IfOk};
 ghost use Rattle.std.specs.List.{AllByRecursion};
-ghost use Rattle.htn_ground.specs.Trees.{solution_of};
+ghost use Rattle.htn_tree.specs.Trees.{solution_of};
 ghost use Rattle.htn_model.specs.Numbered.{numbered};
 ghost use Rattle.plan_text.specs.PlanFile.{IsActionLine, IsDecompositionLine};
 ghost use Rattle.htn_model.specs.Grounding.{problem_of};
 ghost use Rattle.htn_model.specs.Shadow.{IsShadow};
-ghost use Rattle.htn_model.specs.Tree.{IsSolution};
+ghost use Rattle.htn_model.specs.Tree.{AreTrees, IsSolution};
 ghost use Rattle.htn_ground.specs.Naming.{naming_of};
 
 use crate::actions::number_actions;
 use crate::compounds::{count_compounds, number_compounds};
 use crate::preorder::preorder;
-use htn_ground::Solution;
 use htn_task::Task;
+use htn_tree::Solution;
 use plan_text::{ActionLine, DecompositionLine, PlanFile};
 use std::alloc::{AllocError, Global};
 
@@ -41,11 +41,13 @@ fn plan_file(
 
 /// The plan file of a solution: its actions, numbered 0, 1, .. in order of execution, and then its
 /// compound nodes in preorder. Roots and children stand in declared order. Precondition steps are
-/// left out. The file of a solution of the task is a shadow of it. An error comes only where memory was
-/// refused.
+/// left out. Nodes are named by their instances, which have to be instances of the task. The file of a
+/// solution of the task is a shadow of it. An error comes only where memory was refused.
 pub fn file_of(alloc: Global, task: &Task, solution: &Solution) -> Result<PlanFile, AllocError>
-    ensures value { IfOk result (λ file. file ≡ numbered (naming_of task.now) (solution_of solution.now)) }
-    ensures shadow { IfOk result (λ file. IsSolution (problem_of task.now) (solution_of solution.now) → IsShadow (naming_of task.now) file (solution_of solution.now)) }
+    ensures value { IfOk result (λ file. AreTrees (problem_of task.now) (solution_of task.now solution.now).trees
+        → file ≡ numbered (naming_of task.now) (solution_of task.now solution.now)) }
+    ensures shadow { IfOk result (λ file. IsSolution (problem_of task.now) (solution_of task.now solution.now)
+        → IsShadow (naming_of task.now) file (solution_of task.now solution.now)) }
 {
     // A call on the task, so that the proof knows it to be well typed.
     let _typed = task.objects();

@@ -7,7 +7,7 @@ ghost use Rattle.htn_plan.specs.Gathered as spec;
 ghost use Rattle.htn_ground.specs.Naming as named;
 
 use crate::names::{method_name, object_name, task_name};
-use htn_ground::GroundTask;
+use htn_ground::{GroundTask, Instance};
 use htn_task::Task;
 use plan_text::{ActionLine, DecompositionLine, Word};
 use std::alloc::{AllocError, Global};
@@ -43,20 +43,20 @@ pub(crate) fn action_line(
     Ok(ActionLine::new(id, name, arguments))
 }
 
-/// The line of a compound task that the instance with this number decomposes into these children.
+/// The line of a compound task that an instance decomposes into these children.
 pub(crate) fn decomposition_line(
     alloc: Global,
     task: &Task,
     goal: &GroundTask,
-    number: u64,
+    instance: &Instance,
     id: u64,
     children: Vec<u64>,
 ) -> Result<DecompositionLine, AllocError>
-    ensures value { IfOk result (λ line. line ≡ spec.line_of task.now id goal.now number children.items) }
+    ensures value { IfOk result (λ line. line ≡ spec.line_of task.now id goal.now (spec.by_instance task.now goal.now instance.now) children.items) }
     ensures line { IfOk result IsDecompositionLine }
 {
     let name = Word::from_bytes(alloc, task_name(task, goal.name()))?;
     let arguments = object_words(alloc, task, goal.arguments())?;
-    let method = Word::from_bytes(alloc, method_name(alloc, task, goal, number)?)?;
+    let method = Word::from_bytes(alloc, method_name(task, instance.method()))?;
     Ok(DecompositionLine::new(id, name, arguments, method, children))
 }

@@ -1,11 +1,9 @@
 //! The names of what stands in a task.
-ghost use Rattle.std.specs.Prelude.{◌≡◌, IfOk};
+ghost use Rattle.std.specs.Prelude.{◌≡◌};
 ghost use Rattle.htn_model.specs.PlanWord.{IsName};
 ghost use Rattle.htn_ground.specs.Naming as spec;
 
-use htn_ground::{GroundTask, method_of};
 use htn_task::Task;
-use std::alloc::{AllocError, Global};
 
 /// The word for a number that names nothing.
 fn unnamed() -> &'static [u8]
@@ -42,21 +40,16 @@ pub(crate) fn task_name(task: &Task, number: u32) -> &[u8]
     }
 }
 
-/// The name of the method whose instance has this number, among the instances of a compound task.
-pub(crate) fn method_name<'a>(
-    alloc: Global,
-    task: &'a Task,
-    goal: &GroundTask,
-    number: u64,
-) -> Result<&'a [u8], AllocError>
-    ensures value { IfOk result (λ w. w.now ≡ spec.method_name task.now goal.now number) }
-    ensures name { IfOk result (λ w. IsName w.now) }
+/// The name of a method.
+pub(crate) fn method_name(task: &Task, method: Option<u16>) -> &[u8]
+    ensures value { result.now ≡ spec.numbered_method_name task.now method }
+    ensures name { IsName result.now }
 {
-    let Some(method) = method_of(alloc, task, goal, number)? else {
-        return Ok(unnamed());
+    let Some(number) = method else {
+        return unnamed();
     };
-    match task.methods().get(method as usize) {
-        Some(method) => Ok(method.name().as_bytes()),
-        None => Ok(unnamed()),
+    match task.methods().get(number as usize) {
+        Some(method) => method.name().as_bytes(),
+        None => unnamed(),
     }
 }

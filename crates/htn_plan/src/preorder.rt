@@ -1,14 +1,15 @@
 //! The nodes of a forest in preorder.
 ghost use Rattle.std.specs.Prelude.{◌≡◌, ◌<◌, ◌+◌, ◌++◌, [], IfOk, OnOk};
-ghost use Rattle.htn_ground.specs.Trees.{node_of, nodes_view};
+ghost use Rattle.htn_tree.specs.Trees.{Numbering, node_of, nodes_view};
 ghost use Rattle.htn_model.specs.Tree as tree;
 ghost use Rattle.htn_plan.specs.Ids.{id_of};
-ghost use Rattle.htn_plan.specs.Items.{item_of, items_of, levels_of};
+ghost use Rattle.htn_plan.specs.Items.{levels_of, numbered_items};
 ghost use Rattle.htn_plan.specs.Preorder as spec;
 ghost use Rattle.htn_plan.specs.Walk.{pending, place_of as level_place, steps_left};
 
 use crate::ids::ActionIds;
-use htn_ground::{GroundTask, Node};
+use htn_ground::{GroundTask, Instance};
+use htn_tree::Node;
 use std::alloc::{AllocError, Global};
 
 /// A node, without those below it.
@@ -18,8 +19,8 @@ pub(crate) enum Item<'a> {
     Action(Option<u64>),
     /// A precondition step.
     Step,
-    /// A compound task, the number of its method instance, and how many children it has.
-    Compound(&'a GroundTask, u64, usize),
+    /// A compound task, the method instance that decomposes it, and how many children it has.
+    Compound(&'a GroundTask, &'a Instance, usize),
 }
 
 /// The children of a node, of which so many were taken.
@@ -31,7 +32,7 @@ pub(crate) struct Frame<'a> {
 
 /// The place of the node that was taken last.
 fn place_of(alloc: Global, frames: &[Frame<'_>]) -> Result<Vec<usize>, AllocError>
-    ensures { IfOk result (λ place. place.items ≡ level_place (levels_of frames.now)) }
+    ensures { IfOk result (λ place. (numbers : Numbering) → place.items ≡ level_place (levels_of numbers frames.now)) }
 {
     let mut place = Vec::with_capacity(alloc, frames.len())?;
     for frame in frames {
@@ -48,10 +49,11 @@ fn visit<'a>(
     frames: &mut Vec<Frame<'a>>,
     items: &mut Vec<Item<'a>>,
 ) -> Result<(), AllocError>
-    ensures items { OnOk result
-        (items_of items.new.items ++ pending (id_of ids.now) (levels_of frames.new.items)
-        ≡ items_of items.old.items ++ spec.items (id_of ids.now) (level_place (levels_of frames.old.items)) (node_of node.now) ++ pending (id_of ids.now) (levels_of frames.old.items)) }
-    ensures fewer { OnOk result (steps_left (levels_of frames.new.items) < tree.size (node_of node.now) + tree.size (node_of node.now) + steps_left (levels_of frames.old.items)) }
+    ensures items { OnOk result ((numbers : Numbering) →
+        (numbered_items numbers items.new.items ++ pending (id_of ids.now) (levels_of numbers frames.new.items)
+        ≡ numbered_items numbers items.old.items ++ spec.items (id_of ids.now) (level_place (levels_of numbers frames.old.items)) (node_of numbers node.now) ++ pending (id_of ids.now) (levels_of numbers frames.old.items))) }
+    ensures fewer { OnOk result ((numbers : Numbering) →
+        steps_left (levels_of numbers frames.new.items) < tree.size (node_of numbers node.now) + tree.size (node_of numbers node.now) + steps_left (levels_of numbers frames.old.items)) }
 {
     match node {
         Node::Leaf(_) => {
@@ -59,8 +61,8 @@ fn visit<'a>(
             items.push(Item::Action(ids.get(&place)))?;
         }
         Node::Step(_) => items.push(Item::Step)?,
-        Node::Compound(goal, number, children) => {
-            items.push(Item::Compound(goal, *number, children.len()))?;
+        Node::Compound(goal, instance, children) => {
+            items.push(Item::Compound(goal, instance, children.len()))?;
             frames.push(Frame { children, taken: 0 })?;
         }
     }
@@ -73,7 +75,7 @@ pub(crate) fn preorder<'a>(
     trees: &'a [Node],
     ids: &ActionIds<'_>,
 ) -> Result<Vec<Item<'a>>, AllocError>
-    ensures { IfOk result (λ items. items_of items.items ≡ spec.items_from (id_of ids.now) [] 0 (tree.nodes_of (nodes_view trees.now))) }
+    ensures { IfOk result (λ items. (numbers : Numbering) → numbered_items numbers items.items ≡ spec.items_from (id_of ids.now) [] 0 (tree.nodes_of (nodes_view numbers trees.now))) }
 {
     let mut items = Vec::new(alloc);
     let mut frames = Vec::new(alloc);

@@ -4,8 +4,9 @@ use Rattle.htn_model.specs.Task.{Task}
 use Rattle.htn_model.specs.PlanFile.{PlanFile}
 use Rattle.htn_model.specs.Grounding.{problem_of}
 use Rattle.htn_model.specs.Numbered.{numbered}
-use Rattle.htn_ground.specs.declared.node.Solution.{Solution}
-use Rattle.htn_ground.specs.Trees.{solution_of}
+use Rattle.htn_model.specs.Tree.{AreTrees}
+use Rattle.htn_tree.specs.declared.node.Solution.{Solution}
+use Rattle.htn_tree.specs.Trees.{solution_of}
 use Rattle.htn_ground.specs.Naming.{naming_of}
 use Rattle.plan_text.specs.Written.{written}
 use Rattle.plan_text.specs.Out.{TakesBeginning}
@@ -16,12 +17,14 @@ use Rattle.htn_run.specs.Headline.{IsCutShort, Says}
 use Rattle.htn_run.specs.declared.outcome.Outcome.{Outcome}
 use Rattle.htn_run.specs.declared.outcome.Outcome.TheVariants.{Found, NoPlan, Unsolvable}
 
-module _ (task : Task) (bound : ℕ) (found : Answer) (answers : Answers (problem_of task) bound found) where
+module _ (task : Task) (bound : ℕ) (found : Answer) (answers : Answers task bound found) where
   -- a plan that is found answers by its file's text
-  pub says_plan : (plan : Solution) (file : PlanFile) → found ≡ answer.Plan plan → file ≡ numbered (naming_of task) (solution_of plan)
+  pub says_plan : (plan : Solution) (file : PlanFile) → found ≡ answer.Plan plan
+      → (AreTrees (problem_of task) (solution_of task plan).trees → file ≡ numbered (naming_of task) (solution_of task plan))
       → Says task bound Found (written file)
   says_plan plan file is value =
-      subst (λ f. Says task bound Found (written f)) (sym value) (solution_of plan, (answers.plan (solution_of plan)).0 (plan, is, refl), refl)
+      let own = (answers.plan (solution_of task plan)).0 (plan, is, refl) in
+      subst (λ f. Says task bound Found (written f)) (sym (value own.0.are_trees)) (solution_of task plan, own, refl)
 
   -- where there is none within a bound that was met, `none` answers
   pub says_none : found ≡ answer.None → Says task bound NoPlan (codes "none\n")

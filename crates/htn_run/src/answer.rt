@@ -1,7 +1,6 @@
 //! The text that says an answer.
 ghost use Rattle.std.specs.Prelude.{◌≡◌, ◌≢◌, List, ℕ, true, IfOk, IfErr, OnOk};
 ghost use Rattle.std.specs.Io.KnownBytes.{Appends};
-ghost use Rattle.htn_model.specs.Grounding.{problem_of};
 ghost use Rattle.htn_search.specs.Answer.{Answers};
 ghost use Rattle.htn_run.specs.Headline.{IsCutShort, Says};
 ghost use Rattle.htn_run.specs.declared.outcome.RunFault.TheVariants.{OutOfMemory, Output};
@@ -20,7 +19,7 @@ pub(crate) fn write_answer<O: Out>(
     answer: &Answer,
     out: &mut O,
 ) -> Result<Outcome, RunFault>
-    requires { Answers (problem_of task.now) bound answer.now }
+    requires { Answers task.now bound answer.now }
     ensures says { IfOk result (λ outcome. (text : List ℕ) × Says task.now bound outcome text × Appends (O.contents out.old) (O.contents out.new) text) }
     ensures works { OnOk result (O.has_failed out.new ≡ O.has_failed out.old) }
     ensures faults { IfErr result (λ fault. fault ≢ Output → (fault ≡ OutOfMemory) × (out.new ≡ out.old)) }

@@ -2,34 +2,40 @@
 use Rattle.std.proofs.Common.{◌≡◌, ℕ, Some, None, refl, ap, ◌∙◌, subst, arith}
 use Rattle.std.proofs.lemmas.Option.{same_Some}
 use Rattle.htn_model.specs.Problem.{Problem, IsGrounded}
+use Rattle.htn_model.specs.Grounding.{problem_of}
+use Rattle.htn_model.specs.Task.{Task}
 use Rattle.htn_model.specs.Tree as tree
 use Rattle.htn_model.specs.Answer.{IsAnswer}
 use Rattle.htn_model.specs.Exhaustion.{IsMet, IsUnsolvable}
 use Rattle.htn_model.proofs.Answers.{least_word_answers}
-use Rattle.htn_ground.specs.declared.node.Solution.{Solution}
-use Rattle.htn_ground.specs.Trees.{solution_of}
+use Rattle.htn_tree.specs.declared.node.Solution.{Solution}
+use Rattle.htn_tree.specs.Trees.{solution_of}
 use Rattle.htn_search.specs.declared.answer.Answer.TheVariants.{Plan, None as NoPlan, Unsolvable}
 use Rattle.htn_search.specs.Answer.{Answers}
 
-module _ (problem : Problem) (bound : ℕ) where
+module _ (t : Task) (bound : ℕ) where
+  -- the problem of the task
+  abbrev problem : Problem
+  problem = problem_of t
+
   not_both : (s : tree.Solution) → IsAnswer problem bound (Some s) → IsAnswer problem bound None → ⊥
   not_both s answer none = let over = none s answer.0 in let within = answer.1 in omega arith
 
-  pub plan_answers : IsGrounded problem → (plan : Solution) → IsAnswer problem bound (Some (solution_of plan)) → Answers problem bound (Plan plan)
+  pub plan_answers : IsGrounded problem → (plan : Solution) → IsAnswer problem bound (Some (solution_of t plan)) → Answers t bound (Plan plan)
   plan_answers grounded plan answer = record {
-    plan = λ s. (λ is. (let same : plan ≡ is.0 = (let e = is.1 in cc) in subst (λ x. IsAnswer problem bound (Some x)) (ap solution_of same ∙ is.2) answer), λ other. (plan, refl, same_Some _ _ ((least_word_answers problem grounded).one_answer bound (Some (solution_of plan)) (Some s) answer other)));
-    none = (λ e. absurd cc, λ other. absurd (not_both (solution_of plan) answer other.0));
-    unsolvable = (λ e. absurd cc, λ other. absurd (other.0 (solution_of plan) answer.0));
+    plan = λ s. (λ is. (let same : plan ≡ is.0 = (let e = is.1 in cc) in subst (λ x. IsAnswer problem bound (Some x)) (ap (solution_of t) same ∙ is.2) answer), λ other. (plan, refl, same_Some _ _ ((least_word_answers problem grounded).one_answer bound (Some (solution_of t plan)) (Some s) answer other)));
+    none = (λ e. absurd cc, λ other. absurd (not_both (solution_of t plan) answer other.0));
+    unsolvable = (λ e. absurd cc, λ other. absurd (other.0 (solution_of t plan) answer.0));
   }
 
-  pub none_answers : IsAnswer problem bound None → IsMet problem bound → Answers problem bound NoPlan
+  pub none_answers : IsAnswer problem bound None → IsMet problem bound → Answers t bound NoPlan
   none_answers none met = record {
     plan = λ s. (λ is. (let e = is.1 in absurd cc), λ other. absurd (not_both s other none));
     none = (λ e. (none, met), λ other. refl);
     unsolvable = (λ e. absurd cc, λ other. absurd (other.1 met));
   }
 
-  pub unsolvable_answers : IsUnsolvable problem → (IsMet problem bound → ⊥) → Answers problem bound Unsolvable
+  pub unsolvable_answers : IsUnsolvable problem → (IsMet problem bound → ⊥) → Answers t bound Unsolvable
   unsolvable_answers never not_met = record {
     plan = λ s. (λ is. (let e = is.1 in absurd cc), λ other. absurd (never s other.0));
     none = (λ e. absurd cc, λ other. absurd (not_met other.1));

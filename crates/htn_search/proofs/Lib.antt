@@ -1,5 +1,6 @@
 pub mod Answering
 pub mod ChildPlaces
+pub mod Closing
 pub mod Finishing
 pub mod Moves
 pub mod Shared

@@ -12,7 +12,7 @@ use Rattle.htn_task.proofs.term.EqualitySchema.TheSendSync as EqualityShared
 use Rattle.htn_task.proofs.term.TaskSchema.TheSendSync as TaskSchemaShared
 use Rattle.htn_task.proofs.term.Term.TheSendSync as TermShared
 use Rattle.htn_task.proofs.term.TermList.TheSendSync as TermsShared
-use Rattle.htn_state.proofs.literal.LiteralList.TheSendSync as LiteralsShared
+use Rattle.tree_sizes.proofs.tree_sizes.TreeSizes.TheSendSync as SizesShared
 use Rattle.std.proofs.Crossing.{crosses}
 use Rattle.std.proofs.alloc.Global.TheSendSync as GlobalShared
 use Rattle.std.proofs.rt.Memory.TheSendSync as MemoryShared
@@ -72,5 +72,5 @@ parts_sync =
 pub task_sync : IsSync Task.the_row
 task_sync = search (parts_sync, basic) depth 60 fits 20000
 
--- what a word machine has beside its task
-pub ruleset kept = (LiteralsShared.the_send, LiteralsShared.the_sync, basic)
+-- what the machine of a task has beside it
+pub ruleset kept = (SizesShared.the_send, SizesShared.the_sync, basic)

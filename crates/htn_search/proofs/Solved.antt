@@ -14,6 +14,7 @@ use Rattle.htn_model.specs.Machine.{Config, start, FinishesFrom, Finishes}
 use Rattle.htn_model.proofs.Regrown.{rebuild}
 use Rattle.htn_model.proofs.Rebuild.{route}
 use Rattle.htn_model.proofs.OneToOne.{one_to_one, rebuilds, rebuilt_solution}
+use Rattle.htn_tree.specs.Trees.{Numbering}
 use Rattle.htn_search.specs.declared.trail.Move.{Move}
 use Rattle.htn_search.specs.Trail.{before_moves}
 use Rattle.htn_search.specs.Places.{child_places}
@@ -21,13 +22,13 @@ use Rattle.htn_search.specs.Rebuilt.{IsSolutionOf}
 use Rattle.htn_search.proofs.Way.{IsUnderWay, same_places}
 
 -- all numbers are walked, from an initial network on
-pub solved : (problem : Problem) → IsGrounded problem → (number : ℕ) (numbers : List ℕ) (h : Finishes problem (number ∷ numbers)) (network : Network)
+pub solved : (numbering : Numbering) (problem : Problem) → IsGrounded problem → (number : ℕ) (numbers : List ℕ) (h : Finishes problem (number ∷ numbers)) (network : Network)
     → slice_get problem.initials number ≡ Some network
     → (first : Config) (roots : List Place) → first ≡ start problem network → roots ≡ child_places [] 0 (length network.children)
-    → (c : Config) (trail : List Move) (places visits : List Place) → IsUnderWay problem numbers first roots [] c trail places visits
-    → (s : Solution) → s.number ≡ number → s.trees ≡ nodes_of (before_moves trail []) → s.linearisation ≡ visits
+    → (c : Config) (trail : List Move) (places visits : List Place) → IsUnderWay numbering problem numbers first roots [] c trail places visits
+    → (s : Solution) → s.number ≡ number → s.trees ≡ nodes_of (before_moves numbering trail []) → s.linearisation ≡ visits
     → IsSolutionOf problem (number ∷ numbers) s
-solved problem grounded number numbers h network is first roots f r c trail places visits way s n t l =
+solved numbering problem grounded number numbers h network is first roots f r c trail places visits way s n t l =
     let same : network ≡ h.0 = same_Some network h.0 (sym is ∙ h.1) in
     let trees : s.trees ≡ nodes_of (rebuild problem numbers (start problem h.0)) =
     t ∙ ap nodes_of way.trees ∙ ap (λ x. nodes_of (rebuild problem numbers x)) f ∙ ap (λ x. nodes_of (rebuild problem numbers (start problem x))) same in

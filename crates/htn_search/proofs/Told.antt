@@ -91,7 +91,7 @@ module _ (t : Task) where
 
 module _ (t : Task) (grounded : IsGrounded (problem_of t)) (bound : ℕ) where
   alive : FinishesLive (machine_of (problem_of t))
-  alive = live_finishes (machine_of (problem_of t)) (IsOwn (problem_of t)) (lawful (problem_of t) grounded) 0
+  alive = live_finishes (machine_of (problem_of t)) (IsOwn (problem_of t)) (lawful (problem_of t) grounded)
 
   -- an answer by ranks is one by numbers
   pub told_answer : (found tells : Found) → IsAnswer (listing_machine t) bound found → IsToldBy (machine_of (problem_of t)) (listing_machine t) (initial_of t) (number_of t) found tells

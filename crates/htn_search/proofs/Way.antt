@@ -5,24 +5,24 @@ use Rattle.std.proofs.lemmas.Option.{same_Some}
 use Rattle.htn_model.specs.Problem.{Child, precondition, action, task, is_compound, Network, Problem}
 use Rattle.htn_model.specs.Tree.{Node, Place, root}
 use Rattle.htn_model.specs.Choice.{splice, child_of}
-use Rattle.htn_model.specs.Machine.{Config, Choice, choose, result_of, start, step_by, FinishesFrom}
+use Rattle.htn_model.specs.Machine.{Config, Choice, choose, result_of, start, FinishesFrom}
 use Rattle.htn_model.proofs.Splices.{length_splice}
 use Rattle.htn_model.proofs.Steps.{chosen, step_choice}
 use Rattle.htn_model.proofs.Onward.{visited}
 use Rattle.htn_model.proofs.Regrown.{make, graft, regrown, rebuild, regrows, choice_within}
 use Rattle.htn_model.proofs.Rebuild.{routed, route}
 use Rattle.htn_model.proofs.Rebuild as theory
-use Rattle.htn_ground.specs.Views.{child_view}
+use Rattle.htn_tree.specs.Trees.{Numbering, node_of, over}
 use Rattle.htn_search.specs.declared.trail.Move.{Move}
-use Rattle.htn_search.specs.Trail.{node_over, before_move, before_moves, AreWithin, IsMove}
+use Rattle.htn_search.specs.Trail.{bare, before_move, before_moves, AreWithin, IsMove}
 use Rattle.htn_search.specs.Places.{child_places, own_place, places_view}
 use Rattle.htn_search.specs.Walk.{IsStart}
 use Rattle.htn_search.specs.declared.walk.Walk.{Walk}
-use Rattle.htn_search.proofs.Moves.{before_last, within_push}
+use Rattle.htn_search.proofs.Moves.{before_last, length_before, within_push}
 
 -- ## The same words
 
-same_node : (child : Child) (number : ℕ) (children : List Node) → node_over child number children ≡ make child number children
+same_node : (child : Child) (number : ℕ) (children : List Node) → over (bare child number) children ≡ make child number children
 same_node (precondition literals) number children = refl
 same_node (action g) number children = refl
 same_node (task t) number children = refl
@@ -45,16 +45,16 @@ length-child_places place position (suc count) = ap suc (length-child_places pla
 pub position_within : (problem : Problem) (c : Config) (number : ℕ) (choice : Choice) → choose problem c number ≡ Some choice → choice.position < length c.open_nodes
 position_within problem c number choice chooses = choice_within problem c number choice (chosen problem c number choice chooses)
 
-pub record IsUnderWay (problem : Problem) (word : List ℕ) (first : Config) (roots : List Place) (rest : List ℕ) (c : Config) (trail : List Move)
+pub record IsUnderWay (numbers : Numbering) (problem : Problem) (word : List ℕ) (first : Config) (roots : List Place) (rest : List ℕ) (c : Config) (trail : List Move)
     (places visits : List Place) : Type 0 where
   pub finishes : FinishesFrom problem rest c
   pub placed : length places ≡ length c.open_nodes
-  pub within : AreWithin trail (rebuild problem rest c)
-  pub trees : before_moves trail (rebuild problem rest c) ≡ rebuild problem word first
+  pub within : AreWithin trail (length (rebuild problem rest c))
+  pub trees : before_moves numbers trail (rebuild problem rest c) ≡ rebuild problem word first
   pub carried_out : visits ++ route problem rest c places ≡ route problem word first roots
 
-module _ (problem : Problem) (c : Config) (number : ℕ) (choice : Choice) (chooses : choose problem c number ≡ Some choice) (last : Move)
-    (is_move : IsMove c number choice last) (rest : List ℕ) where
+module _ (numbers : Numbering) (problem : Problem) (c : Config) (number : ℕ) (choice : Choice) (chooses : choose problem c number ≡ Some choice) (last : Move)
+    (is_move : IsMove numbers c number choice last) (rest : List ℕ) where
   within : choice.position < length c.open_nodes
   within = position_within problem c number choice chooses
 
@@ -67,18 +67,18 @@ module _ (problem : Problem) (c : Config) (number : ℕ) (choice : Choice) (choo
       let same : made.0 ≡ choice = same_Some made.0 choice (sym made.1 ∙ chooses) in
       subst (FinishesFrom problem rest) (made.2 ∙ ap (result_of c) same) h.2
 
-  grown_back : before_move last (rebuild problem rest next) ≡ rebuild problem (number ∷ rest) c
+  grown_back : before_move numbers last (rebuild problem rest next) ≡ rebuild problem (number ∷ rest) c
   grown_back =
       let trees = rebuild problem rest next in
       same_graft trees ∙ sym (ap (regrown c number (rebuild problem rest)) chooses)
     where
-      same_graft : (trees : List Node) → before_move last trees ≡ graft choice.position (length choice.network.children) (child_of c.open_nodes choice.position) number trees
+      same_graft : (trees : List Node) → before_move numbers last trees ≡ graft choice.position (length choice.network.children) (child_of c.open_nodes choice.position) number trees
       same_graft trees =
           let i = choice.position in
           let m = length choice.network.children in
-          ap (λ k. take k trees ++ node_over (child_view last.node) last.number (take last.children (drop k trees)) ∷ drop (k + last.children) trees) is_move.position
-          ∙ ap (λ k. take i trees ++ node_over (child_view last.node) last.number (take k (drop i trees)) ∷ drop (i + k) trees) is_move.children
-          ∙ ap₂ (λ x k. take i trees ++ node_over x k (take m (drop i trees)) ∷ drop (i + m) trees) is_move.node is_move.chosen_by
+          ap (λ k. take k trees ++ over (node_of numbers last.node) (take last.children (drop k trees)) ∷ drop (k + last.children) trees) is_move.position
+          ∙ ap (λ k. take i trees ++ over (node_of numbers last.node) (take k (drop i trees)) ∷ drop (i + k) trees) is_move.children
+          ∙ ap (λ x. take i trees ++ over x (take m (drop i trees)) ∷ drop (i + m) trees) is_move.node
           ∙ ap (λ n. take i trees ++ n ∷ drop (i + m) trees) (same_node (child_of c.open_nodes i) number (take m (drop i trees)))
 
   move_within : FinishesFrom problem rest next → last.position + last.children ≤ length (rebuild problem rest next)
@@ -102,11 +102,11 @@ module _ (problem : Problem) (c : Config) (number : ℕ) (choice : Choice) (choo
 
   -- the walk one number on
   pub walk_on : (word : List ℕ) (first : Config) (roots : List Place) (trail trail_then : List Move) (places places_then visits visits_then : List Place)
-      → IsUnderWay problem word first roots (number ∷ rest) c trail places visits
+      → IsUnderWay numbers problem word first roots (number ∷ rest) c trail places visits
       → trail_then ≡ trail ++ last ∷ []
       → places_then ≡ splice choice.position (child_places (get_or places choice.position []) 0 (length choice.network.children)) places
       → visits_then ≡ visits ++ own_place (child_of c.open_nodes choice.position) (get_or places choice.position [])
-      → IsUnderWay problem word first roots rest next trail_then places_then visits_then
+      → IsUnderWay numbers problem word first roots rest next trail_then places_then visits_then
   walk_on word first roots trail trail_then places places_then visits visits_then way t p v =
       let i = choice.position in
       let m = length choice.network.children in
@@ -119,9 +119,10 @@ module _ (problem : Problem) (c : Config) (number : ℕ) (choice : Choice) (choo
       record {
         finishes = finishes;
         placed = ap length p ∙ (let e : length (splice i (child_places place 0 m) places) ≡ length (splice i choice.network.children c.open_nodes) = omega (arith, standing, nodes, count, way.placed) in e);
-        within = subst (λ l. AreWithin l (rebuild problem rest next)) (sym t)
-            (within_push trail last (rebuild problem rest next) (subst (AreWithin trail) (sym grown_back) way.within) (move_within finishes));
-        trees = ap (λ l. before_moves l (rebuild problem rest next)) t ∙ before_last trail last (rebuild problem rest next) ∙ ap (before_moves trail) grown_back ∙ way.trees;
+        within = subst (λ l. AreWithin l (length (rebuild problem rest next))) (sym t)
+            (within_push trail last (length (rebuild problem rest next))
+            (subst (AreWithin trail) (sym (ap length grown_back) ∙ length_before numbers last (rebuild problem rest next) (move_within finishes)) way.within) (move_within finishes));
+        trees = ap (λ l. before_moves numbers l (rebuild problem rest next)) t ∙ before_last numbers trail last (rebuild problem rest next) ∙ ap (before_moves numbers trail) grown_back ∙ way.trees;
         carried_out =
             ap₂ (λ l q. l ++ route problem rest next q) v p
             ∙ append_assoc visits (own_place (child_of c.open_nodes i) place) _
@@ -131,21 +132,21 @@ module _ (problem : Problem) (c : Config) (number : ℕ) (choice : Choice) (choo
 
 -- ## The ends of a walk
 
-pub way_start : (problem : Problem) (word : List ℕ) (first : Config) (roots : List Place) (trail : List Move) (visits : List Place)
-    → FinishesFrom problem word first → length roots ≡ length first.open_nodes → trail ≡ [] → visits ≡ [] → IsUnderWay problem word first roots word first trail roots visits
-way_start problem word first roots trail visits h placed t v = record {
+pub way_start : (numbers : Numbering) (problem : Problem) (word : List ℕ) (first : Config) (roots : List Place) (trail : List Move) (visits : List Place)
+    → FinishesFrom problem word first → length roots ≡ length first.open_nodes → trail ≡ [] → visits ≡ [] → IsUnderWay numbers problem word first roots word first trail roots visits
+way_start numbers problem word first roots trail visits h placed t v = record {
   finishes = h;
   placed = placed;
-  within = subst (λ l. AreWithin l (rebuild problem word first)) (sym t) tt;
-  trees = ap (λ l. before_moves l (rebuild problem word first)) t;
+  within = subst (λ l. AreWithin l (length (rebuild problem word first))) (sym t) tt;
+  trees = ap (λ l. before_moves numbers l (rebuild problem word first)) t;
   carried_out = ap (λ l. l ++ route problem word first roots) v;
 }
 
 -- a walk that begins is under way
-pub way_begins : (problem : Problem) (word : List ℕ) (network : Network) (walk : Walk) → IsStart problem network walk → FinishesFrom problem word (start problem network)
-    → IsUnderWay problem word walk.config (places_view walk.places.items) word walk.config walk.trail.items (places_view walk.places.items) (places_view walk.visits.items)
-way_begins problem word network walk begins finishes =
-    way_start problem word walk.config (places_view walk.places.items) walk.trail.items (places_view walk.visits.items)
+pub way_begins : (numbers : Numbering) (problem : Problem) (word : List ℕ) (network : Network) (walk : Walk) → IsStart problem network walk → FinishesFrom problem word (start problem network)
+    → IsUnderWay numbers problem word walk.config (places_view walk.places.items) word walk.config walk.trail.items (places_view walk.places.items) (places_view walk.visits.items)
+way_begins numbers problem word network walk begins finishes =
+    way_start numbers problem word walk.config (places_view walk.places.items) walk.trail.items (places_view walk.visits.items)
     (subst (FinishesFrom problem word) (sym begins.config) finishes)
     (ap length begins.places ∙ length-child_places [] 0 (length network.children) ∙ sym (ap (λ x. length x.open_nodes) begins.config))
     begins.trail begins.visits
@@ -158,10 +159,3 @@ childless problem c number choice chooses primitive =
       | inl d ↦ absurd (true≢false (sym (ap is_compound d.is_task) ∙ primitive))
       | inr e ↦ ap (λ n. length n.children) e.network
     ]
-
--- where a step leads
-pub stepped : (problem : Problem) (c : Config) (number : ℕ) (choice : Choice) (next : Config) → choose problem c number ≡ Some choice → step_by problem c number ≡ Some next
-    → next ≡ result_of c choice
-stepped problem c number choice next chooses steps =
-    let made = step_choice problem c next number steps in
-    made.2 ∙ ap (result_of c) (same_Some made.0 choice (sym made.1 ∙ chooses))

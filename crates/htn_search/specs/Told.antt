@@ -1,5 +1,5 @@
 -- Words of ranks, by which a search goes, as words of numbers.
-use Rattle.std.specs.Prelude.{◌≡◌, ℕ, true, List, Some, map}
+use Rattle.std.specs.Prelude.{◌≡◌, ℕ, true, List, Some}
 use Rattle.htn_model.specs.Grounding.{problem_of}
 use Rattle.htn_model.specs.Levels.{is_done}
 use Rattle.htn_model.specs.Machine.{Config}
@@ -9,7 +9,6 @@ use Rattle.word_machine.specs.Machine.{IsStep}
 use Rattle.htn_answer.specs.Machine.{machine_of}
 use Rattle.htn_answer.specs.Fewer.{numbers_from, numbers_of}
 use Rattle.htn_net.specs.Listed.{initial_of, listing_machine, number_of}
-use Rattle.htn_search.specs.declared.trail.Move.{Move}
 
 -- the numbers of ranks, from a configuration on
 abbrev pub told : Task → Config → List ℕ → List ℕ
@@ -22,6 +21,3 @@ told_word t ranks = numbers_of (machine_of (problem_of t)) (listing_machine t) (
 -- the ranks lead the configuration to one that is done
 abbrev pub FinishesListed : Task → Config → List ℕ → Type 0
 FinishesListed t c ranks = (to : Config) × Leads (IsStep (listing_machine t)) c ranks to × (is_done (problem_of t) to ≡ true)
-
-abbrev pub numbers_of_moves : List Move → List ℕ
-numbers_of_moves trail = map (λ m. m.number) trail

@@ -1,35 +1,58 @@
 -- The trees before the moves of a word, from those after them.
-use Rattle.std.specs.Prelude.{◌≡◌, ℕ, ◌+◌, ◌≤◌, List, [], ◌∷◌, ◌++◌, drop, length, take, ⊤}
+use Rattle.std.specs.Prelude.{◌≡◌, ℕ, suc, ◌+◌, ◌-◌, ◌≤◌, List, [], ◌∷◌, ◌++◌, Option, Some, None, drop, length, take, ⊤}
 use Rattle.htn_model.specs.Problem.{Child, precondition, action, task}
-use Rattle.htn_model.specs.Tree.{Node, leaf, step, compound, nodes_of}
+use Rattle.htn_model.specs.Tree.{Node, leaf, step, compound, no_nodes}
 use Rattle.htn_model.specs.Choice.{child_of}
+use Rattle.htn_model.specs.Instance.{Instance}
 use Rattle.htn_model.specs.Machine.{Config, Choice}
-use Rattle.htn_ground.specs.Views.{child_view}
+use Rattle.htn_net.specs.declared.choice.Change.{Change}
+use Rattle.htn_net.specs.declared.choice.Change.TheVariants.{Decomposed, Performed}
+use Rattle.htn_tree.specs.Trees.{Numbering, node_of, over}
 use Rattle.htn_search.specs.declared.trail.Move.{Move}
 
--- the tree of a node over its children, which an action and a step don't have
-abbrev pub node_over : Child → ℕ → List Node → Node
-node_over (precondition literals) number children = step literals
-node_over (action g) number children = leaf g
-node_over (task t) number children = compound t number (nodes_of children)
+-- an open node without children, where a compound task is decomposed by the instance of a number
+abbrev pub bare : Child → ℕ → Node
+bare (precondition literals) number = step literals
+bare (action g) number = leaf g
+bare (task g) number = compound g number no_nodes
+
+-- the instance by which a change decomposes, if it does
+abbrev pub decomposed_by : Change → Option Instance
+decomposed_by (Decomposed instance) = Some instance
+decomposed_by (Performed after) = None
+
+-- the number of a compound task's instance
+abbrev pub number_by : Numbering → Child → Option Instance → ℕ
+number_by numbers (precondition literals) instance = 0
+number_by numbers (action g) instance = 0
+number_by numbers (task g) None = 0
+number_by numbers (task g) (Some instance) = numbers g instance
 
 -- the children's trees go under the node, which stands in their place
-abbrev pub before_move : Move → List Node → List Node
-before_move m trees =
-    take m.position trees ++ node_over (child_view m.node) m.number (take m.children (drop m.position trees)) ∷ drop (m.position + m.children) trees
+abbrev pub before_move : Numbering → Move → List Node → List Node
+before_move numbers m trees =
+    take m.position trees ++ over (node_of numbers m.node) (take m.children (drop m.position trees)) ∷ drop (m.position + m.children) trees
 
-abbrev pub before_moves : List Move → List Node → List Node
-before_moves [] trees = trees
-before_moves (m ∷ moves) trees = before_move m (before_moves moves trees)
+abbrev pub before_moves : Numbering → List Move → List Node → List Node
+before_moves numbers [] trees = trees
+before_moves numbers (m ∷ moves) trees = before_move numbers m (before_moves numbers moves trees)
 
--- the children of each move stand among the trees that are left after it
-abbrev pub AreWithin : List Move → List Node → Type 0
-AreWithin [] trees = ⊤
-AreWithin (m ∷ moves) trees = (m.position + m.children ≤ length (before_moves moves trees)) × AreWithin moves trees
+-- how many trees there are before a move, with so many after it
+abbrev pub count_before : Move → ℕ → ℕ
+count_before m count = suc (count - m.children)
+
+-- the same before moves
+abbrev pub count_before_all : List Move → ℕ → ℕ
+count_before_all [] count = count
+count_before_all (m ∷ moves) count = count_before m (count_before_all moves count)
+
+-- the children of each move stand among the trees that are left after it, with so many left after the last
+abbrev pub AreWithin : List Move → ℕ → Type 0
+AreWithin [] count = ⊤
+AreWithin (m ∷ moves) count = (m.position + m.children ≤ count_before_all moves count) × AreWithin moves count
 
 -- the move records what a number chooses at a configuration
-pub record IsMove (c : Config) (number : ℕ) (choice : Choice) (m : Move) : Type 0 where
+pub record IsMove (numbers : Numbering) (c : Config) (number : ℕ) (choice : Choice) (m : Move) : Type 0 where
   pub position : m.position ≡ choice.position
-  pub node : child_view m.node ≡ child_of c.open_nodes choice.position
-  pub chosen_by : m.number ≡ number
+  pub node : node_of numbers m.node ≡ bare (child_of c.open_nodes choice.position) number
   pub children : m.children ≡ length choice.network.children

@@ -1,21 +1,24 @@
 -- A walk along a word.
 use Rattle.std.specs.Prelude.{◌≡◌, ℕ, [], ◌∷◌, ◌++◌, get_or, length, Some}
+use Rattle.htn_model.specs.Grounding.{problem_of}
 use Rattle.htn_model.specs.Problem.{Network, Problem}
+use Rattle.htn_model.specs.Task.{Task}
 use Rattle.htn_model.specs.Tree.{Solution, nodes_of}
 use Rattle.htn_model.specs.Choice.{splice, child_of}
 use Rattle.htn_model.specs.Machine.{Choice, choose, result_of, start}
+use Rattle.htn_tree.specs.Trees.{number_of}
 use Rattle.htn_search.specs.declared.trail.Move.{Move}
 use Rattle.htn_search.specs.declared.walk.Walk.{Walk}
 use Rattle.htn_search.specs.Trail.{IsMove, before_moves}
 use Rattle.htn_search.specs.Places.{child_places, own_place, places_view}
 
 -- the walk one number on: where the number leads, with its move recorded, its children's places, and its place where it is carried out
-pub record IsOneOn (problem : Problem) (number : ℕ) (old new : Walk) : Type 0 where
+pub record IsOneOn (t : Task) (number : ℕ) (old new : Walk) : Type 0 where
   pub choice : Choice
-  pub chooses : choose problem old.config number ≡ Some choice
+  pub chooses : choose (problem_of t) old.config number ≡ Some choice
   pub config : new.config ≡ result_of old.config choice
   pub last : Move
-  pub is_move : IsMove old.config number choice last
+  pub is_move : IsMove (number_of t) old.config number choice last
   pub trail : new.trail.items ≡ old.trail.items ++ last ∷ []
   pub places : places_view new.places.items
       ≡ splice choice.position (child_places (get_or (places_view old.places.items) choice.position []) 0 (length choice.network.children)) (places_view old.places.items)
@@ -29,6 +32,6 @@ pub record IsStart (problem : Problem) (network : Network) (walk : Walk) : Type 
   pub trail : walk.trail.items ≡ []
   pub visits : places_view walk.visits.items ≡ []
 
--- the solution that a walk has recorded, from an initial network of this number
-abbrev pub recorded : ℕ → Walk → Solution
-recorded number walk = record { number = number; trees = nodes_of (before_moves walk.trail.items []); linearisation = places_view walk.visits.items }
+-- the solution of a task that a walk has recorded, from an initial network of this number
+abbrev pub recorded : Task → ℕ → Walk → Solution
+recorded t number walk = record { number = number; trees = nodes_of (before_moves (number_of t) walk.trail.items []); linearisation = places_view walk.visits.items }

@@ -1,6 +1,6 @@
 //! What a search answers.
 
-use htn_ground::Solution;
+use htn_tree::Solution;
 
 /// The answer of a search with a bound on the nodes.
 #[derive(Drop)]

@@ -1,6 +1,5 @@
 //! The search of a task.
 ghost use Rattle.std.specs.Prelude.{◌≡◌, ◌<◌, ◌↔◌, IfErr, IfOk, IsTrue};
-ghost use Rattle.htn_answer.specs.Answered.{IsAnswered, IsExact};
 ghost use Rattle.htn_model.specs.Grounding.{problem_of};
 ghost use Rattle.htn_model.specs.Machine.{Finishes};
 ghost use Rattle.htn_net.specs.Listed.{listing_machine};
@@ -9,13 +8,14 @@ ghost use Rattle.word_machine.specs.Answer.{IsAnswer};
 ghost use Rattle.word_machine.specs.declared.found.SearchFault.TheVariants.{NoThread};
 
 use crate::answer::Answer;
-use crate::solution::{rebuild_listed, word_of_ranks};
+use crate::solution::rebuild_listed;
 use htn_ground::{goal_literals, initials};
-use htn_net::{Config, WordMachine};
+use htn_net::Config;
 use htn_task::Task;
 use std::alloc::{AllocError, Global};
 use std::sync::Wait;
 use std::thread::Threads;
+use task_machine::TaskMachine;
 use word_machine::{Bounds, Found, Gate, SearchFault};
 
 /// The least finishing word of ranks of a task, or that there is none.
@@ -29,36 +29,13 @@ fn find_ranks<G: Gate, R: Threads + Wait + Sync>(
     ensures answer { IfOk result (IsAnswer (listing_machine task.now) bounds.nodes) }
     ensures no_thread { IfErr result (λ e. e ≡ NoThread → 1 < bounds.workers) }
 {
-    let machine = WordMachine::new(alloc, task)?;
-    let found = word_machine::find_word(rt, alloc, &machine, bounds, gate)?;
+    let machine = TaskMachine::new(alloc, task)?;
+    let found = word_machine::find_word_deepening(rt, alloc, &machine, bounds, gate)?;
     Ok(found)
 }
 
-/// The least finishing word of a task, by its steps and then by its numbers; or that no solution is
-/// within the bound, or none at all. `SearchFault::NoThread` never comes with one worker. A number of
-/// the word that doesn't fit 64 bits is refused as memory is.
-pub fn find_word<G: Gate, R: Threads + Wait + Sync>(
-    rt: &R,
-    alloc: Global,
-    task: &Task,
-    bounds: Bounds,
-    gate: &G,
-) -> Result<Found, SearchFault>
-    ensures answered { IfOk result (IsAnswered (problem_of task.now) bounds.nodes) }
-    ensures exact { IfOk result (IsExact (problem_of task.now) bounds.nodes) }
-    ensures no_thread { IfErr result (λ e. e ≡ NoThread → 1 < bounds.workers) }
-{
-    let _typed = task.objects();
-    match find_ranks(rt, alloc, task, bounds, gate)? {
-        Found::Word(ranks) => Ok(Found::Word(word_of_ranks(alloc, task, &ranks)?)),
-        Found::None => Ok(Found::None),
-        Found::Unsolvable => Ok(Found::Unsolvable),
-    }
-}
-
 /// The solution of fewest nodes and then of least code; or that none is within the bound, or none
-/// at all. `SearchFault::NoThread` never comes with one worker. A number of the solution that doesn't
-/// fit 64 bits is refused as memory is.
+/// at all. `SearchFault::NoThread` never comes with one worker. No number of an instance is counted.
 pub fn search<G: Gate, R: Threads + Wait + Sync>(
     rt: &R,
     alloc: Global,
@@ -66,7 +43,7 @@ pub fn search<G: Gate, R: Threads + Wait + Sync>(
     bounds: Bounds,
     gate: &G,
 ) -> Result<Answer, SearchFault>
-    ensures answer { IfOk result (Answers (problem_of task.now) bounds.nodes) }
+    ensures answer { IfOk result (Answers task.now bounds.nodes) }
     ensures no_thread { IfErr result (λ e. e ≡ NoThread → 1 < bounds.workers) }
 {
     let _typed = task.objects();
@@ -93,10 +70,10 @@ pub fn finishes(alloc: Global, task: &Task, word: &[u64]) -> Result<bool, AllocE
     }
     let mut config = Config::start(alloc, task, &instances[place])?;
     for number in numbers {
-        let Some(choice) = config.choose(alloc, task, *number)? else {
+        let Some((position, change)) = config.choose(alloc, task, *number)? else {
             return Ok(false);
         };
-        let next = config.step(alloc, task, &choice)?;
+        let next = config.after(alloc, task, position, &change)?;
         config = next;
     }
     let goal = goal_literals(alloc, task)?;

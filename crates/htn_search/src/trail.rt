@@ -1,10 +1,9 @@
 //! What the numbers of a word chose, and the trees that grow from it backwards.
 ghost use Rattle.std.specs.Prelude.{◌≡◌, ◌+◌, ◌≤◌, ◌++◌, [], IfOk, OnOk, drop, length, take};
-ghost use Rattle.htn_ground.specs.Trees.{node_of, nodes_view};
-ghost use Rattle.htn_ground.specs.Views.{child_view};
-ghost use Rattle.htn_search.specs.Trail.{AreWithin, before_move, before_moves, node_over};
+ghost use Rattle.htn_tree.specs.Trees.{Numbering, nodes_view};
+ghost use Rattle.htn_search.specs.Trail.{AreWithin, before_move, before_moves};
 
-use htn_ground::{Child, Node, compound};
+use htn_tree::Node;
 use std::alloc::{AllocError, Global};
 
 /// What a number of a word chose: one of the open nodes, in whose place its children came.
@@ -12,23 +11,11 @@ use std::alloc::{AllocError, Global};
 pub(crate) struct Move {
     /// Where the node stood among the open nodes.
     pub(crate) position: usize,
-    /// A compound task, or the action or the precondition step that was carried out.
-    pub(crate) node: Child,
-    /// Of a compound task, the number of its method instance.
-    pub(crate) number: u64,
+    /// A compound task with its instance, or the action or the precondition step that was carried out;
+    /// without children.
+    pub(crate) node: Node,
     /// How many children came in its place; none for an action or a step.
     pub(crate) children: usize,
-}
-
-/// The tree of a node over the trees of its children.
-fn tree_over(node: Child, number: u64, children: Vec<Node>) -> Node
-    ensures { node_of result ≡ node_over (child_view node) number (nodes_view children.items) }
-{
-    match node {
-        Child::Precondition(literals) => Node::Step(literals),
-        Child::Action(task) => Node::Leaf(task),
-        Child::Task(task) => compound(task, number, children),
-    }
 }
 
 /// Takes `count` trees out, from a position on.
@@ -54,17 +41,17 @@ fn take_out(
 /// Puts the node of a move back over the trees of its children.
 fn put_back(alloc: Global, trees: &mut Vec<Node>, last: Move) -> Result<(), AllocError>
     requires { last.position + last.children ≤ length trees.old.items }
-    ensures { OnOk result (nodes_view trees.new.items ≡ before_move last (nodes_view trees.old.items)) }
+    ensures { OnOk result ((numbers : Numbering) → nodes_view numbers trees.new.items ≡ before_move numbers last (nodes_view numbers trees.old.items)) }
 {
     let children = take_out(alloc, trees, last.position, last.children)?;
-    trees.insert(last.position, tree_over(last.node, last.number, children))?;
+    trees.insert(last.position, last.node.over(children))?;
     Ok(())
 }
 
 /// The trees of the nodes that were open before the moves, where none is open after them.
 pub(crate) fn grow_back(alloc: Global, mut trail: Vec<Move>) -> Result<Vec<Node>, AllocError>
-    requires { AreWithin trail.items [] }
-    ensures { IfOk result (λ trees. nodes_view trees.items ≡ before_moves trail.items []) }
+    requires { AreWithin trail.items 0 }
+    ensures { IfOk result (λ trees. (numbers : Numbering) → nodes_view numbers trees.items ≡ before_moves numbers trail.items []) }
 {
     let mut trees = Vec::new(alloc);
     while let Some(last) = trail.pop() {

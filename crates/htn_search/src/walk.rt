@@ -1,24 +1,26 @@
 //! A walk along a finishing word.
-ghost use Rattle.std.specs.Prelude.{◌≡◌, ◌<◌, ◌++◌, ◌∷◌, [], ℕ, Contains, IfOk, IsSome, OnOk, Some, false, get_or, length, slice_get};
+ghost use Rattle.std.specs.Prelude.{◌≡◌, ◌<◌, ◌++◌, ◌∷◌, [], ℕ, Contains, IfOk, IsSome, OnOk, Some, false, true, get_or, length, slice_get};
 ghost use Rattle.htn_ground.specs.Views.{child_view};
 ghost use Rattle.htn_model.specs.Choice.{child_of, splice};
 ghost use Rattle.htn_model.specs.Grounding.{problem_of};
 ghost use Rattle.htn_model.specs.Instances.{initials};
 ghost use Rattle.htn_model.specs.Machine.{choose, start, FinishesFrom};
 ghost use Rattle.htn_model.specs.Problem.{is_compound};
-ghost use Rattle.htn_net.specs.Choices.{IsChoice, network_of};
+ghost use Rattle.htn_net.specs.Choices.{IsChosen, network_of};
 ghost use Rattle.htn_net.specs.Listed.{choose_listed, number_of};
 ghost use Rattle.htn_search.specs.Places.{child_places, own_place, places_view};
 ghost use Rattle.htn_search.specs.Rebuilt.{IsSolutionOf};
-ghost use Rattle.htn_search.specs.Trail.{AreWithin};
-ghost use Rattle.htn_search.specs.Told.{FinishesListed, numbers_of_moves, told};
+ghost use Rattle.htn_tree.specs.Trees.{Numbering, node_of};
+ghost use Rattle.htn_search.specs.Trail.{AreWithin, bare, decomposed_by, number_by};
+ghost use Rattle.htn_search.specs.Told.{FinishesListed, told};
 ghost use Rattle.htn_search.specs.Walk.{IsOneOn, IsStart, recorded};
 
 use crate::places::{child_places, open_children};
 use crate::trail::Move;
 use htn_ground::{Child, Instance};
-use htn_net::{Change, Choice, Config};
+use htn_net::{Change, Config};
 use htn_task::Task;
+use htn_tree::Node;
 use std::alloc::{AllocError, Global};
 
 /// A walk along a word: where it is, and what it saw on the way.
@@ -34,10 +36,10 @@ pub(crate) struct Walk {
 }
 
 /// How many nodes take the place of the one that is chosen.
-fn children_len(choice: &Choice) -> usize
-    ensures { result ≡ length (network_of choice.now.change).children }
+fn children_len(change: &Change) -> usize
+    ensures { result ≡ length (network_of change.now).children }
 {
-    match &choice.change {
+    match change {
         Change::Decomposed(instance) => instance.children().len(),
         Change::Performed(_) => 0,
     }
@@ -89,28 +91,49 @@ fn node_at(config: &Config, position: usize) -> Result<Child, AllocError>
     nodes[position].clone()
 }
 
+/// A node that is closed by a change, without children.
+fn closed(alloc: Global, node: Child, change: Change) -> Node
+    requires { is_compound (child_view node) ≡ true → IsSome (decomposed_by change) }
+    ensures { (numbers : Numbering) → node_of numbers result ≡ bare (child_view node) (number_by numbers (child_view node) (decomposed_by change)) }
+{
+    match node {
+        Child::Precondition(literals) => Node::Step(literals),
+        Child::Action(task) => Node::Leaf(task),
+        Child::Task(task) => match change {
+            Change::Decomposed(instance) => Node::Compound(task, instance, Vec::new(alloc)),
+            Change::Performed(_) => unreachable!(),
+        },
+    }
+}
+
 impl Walk {
-    /// One choice on.
-    fn take(&mut self, alloc: Global, task: &Task, choice: &Choice) -> Result<(), AllocError>
-        requires chosen { IsChoice (problem_of task.now) self.old.config choice.now }
+    /// One choice on: what becomes of the open node at a position.
+    fn take(
+        &mut self,
+        alloc: Global,
+        task: &Task,
+        position: usize,
+        change: Change,
+    ) -> Result<(), AllocError>
+        requires chosen { (number : ℕ) × IsChosen task.now self.old.config number (position, change) }
         requires placed { length self.old.places.items ≡ length self.old.config.open_nodes }
-        ensures { OnOk result (IsOneOn (problem_of task.now) choice.now.number self.old self.new) }
+        ensures { OnOk result ((number : ℕ) → IsChosen task.now self.old.config number (position, change) → IsOneOn task.now number self.old self.new) }
     {
-        let node = node_at(&self.config, choice.position)?;
-        let children = children_len(choice);
+        let _typed = task.objects();
+        let node = node_at(&self.config, position)?;
+        let children = children_len(&change);
         leave(
             alloc,
             &mut self.places,
             &mut self.visits,
             &node,
-            choice.position,
+            position,
             children,
         )?;
-        let next = self.config.step(alloc, task, choice)?;
+        let next = self.config.after(alloc, task, position, &change)?;
         self.trail.push(Move {
-            position: choice.position,
-            node,
-            number: choice.number(),
+            position,
+            node: closed(alloc, node, change),
             children,
         })?;
         self.config = next;
@@ -121,24 +144,24 @@ impl Walk {
     fn follow(&mut self, alloc: Global, task: &Task, number: u64) -> Result<(), AllocError>
         requires chosen { IsSome (choose (problem_of task.now) self.old.config number) }
         requires placed { length self.old.places.items ≡ length self.old.config.open_nodes }
-        ensures { OnOk result (IsOneOn (problem_of task.now) number self.old self.new) }
+        ensures { OnOk result (IsOneOn task.now number self.old self.new) }
     {
-        let Some(choice) = self.config.choose(alloc, task, number)? else {
+        let Some((position, change)) = self.config.choose(alloc, task, number)? else {
             unreachable!()
         };
-        self.take(alloc, task, &choice)
+        self.take(alloc, task, position, change)
     }
 
     /// One rank on.
     fn follow_listed(&mut self, alloc: Global, task: &Task, rank: u64) -> Result<(), AllocError>
         requires chosen { IsSome (choose_listed task.now self.old.config rank) }
         requires placed { length self.old.places.items ≡ length self.old.config.open_nodes }
-        ensures { OnOk result (IsOneOn (problem_of task.now) (number_of task.now self.old.config rank) self.old self.new) }
+        ensures { OnOk result (IsOneOn task.now (number_of task.now self.old.config rank) self.old self.new) }
     {
-        let Some(choice) = self.config.choose_listed(alloc, task, rank)? else {
+        let Some((position, change)) = self.config.choose_listed(alloc, task, rank)? else {
             unreachable!()
         };
-        self.take(alloc, task, &choice)
+        self.take(alloc, task, position, change)
     }
 }
 
@@ -165,9 +188,9 @@ pub(crate) fn walk_along(
 ) -> Result<Walk, AllocError>
     requires initial { Contains (initials task.now) initial.now }
     requires finishes { FinishesFrom (problem_of task.now) numbers.now (start (problem_of task.now) initial.now.network) }
-    ensures within { IfOk result (λ walk. AreWithin walk.trail.items []) }
+    ensures within { IfOk result (λ walk. AreWithin walk.trail.items 0) }
     ensures solved { IfOk result (λ walk. (number : ℕ) → slice_get (problem_of task.now).initials number ≡ Some initial.now.network
-        → IsSolutionOf (problem_of task.now) (number ∷ numbers.now) (recorded number walk)) }
+        → IsSolutionOf (problem_of task.now) (number ∷ numbers.now) (recorded task.now number walk)) }
 {
     let _typed = task.objects();
     let mut walk = start_walk(alloc, task, initial)?;
@@ -178,7 +201,7 @@ pub(crate) fn walk_along(
 }
 
 /// The walk along all ranks of a word of the search that finishes, from an initial network on: it has
-/// recorded the word's numbers and its solution.
+/// recorded the word's solution.
 pub(crate) fn walk_listed(
     alloc: Global,
     task: &Task,
@@ -187,10 +210,9 @@ pub(crate) fn walk_listed(
 ) -> Result<Walk, AllocError>
     requires initial { Contains (initials task.now) initial.now }
     requires finishes { FinishesListed task.now (start (problem_of task.now) initial.now.network) ranks.now }
-    ensures within { IfOk result (λ walk. AreWithin walk.trail.items []) }
-    ensures numbers { IfOk result (λ walk. numbers_of_moves walk.trail.items ≡ told task.now (start (problem_of task.now) initial.now.network) ranks.now) }
+    ensures within { IfOk result (λ walk. AreWithin walk.trail.items 0) }
     ensures solved { IfOk result (λ walk. (number : ℕ) → slice_get (problem_of task.now).initials number ≡ Some initial.now.network
-        → IsSolutionOf (problem_of task.now) (number ∷ told task.now (start (problem_of task.now) initial.now.network) ranks.now) (recorded number walk)) }
+        → IsSolutionOf (problem_of task.now) (number ∷ told task.now (start (problem_of task.now) initial.now.network) ranks.now) (recorded task.now number walk)) }
 {
     let _typed = task.objects();
     let mut walk = start_walk(alloc, task, initial)?;

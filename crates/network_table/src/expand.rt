@@ -146,6 +146,11 @@ impl NetworkTable {
         ensures ready { OnOk result (IsSome (expansion_at self.new number)) }
         ensures sound { OnOk result ((live : Live) → AreInstances live self.old number instances.now
             → IsSound live self.old → IsSound live self.new) }
+        // nothing else is found
+        ensures others { OnOk result ((n : ℕ) → (n ≡ number → ⊥)
+            → expansion_at self.new n ≡ expansion_at self.old n) }
+        // no node gets a number
+        ensures children { OnOk result (self.new.children ≡ self.old.children) }
     {
         if self.expansion(number).is_some() {
             return Ok(());

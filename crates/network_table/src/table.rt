@@ -1,5 +1,5 @@
 //! Networks by numbers.
-ghost use Rattle.std.specs.Prelude.{◌≡◌, ◌<◌, ◌+◌, ◌-◌, ◌^◌, ℕ, List, IfOk, OnOk, length, map, min, set, Some};
+ghost use Rattle.std.specs.Prelude.{◌≡◌, ◌<◌, ◌+◌, ◌-◌, ◌^◌, ℕ, List, IfOk, OnOk, length, map, min, set, None, Some};
 ghost use Rattle.std.specs.List.{sum_by};
 ghost use Rattle.std.specs.Option.{option_map};
 ghost use Rattle.htn_model.specs.Problem as model;
@@ -35,6 +35,7 @@ impl NetworkTable {
         ensures whole { IsWhole result }
         ensures bounds { (measure : model.Child → ℕ) → AreBounds measure result.children }
         ensures sound { (live : Live) → IsSound live result }
+        ensures none { (n : ℕ) → expansion_at result n ≡ None }
     {
         NetworkTable {
             children: ChildTable::new(alloc),
@@ -137,6 +138,7 @@ impl NetworkTable {
         ensures bounds { OnOk result ((measure : model.Child → ℕ) → measure (child_view child) ≡ bound
             → AreBounds measure self.old.children → AreBounds measure self.new.children) }
         ensures sound { OnOk result ((live : Live) → IsSound live self.old → IsSound live self.new) }
+        ensures remembered { OnOk result ((n : ℕ) → expansion_at self.new n ≡ expansion_at self.old n) }
     {
         let id = self.children.keep(child, bound)?;
         Ok(id)
@@ -157,6 +159,7 @@ impl NetworkTable {
         ensures bounds { OnOk result ((measure : model.Child → ℕ) → bounds.now ≡ map measure (children_of nodes.now)
             → AreBounds measure self.old.children → AreBounds measure self.new.children) }
         ensures sound { OnOk result ((live : Live) → IsSound live self.old → IsSound live self.new) }
+        ensures remembered { OnOk result ((n : ℕ) → expansion_at self.new n ≡ expansion_at self.old n) }
     {
         let mut ids = Vec::with_capacity(alloc, nodes.len())?;
         for (place, node) in nodes.iter().enumerate() {

@@ -1,19 +1,14 @@
 //! Tasks that add one or double.
-ghost use Rattle.std.specs.Prelude.{◌≡◌, ◌∷◌, [], IfOk};
-ghost use Rattle.search_tests.specs.Counter.{clipped};
+ghost use Rattle.std.specs.Prelude.{◌≡◌, ◌<◌, ◌∷◌, [], OnOk};
+ghost use Rattle.search_tests.specs.Counter.{carried, clipped, counting, doubled, estimate};
+ghost use Rattle.search_tests.specs.Tallies.{is_written, written};
+ghost use Rattle.word_machine.specs.declared.closed.Origin.TheVariants.{Step};
 
+use crate::tallies::{Numbered, Reached, Tallies, Tally};
 use std::alloc::{AllocError, Global};
-use word_machine::Machine;
+use word_machine::{Machine, Origin, Successor};
 
-/// Tasks that are open, and the value so far.
-#[derive(Clone, Copy, Debug, PartialEq, Eq, Hash)]
-pub struct Tally {
-    pub tasks: u64,
-    pub value: u64,
-    pub stuck: bool,
-}
-
-/// Two tallies to begin with, values below 1,000, and the value that is wanted.
+/// Two tallies to begin with, tasks and values below 1,000, and the value that is wanted.
 #[derive(Clone, Copy, Debug)]
 pub struct Counter {
     pub target: u64,
@@ -22,108 +17,181 @@ pub struct Counter {
     pub alloc: Global,
 }
 
-/// One way on.
-#[derive(Clone, Copy, Debug)]
-pub struct Way {
-    pub number: u64,
-}
-
 fn clip(tally: Tally) -> Tally
     ensures { result ≡ clipped tally }
 {
     Tally {
+        tasks: tally.tasks % 1000,
         value: tally.value % 1000,
         ..tally
     }
 }
 
-fn both_ways(alloc: Global) -> Result<Vec<Way>, AllocError>
-    ensures { IfOk result (λ ways. ways.items ≡ record { number = 0 } ∷ record { number = 1 } ∷ []) }
+fn carry_out(tally: Tally) -> Tally
+    requires some { 0 < tally.tasks }
+    requires small { tally.value < 1000 }
+    ensures { result ≡ carried tally }
 {
-    let mut ways = Vec::new(alloc);
-    ways.push(Way { number: 0 })?;
-    ways.push(Way { number: 1 })?;
-    Ok(ways)
+    Tally {
+        tasks: tally.tasks - 1,
+        value: (tally.value + 1) % 1000,
+        stuck: false,
+    }
+}
+
+fn double(tally: Tally) -> Tally
+    requires small { tally.value < 1000 }
+    ensures { result ≡ doubled tally }
+{
+    Tally {
+        tasks: tally.tasks,
+        value: (tally.value * 2) % 1000,
+        stuck: false,
+    }
+}
+
+// Whether all is carried out, with the value that is wanted.
+fn is_wanted(target: u64, tally: Tally) -> bool
+    ensures { result ≡ (counting target []).is_done tally }
+{
+    !tally.stuck && tally.tasks == 0 && tally.value == target
+}
+
+// At least so many steps are left: one for each task, and one to double where the value does not come out otherwise.
+fn steps_left(target: u64, tally: Tally) -> u64
+    requires few { tally.tasks < 1000 }
+    requires small { tally.value < 1000 }
+    ensures { result ≡ estimate target tally }
+{
+    if (tally.value + tally.tasks) % 1000 == target % 1000 {
+        tally.tasks
+    } else {
+        tally.tasks + 1
+    }
+}
+
+fn successor(tallies: &Tallies, rank: usize, number: u64, tally: Tally) -> Successor<Reached>
+    ensures origin { result.origin ≡ Step rank number }
+    ensures allowed { is_written tallies.now.tallies.keys result.configuration }
+    ensures same { written tallies.now.tallies.keys result.configuration ≡ tally }
+{
+    Successor {
+        origin: Origin::Step {
+            parent: rank,
+            number,
+        },
+        configuration: tallies.reached(tally),
+    }
 }
 
 impl Machine for Counter {
     ghost use Rattle.std.specs.Prelude.{◌≡◌, ◌<◌, ◌∷◌, [], false};
     ghost use Rattle.std.proofs.Common.{rules};
-    ghost use Rattle.search_tests.specs.Counter.{clipped, counting};
-    ghost use Rattle.search_tests.specs.Laws.{clipped_small, lawful};
+    ghost use Rattle.search_tests.specs.Counter.{clipped, counting, estimate};
+    ghost use Rattle.search_tests.specs.Laws.{bounded, clipped_small, lawful};
+    ghost use Rattle.search_tests.specs.Tallies.{AreDistinct, tally_meaning};
+    ghost use Rattle.search_tests.specs.Distinct.{one_to_one};
+    ghost use Rattle.search_tests.specs.declared.tallies.Tally.{Tally};
 
-    type Configuration = Tally;
+    type Configuration = Numbered;
 
-    type Choice = Way;
+    type Reached = Reached;
 
-    type Cache = ();
+    type Tables = Tallies;
+
+    ghost Point = { Tally };
 
     ghost words = { λ m. counting m.target (clipped m.first ∷ clipped m.second ∷ []) };
 
-    ghost belongs = { λ m c. c.value < 1000 };
+    ghost belongs = { λ m c. (c.tasks < 1000) × (c.value < 1000) };
 
-    ghost owns = { λ m cache. Unit {0} };
+    ghost estimate = { λ m c. estimate m.target c };
 
-    ghost is_ready = { λ m cache c. Unit {0} };
+    ghost meaning = { λ m t. tally_meaning t.tallies.keys };
 
-    ghost number = { λ w. w.number };
+    ghost owns = { λ m t. AreDistinct t.tallies.keys };
 
-    ghost offers = { λ m cache c w. (w.number < 2) × (c.stuck ≡ false) × (0 < c.tasks) };
+    ghost is_ready = { λ m t c. Unit {0} };
 
     ghost same = { λ c d e. Prim.search rules };
 
+    ghost one_to_one = { λ m t own. one_to_one t.tallies.keys own };
+
     ghost lawful = { λ m. lawful m.target (clipped m.first ∷ clipped m.second ∷ []) (clipped_small m.first m.second) };
 
-    fn initials(&self) -> Result<Vec<Tally>, AllocError> {
+    ghost bounded = { λ m. bounded m.target (clipped m.first ∷ clipped m.second ∷ []) };
+
+    fn new_tables(&self) -> Result<Tallies, AllocError> {
+        Ok(Tallies::new(self.alloc))
+    }
+
+    fn initials(&self, tables: &mut Tallies) -> Result<Vec<Numbered>, AllocError> {
         let mut initials = Vec::new(self.alloc);
-        initials.push(clip(self.first))?;
-        initials.push(clip(self.second))?;
+        let first = tables.number(clip(self.first))?;
+        let second = tables.number(clip(self.second))?;
+        initials.push(first)?;
+        initials.push(second)?;
         Ok(initials)
     }
 
-    fn new_cache(&self) -> Result<(), AllocError> {
+    fn prepare(&self, _tables: &mut Tallies, _at: Numbered) -> Result<(), AllocError> {
         Ok(())
     }
 
-    fn prepare(&self, _cache: &mut (), _at: &Tally) -> Result<(), AllocError> {
-        Ok(())
-    }
-
-    fn live_choices(&self, _cache: &(), from: &Tally) -> Result<Vec<Way>, AllocError> {
-        if from.stuck {
-            return Ok(Vec::new(self.alloc));
+    fn expand(
+        &self,
+        tables: &Tallies,
+        rank: usize,
+        from: Numbered,
+        successors: &mut Vec<Successor<Reached>>,
+    ) -> Result<Option<u64>, AllocError> {
+        let tally = tables.tally(from);
+        if tally.stuck {
+            return Ok(None);
         }
-        if from.tasks == 0 {
-            return Ok(Vec::new(self.alloc));
+        if tally.tasks == 0 {
+            return Ok(None);
         }
-        both_ways(self.alloc)
+        let less = carry_out(tally);
+        if is_wanted(self.target, less) {
+            return Ok(Some(0));
+        }
+        successors.push(successor(tables, rank, 0, less))?;
+        successors.push(successor(tables, rank, 1, double(tally)))?;
+        Ok(None)
     }
 
-    fn number(choice: &Way) -> u64 {
-        choice.number
-    }
-
-    fn step(&self, _cache: &(), from: &Tally, choice: &Way) -> Result<Tally, AllocError> {
-        if choice.number == 0 {
-            Ok(Tally {
-                tasks: from.tasks - 1,
-                value: (from.value + 1) % 1000,
-                stuck: false,
-            })
-        } else {
-            Ok(Tally {
-                tasks: from.tasks,
-                value: (from.value * 2) % 1000,
-                stuck: false,
-            })
+    fn keep(&self, tables: &mut Tallies, reached: Reached) -> Result<Numbered, AllocError> {
+        match reached {
+            Reached::Known(numbered) => Ok(numbered),
+            Reached::New(tally) => tables.number(tally),
         }
     }
 
-    fn is_done(&self, at: &Tally) -> bool {
-        !at.stuck && at.tasks == 0 && at.value == self.target
+    fn is_done(&self, tables: &Tallies, at: Numbered) -> bool {
+        is_wanted(self.target, tables.tally(at))
     }
 
-    fn open_len(&self, at: &Tally) -> u64 {
-        at.tasks
+    fn open_len(&self, tables: &Tallies, at: Numbered) -> u64 {
+        tables.tally(at).tasks
+    }
+
+    fn lower_bound(&self, tables: &Tallies, at: Numbered) -> u64 {
+        steps_left(self.target, tables.tally(at))
+    }
+
+    fn find(&self, tables: &Tallies, reached: &Reached) -> Option<Numbered> {
+        match reached {
+            Reached::Known(numbered) => Some(*numbered),
+            Reached::New(tally) => tables.find(tally),
+        }
+    }
+
+    fn open_len_of(&self, tables: &Tallies, reached: &Reached) -> u64 {
+        tables.written(reached).tasks
+    }
+
+    fn lower_bound_of(&self, tables: &Tallies, reached: &Reached) -> u64 {
+        steps_left(self.target, tables.written(reached))
     }
 }

@@ -1,13 +1,14 @@
 //! Searches over the small machine: each answer for several numbers of workers and sizes of pieces.
 
-use crate::counter::{Counter, Tally};
+use crate::counter::Counter;
+use crate::tallies::Tally;
 use std::alloc::Global;
 use std::process::Abort;
 use std::sync::Wait;
 use std::sync::atomic::{AtomicU64, Ordering};
 use std::test::Fail;
 use std::thread::Threads;
-use word_machine::{Bounds, Found, Gate, NoGate, find_word, finishes};
+use word_machine::{Bounds, Found, Gate, NoGate, find_word, find_word_deepening};
 
 fn tally(tasks: u64, value: u64) -> Tally {
     Tally {
@@ -37,11 +38,26 @@ fn answer<R: Threads + Wait + Sync, G: Gate>(
     gate: &G,
 ) -> Result<String, Fail> {
     let alloc: Global = machine.alloc;
-    match find_word(rt, alloc, machine, bounds, gate)? {
+    text(alloc, find_word(rt, alloc, machine, bounds, gate)?)
+}
+
+fn text(alloc: Global, found: Found) -> Result<String, Fail> {
+    match found {
         Found::Word(word) => Ok(format!(in alloc; "{word:?}")?),
         Found::None => Ok(String::from_str(alloc, "none")?),
         Found::Unsolvable => Ok(String::from_str(alloc, "unsolvable")?),
     }
+}
+
+// The answer by growing bounds.
+fn deepening<R: Threads + Wait + Sync>(
+    rt: &R,
+    machine: &Counter,
+    bounds: Bounds,
+) -> Result<String, Fail> {
+    let alloc: Global = machine.alloc;
+    let found = find_word_deepening(rt, alloc, machine, bounds, &NoGate)?;
+    text(alloc, found)
 }
 
 // Expects the same answer for each number of workers and each size of the pieces.
@@ -55,6 +71,8 @@ fn expect<R: Threads + Wait + Sync + Abort>(
         for piece in [1, 2, 1_000_000] {
             let bounds = Bounds::new(nodes, workers, piece).ok_or("in range")?;
             let found = answer(rt, machine, bounds, &NoGate)?;
+            assert_eq!(rt; found.as_str(), text);
+            let found = deepening(rt, machine, bounds)?;
             assert_eq!(rt; found.as_str(), text);
         }
     }
@@ -76,6 +94,20 @@ fn the_shortest_word(rt: HostRuntime) -> Result<(), Fail> {
     expect(&rt, &machine, 3, "[0, 0, 1, 0]")?;
     expect(&rt, &machine, 9, "[0, 0, 1, 0]")?;
     expect(&rt, &machine, 2, "none")
+}
+
+// From 5 tasks, or 6, the bound from below is far from the 12 steps of the word: the bounds grow.
+#[test]
+fn a_word_past_several_bounds(rt: HostRuntime) -> Result<(), Fail> {
+    let machine = counter(rt.alloc(), 517, tally(6, 1), tally(5, 2));
+    expect(&rt, &machine, 12, "[1, 0, 0, 1, 1, 1, 1, 1, 1, 0, 0, 1, 0]")?;
+    expect(
+        &rt,
+        &machine,
+        100,
+        "[1, 0, 0, 1, 1, 1, 1, 1, 1, 0, 0, 1, 0]",
+    )?;
+    expect(&rt, &machine, 11, "none")
 }
 
 #[test]
@@ -128,14 +160,4 @@ fn bounds_in_range(rt: HostRuntime) {
     assert!(rt; Bounds::new(0, 65, 1).is_none());
     assert!(rt; Bounds::new(0, 1, 0).is_none());
     assert!(rt; Bounds::new(0, 1, 1_000_001).is_none());
-}
-
-#[test]
-fn which_words_finish(rt: HostRuntime) -> Result<(), Fail> {
-    let machine = counter(rt.alloc(), 3, tally(2, 0), tally(3, 900));
-    assert!(rt; finishes(&machine, &[0, 0, 1, 0])?);
-    assert!(rt; !finishes(&machine, &[0, 0, 0, 1])?);
-    assert!(rt; !finishes(&machine, &[])?);
-    assert!(rt; !finishes(&machine, &[2, 0])?);
-    Ok(())
 }

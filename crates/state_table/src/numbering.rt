@@ -1,5 +1,5 @@
 //! States by numbers.
-ghost use Rattle.std.specs.Prelude.{◌≡◌, [], ℕ, slice_get, Some, IfOk, IfSome, IfNone, OnErr, OnOk};
+ghost use Rattle.std.specs.Prelude.{◌≡◌, ◌⊎◌, [], ℕ, List, slice_get, Some, IfOk, IfSome, IfNone, OnErr, OnOk};
 ghost use Rattle.state_table.specs.Numberings.{IsExtension, IsNumbering};
 
 use crate::bit_state::BitState;
@@ -56,6 +56,9 @@ impl StateTable {
         ensures grown { OnOk result (IsExtension self.old self.new) }
         ensures number { IfOk result (λ n. slice_get self.new n ≡ Some state) }
         ensures numbering { IsNumbering self.new }
+        // nothing else gets a number
+        ensures others { OnOk result ((n : ℕ) (other : List ℕ) → slice_get self.new n ≡ Some other
+            → (slice_get self.old n ≡ Some other) ⊎ (other ≡ state)) }
         ensures unchanged { OnErr result (self.new ≡ self.old) }
     {
         if let Some(number) = self.number_of(&state) {

@@ -4,6 +4,8 @@
 #[cfg(test)]
 mod instances;
 #[cfg(test)]
+mod many;
+#[cfg(test)]
 mod names;
 #[cfg(test)]
 mod pairs;

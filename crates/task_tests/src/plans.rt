@@ -3,11 +3,15 @@
 use crate::pairs::{LATE, NOTHING, Pair, ROAD, SET_AND_CLEAR, task_of};
 use crate::searches::solution_of;
 use htn_plan::{PlanFile, Sink, WriteFault, file_of, write_plan};
+use htn_search::{Answer, Bounds, NoGate, search};
 use htn_task::Task;
+use htn_tree::Solution;
 use std::alloc::Global;
 use std::io;
 use std::io::Write;
+use std::sync::Wait;
 use std::test::Fail;
+use std::thread::Threads;
 
 // Takes so many bytes in all.
 #[derive(Drop)]
@@ -27,6 +31,30 @@ impl Write for Narrow {
     fn flush(&mut self) -> io::Result<()> {
         Ok(())
     }
+}
+
+/// The text of a solution's plan.
+pub fn text_of(alloc: Global, task: &Task, solution: &Solution) -> Result<Vec<u8>, Fail> {
+    let file = file_of(alloc, task, solution)?;
+    let mut out = Sink::new(Vec::new(alloc));
+    write_plan(&file, &mut out)?;
+    Ok(out.into_inner())
+}
+
+/// The text of the plan that is found, or why there is none.
+pub fn answer_text<R: Threads + Wait + Sync>(
+    rt: &R,
+    alloc: Global,
+    task: &Task,
+    bounds: Bounds,
+) -> Result<Vec<u8>, Fail> {
+    let mut text = Vec::new(alloc);
+    match search(rt, alloc, task, bounds, &NoGate)? {
+        Answer::Plan(solution) => return text_of(alloc, task, &solution),
+        Answer::None => text.extend_from_slice(b"none")?,
+        Answer::Unsolvable => text.extend_from_slice(b"unsolvable")?,
+    }
+    Ok(text)
 }
 
 // The plan file of the solution of a word.

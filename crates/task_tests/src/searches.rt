@@ -1,12 +1,13 @@
-//! Searches: the words that finish, the least of them, and the solutions of words.
+//! Searches: the words that finish, the plans of the least of them, and the solutions of words.
 
 use crate::pairs::{
     AGAINST, DEAD, DOUBLING, ENDING, ENDLESS, LATE, NEED, NOTHING, Pair, ROAD, SET_AND_CLEAR,
     THROUGH, TOUCH, TOUCH_NONE, TWO_ACTIONS, TWO_METHODS, task_of,
 };
-use htn_ground::{Node, Solution};
-use htn_search::{Answer, Bounds, Found, NoGate, find_word, finishes, rebuild, search};
+use crate::plans::{answer_text, text_of};
+use htn_search::{Answer, Bounds, NoGate, finishes, rebuild, search};
 use htn_task::Task;
+use htn_tree::{Node, Solution};
 use std::alloc::{AllocError, Global};
 use std::sync::Wait;
 use std::test::Fail;
@@ -56,58 +57,104 @@ fn other_words_do_not_finish(rt: HostRuntime) -> Result<(), Fail> {
     Ok(())
 }
 
-// The least finishing word within so many nodes, or why there is none, in text.
-fn word_text<R: Threads + Wait + Sync>(
-    rt: &R,
-    alloc: Global,
-    task: &Task,
-    bounds: Bounds,
-) -> Result<String, Fail> {
-    match find_word(rt, alloc, task, bounds, &NoGate)? {
-        Found::Word(word) => Ok(format!(in alloc; "{word:?}")?),
-        Found::None => Ok(String::from_str(alloc, "none")?),
-        Found::Unsolvable => Ok(String::from_str(alloc, "unsolvable")?),
-    }
-}
-
-// The same for a pair.
-fn word_of<R: Threads + Wait + Sync>(
+// The text of the plan that is found for a pair, or why there is none.
+fn found_text<R: Threads + Wait + Sync>(
     rt: &R,
     alloc: Global,
     pair: Pair,
-    bounds: Bounds,
-) -> Result<String, Fail> {
+    nodes: u64,
+) -> Result<Vec<u8>, Fail> {
+    let bounds = Bounds::new(nodes, 1, 64).ok_or("in range")?;
     let task = task_of(alloc, pair)?;
-    word_text(rt, alloc, &task, bounds)
+    answer_text(rt, alloc, &task, bounds)
+}
+
+// The text of the plan of a word.
+fn word_text(alloc: Global, pair: Pair, word: &[u64]) -> Result<Vec<u8>, Fail> {
+    let task = task_of(alloc, pair)?;
+    let solution = solution_of(alloc, &task, word)?.ok_or("finishes")?;
+    text_of(alloc, &task, &solution)
+}
+
+// Each plan is that of its least word.
+#[test]
+fn least_plans_are_found(rt: HostRuntime) -> Result<(), Fail> {
+    let rows: [(Pair, u64, &[u64]); 9] = [
+        (ROAD, 8, &[0, 2, 0, 0, 6, 0, 0, 0, 0]),
+        (NOTHING, 0, &[0]),
+        (LATE, 3, &[0, 0, 1, 0]),
+        (TWO_METHODS, 1, &[0, 0]),
+        (TWO_ACTIONS, 2, &[0, 0, 0]),
+        (THROUGH, 4, &[0, 0, 0, 0]),
+        (TOUCH, 1, &[0, 0]),
+        (NEED, 2, &[0, 1, 0]),
+        (SET_AND_CLEAR, 6, &[0, 0, 1, 0, 0, 1, 0]),
+    ];
+    for (pair, nodes, word) in rows {
+        let found = found_text(&rt, rt.alloc(), pair, nodes)?;
+        let text = word_text(rt.alloc(), pair, word)?;
+        assert!(rt; found == text, "{word:?}");
+    }
+    Ok(())
+}
+
+const WAYS: &str = "(define (domain d) (:predicates (never)) (:task t) (:task deep)
+  (:action act) (:action stuck :precondition (never))
+  (:method by-stuck :task (t) :subtasks (stuck))
+  (:method by-three :task (t) :ordered-subtasks (and (act) (act) (act)))
+  (:method by-deep :task (t) :subtasks (deep))
+  (:method m :task (deep) :subtasks (act)))";
+
+// Of three ways one can't be gone, and one takes a node less than the other.
+const THREE_WAYS: Pair = Pair {
+    domain: WAYS,
+    problem: "(define (problem x) (:domain d) (:htn :subtasks (t)))",
+};
+
+// The one action can't be carried out.
+const STUCK: Pair = Pair {
+    domain: WAYS,
+    problem: "(define (problem x) (:domain d) (:htn :subtasks (stuck)))",
+};
+
+const DEEP_PLAN: &str = "==>\n0 act\nroot 1\n1 t -> by-deep 2\n2 deep -> m 0\n<==\n";
+
+// What takes too many nodes by its size is passed over, and the answers are those of the open nodes.
+#[test]
+fn sizes_change_no_answer(rt: HostRuntime) -> Result<(), Fail> {
+    let rows = [
+        (THREE_WAYS, 0, "none"),
+        (THREE_WAYS, 2, "none"),
+        (THREE_WAYS, 3, DEEP_PLAN),
+        (THREE_WAYS, 10_000, DEEP_PLAN),
+        (STUCK, 0, "none"),
+        (STUCK, 1, "unsolvable"),
+        (STUCK, 10_000, "unsolvable"),
+    ];
+    for (pair, nodes, text) in rows {
+        let found = found_text(&rt, rt.alloc(), pair, nodes)?;
+        assert!(rt; found.as_slice() == text.as_bytes());
+    }
+    Ok(())
 }
 
 #[test]
-fn least_words_are_found(rt: HostRuntime) -> Result<(), Fail> {
+fn there_is_no_plan(rt: HostRuntime) -> Result<(), Fail> {
     let rows = [
-        (ROAD, 8, "[0, 2, 0, 0, 6, 0, 0, 0, 0]"),
         (ROAD, 7, "none"),
-        (NOTHING, 0, "[0]"),
-        (LATE, 3, "[0, 0, 1, 0]"),
         (LATE, 2, "none"),
-        (TWO_METHODS, 1, "[0, 0]"),
-        (TWO_ACTIONS, 2, "[0, 0, 0]"),
-        (THROUGH, 4, "[0, 0, 0, 0]"),
         (AGAINST, 2, "none"),
         (AGAINST, 4, "unsolvable"),
         (ENDLESS, 50, "unsolvable"),
         (DOUBLING, 50, "none"),
-        (TOUCH, 1, "[0, 0]"),
         (TOUCH_NONE, 0, "unsolvable"),
-        (NEED, 2, "[0, 1, 0]"),
         (DEAD, 0, "none"),
         (DEAD, 1, "unsolvable"),
-        (SET_AND_CLEAR, 6, "[0, 0, 1, 0, 0, 1, 0]"),
         (SET_AND_CLEAR, 5, "none"),
     ];
     for (pair, nodes, text) in rows {
-        let bounds = Bounds::new(nodes, 1, 64).ok_or("in range")?;
-        let found = word_of(&rt, rt.alloc(), pair, bounds)?;
-        assert_eq!(rt; found.as_str(), text);
+        let found = found_text(&rt, rt.alloc(), pair, nodes)?;
+        assert!(rt; found.as_slice() == text.as_bytes());
     }
     Ok(())
 }
@@ -126,11 +173,14 @@ fn plan_text<R: Threads + Wait + Sync>(
     }
 }
 
-// The number of the initial network, that of its trees, and the places of the actions and steps in their order.
+// The values of the initial network, the number of its trees, and the places of the actions and steps in their order.
 fn solution_text(alloc: Global, solution: &Solution) -> Result<String, Fail> {
-    let number = solution.number;
     let trees = solution.trees.len();
-    Ok(format!(in alloc; "{number} {trees} {:?}", solution.linearisation)?)
+    Ok(format!(in alloc;
+        "{:?} {trees} {:?}",
+        solution.initial.values(),
+        solution.linearisation
+    )?)
 }
 
 // The same for a pair.
@@ -147,12 +197,10 @@ fn plan_of<R: Threads + Wait + Sync>(
 // The set action, the step of the first task, the clearing action, and the step of the first task's subtask.
 #[test]
 fn workers_and_pieces_change_nothing(rt: HostRuntime) -> Result<(), Fail> {
-    let plan = "0 3 [[1], [0, 0], [2], [0, 1, 0]]";
+    let plan = "[] 3 [[1], [0, 0], [2], [0, 1, 0]]";
     for workers in [1, 2, 4, 64] {
         for piece in [1, 1_000_000] {
             let bounds = Bounds::new(6, workers, piece).ok_or("in range")?;
-            let word = word_of(&rt, rt.alloc(), SET_AND_CLEAR, bounds)?;
-            assert_eq!(rt; word.as_str(), "[0, 0, 1, 0, 0, 1, 0]");
             let found = plan_of(&rt, rt.alloc(), SET_AND_CLEAR, bounds)?;
             assert_eq!(rt; found.as_str(), plan);
         }
@@ -191,11 +239,11 @@ fn words_have_solutions(rt: HostRuntime) -> Result<(), Fail> {
         (
             ROAD,
             &[0, 2, 0, 0, 6, 0, 0, 0, 0],
-            "0 1 [[0, 0], [0, 1], [0, 2, 0], [0, 2, 1], [0, 2, 2, 0]]",
+            "[] 1 [[0, 0], [0, 1], [0, 2, 0], [0, 2, 1], [0, 2, 2, 0]]",
         ),
-        (NOTHING, &[0], "0 0 []"),
-        (LATE, &[0, 0, 1, 0], "0 2 [[1], [0, 0]]"),
-        (TOUCH, &[1, 0], "1 1 [[0]]"),
+        (NOTHING, &[0], "[] 0 []"),
+        (LATE, &[0, 0, 1, 0], "[] 2 [[1], [0, 0]]"),
+        (TOUCH, &[1, 0], "[2] 1 [[0]]"),
     ];
     for (pair, word, text) in rows {
         let solution = rebuilt_text_of(rt.alloc(), pair, word)?;

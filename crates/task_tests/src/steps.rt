@@ -2,7 +2,7 @@
 
 use crate::pairs::{ENDLESS, LATE, Pair, ROAD, SET_AND_CLEAR, task_of};
 use htn_ground::{goal_literals, initials};
-use htn_net::{Choice, Config};
+use htn_net::{Change, Choice, Config};
 use htn_task::Task;
 use indexmap::IndexSet;
 use std::alloc::{AllocError, Global};
@@ -161,5 +161,47 @@ fn equal_configurations_stand_once_in_a_set(rt: HostRuntime) -> Result<(), Fail>
     let alloc = rt.alloc();
     assert_eq!(rt; different_of(alloc, ENDLESS, &[0, 0, 0])?, 1);
     assert_eq!(rt; different_of(alloc, ROAD, &[2, 0, 0, 6, 0, 0, 0, 0])?, 9);
+    Ok(())
+}
+
+// The method and the values of the instance that was chosen.
+fn chosen_text(alloc: Global, chosen: Option<(usize, Change)>) -> Result<String, Fail> {
+    match chosen {
+        Some((_, Change::Decomposed(instance))) => {
+            Ok(format!(in alloc; "{:?}{:?}", instance.method(), instance.values())?)
+        }
+        Some((_, Change::Performed(_))) => Ok(String::from_str(alloc, "performed")?),
+        None => Ok(String::from_str(alloc, "none")?),
+    }
+}
+
+// What a rank and a number choose at the start.
+fn chosen_texts(
+    alloc: Global,
+    pair: Pair,
+    rank: u64,
+    number: u64,
+) -> Result<(String, String), Fail> {
+    let task = task_of(alloc, pair)?;
+    let config = started(alloc, &task, 0)?.ok_or("starts")?;
+    let listed = chosen_text(alloc, config.choose_listed(alloc, &task, rank)?)?;
+    let numbered = chosen_text(alloc, config.choose(alloc, &task, number)?)?;
+    Ok((listed, numbered))
+}
+
+// Of ten instances three are not dead.
+#[test]
+fn ranks_choose_what_their_numbers_do(rt: HostRuntime) -> Result<(), Fail> {
+    let rows = [
+        (0, 0, "Some(0)[3, 2]"),
+        (1, 2, "Some(1)[3, 0, 1, 2]"),
+        (2, 6, "Some(1)[3, 1, 2, 2]"),
+        (3, 10, "none"),
+    ];
+    for (rank, number, text) in rows {
+        let (listed, numbered) = chosen_texts(rt.alloc(), ROAD, rank, number)?;
+        assert_eq!(rt; listed.as_str(), text);
+        assert_eq!(rt; numbered.as_str(), text);
+    }
     Ok(())
 }

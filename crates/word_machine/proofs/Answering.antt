@@ -1,35 +1,58 @@
 -- From what the closed list holds to what a search answers.
-use Rattle.std.proofs.Common.{◌≡◌, ℕ, ◌+◌, ◌<◌, ◌≤◌, ◌⊎◌, true, false, List, [], ◌∷◌, ◌++◌, length, refl, sym, subst, inl, inr, arith, slice_get, Some, get_or, All}
+use Rattle.std.proofs.Common.{◌≡◌, ℕ, ◌+◌, ◌<◌, ◌≤◌, ◌⊎◌, Bool, true, false, List, [], ◌∷◌, ◌++◌, length, refl, sym, subst, inl, inr, arith, slice_get, Some, get_or, All}
+use Rattle.std.specs.Prelude.{max}
+use Rattle.std.proofs.Math.Nat.{max-le}
 use Rattle.std.proofs.lemmas.Bool.{cases_lt}
 use Rattle.std.proofs.lemmas.Option.{slice_get_within, slice_get-get_or, get_or_from_slice_get}
 use Rattle.word_machine.specs.declared.closed.Origin.TheVariants.{Step as Stepped}
 use Rattle.word_machine.specs.declared.closed.Successor.{Successor}
-use Rattle.word_machine.specs.Words.{Precedes, Leads, Reaches, Finishes, step_count}
-use Rattle.word_machine.specs.Machine.{WordMachine, IsLawful, IsStep, IsDone, IsLiveStep, IsFinishing, IsMet}
+use Rattle.word_machine.specs.Words.{Precedes, MeetsBound, Leads, Reaches, Finishes, step_count}
+use Rattle.word_machine.specs.Machine.{WordMachine, IsLawful, IsStep, IsDone, IsLiveStep, IsFinishing, IsLowerBound}
 use Rattle.word_machine.specs.Contents.{Contents, words_of, IsOriginWithin}
-use Rattle.word_machine.specs.Closed.{Search, search_of, IsAt, IsClosedTo}
+use Rattle.word_machine.specs.Closed.{Search, search_by, IsAt, IsClosedTo}
 use Rattle.word_machine.specs.Expansion.{IsFirstDone, IsExpansion}
-use Rattle.word_machine.specs.Answer.{IsLeastFinishing, NoneFinishes, NeverFinishes}
-use Rattle.word_machine.proofs.Order.{IsAtMost-length, step_count-reached}
-use Rattle.word_machine.proofs.Complete.{CountsOpen, found_finishes, found_length, found_least, close_last, none_within, never, never_met}
+use Rattle.word_machine.specs.declared.measure.Measure.{Measure}
+use Rattle.word_machine.specs.declared.measure.Measure.TheVariants.{OpenNodes, LowerBound}
+use Rattle.word_machine.specs.declared.found.Outcome.{Outcome}
+use Rattle.word_machine.specs.declared.found.Outcome.TheVariants.{Finished, Past, Exhausted}
+use Rattle.word_machine.specs.Answer.{IsAnswer, IsOutcome, found_of, measure_of, IsLeastFinishing, NoneFinishes, NoneFinishesBefore, NeverFinishes}
+use Rattle.word_machine.proofs.Meanings.{all_at}
+use Rattle.word_machine.proofs.Order.{open_len-leads, IsAtMost-length, step_count-reached}
+use Rattle.word_machine.proofs.Complete.{CountsOpen, found_finishes, found_length, found_least, close_last, none_within, none_before, never, never_met}
 use Rattle.word_machine.proofs.Levels.{word_at}
 
-module _ {C : Type 0} (m : WordMachine C) (belongs : C → Type 0) (laws : IsLawful m belongs) (bound : ℕ) where
-  abbrev S : Search C
-  S = search_of m bound
+-- the open nodes, and a bound from below, each measure what is left
+pub counts_open : {C : Type 0} (m : WordMachine C) (belongs : C → Type 0) → IsLawful m belongs → (bound : ℕ) → CountsOpen (search_by m m.open_len bound)
+counts_open m belongs laws bound =
+    record { wants_open = λ c d n s. laws.wants_open c d n s.0; closes_one = λ c d n s. laws.closes_one c d n s.0; done_closed = laws.done_closed }
 
-  pub counts : CountsOpen S
-  counts = record { wants_open = λ c d n s. laws.wants_open c d n s.0; closes_one = λ c d n s. laws.closes_one c d n s.0; done_closed = laws.done_closed }
+-- so does a bound from below
+pub counts_bound : {C : Type 0} (m : WordMachine C) (belongs : C → Type 0) → IsLawful m belongs → (lower : C → ℕ) → IsLowerBound m lower → (bound : ℕ) → CountsOpen (search_by m lower bound)
+counts_bound m belongs laws lower is_lower bound = record {
+  wants_open = λ c d n s. (let some : 0 < m.open_len c = laws.wants_open c d n s.0 in let more : m.open_len c ≤ lower c = is_lower.above_open c in omega arith);
+  closes_one = is_lower.lowers_one;
+  done_closed = is_lower.done_zero;
+}
 
+-- each measure does
+pub counts_by : {C : Type 0} (m : WordMachine C) (belongs : C → Type 0) → IsLawful m belongs → (lower : C → ℕ) → IsLowerBound m lower → (measure : Measure) → (bound : ℕ)
+    → CountsOpen (search_by m (measure_of m lower measure) bound)
+counts_by m belongs laws lower is_lower OpenNodes bound = counts_open m belongs laws bound
+counts_by m belongs laws lower is_lower LowerBound bound = counts_bound m belongs laws lower is_lower bound
+
+module _ {C : Type 0} (m : WordMachine C) (belongs : C → Type 0) (laws : IsLawful m belongs) where
+  -- live steps are steps
   all_leads : (c d : C) (ns : List ℕ) → Leads (IsLiveStep m) c ns d → Leads (IsStep m) c ns d
   all_leads c d [] leads = leads
   all_leads c d (n ∷ ns) leads = (leads.0, leads.1.0, all_leads leads.0 d ns leads.2)
 
+  -- the steps to a done configuration are live
   live_leads : (c d : C) (ns : List ℕ) → belongs c → IsDone m d → Leads (IsStep m) c ns d → Leads (IsLiveStep m) c ns d
   live_leads c d [] own done leads = leads
   live_leads c d (n ∷ ns) own done leads =
       (leads.0, (leads.1, λ dead. laws.dead_never c leads.0 d n ns own dead leads.1 leads.2 done), live_leads leads.0 d ns (laws.stays c leads.0 n own leads.1) done leads.2)
 
+  -- an initial configuration is one of the machine's
   initial_belongs : (i : ℕ) (c : C) → slice_get m.initials i ≡ Some c → belongs c
   initial_belongs i c at = subst belongs (get_or_from_slice_get m.initials i c c at) (laws.starts i c (slice_get_within m.initials i c at))
 
@@ -39,110 +62,194 @@ module _ {C : Type 0} (m : WordMachine C) (belongs : C → Type 0) (laws : IsLaw
   live_finishes (i ∷ ns) finish =
       (finish.0, (finish.1.0, finish.1.1, live_leads finish.1.0 finish.0 ns (initial_belongs i finish.1.0 finish.1.1) finish.2 finish.1.2), finish.2)
 
+  -- and what finishes by live steps finishes
   pub all_finishes : (w : List ℕ) → Finishes (IsLiveStep m) (IsDone m) m.initials w → IsFinishing m w
   all_finishes [] finish = absurd finish.1
   all_finishes (i ∷ ns) finish = (finish.0, (finish.1.0, finish.1.1, all_leads finish.1.0 finish.0 ns finish.1.2), finish.2)
 
+  -- live steps from one of the machine's configurations lead to another
   leads_belong : (c d : C) (ns : List ℕ) → belongs c → Leads (IsLiveStep m) c ns d → belongs d
   leads_belong c d [] own leads = subst belongs leads own
   leads_belong c d (n ∷ ns) own leads = leads_belong leads.0 d ns (laws.stays c leads.0 n own leads.1.0) leads.2
 
+  -- what a word reaches is one of the machine's
   reaches_belong : (w : List ℕ) (c : C) → Reaches (IsLiveStep m) m.initials w c → belongs c
   reaches_belong [] c reached = absurd reached
   reaches_belong (i ∷ ns) c reached = leads_belong reached.0 c ns (initial_belongs i reached.0 reached.1) reached.2
 
+  -- a finishing word has one number more than steps
   steps_of : (w : List ℕ) → IsFinishing m w → step_count w + 1 ≡ length w
   steps_of w finish = step_count-reached (IsStep m) m.initials finish.0 w finish.1
 
-  -- a done initial configuration, with none before it
-  pub answer_initial : (i : ℕ) (c : C) → slice_get m.initials i ≡ Some c → IsDone m c
-      → ((j : ℕ) (d : C) → j < i → slice_get m.initials j ≡ Some d → IsDone m d → ⊥) → IsLeastFinishing m bound (i ∷ [])
-  answer_initial i c at done first = record {
-    finishes = (c, (c, at, refl), done);
-    within = omega arith;
-    least = least;
-  }
-    where
-      least : (other : List ℕ) → IsFinishing m other → Precedes other (i ∷ []) → ⊥
-      least [] finish before = absurd finish.1
-      least (j ∷ []) finish before =
-          elim before [
-            | inl shorter ↦ omega arith
-            | inr same ↦ elim same.1 [
-              | inl lower ↦ first j finish.1.0 lower finish.1.1 (subst (IsDone m) (sym finish.1.2) finish.2)
-              | inr alike ↦ alike.1
+  module _ (measure : C → ℕ) (bound : ℕ) (counts : CountsOpen (search_by m measure bound)) where
+    -- what is searched
+    abbrev S : Search C
+    S = search_by m measure bound
+
+    -- a done initial configuration, with none before it
+    pub answer_initial : (i : ℕ) (c : C) → slice_get m.initials i ≡ Some c → IsDone m c
+        → ((j : ℕ) (d : C) → j < i → slice_get m.initials j ≡ Some d → IsDone m d → ⊥) → IsLeastFinishing m bound (i ∷ [])
+    answer_initial i c at done first = record {
+      finishes = (c, (c, at, refl), done);
+      within = omega arith;
+      least = least;
+    }
+      where
+        least : (other : List ℕ) → IsFinishing m other → Precedes other (i ∷ []) → ⊥
+        least [] finish before = absurd finish.1
+        least (j ∷ []) finish before =
+            elim before [
+              | inl shorter ↦ omega arith
+              | inr same ↦ elim same.1 [
+                | inl lower ↦ first j finish.1.0 lower finish.1.1 (subst (IsDone m) (sym finish.1.2) finish.2)
+                | inr alike ↦ alike.1
+              ]
             ]
+        least (j ∷ n ∷ ns) finish before = (let short : length (j ∷ n ∷ ns) ≤ length (i ∷ []) = IsAtMost-length (j ∷ n ∷ ns) (i ∷ []) (inr before) in omega arith)
+
+    module _ (contents : Contents C) (level low : ℕ) (closed : IsClosedTo S contents.keys (words_of contents.origins) contents.cut level low) where
+      -- the first place of the level with a done successor
+      pub answer_found : (p n : ℕ) → level < bound → IsFirstDone (IsLiveStep m) (IsDone m) contents.keys low (length contents.keys) p n
+          → IsLeastFinishing m bound (get_or (words_of contents.origins) p [] ++ n ∷ [])
+      answer_found p n short first =
+          let c = first.configuration in
+          let words = words_of contents.origins in
+          let w = get_or words p [] in
+          let at : IsAt contents.keys words p c w = word_at S contents level low closed p c first.at in
+          let finish : Finishes (IsLiveStep m) (IsDone m) m.initials (w ++ n ∷ []) =
+          found_finishes S counts contents.keys words contents.cut level low closed p n c first.number.to w first.from_first at first.number.step first.number.done first.place first.number.least in
+          let finish' : IsFinishing m (w ++ n ∷ []) = all_finishes (w ++ n ∷ []) finish in
+          let long : length (w ++ n ∷ []) ≡ level + 2 =
+          found_length S counts contents.keys words contents.cut level low closed p n c first.number.to w first.from_first at first.number.step first.number.done first.place first.number.least in
+          let steps : step_count (w ++ n ∷ []) + 1 ≡ length (w ++ n ∷ []) = steps_of (w ++ n ∷ []) finish' in
+          record {
+            finishes = finish';
+            within = omega arith;
+            least = λ other finishes before.
+                found_least S counts contents.keys words contents.cut level low closed p n c first.number.to w first.from_first at first.number.step first.number.done first.place first.number.least
+                other short (live_finishes other finishes) before;
+          }
+
+      -- all ranks are expanded, or the level is at the bound
+      pub exhausted : (bound ≤ level) ⊎ (low ≡ length contents.keys)
+          → (last : ℕ) × (end : ℕ) × (end ≡ length contents.keys) × IsClosedTo S contents.keys (words_of contents.origins) contents.cut last end
+      exhausted (inl past) = (level + 1, length contents.keys, refl, close_last S counts contents.keys (words_of contents.origins) contents.cut level low closed past)
+      exhausted (inr all) = (level, low, all, closed)
+
+      -- where something was cut, no word finishes within the bound, which is met
+      pub answer_none : (bound ≤ level) ⊎ (low ≡ length contents.keys) → contents.cut.any ≡ true
+          → NoneFinishes m bound × MeetsBound (IsLiveStep m) measure m.initials bound
+      answer_none end cut =
+          let e = exhausted end in (
+            (λ word finish. elim (cases_lt bound (step_count word)) [
+              | inl over ↦ over
+              | inr within ↦ (let steps : step_count word + 1 ≡ length word = steps_of word finish in
+                  absurd (none_within S counts contents.keys (words_of contents.origins) contents.cut e.0 e.1 e.3 e.2 word (omega arith) (live_finishes word finish)))
+            ]),
+            closed.met cut,
+          )
+
+      -- no word finishes with fewer steps than what was cut has at least
+      pub none_before_next : (bound ≤ level) ⊎ (low ≡ length contents.keys) → (next : ℕ) → next ≤ bound + contents.cut.past → (word : List ℕ) → IsFinishing m word → next ≤ step_count word
+      none_before_next end next least word finish =
+          let e = exhausted end in
+          let steps : step_count word + 1 ≡ length word = steps_of word finish in
+          elim (cases_lt (step_count word) next) [
+            | inl fewer ↦ absurd (none_before S counts contents.keys (words_of contents.origins) contents.cut e.0 e.1 e.3 e.2 word (omega arith) (live_finishes word finish))
+            | inr enough ↦ enough
           ]
-      least (j ∷ n ∷ ns) finish before = (let short : length (j ∷ n ∷ ns) ≤ length (i ∷ []) = IsAtMost-length (j ∷ n ∷ ns) (i ∷ []) (inr before) in omega arith)
 
-  module _ (contents : Contents C) (level low : ℕ) (closed : IsClosedTo S contents.keys (words_of contents.origins) contents.cut level low) where
-    -- the first place of the level with a done successor
-    pub answer_found : (p n : ℕ) → level < bound → IsFirstDone (IsLiveStep m) (IsDone m) contents.keys low (length contents.keys) p n
-        → IsLeastFinishing m bound (get_or (words_of contents.origins) p [] ++ n ∷ [])
-    answer_found p n short first =
-        let c = first.configuration in
-        let words = words_of contents.origins in
-        let w = get_or words p [] in
-        let at : IsAt contents.keys words p c w = word_at S contents level low closed p c first.at in
-        let finish : Finishes (IsLiveStep m) (IsDone m) m.initials (w ++ n ∷ []) =
-        found_finishes S counts contents.keys words contents.cut level low closed p n c first.number.to w first.from_first at first.number.step first.number.done first.place first.number.least in
-        let finish' : IsFinishing m (w ++ n ∷ []) = all_finishes (w ++ n ∷ []) finish in
-        let long : length (w ++ n ∷ []) ≡ level + 2 =
-        found_length S counts contents.keys words contents.cut level low closed p n c first.number.to w first.from_first at first.number.step first.number.done first.place first.number.least in
-        let steps : step_count (w ++ n ∷ []) + 1 ≡ length (w ++ n ∷ []) = steps_of (w ++ n ∷ []) finish' in
-        record {
-          finishes = finish';
-          within = omega arith;
-          least = λ other finishes before.
-              found_least S counts contents.keys words contents.cut level low closed p n c first.number.to w first.from_first at first.number.step first.number.done first.place first.number.least
-              other short (live_finishes other finishes) before;
-        }
+      -- where nothing was, no word finishes, and the bound is not met
+      pub answer_unsolvable : (bound ≤ level) ⊎ (low ≡ length contents.keys) → contents.cut.any ≡ false
+          → NeverFinishes m × (MeetsBound (IsLiveStep m) measure m.initials bound → ⊥)
+      answer_unsolvable end uncut =
+          let e = exhausted end in (
+            (λ word finish. never S counts contents.keys (words_of contents.origins) contents.cut e.0 e.1 e.3 e.2 uncut word (live_finishes word finish)),
+            never_met S counts contents.keys (words_of contents.origins) contents.cut e.0 e.1 e.3 e.2 uncut,
+          )
 
-    -- all ranks are expanded, or the level is at the bound
-    pub exhausted : (bound ≤ level) ⊎ (low ≡ length contents.keys)
-        → (last : ℕ) × (end : ℕ) × (end ≡ length contents.keys) × IsClosedTo S contents.keys (words_of contents.origins) contents.cut last end
-    exhausted (inl past) = (level + 1, length contents.keys, refl, close_last S counts contents.keys (words_of contents.origins) contents.cut level low closed past)
-    exhausted (inr all) = (level, low, all, closed)
+      -- what is told where nothing is left to expand
+      pub outcome : (bound ≤ level) ⊎ (low ≡ length contents.keys) → (told : Outcome)
+          → (contents.cut.any ≡ true → (least : ℕ) × (wide : ℕ) × (told ≡ Past least wide) × (least ≤ bound + contents.cut.past)) → (contents.cut.any ≡ false → told ≡ Exhausted) → IsOutcome m measure bound told
+      outcome end told past exhausted_so = by contents.cut.any refl
+        where
+          by : (cut : Bool) → contents.cut.any ≡ cut → IsOutcome m measure bound told
+          by true cut =
+              let p = past cut in
+              let none = answer_none end cut in
+              subst (IsOutcome m measure bound) (sym p.2) (none.0, none.1, none_before_next end p.0 p.3)
+          by false cut = subst (IsOutcome m measure bound) (sym (exhausted_so cut)) (answer_unsolvable end cut)
 
-    pub answer_none : (bound ≤ level) ⊎ (low ≡ length contents.keys) → contents.cut ≡ true
-        → NoneFinishes m bound × IsMet m bound
-    answer_none end cut =
-        let e = exhausted end in (
-          (λ word finish. elim (cases_lt bound (step_count word)) [
-            | inl over ↦ over
-            | inr within ↦ (let steps : step_count word + 1 ≡ length word = steps_of word finish in
-                absurd (none_within S counts contents.keys (words_of contents.origins) contents.cut e.0 e.1 e.3 e.2 word (omega arith) (live_finishes word finish)))
-          ]),
-          closed.met cut,
-        )
+      -- each configuration of the list is one of the machine's
+      pub keys_belong : All belongs contents.keys
+      keys_belong k d inside =
+          let c = get_or contents.keys k d in
+          let at = word_at S contents level low closed k c (slice_get-get_or contents.keys k d inside) in
+          reaches_belong (get_or (words_of contents.origins) k []) c (closed.kept.reached k c (get_or (words_of contents.origins) k []) at)
 
-    pub answer_unsolvable : (bound ≤ level) ⊎ (low ≡ length contents.keys) → contents.cut ≡ false
-        → NeverFinishes m × (IsMet m bound → ⊥)
-    answer_unsolvable end uncut =
-        let e = exhausted end in (
-          (λ word finish. never S counts contents.keys (words_of contents.origins) contents.cut e.0 e.1 e.3 e.2 uncut word (live_finishes word finish)),
-          never_met S counts contents.keys (words_of contents.origins) contents.cut e.0 e.1 e.3 e.2 uncut,
-        )
+      -- and so is each successor, whose parent stands in the list
+      pub successors_belong : (last : ℕ) (successors : List (Successor C)) → IsExpansion (IsLiveStep m) (IsDone m) contents.keys low last successors → All (λ s. belongs s.configuration) successors
+      successors_belong last successors expanded = λ k d inside. (
+          let s = get_or successors k d in
+          let e = expanded.each k s (slice_get-get_or successors k d inside) in
+          let at = word_at S contents level low closed e.0 e.2 e.5 in
+          laws.stays e.2 s.configuration e.1 (reaches_belong (get_or (words_of contents.origins) e.0 []) e.2 (closed.kept.reached e.0 e.2 (get_or (words_of contents.origins) e.0 []) at)) e.6.step.0)
 
-    -- each configuration of the list is one of the machine's
-    pub keys_belong : All belongs contents.keys
-    keys_belong k d inside =
-        let c = get_or contents.keys k d in
-        let at = word_at S contents level low closed k c (slice_get-get_or contents.keys k d inside) in
-        reaches_belong (get_or (words_of contents.origins) k []) c (closed.kept.reached k c (get_or (words_of contents.origins) k []) at)
+      -- the parent of each stands in the list
+      pub successors_within : (successors : List (Successor C)) → IsExpansion (IsLiveStep m) (IsDone m) contents.keys low (length contents.keys) successors
+          → All (λ s. IsOriginWithin (length contents.keys) s.origin) successors
+      successors_within successors expanded = λ k d inside. (
+          let s = get_or successors k d in
+          let e = expanded.each k s (slice_get-get_or successors k d inside) in
+          let own : IsOriginWithin (length contents.keys) (Stepped e.0 e.1) = e.4 in
+          subst (IsOriginWithin (length contents.keys)) (sym e.6.origin) own)
 
-    -- and so is each successor, whose parent stands in the list
-    pub successors_belong : (last : ℕ) (successors : List (Successor C)) → IsExpansion (IsLiveStep m) (IsDone m) contents.keys low last successors → All (λ s. belongs s.configuration) successors
-    successors_belong last successors expanded = λ k d inside. (
-        let s = get_or successors k d in
-        let e = expanded.each k s (slice_get-get_or successors k d inside) in
-        let at = word_at S contents level low closed e.0 e.2 e.5 in
-        laws.stays e.2 s.configuration e.1 (reaches_belong (get_or (words_of contents.origins) e.0 []) e.2 (closed.kept.reached e.0 e.2 (get_or (words_of contents.origins) e.0 []) at)) e.6.step.0)
+-- what a search by a bound from below tells of the open nodes, and of a bound that is no less
+module _ {C : Type 0} (m : WordMachine C) (lower : C → ℕ) (is_lower : IsLowerBound m lower) (within bound : ℕ) (less : within ≤ bound) where
+  -- what meets the bound by the open nodes meets the smaller one by the bound from below
+  pub met_by_lower : MeetsBound (IsLiveStep m) m.open_len m.initials bound → MeetsBound (IsLiveStep m) lower m.initials within
+  met_by_lower met = (
+    met.0,
+    met.1,
+    met.2,
+    λ other reached. (
+        let over : bound < step_count other + m.open_len met.1 = met.3 other reached in
+        let more : m.open_len met.1 ≤ lower met.1 = is_lower.above_open met.1 in
+        omega arith),
+  )
 
-    pub successors_within : (successors : List (Successor C)) → IsExpansion (IsLiveStep m) (IsDone m) contents.keys low (length contents.keys) successors
-        → All (λ s. IsOriginWithin (length contents.keys) s.origin) successors
-    successors_within successors expanded = λ k d inside. (
-        let s = get_or successors k d in
-        let e = expanded.each k s (slice_get-get_or successors k d inside) in
-        let own : IsOriginWithin (length contents.keys) (Stepped e.0 e.1) = e.4 in
-        subst (IsOriginWithin (length contents.keys)) (sym e.6.origin) own)
+  -- the least word within the smaller bound is the least within the other
+  pub least_within : (word : List ℕ) → IsLeastFinishing m within word → IsLeastFinishing m bound word
+  least_within word found = record {
+    finishes = found.finishes;
+    within = (let short : step_count word ≤ within = found.within in omega arith);
+    least = found.least;
+  }
+
+-- an outcome by the open nodes is an answer
+pub answer_of : {C : Type 0} (m : WordMachine C) (bound : ℕ) (told : Outcome) → IsOutcome m m.open_len bound told → IsAnswer m bound (found_of told)
+answer_of m bound (Finished word) is = is
+answer_of m bound (Past least wide) is = (is.0, is.1)
+answer_of m bound Exhausted is = is
+
+-- no word finishes with fewer steps than are left at least at each initial configuration
+pub none_before_least : {C : Type 0} (m : WordMachine C) (belongs : C → Type 0) (laws : IsLawful m belongs) (lower : C → ℕ) (is_lower : IsLowerBound m lower) (least : ℕ)
+    → All (λ c. least ≤ lower c) m.initials → NoneFinishesBefore m least
+none_before_least m belongs laws lower is_lower least each word finish =
+    by word (live_finishes m belongs laws word finish)
+  where
+    by : (word : List ℕ) → Finishes (IsLiveStep m) (IsDone m) m.initials word → least ≤ step_count word
+    by [] finish = absurd finish.1
+    by (i ∷ ns) finish =
+        let from = finish.1.0 in
+        let enough : least ≤ lower from = all_at (λ c. least ≤ lower c) m.initials each i from finish.1.1 in
+        let along : lower from ≤ lower finish.0 + length ns = open_len-leads (IsLiveStep m) lower is_lower.lowers_one from finish.0 ns finish.1.2 in
+        let none : lower finish.0 ≡ 0 = is_lower.done_zero finish.0 finish.2 in
+        omega arith
+
+-- a search within a bound, and what it left out, raise what is known
+pub none_before_more : {C : Type 0} (m : WordMachine C) (bound next : ℕ) → NoneFinishes m bound → NoneFinishesBefore m next → NoneFinishesBefore m (max next (bound + 1))
+none_before_more m bound next none before word finish =
+    let over : bound < step_count word = none word finish in
+    let later : next ≤ step_count word = before word finish in
+    max-le later (omega arith)

@@ -1,9 +1,10 @@
 -- Keeping the first of equal configurations, and dropping those past the bound, loses nothing.
-use Rattle.std.proofs.Common.{◌≡◌, ℕ, ◌+◌, ◌<◌, ◌≤◌, ◌⊎◌, Bool, true, false, true≢false, List, [], ◌∷◌, ◌++◌, length, refl, sym, ap, subst, ◌∙◌, inl, inr, arith, slice_get, Some, length-append, append_assoc}
+use Rattle.std.proofs.Common.{◌≡◌, ℕ, ◌+◌, ◌<◌, ◌≤◌, ◌⊎◌, true, false, true≢false, List, [], ◌∷◌, ◌++◌, length, refl, sym, ap, subst, ◌∙◌, inl, inr, arith, slice_get, Some, length-append, append_assoc}
 use Rattle.std.proofs.lemmas.Bool.{cases_lt}
 use Rattle.std.proofs.lemmas.List.{append-nil}
 use Rattle.std.proofs.lemmas.Option.{slice_get_within, same_Some}
 use Rattle.word_machine.specs.Words.{Precedes, Leads, Reaches, Finishes, MeetsBound, step_count}
+use Rattle.word_machine.specs.Contents.{CutOff}
 use Rattle.word_machine.specs.Closed.{Search, IsAtMost, IsAt, IsCovered, IsClosedTo, IsCompleteBelow}
 use Rattle.word_machine.proofs.Order.{IsAtMost-trans, IsAtMost-push, IsAtMost-length, IsAtMost-not_before, Precedes-push, Precedes-last, Reaches-push, step_count-reached, open_len-leads}
 
@@ -18,6 +19,7 @@ module _ {C : Type 0} (S : Search C) where
   abbrev pub IsReachedByLast : C → List ℕ → Type 0
   IsReachedByLast to v = (u : List ℕ) × (n : ℕ) × (from : C) × (v ≡ u ++ n ∷ []) × Reaches S.Step S.initials u from × S.Step from n to
 
+  -- the last of some steps
   last_lead : (c d : C) (n : ℕ) (ns : List ℕ) → Leads S.Step c (n ∷ ns) d
       → (ms : List ℕ) × (m : ℕ) × (e : C) × (n ∷ ns ≡ ms ++ m ∷ []) × Leads S.Step c ms e × S.Step e m d
   last_lead c d n [] leads = ([], n, c, refl, refl, subst (S.Step c n) leads.2 leads.1)
@@ -25,6 +27,7 @@ module _ {C : Type 0} (S : Search C) where
       let rest = last_lead leads.0 d m ns leads.2 in
       (n ∷ rest.0, rest.1, rest.2, ap (λ l. n ∷ l) rest.3, (leads.0, leads.1, rest.4), rest.5)
 
+  -- the last step of a word
   pub last_step : (v : List ℕ) (to : C) → Reaches S.Step S.initials v to → 1 < length v → IsReachedByLast to v
   last_step [] to reached long = absurd reached
   last_step (i ∷ []) to reached long = absurd (omega arith)
@@ -33,23 +36,37 @@ module _ {C : Type 0} (S : Search C) where
       (i ∷ split.0, split.1, split.2, ap (λ l. i ∷ l) split.3, (reached.0, reached.1, split.4), split.5)
 
 module _ {C : Type 0} (S : Search C) (laws : CountsOpen S) where
-  module _ (keys : List C) (words : List (List ℕ)) (cut : Bool) (level low : ℕ) (closed : IsClosedTo S keys words cut level low) where
-    -- nothing was cut, or the configuration is within the bound after so many numbers
-    abbrev IsKnown : C → ℕ → Type 0
-    IsKnown c size = (cut ≡ false) ⊎ (size + S.open_len c ≤ S.bound + 1)
+  module _ (keys : List C) (words : List (List ℕ)) (cut : CutOff) (level low : ℕ) (closed : IsClosedTo S keys words cut level low) where
+    -- what is below this limit was not cut
+    abbrev IsLimit : ℕ → Type 0
+    IsLimit limit = (limit ≤ S.bound + 2) ⊎ (limit ≤ S.bound + 1 + cut.past)
 
-    over_known : (c d : C) (size later most : ℕ) → IsKnown d (size + later) → most ≤ size → S.open_len c ≤ S.open_len d + later
-        → (cut ≡ true) × (S.bound + 1 < most + S.open_len c) → ⊥
-    over_known c d size later most known fewer along over =
-        elim known [ inl none ↦ true≢false (sym over.0 ∙ none) | inr fits ↦ (let past : S.bound + 1 < most + S.open_len c = over.1 in omega arith) ]
+    -- what fits the bound was not cut
+    within_bound : IsLimit (S.bound + 2)
+    within_bound = inl (omega arith)
+
+    -- nothing was cut, or the configuration is below the limit after so many numbers
+    abbrev IsKnown : ℕ → C → ℕ → Type 0
+    IsKnown limit c size = (cut.any ≡ false) ⊎ (size + S.open_len c < limit)
+
+    -- what leads to a configuration below the limit was not cut
+    over_known : (limit : ℕ) → IsLimit limit → (c d : C) (size later most : ℕ) → IsKnown limit d (size + later) → most ≤ size → S.open_len c ≤ S.open_len d + later
+        → (cut.any ≡ true) × (S.bound + 1 < most + S.open_len c) × (S.bound + 1 + cut.past ≤ most + S.open_len c) → ⊥
+    over_known limit is_limit c d size later most known fewer along over =
+        let near : S.bound + 1 < most + S.open_len c = over.1 in
+        let far : S.bound + 1 + cut.past ≤ most + S.open_len c = over.2 in
+        elim known [
+          | inl none ↦ true≢false (sym over.0 ∙ none)
+          | inr fits ↦ elim is_limit [ inl by_bound ↦ omega arith | inr by_past ↦ omega arith ]
+        ]
 
     -- from a covered configuration on, numbers lead to a covered one, where the ranks of shorter words are expanded
-    covered_along : (size : ℕ) → ((r : ℕ) (w : List ℕ) → slice_get words r ≡ Some w → length w < size → r < low)
+    covered_along : (limit : ℕ) → IsLimit limit → (size : ℕ) → ((r : ℕ) (w : List ℕ) → slice_get words r ≡ Some w → length w < size → r < low)
         → (c d : C) (u ns : List ℕ) → IsCovered keys words c u → Leads S.Step c ns d
-        → length u + length ns ≤ size → IsKnown d (length u + length ns) → IsCovered keys words d (u ++ ns)
-    covered_along size early c d u [] k leads short known =
+        → length u + length ns ≤ size → IsKnown limit d (length u + length ns) → IsCovered keys words d (u ++ ns)
+    covered_along limit is_limit size early c d u [] k leads short known =
         subst (λ x. IsCovered keys words x (u ++ [])) leads (subst (λ v. IsCovered keys words c v) (sym (append-nil u)) k)
-    covered_along size early c d u (n ∷ ns) k leads short known =
+    covered_along limit is_limit size early c d u (n ∷ ns) k leads short known =
         let no_longer : length k.word ≤ length u = IsAtMost-length k.word u k.least in
         let before : k.rank < low = early k.rank k.word k.at.word (omega arith) in
         let grown : length (u ++ n ∷ []) ≡ length u + 1 = length-append u (n ∷ []) in
@@ -57,23 +74,24 @@ module _ {C : Type 0} (S : Search C) (laws : CountsOpen S) where
           | inl next ↦
               let from_u : IsCovered keys words leads.0 (u ++ n ∷ []) =
               record { rank = next.rank; word = next.word; at = next.at; least = IsAtMost-trans next.word (k.word ++ n ∷ []) (u ++ n ∷ []) next.least (IsAtMost-push k.word u n k.least) } in
-              let still : IsKnown d (length (u ++ n ∷ []) + length ns) = elim known [ inl none ↦ inl none | inr fits ↦ inr (omega arith) ] in
+              let still : IsKnown limit d (length (u ++ n ∷ []) + length ns) = elim known [ inl none ↦ inl none | inr fits ↦ inr (omega arith) ] in
               subst (IsCovered keys words d) (append_assoc u (n ∷ []) ns)
-              (covered_along size early leads.0 d (u ++ n ∷ []) ns from_u leads.2 (omega arith) still)
+              (covered_along limit is_limit size early leads.0 d (u ++ n ∷ []) ns from_u leads.2 (omega arith) still)
           | inr over ↦
               let last : length (k.word ++ n ∷ []) ≡ length k.word + 1 = length-append k.word (n ∷ []) in
-              absurd (over_known leads.0 d (length u + 1) (length ns) (length (k.word ++ n ∷ []))
+              absurd (over_known limit is_limit leads.0 d (length u + 1) (length ns) (length (k.word ++ n ∷ []))
               (elim known [ inl none ↦ inl none | inr fits ↦ inr (omega arith) ]) (omega arith)
               (open_len-leads S.Step S.open_len laws.closes_one leads.0 d ns leads.2) over)
         ]
 
-    covered_word : (size : ℕ) → ((r : ℕ) (w : List ℕ) → slice_get words r ≡ Some w → length w < size → r < low)
-        → (v : List ℕ) (c : C) → length v ≤ size → Reaches S.Step S.initials v c → IsKnown c (length v) → IsCovered keys words c v
-    covered_word size early [] c short reached known = absurd reached
-    covered_word size early (i ∷ ns) c short reached known =
+    -- so a word below the limit reaches a covered configuration
+    covered_word : (limit : ℕ) → IsLimit limit → (size : ℕ) → ((r : ℕ) (w : List ℕ) → slice_get words r ≡ Some w → length w < size → r < low)
+        → (v : List ℕ) (c : C) → length v ≤ size → Reaches S.Step S.initials v c → IsKnown limit c (length v) → IsCovered keys words c v
+    covered_word limit is_limit size early [] c short reached known = absurd reached
+    covered_word limit is_limit size early (i ∷ ns) c short reached known =
         elim (closed.started i reached.0 reached.1) [
-          | inl first ↦ covered_along size early reached.0 c (i ∷ []) ns first reached.2 (omega arith) (elim known [ inl none ↦ inl none | inr fits ↦ inr (omega arith) ])
-          | inr over ↦ absurd (over_known reached.0 c 1 (length ns) 1 (elim known [ inl none ↦ inl none | inr fits ↦ inr (omega arith) ]) (omega arith)
+          | inl first ↦ covered_along limit is_limit size early reached.0 c (i ∷ []) ns first reached.2 (omega arith) (elim known [ inl none ↦ inl none | inr fits ↦ inr (omega arith) ])
+          | inr over ↦ absurd (over_known limit is_limit reached.0 c 1 (length ns) 1 (elim known [ inl none ↦ inl none | inr fits ↦ inr (omega arith) ]) (omega arith)
               (open_len-leads S.Step S.open_len laws.closes_one reached.0 c ns reached.2) over)
         ]
 
@@ -84,7 +102,7 @@ module _ {C : Type 0} (S : Search C) (laws : CountsOpen S) where
 
     -- the key lemma: what a word of the level reaches within the bound is covered
     pub complete : IsCompleteBelow S keys words (level + 2)
-    complete v c short reached fits = covered_word (level + 1) early_of_level v c (omega arith) reached (inr fits)
+    complete v c short reached fits = covered_word (S.bound + 2) within_bound (level + 1) early_of_level v c (omega arith) reached (inr (omega arith))
 
     -- no word of at most the level's steps finishes within the bound
     pub none_to_level : (v : List ℕ) → length v ≤ level + 1 → length v ≤ S.bound + 1 → Finishes S.Step S.IsDone S.initials v → ⊥
@@ -97,12 +115,15 @@ module _ {C : Type 0} (S : Search C) (laws : CountsOpen S) where
     module _ (p n : ℕ) (c d : C) (w : List ℕ) (of_level : low ≤ p) (at : IsAt keys words p c w) (step : S.Step c n d) (done : S.IsDone d)
         (first_place : (q m : ℕ) (e f : C) → low ≤ q → q < p → slice_get keys q ≡ Some e → S.Step e m f → S.IsDone f → ⊥)
         (first_number : (m : ℕ) (f : C) → m < n → S.Step c m f → S.IsDone f → ⊥) where
+      -- it finishes
       pub found_finishes : Finishes S.Step S.IsDone S.initials (w ++ n ∷ [])
       found_finishes = (d, Reaches-push S.Step S.initials c d w n (closed.kept.reached p c w at) step, done)
 
+      -- it has as many numbers as the words of the next level
       pub found_length : length (w ++ n ∷ []) ≡ level + 2
       found_length = omega (arith, length-append w (n ∷ []), closed.current p w of_level at.word)
 
+      -- no word through a later place comes before it
       not_later : (u : List ℕ) (m : ℕ) (e f : C) → S.Step e m f → S.IsDone f → (k : IsCovered keys words e u) → p ≤ k.rank
           → Precedes (u ++ m ∷ []) (w ++ n ∷ []) → ⊥
       not_later u m e f last finish k later before =
@@ -145,6 +166,7 @@ module _ {C : Type 0} (S : Search C) (laws : CountsOpen S) where
                 ]
           ]
 
+      -- no finishing word comes before it
       pub found_least : (v : List ℕ) → level < S.bound → Finishes S.Step S.IsDone S.initials v → Precedes v (w ++ n ∷ []) → ⊥
       found_least v within finish before =
           let size : length (w ++ n ∷ []) ≡ level + 2 = found_length in
@@ -179,31 +201,41 @@ module _ {C : Type 0} (S : Search C) (laws : CountsOpen S) where
 
     -- all ranks are expanded
     module _ (all : low ≡ length keys) where
+      -- each rank is expanded
       early_of_all : (size : ℕ) (r : ℕ) (w : List ℕ) → slice_get words r ≡ Some w → length w < size → r < low
       early_of_all size r w at short =
           let inside : r < length words = slice_get_within words r w at in
           let many : length words ≡ length keys = closed.kept.as_many in
           omega arith
 
-      covered_of_all : (v : List ℕ) (c : C) → Reaches S.Step S.initials v c → IsKnown c (length v) → IsCovered keys words c v
-      covered_of_all v c reached known = covered_word (length v) (early_of_all (length v)) v c (omega arith) reached known
+      -- whatever is reached below the limit is covered
+      covered_of_all : (limit : ℕ) → IsLimit limit → (v : List ℕ) (c : C) → Reaches S.Step S.initials v c → IsKnown limit c (length v) → IsCovered keys words c v
+      covered_of_all limit is_limit v c reached known = covered_word limit is_limit (length v) (early_of_all (length v)) v c (omega arith) reached known
 
+      -- no word finishes before what was cut
+      pub none_before : (v : List ℕ) → length v ≤ S.bound + cut.past → Finishes S.Step S.IsDone S.initials v → ⊥
+      none_before v within finish =
+          let closes : S.open_len finish.0 ≡ 0 = laws.done_closed finish.0 finish.2 in
+          let k : IsCovered keys words finish.0 v = covered_of_all (S.bound + 1 + cut.past) (inr (omega arith)) v finish.0 finish.1 (inr (omega arith)) in
+          closed.kept.unfinished k.rank finish.0 k.at.key finish.2
+
+      -- no word finishes within the bound
       pub none_within : (v : List ℕ) → length v ≤ S.bound + 1 → Finishes S.Step S.IsDone S.initials v → ⊥
       none_within v within finish =
           let closes : S.open_len finish.0 ≡ 0 = laws.done_closed finish.0 finish.2 in
-          let k : IsCovered keys words finish.0 v = covered_of_all v finish.0 finish.1 (inr (omega arith)) in
+          let k : IsCovered keys words finish.0 v = covered_of_all (S.bound + 2) within_bound v finish.0 finish.1 (inr (omega arith)) in
           closed.kept.unfinished k.rank finish.0 k.at.key finish.2
 
       -- where nothing was cut, no word finishes
-      pub never : cut ≡ false → (v : List ℕ) → Finishes S.Step S.IsDone S.initials v → ⊥
+      pub never : cut.any ≡ false → (v : List ℕ) → Finishes S.Step S.IsDone S.initials v → ⊥
       never none v finish =
-          let k : IsCovered keys words finish.0 v = covered_of_all v finish.0 finish.1 (inl none) in
+          let k : IsCovered keys words finish.0 v = covered_of_all (S.bound + 2) within_bound v finish.0 finish.1 (inl none) in
           closed.kept.unfinished k.rank finish.0 k.at.key finish.2
 
       -- and the bound was never met
-      pub never_met : cut ≡ false → MeetsBound S.Step S.open_len S.initials S.bound → ⊥
+      pub never_met : cut.any ≡ false → MeetsBound S.Step S.open_len S.initials S.bound → ⊥
       never_met none met =
-          let k : IsCovered keys words met.1 met.0 = covered_of_all met.0 met.1 met.2 (inl none) in
+          let k : IsCovered keys words met.1 met.0 = covered_of_all (S.bound + 2) within_bound met.0 met.1 met.2 (inl none) in
           let reached : Reaches S.Step S.initials k.word met.1 = closed.kept.reached k.rank met.1 k.word k.at in
           let steps : step_count k.word + 1 ≡ length k.word = step_count-reached S.Step S.initials met.1 k.word reached in
           let past : S.bound < step_count k.word + S.open_len met.1 = met.3 k.word reached in

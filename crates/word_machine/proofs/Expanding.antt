@@ -1,69 +1,25 @@
--- The expansion of a configuration, choice by choice, and of a level, rank by rank.
-use Rattle.std.proofs.Common.{◌≡◌, ℕ, suc, true, ◌+◌, ◌<◌, ◌≤◌, List, [], ◌∷◌, ◌++◌, length, refl, sym, ap, subst, ◌∙◌, inl, inr, arith, slice_get, Some, get_or, take, map, Contains, All}
-use Rattle.std.specs.List.{AllZip, flat_map}
-use Rattle.std.specs.List.Sorted.{IsStrictlyIncreasing}
+-- The expansion of a configuration, and of a level, rank by rank.
+use Rattle.std.proofs.Common.{◌≡◌, ℕ, suc, ◌+◌, ◌<◌, ◌≤◌, List, [], ◌∷◌, ◌++◌, length, refl, sym, ap, subst, ◌∙◌, inl, inr, arith, slice_get, Some, get_or, map, All}
+use Rattle.std.specs.List.{flat_map}
 use Rattle.std.proofs.lemmas.Bool.{cases_lt}
-use Rattle.std.proofs.lemmas.List.{get_or-map, get_or-take, length-map, length-take-le}
+use Rattle.std.proofs.lemmas.List.{length-map}
 use Rattle.std.proofs.lemmas.Option.{slice_get-get_or, slice_get_cases, slice_get_within, same_Some, none-some, get_or_from_slice_get}
+use Rattle.std.proofs.lemmas.List.Elements.{All-append, All-nil}
 use Rattle.std.proofs.lemmas.List.Kept.{AllPairs-from_increasing}
 use Rattle.htn_level.specs.Level.{IsExpanded as IsLevelExpanded}
 use Rattle.htn_level.specs.declared.order.Expanded.{Expanded}
 use Rattle.htn_level.specs.declared.order.Expanded.TheVariants.{Whole, Done}
 use Rattle.word_machine.specs.declared.closed.Origin.TheVariants.{Step as Stepped}
 use Rattle.word_machine.specs.declared.closed.Successor.{Successor}
-use Rattle.word_machine.specs.Expansion.{IsEarlier, IsSuccessor, IsExpansionOf, IsLeastDone, IsExpansion, IsFirstDone, IsExpanded}
-use Rattle.word_machine.specs.Machine.{WordMachine, IsStep, IsDone, IsLiveStep, IsLiveNumbers}
-use Rattle.word_machine.specs.Ranks.{IsReadyAt, AreReadyFrom, HasSuccessorsAt, FinishesAt}
+use Rattle.word_machine.specs.Expansion.{IsEarlier, IsSuccessor, IsExpansionOf, IsLeastDone, IsExpansion, IsFirstDone}
+use Rattle.word_machine.specs.Machine.{WordMachine, IsDone, IsLiveStep}
+use Rattle.word_machine.specs.Meaning.{Meaning, successor_at}
+use Rattle.word_machine.specs.Ranks.{StandsAt, AreReadyFrom, HasSuccessorsAt, FinishesAt, IsExpandedBy}
+use Rattle.word_machine.proofs.Meanings.{slice_get-map, slice_get-map_back, map-flat_map}
 use Rattle.word_machine.proofs.Places.{slice_get-append_left, slice_get-append_right, slice_get-append_cases, all_zip_at, all_zip_back}
 
-all_zip_map : {A B X : Type 0} (R : B → X → Type 0) (f : A → B) (xs : List A) (ys : List X) → AllZip (λ x y. R (f x) y) xs ys → AllZip R (map f xs) ys
-all_zip_map R f [] [] z = tt
-all_zip_map R f [] (y ∷ ys) z = absurd z
-all_zip_map R f (x ∷ xs) [] z = absurd z
-all_zip_map R f (x ∷ xs) (y ∷ ys) z = (z.0, all_zip_map R f xs ys z.1)
-
-module _ {C K : Type 0} (Step : C → ℕ → C → Type 0) (IsDone : C → Type 0) (deterministic : (c d e : C) (n : ℕ) → Step c n d → Step c n e → d ≡ e)
-    (number : K → ℕ) (p : ℕ) (c : C) (choices : List K)
-    (ascending : IsStrictlyIncreasing (map number choices)) (all : (n : ℕ) (d : C) → Step c n d → Contains (map number choices) n) where
-  pub expansion_of_choices : (more : List (Successor C)) → AllZip (λ k s. IsSuccessor Step IsDone p c (number k) s) choices more → IsExpansionOf Step IsDone p c more
-  expansion_of_choices more each = record {
-    numbers = map number choices;
-    ascending = ascending;
-    each = all_zip_map (IsSuccessor Step IsDone p c) number choices more each;
-    all = all;
-  }
-
-  -- where each choice before the i-th gave a successor that is not done, and the i-th gives a done one, its number is the least
-  pub least_of_choices : (i : ℕ) (more : List (Successor C)) → AllZip (λ k s. IsSuccessor Step IsDone p c (number k) s) (take i choices) more
-      → (k : K) (d : C) → i < length choices → k ≡ get_or choices i k → Step c (number k) d → IsDone d → IsLeastDone Step IsDone c (number k)
-  least_of_choices i more each k d inside same_choice step done = record { to = d; step = step; done = done; least = lower }
-    where
-      lower : (m : ℕ) (e : C) → m < number k → Step c m e → IsDone e → ⊥
-      lower m e less leads finish =
-          let place = all m e leads in
-          let many : length (map number choices) ≡ length choices = length-map choices number in
-          let in_list : place.0 < length (map number choices) = place.1 in
-          let in_choices : place.0 < length choices = omega arith in
-          let named : number (get_or choices place.0 k) ≡ m = sym (get_or-map number choices place.0 k m in_choices) ∙ place.2 in
-          elim (cases_lt place.0 i) [
-            | inl early ↦
-                let short : length (take i choices) ≡ i = length-take-le i choices (omega arith) in
-                let taken : place.0 < length (take i choices) = omega arith in
-                let other : K = get_or (take i choices) place.0 k in
-                let s = all_zip_at (λ k s. IsSuccessor Step IsDone p c (number k) s) (take i choices) more place.0 other each (slice_get-get_or (take i choices) place.0 k taken) in
-                let same : number other ≡ m = ap number (get_or-take i choices place.0 k early) ∙ named in
-                s.2.unfinished (subst IsDone (deterministic c e s.0.configuration m leads (subst (λ n. Step c n s.0.configuration) same s.2.step)) finish)
-            | inr late ↦
-                let own : get_or (map number choices) i m ≡ number k = get_or-map number choices i k m inside ∙ ap number (sym same_choice) in
-                elim (cases_lt i place.0) [
-                  | inl past ↦ (let below : get_or (map number choices) i m < get_or (map number choices) place.0 m = AllPairs-from_increasing (map number choices) ascending i place.0 m past in_list in
-                      let found : get_or (map number choices) place.0 m ≡ m = place.2 in omega arith)
-                  | inr here ↦ (let e : i ≡ place.0 = omega arith in
-                      let alike : get_or (map number choices) i m ≡ m = ap (λ j. get_or (map number choices) j m) e ∙ place.2 in omega arith)
-                ]
-          ]
-
 module _ {C : Type 0} (Step : C → ℕ → C → Type 0) (IsDone : C → Type 0) (keys : List C) where
+  -- no rank has no successors
   pub IsExpansion-none : (p : ℕ) → IsExpansion Step IsDone keys p p []
   IsExpansion-none p = record {
     each = λ i s at. absurd (none-some s at);
@@ -71,6 +27,7 @@ module _ {C : Type 0} (Step : C → ℕ → C → Type 0) (IsDone : C → Type 0
     ascending = λ i j s t less at other. absurd (none-some s at);
   }
 
+  -- the expansion of one rank
   pub IsExpansion-one : (deterministic : (c d e : C) (n : ℕ) → Step c n d → Step c n e → d ≡ e) (p : ℕ) (c : C) (more : List (Successor C))
       → slice_get keys p ≡ Some c → IsExpansionOf Step IsDone p c more → IsExpansion Step IsDone keys p (p + 1) more
   IsExpansion-one deterministic p c more here of = record {
@@ -141,17 +98,9 @@ module _ {C : Type 0} (Step : C → ℕ → C → Type 0) (IsDone : C → Type 0
   }
 
 module _ {C : Type 0} (m : WordMachine C) where
+  -- a number leads to one configuration
   pub one_live_step : (c d e : C) (n : ℕ) → IsLiveStep m c n d → IsLiveStep m c n e → d ≡ e
   one_live_step c d e n s t = same_Some d e (sym s.0 ∙ t.0)
-
-  -- a choice of the list is not dead
-  pub is_live : {K : Type 0} (number : K → ℕ) (c : C) (choices : List K) → IsLiveNumbers m c (map number choices) → (i : ℕ) (x : K) (d : C) → i < length choices → x ≡ get_or choices i x
-      → IsStep m c (number x) d → IsLiveStep m c (number x) d
-  is_live number c choices live i x d inside is step =
-      let many : length (map number choices) ≡ length choices = length-map choices number in
-      let own : get_or (map number choices) i (number x) ≡ number x = get_or-map number choices i x (number x) inside ∙ ap number (sym is) in
-      let leads = live.each i (number x) (omega arith) in
-      (step, subst (λ n. m.is_dead c n ≡ true → ⊥) own leads.1.1)
 
   -- none of the successors of an expanded configuration is done
   pub none_done : (p : ℕ) (c : C) (successors : List (Successor C)) → IsExpansionOf (IsLiveStep m) (IsDone m) p c successors → (n : ℕ) (d : C) → IsLiveStep m c n d → IsDone m d → ⊥
@@ -161,8 +110,12 @@ module _ {C : Type 0} (m : WordMachine C) where
       found.2.unfinished (subst (IsDone m) (one_live_step c d found.0.configuration n step found.2.step) done)
 
   module _ (keys : List C) where
+    -- the point at the rank has these successors
+    abbrev HasPointsAt : ℕ → List (Successor C) → Type 0
+    HasPointsAt rank successors = StandsAt (λ c. IsExpansionOf (IsLiveStep m) (IsDone m) rank c successors) keys rank
+
     -- the ranks were expanded one by one
-    pub level_whole : (first : ℕ) (lists : List (List (Successor C))) → ((i : ℕ) (xs : List (Successor C)) → slice_get lists i ≡ Some xs → HasSuccessorsAt m keys (first + i) xs)
+    pub level_whole : (first : ℕ) (lists : List (List (Successor C))) → ((i : ℕ) (xs : List (Successor C)) → slice_get lists i ≡ Some xs → HasPointsAt (first + i) xs)
         → IsExpansion (IsLiveStep m) (IsDone m) keys first (first + length lists) (flat_map (λ xs. xs) lists)
     level_whole first [] each =
         let e : first ≡ first + 0 = omega arith in
@@ -173,33 +126,59 @@ module _ {C : Type 0} (m : WordMachine C) where
         let last : (first + 1) + length lists ≡ first + suc (length lists) = omega arith in
         let rest : IsExpansion (IsLiveStep m) (IsDone m) keys (first + 1) (first + suc (length lists)) (flat_map (λ xs. xs) lists) =
         subst (λ l. IsExpansion (IsLiveStep m) (IsDone m) keys (first + 1) l (flat_map (λ xs. xs) lists)) last
-        (level_whole (first + 1) lists (λ i ys at. (let next : first + suc i ≡ (first + 1) + i = omega arith in subst (λ r. HasSuccessorsAt m keys r ys) next (each (suc i) ys at)))) in
+        (level_whole (first + 1) lists (λ i ys at. (let next : first + suc i ≡ (first + 1) + i = omega arith in subst (λ r. HasPointsAt r ys) next (each (suc i) ys at)))) in
         IsExpansion-append (IsLiveStep m) (IsDone m) keys first (first + 1) (first + suc (length lists)) xs (flat_map (λ xs. xs) lists) (omega arith) (omega arith)
         (IsExpansion-one (IsLiveStep m) (IsDone m) keys one_live_step first here.0 xs (ap (slice_get keys) (sym own) ∙ here.1) (subst (λ r. IsExpansionOf (IsLiveStep m) (IsDone m) r here.0 xs) own here.2)) rest
 
-    -- what a level's expansion is by ranks, as one of configurations
-    pub level_expanded : (first last : ℕ) (e : Expanded (Successor C) ℕ) → IsLevelExpanded (HasSuccessorsAt m keys) (FinishesAt m keys) first last e
-        → IsExpanded (IsLiveStep m) (IsDone m) keys first last e
-    level_expanded first last (Whole successors) level =
-        subst (λ l. IsExpansion (IsLiveStep m) (IsDone m) keys first l successors.items) level.count
-        (subst (IsExpansion (IsLiveStep m) (IsDone m) keys first (first + length level.lists)) (sym level.joined) (level_whole first level.lists level.of_rank))
-    level_expanded first last (Done rank number) level = record {
-      from_first = level.from_first;
-      before_last = level.before_last;
-      configuration = level.finishes_so.0;
-      at = level.finishes_so.1;
-      number = level.finishes_so.2;
-      place = λ q n c d low less at step done. (
-          let e = level.before q low less in
-          let same : c ≡ e.1.0 = same_Some c e.1.0 (sym at ∙ e.1.1) in
-          none_done q e.1.0 e.0 e.1.2 n d (subst (λ x. IsLiveStep m x n d) same step) done);
-    }
+-- what holds in each list holds in all joined
+all_flat : {X : Type 0} (P : X → Type 0) (lists : List (List X)) → ((i : ℕ) (xs : List X) → slice_get lists i ≡ Some xs → All P xs) → All P (flat_map (λ xs. xs) lists)
+all_flat P [] each = All-nil P
+all_flat P (xs ∷ lists) each = All-append P xs (flat_map (λ xs. xs) lists) (each 0 xs refl) (all_flat P lists (λ i ys at. each (suc i) ys at))
 
--- each rank from `first` on is ready
-pub all_ready_at : {C : Type 0} (belongs is_ready : C → Type 0) (keys : List C) → All belongs keys → (first : ℕ) → AreReadyFrom is_ready keys first
-    → (rank : ℕ) → first ≤ rank → rank < length keys → IsReadyAt belongs is_ready keys rank
-all_ready_at belongs is_ready keys known first ready rank low inside =
+module _ {C R P : Type 0} (m : WordMachine P) (meaning : Meaning C R P) (keys : List C) where
+  -- the lists of successors, by what they stand for
+  points_at : (lists : List (List (Successor R))) (first : ℕ) → ((i : ℕ) (xs : List (Successor R)) → slice_get lists i ≡ Some xs → HasSuccessorsAt m meaning keys (first + i) xs)
+      → (i : ℕ) (ys : List (Successor P)) → slice_get (map (map (successor_at meaning.point_of)) lists) i ≡ Some ys → HasPointsAt m (map meaning.point keys) (first + i) ys
+  points_at lists first of_rank i ys at =
+      let back = slice_get-map_back (map (successor_at meaning.point_of)) lists i ys at in
+      let here = of_rank i back.0 back.1 in (
+        meaning.point here.0,
+        slice_get-map meaning.point keys (first + i) here.0 here.1,
+        subst (IsExpansionOf (IsLiveStep m) (IsDone m) (first + i) (meaning.point here.0)) back.2 here.2.1,
+      )
+
+  -- what a level's expansion is by ranks, as one of points
+  pub level_expanded : (first last : ℕ) (e : Expanded (Successor R) ℕ) → IsLevelExpanded (HasSuccessorsAt m meaning keys) (FinishesAt m meaning keys) first last e
+      → IsExpandedBy m meaning keys first last e
+  level_expanded first last (Whole successors) level =
+      let view = successor_at meaning.point_of in
+      let points = map meaning.point keys in
+      let lists = map (map view) level.lists in
+      let joined : flat_map (λ xs. xs) lists ≡ map view successors.items = sym (map-flat_map view level.lists) ∙ ap (map view) (sym level.joined) in
+      let count : first + length lists ≡ last = ap (λ n. first + n) (length-map level.lists (map view)) ∙ level.count in (
+        subst (All (λ (s : Successor R). meaning.allows s.configuration)) (sym level.joined)
+            (all_flat (λ (s : Successor R). meaning.allows s.configuration) level.lists (λ i xs at. (level.of_rank i xs at).2.0)),
+        subst (λ l. IsExpansion (IsLiveStep m) (IsDone m) points first l (map view successors.items)) count
+            (subst (IsExpansion (IsLiveStep m) (IsDone m) points first (first + length lists)) joined
+            (level_whole m points first lists (points_at level.lists first level.of_rank))),
+      )
+  level_expanded first last (Done rank number) level = record {
+    from_first = level.from_first;
+    before_last = level.before_last;
+    configuration = meaning.point level.finishes_so.0;
+    at = slice_get-map meaning.point keys rank level.finishes_so.0 level.finishes_so.1;
+    number = level.finishes_so.2;
+    place = λ q n c d low less at step done. (
+        let e = level.before q low less in
+        let same : c ≡ meaning.point e.1.0 = same_Some c (meaning.point e.1.0) (sym at ∙ slice_get-map meaning.point keys q e.1.0 e.1.1) in
+        none_done m q (meaning.point e.1.0) (map (successor_at meaning.point_of) e.0) e.1.2.1 n d (subst (λ x. IsLiveStep m x n d) same step) done);
+  }
+
+-- at each rank from `first` on stands a configuration that is ready
+pub all_ready_at : {C : Type 0} (own is_ready : C → Type 0) (keys : List C) → All own keys → (first : ℕ) → AreReadyFrom is_ready keys first
+    → (rank : ℕ) → first ≤ rank → rank < length keys → (c : C) × (slice_get keys rank ≡ Some c) × own c × is_ready c
+all_ready_at own is_ready keys known first ready rank low inside =
     elim (slice_get_cases keys rank).1 [
-      | inl at ↦ (at.0, at.2, subst belongs at.3 (known rank at.0 at.1), ready rank at.0 low at.2)
+      | inl at ↦ (at.0, at.2, subst own at.3 (known rank at.0 at.1), ready rank at.0 low at.2)
       | inr past ↦ (let p : length keys ≤ rank = past.0 in absurd (omega arith))
     ]

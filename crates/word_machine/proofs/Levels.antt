@@ -1,5 +1,5 @@
 -- From one level to the next, and the level of the initial configurations.
-use Rattle.std.proofs.Common.{◌≡◌, ℕ, suc, zero, ◌+◌, ◌<◌, ◌≤◌, ◌⊎◌, false, List, [], ◌∷◌, ◌++◌, length, refl, sym, ap, subst, ◌∙◌, inl, inr, arith, slice_get, Some, get_or, length-append, All}
+use Rattle.std.proofs.Common.{◌≡◌, ℕ, suc, zero, ◌+◌, ◌<◌, ◌≤◌, ◌⊎◌, false, List, [], ◌∷◌, ◌++◌, length, refl, sym, ap, subst, ◌∙◌, inl, inr, arith, slice_get, Some, get_or, length-append, All, map}
 use Rattle.std.proofs.lemmas.List.Elements.{All-cons, All-head, All-tail}
 use Rattle.std.proofs.lemmas.Bool.{cases_lt}
 use Rattle.std.proofs.lemmas.Option.{none-some, same_Some, slice_get_within, slice_get-get_or, get_or_from_slice_get}
@@ -8,6 +8,7 @@ use Rattle.word_machine.specs.declared.closed.Origin.TheVariants.{Initial, Step 
 use Rattle.word_machine.specs.declared.closed.Successor.{Successor}
 use Rattle.word_machine.specs.Words.{Precedes, Reaches}
 use Rattle.word_machine.specs.Contents.{Contents, initial_successors, word_of, words_of, IsOriginWithin}
+use Rattle.word_machine.specs.Meaning.{successor_at}
 use Rattle.word_machine.specs.Closed.{Search, IsAt, IsAccounted, IsClosedTo, IsCandidate, IsBatch}
 use Rattle.word_machine.specs.Expansion.{IsEarlier, IsExpansion}
 use Rattle.word_machine.proofs.Places.{slice_get-append_cases}
@@ -15,12 +16,14 @@ use Rattle.word_machine.proofs.Order.{Precedes-push, Precedes-last, Reaches-push
 use Rattle.word_machine.proofs.Merging.{IsMerged, IsAccounted-append}
 
 module _ {C : Type 0} (S : Search C) (old : Contents C) (level low : ℕ) (closed : IsClosedTo S old.keys (words_of old.origins) old.cut level low) where
+  -- what stands at a rank, with its word
   pub word_at : (p : ℕ) (c : C) → slice_get old.keys p ≡ Some c → IsAt old.keys (words_of old.origins) p c (get_or (words_of old.origins) p [])
   word_at p c at =
       let many : length (words_of old.origins) ≡ length old.keys = closed.kept.as_many in
       let inside : p < length old.keys = slice_get_within old.keys p c at in
       record { key = at; word = slice_get-get_or (words_of old.origins) p [] (omega arith) }
 
+  -- each word is shorter than those of the next level
   pub older_than_next : (r : ℕ) (w : List ℕ) → slice_get (words_of old.origins) r ≡ Some w → length w < level + 2
   older_than_next r w at =
       elim (cases_lt r low) [
@@ -29,6 +32,7 @@ module _ {C : Type 0} (S : Search C) (old : Contents C) (level low : ℕ) (close
       ]
 
   module _ (successors : List (Successor C)) (expanded : IsExpansion S.Step S.IsDone old.keys low (length old.keys) successors) where
+    -- each successor is one for the next level
     candidate : (i : ℕ) (s : Successor C) → slice_get successors i ≡ Some s → IsCandidate S (words_of old.origins) (level + 2) s
     candidate i s at =
         let e = expanded.each i s at in
@@ -50,6 +54,7 @@ module _ {C : Type 0} (S : Search C) (old : Contents C) (level low : ℕ) (close
           unfinished = e.6.unfinished;
         }
 
+    -- an earlier origin has a word that comes before
     rises : (o q : Origin) → IsEarlier o q → (p m r n : ℕ) (c d : C) → o ≡ Stepped p m → q ≡ Stepped r n → slice_get old.keys p ≡ Some c → slice_get old.keys r ≡ Some d
         → Precedes (word_of (words_of old.origins) o) (word_of (words_of old.origins) q)
     rises o q earlier p m r n c d is is' at at' =
@@ -63,6 +68,7 @@ module _ {C : Type 0} (S : Search C) (old : Contents C) (level low : ℕ) (close
         ] in
         subst (λ x. Precedes (word_of words x) (word_of words q)) (sym is) (subst (λ x. Precedes (word_of words (Stepped p m)) (word_of words x)) (sym is') one)
 
+    -- the successors, in their order, are a batch
     pub expansion_batch : IsBatch S (words_of old.origins) (level + 2) successors
     expansion_batch = record {
       each = candidate;
@@ -82,7 +88,7 @@ module _ {C : Type 0} (S : Search C) (old : Contents C) (level low : ℕ) (close
         let keep : (c : C) (v : List ℕ) → IsAccounted S old.keys words old.cut c v → IsAccounted S new.keys (words_of new.origins) new.cut c v =
         λ c v known. subst (λ l. IsAccounted S l (words_of new.origins) new.cut c v) (sym merged.keys_are)
         (subst (λ l. IsAccounted S (old.keys ++ more_keys) l new.cut c v) (sym merged.words_are)
-        (IsAccounted-append S old.keys more_keys words more_words old.cut new.cut c v merged.cut_stays known)) in
+        (IsAccounted-append S old.keys more_keys words more_words old.cut new.cut c v merged.cut_stays merged.past_falls known)) in
         let places : (r : ℕ) (w : List ℕ) → slice_get (words_of new.origins) r ≡ Some w
         → (slice_get words r ≡ Some w) ⊎ ((j : ℕ) × (r ≡ length words + j) × (slice_get more_words j ≡ Some w)) =
         λ r w at. slice_get-append_cases words more_words r w (ap (λ l. slice_get l r) (sym merged.words_are) ∙ at) in
@@ -121,15 +127,18 @@ module _ {C : Type 0} (S : Search C) (old : Contents C) (level low : ℕ) (close
 
 -- the initial configurations, each with its number, none of them done
 module _ {C : Type 0} (S : Search C) where
+  -- each initial configuration with its number, none of them done
   pub record IsStart (batch : List (Successor C)) : Type 0 where
     pub each : (i : ℕ) (s : Successor C) → slice_get batch i ≡ Some s → (s.origin ≡ Initial i) × (slice_get S.initials i ≡ Some s.configuration)
     pub all : (i : ℕ) (c : C) → slice_get S.initials i ≡ Some c → (s : Successor C) × (slice_get batch i ≡ Some s) × (s.configuration ≡ c)
     pub unfinished : (i : ℕ) (c : C) → slice_get S.initials i ≡ Some c → S.IsDone c → ⊥
 
+  -- the list at the start
   abbrev pub empty : Contents C
-  empty = record { keys = []; origins = []; cut = false }
+  empty = record { keys = []; origins = []; cut = record { any = false; past = 18446744073709551615 } }
 
   module _ (batch : List (Successor C)) (start : IsStart batch) where
+    -- they are a batch
     pub start_batch : IsBatch S [] 1 batch
     start_batch = record {
       each = λ i s at. (
@@ -147,6 +156,7 @@ module _ {C : Type 0} (S : Search C) where
           subst (λ o. Precedes (word_of [] o) (word_of [] t.origin)) (sym (start.each i s at).0) (subst (λ o. Precedes (i ∷ []) (word_of [] o)) (sym (start.each j t other).0) lower));
     }
 
+    -- once they are merged, the first level is there
     pub start_closed : (new : Contents C) → IsMerged S empty batch new → IsClosedTo S new.keys (words_of new.origins) new.cut 0 0
     start_closed new merged = record {
       kept = merged.kept;
@@ -166,6 +176,7 @@ module _ {C : Type 0} (S : Search C) where
 
 -- the initial configurations, numbered
 module _ {C : Type 0} where
+  -- what stands at a place of the numbered ones
   numbered_at : (n : ℕ) (cs : List C) (i : ℕ) (s : Successor C) → slice_get (initial_successors n cs) i ≡ Some s → (s.origin ≡ Initial (n + i)) × (slice_get cs i ≡ Some s.configuration)
   numbered_at n [] i s at = absurd (none-some s at)
   numbered_at n (c ∷ cs) zero s at =
@@ -177,11 +188,18 @@ module _ {C : Type 0} where
       let e : (n + 1) + i ≡ n + suc i = omega arith in
       (rest.0 ∙ ap Initial e, rest.1)
 
+  -- each has its place there
   numbered_all : (n : ℕ) (cs : List C) (i : ℕ) (c : C) → slice_get cs i ≡ Some c → (s : Successor C) × (slice_get (initial_successors n cs) i ≡ Some s) × (s.configuration ≡ c)
   numbered_all n [] i c at = absurd (none-some c at)
   numbered_all n (d ∷ cs) zero c at = (record { origin = Initial n; configuration = d }, refl, same_Some d c at)
   numbered_all n (d ∷ cs) (suc i) c at = numbered_all (n + 1) cs i c at
 
+  -- numbered, by what they stand for
+  pub numbered_map : {P : Type 0} (point : C → P) (n : ℕ) (cs : List C) → map (successor_at point) (initial_successors n cs) ≡ initial_successors n (map point cs)
+  numbered_map point n [] = refl
+  numbered_map point n (c ∷ cs) = ap (λ l. record { origin = Initial n; configuration = point c } ∷ l) (numbered_map point (n + 1) cs)
+
+  -- the numbered ones are those that a search starts with
   pub numbered_start : (S : Search C) → ((i : ℕ) (c : C) → slice_get S.initials i ≡ Some c → S.IsDone c → ⊥) → IsStart S (initial_successors 0 S.initials)
   numbered_start S unfinished = record {
     each = λ i s at. (let e = numbered_at 0 S.initials i s at in let z : 0 + i ≡ i = omega arith in (e.0 ∙ ap Initial z, e.1));
@@ -189,6 +207,7 @@ module _ {C : Type 0} where
     unfinished = unfinished;
   }
 
+  -- what holds of each holds of each with its number
   pub numbered_each : (P : Successor C → Type 0) (Q : C → Type 0) → ((n : ℕ) (c : C) → Q c → P (record { origin = Initial n; configuration = c }))
       → (n : ℕ) (cs : List C) → All Q cs → All P (initial_successors n cs)
   numbered_each P Q holds n [] each = λ k d inside. absurd (omega arith)

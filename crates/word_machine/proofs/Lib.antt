@@ -1,10 +1,12 @@
 pub mod Places
 pub mod Order
 pub mod Complete
+pub mod Meanings
 pub mod Expanding
+pub mod Offering
 pub mod Merging
 pub mod Levels
 pub mod ReadingBack
 pub mod Answering
 pub mod Searching
-pub mod Walking
+pub mod Numbered

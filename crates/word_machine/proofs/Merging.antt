@@ -1,6 +1,7 @@
 -- Successors that are offered to the closed list in the order of their words.
-use Rattle.std.proofs.Common.{◌≡◌, ℕ, suc, zero, ◌+◌, ◌<◌, ◌≤◌, ◌⊎◌, Bool, true, false, true≢false, ◌||◌, if◌then◌else◌, List, [], ◌∷◌, ◌++◌, length, refl, sym, ap, subst, ◌∙◌, inl, inr, arith, slice_get, Some, get_or, append_assoc, length-append}
+use Rattle.std.proofs.Common.{◌≡◌, ℕ, suc, zero, ◌+◌, ◌-◌, ◌<◌, ◌≤◌, ◌⊎◌, Bool, true, false, true≢false, if◌then◌else◌, List, [], ◌∷◌, ◌++◌, length, refl, sym, ap, subst, ◌∙◌, inl, inr, arith, slice_get, Some, get_or, append_assoc, length-append}
 use Rattle.std.specs.Prelude.{nat_le}
+use Rattle.std.proofs.Math.Nat.{min-le_left, min-le_right}
 use Rattle.std.specs.List.{list_any}
 use Rattle.std.proofs.lemmas.Bool.Decides.{leb_tells}
 use Rattle.std.proofs.lemmas.Bool.{cases_lt}
@@ -11,32 +12,16 @@ use Rattle.word_machine.specs.declared.closed.Origin.{Origin}
 use Rattle.word_machine.specs.declared.closed.Origin.TheVariants.{Initial, Step as Stepped}
 use Rattle.word_machine.specs.declared.closed.Successor.{Successor}
 use Rattle.word_machine.specs.Words.{Precedes, Reaches, MeetsBound, step_count}
-use Rattle.word_machine.specs.Contents.{Contents, offer, offer_all, word_of, words_of, IsOriginWithin}
+use Rattle.word_machine.specs.Contents.{Contents, CutOff, cut_more, offer, IsOffered, AreOffered, word_of, words_of, IsForest, IsOriginWithin}
 use Rattle.word_machine.specs.Closed.{Search, IsAt, IsCovered, FitsBound, IsAccounted, IsKept, IsCompleteBelow, IsCandidate, IsBatch}
 use Rattle.word_machine.proofs.Places.{slice_get-append_left, slice_get-append_right, slice_get-append_cases, slice_get-pushed}
 use Rattle.word_machine.proofs.Order.{step_count-reached}
 
-or_true : (b : Bool) → (b || true) ≡ true
-or_true true = refl
-or_true false = refl
-
-module _ {C : Type 0} (eq : C → C → Bool) (same : (c d : C) → eq c d ≡ true → c ≡ d) (reflexive : (c : C) → eq c c ≡ true) where
-  pub found : (ks : List C) (k : C) → list_any (eq k) ks ≡ true → (r : ℕ) × (slice_get ks r ≡ Some k)
-  found [] k h = absurd (true≢false (sym h))
-  found (x ∷ xs) k h = by (eq k x) refl (λ later. found xs k later)
-    where
-      by : (b : Bool) → eq k x ≡ b → (list_any (eq k) xs ≡ true → (r : ℕ) × (slice_get xs r ≡ Some k)) → (r : ℕ) × (slice_get (x ∷ xs) r ≡ Some k)
-      by true e rest = (0, ap Some (sym (same k x e)))
-      by false e rest = let later = rest (sym (ap (λ b. b || list_any (eq k) xs) e) ∙ h) in (suc later.0, later.1)
-
-  pub present : (ks : List C) (k : C) (r : ℕ) → slice_get ks r ≡ Some k → list_any (eq k) ks ≡ true
-  present [] k r at = absurd (none-some k at)
-  present (x ∷ xs) k zero at = ap (λ b. b || list_any (eq k) xs) (subst (λ y. eq k y ≡ true) (sym (same_Some x k at)) (reflexive k))
-  present (x ∷ xs) k (suc r) at = ap (λ b. eq k x || b) (present xs k r at) ∙ or_true (eq k x)
-
+-- the words, with one origin more
 pub words_of-push : (origins : List Origin) (origin : Origin) → words_of (origins ++ origin ∷ []) ≡ words_of origins ++ word_of (words_of origins) origin ∷ []
 words_of-push origins origin = fold-append (λ words origin. words ++ word_of words origin ∷ []) [] origins (origin ∷ [])
 
+-- an origin within some ranks is within more
 pub IsOriginWithin-more : (m n : ℕ) (origin : Origin) → m ≤ n → IsOriginWithin m origin → IsOriginWithin n origin
 IsOriginWithin-more m n (Initial number) more within = tt
 IsOriginWithin-more m n (Stepped parent number) more within = omega arith
@@ -46,14 +31,28 @@ pub word_of-append : (words more : List (List ℕ)) (origin : Origin) → IsOrig
 word_of-append words more (Initial number) within = refl
 word_of-append words more (Stepped parent number) within = ap (λ w. w ++ number ∷ []) (get_or_append_left words more [] parent within)
 
+-- what stands in a list of one
 pub only : {X : Type 0} (x y : X) (i : ℕ) → slice_get (x ∷ []) i ≡ Some y → y ≡ x
 only x y zero at = sym (same_Some x y at)
 only x y (suc i) at = absurd (none-some y at)
 
+-- one origin more, whose parent stands before it
+pub IsForest-push : (origins : List Origin) (o : Origin) → IsForest origins → IsOriginWithin (length origins) o → IsForest (origins ++ o ∷ [])
+IsForest-push origins o forest within rank parent number at =
+    elim (slice_get-append_cases origins (o ∷ []) rank (Stepped parent number) at) [
+      | inl before ↦ forest rank parent number before
+      | inr last ↦
+          let own : parent < length origins = subst (IsOriginWithin (length origins)) (sym (only o (Stepped parent number) last.0 last.2)) within in
+          let place : rank ≡ length origins + last.0 = last.1 in
+          omega arith
+    ]
+
 module _ {C : Type 0} where
+  -- what stands at a rank stays there
   pub IsAt-append : (keys ks : List C) (words ws : List (List ℕ)) (r : ℕ) (c : C) (w : List ℕ) → IsAt keys words r c w → IsAt (keys ++ ks) (words ++ ws) r c w
   IsAt-append keys ks words ws r c w at = record { key = slice_get-append_left keys ks r c at.key; word = slice_get-append_left words ws r w at.word }
 
+  -- what is covered stays so
   pub IsCovered-append : (keys ks : List C) (words ws : List (List ℕ)) (c : C) (v : List ℕ) → IsCovered keys words c v → IsCovered (keys ++ ks) (words ++ ws) c v
   IsCovered-append keys ks words ws c v k = record { rank = k.rank; word = k.word; at = IsAt-append keys ks words ws k.rank c k.word k.at; least = k.least }
 
@@ -73,10 +72,11 @@ module _ {C : Type 0} where
       ]
 
   module _ (S : Search C) where
-    pub IsAccounted-append : (keys ks : List C) (words ws : List (List ℕ)) (cut cut' : Bool) (c : C) (v : List ℕ) → (cut ≡ true → cut' ≡ true)
+    -- what is accounted for stays so
+    pub IsAccounted-append : (keys ks : List C) (words ws : List (List ℕ)) (cut cut' : CutOff) (c : C) (v : List ℕ) → (cut.any ≡ true → cut'.any ≡ true) → cut'.past ≤ cut.past
         → IsAccounted S keys words cut c v → IsAccounted S (keys ++ ks) (words ++ ws) cut' c v
-    IsAccounted-append keys ks words ws cut cut' c v stays known =
-        elim known [ inl k ↦ inl (IsCovered-append keys ks words ws c v k) | inr over ↦ inr (stays over.0, over.1) ]
+    IsAccounted-append keys ks words ws cut cut' c v stays falls known =
+        elim known [ inl k ↦ inl (IsCovered-append keys ks words ws c v k) | inr over ↦ inr (stays over.0, over.1, (let past : S.bound + 1 + cut.past ≤ length v + S.open_len c = over.2 in omega arith)) ]
 
     -- one more configuration with a later word
     IsKept-push : (keys : List C) (words : List (List ℕ)) (c : C) (w : List ℕ) → IsKept S keys words → Reaches S.Step S.initials w c → FitsBound S c w
@@ -110,6 +110,7 @@ module _ {C : Type 0} where
 
   -- what the list holds once the successors so far were offered to what it held before
   module _ (S : Search C) (old : Contents C) where
+    -- those of `done` were offered to the old list, and this is what came of it
     pub record IsMerged (done : List (Successor C)) (new : Contents C) : Type 0 where
       pub kept : IsKept S new.keys (words_of new.origins)
       pub more_keys : List C
@@ -120,10 +121,12 @@ module _ {C : Type 0} where
           → (i : ℕ) × (s : Successor C) × (slice_get done i ≡ Some s) × (w ≡ word_of (words_of old.origins) s.origin)
       pub accounted : (i : ℕ) (s : Successor C) → slice_get done i ≡ Some s
           → IsAccounted S new.keys (words_of new.origins) new.cut s.configuration (word_of (words_of old.origins) s.origin)
-      pub cut_stays : old.cut ≡ true → new.cut ≡ true
-      pub met : new.cut ≡ true → MeetsBound S.Step S.open_len S.initials S.bound
+      pub cut_stays : old.cut.any ≡ true → new.cut.any ≡ true
+      pub past_falls : new.cut.past ≤ old.cut.past
+      pub met : new.cut.any ≡ true → MeetsBound S.Step S.open_len S.initials S.bound
 
-    pub IsMerged-none : IsKept S old.keys (words_of old.origins) → (old.cut ≡ true → MeetsBound S.Step S.open_len S.initials S.bound) → IsMerged [] old
+    -- nothing was offered yet
+    pub IsMerged-none : IsKept S old.keys (words_of old.origins) → (old.cut.any ≡ true → MeetsBound S.Step S.open_len S.initials S.bound) → IsMerged [] old
     IsMerged-none kept met = record {
       kept = kept;
       more_keys = [];
@@ -133,15 +136,16 @@ module _ {C : Type 0} where
       from_batch = λ r w at. absurd (none-some w at);
       accounted = λ i s at. absurd (none-some s at);
       cut_stays = λ cut. cut;
+      past_falls = omega arith;
       met = met;
     }
 
-    module _ (eq : C → C → Bool) (same : (c d : C) → eq c d ≡ true → c ≡ d) (reflexive : (c : C) → eq c c ≡ true)
-        (size room : ℕ) (room_is : size + room ≡ S.bound + 1)
+    module _ (size room : ℕ) (room_is : size + room ≡ S.bound + 1)
         (older : (r : ℕ) (w : List ℕ) → slice_get (words_of old.origins) r ≡ Some w → length w < size)
         (complete : IsCompleteBelow S old.keys (words_of old.origins) size) where
       module _ (done : List (Successor C)) (s : Successor C) (rest : List (Successor C)) (new : Contents C)
           (batch : IsBatch S (words_of old.origins) size (done ++ s ∷ rest)) (merged : IsMerged done new) where
+        -- the successor's word
         abbrev own_word : List ℕ
         own_word = word_of (words_of old.origins) s.origin
 
@@ -173,10 +177,12 @@ module _ {C : Type 0} where
             last_is zero here = subst (λ (u : Successor C). P u.configuration (word_of (words_of old.origins) u.origin)) (same_Some s t here) own
             last_is (suc j) here = absurd (none-some t here)
 
+        -- each new word is that of one of those so far
         still_from_batch : (r : ℕ) (w : List ℕ) → slice_get merged.more_words r ≡ Some w
             → (i : ℕ) × (t : Successor C) × (slice_get (done ++ s ∷ []) i ≡ Some t) × (w ≡ word_of (words_of old.origins) t.origin)
         still_from_batch r w at = let from = merged.from_batch r w at in (from.0, from.1, slice_get-append_left done (s ∷ []) from.0 from.1 from.2, from.3)
 
+        -- one that is there
         offered_known : (r : ℕ) → slice_get new.keys r ≡ Some s.configuration → IsMerged (done ++ s ∷ []) new
         offered_known r there =
             let words = words_of new.origins in
@@ -194,12 +200,18 @@ module _ {C : Type 0} where
               from_batch = still_from_batch;
               accounted = accounted_so_far (IsAccounted S new.keys words new.cut) merged.accounted (inl covered);
               cut_stays = merged.cut_stays;
+              past_falls = merged.past_falls;
               met = merged.met;
             }
 
-        offered_past : ((r : ℕ) → slice_get new.keys r ≡ Some s.configuration → ⊥) → S.bound + 1 < size + S.open_len s.configuration
-            → IsMerged (done ++ s ∷ []) (record { keys = new.keys; origins = new.origins; cut = true })
-        offered_past absent past =
+        -- one that is past the bound
+        offered_past : ((r : ℕ) → slice_get new.keys r ≡ Some s.configuration → ⊥) → room < S.open_len s.configuration
+            → IsMerged (done ++ s ∷ []) (record { keys = new.keys; origins = new.origins; cut = cut_more new.cut (S.open_len s.configuration - room) })
+        offered_past absent over =
+            let past : S.bound + 1 < size + S.open_len s.configuration = omega arith in
+            let cut = cut_more new.cut (S.open_len s.configuration - room) in
+            let left_less : cut.past ≤ new.cut.past = min-le_left new.cut.past (S.open_len s.configuration - room) in
+            let right_less : cut.past ≤ S.open_len s.configuration - room = min-le_right new.cut.past (S.open_len s.configuration - room) in
             let words = words_of new.origins in
             let long : length own_word ≡ size = next.long in
             record {
@@ -209,10 +221,14 @@ module _ {C : Type 0} where
               more_words = merged.more_words;
               words_are = merged.words_are;
               from_batch = still_from_batch;
-              accounted = accounted_so_far (IsAccounted S new.keys words true)
-                  (λ i t at. elim (merged.accounted i t at) [ inl k ↦ inl k | inr over ↦ inr (refl, over.1) ])
-                  (inr (refl, omega arith));
+              accounted = accounted_so_far (IsAccounted S new.keys words cut)
+                  (λ i t at. elim (merged.accounted i t at) [
+                    | inl k ↦ inl k
+                    | inr over ↦ inr (refl, over.1, (let far : S.bound + 1 + new.cut.past ≤ length (word_of (words_of old.origins) t.origin) + S.open_len t.configuration = over.2 in omega arith))
+                  ])
+                  (inr (refl, omega arith, omega arith));
               cut_stays = λ cut. refl;
+              past_falls = (let falls : new.cut.past ≤ old.cut.past = merged.past_falls in omega arith);
               met = λ cut. (
                 own_word,
                 s.configuration,
@@ -228,6 +244,7 @@ module _ {C : Type 0} where
               );
             }
 
+        -- one that is new, and fits
         offered_new : ((r : ℕ) → slice_get new.keys r ≡ Some s.configuration → ⊥) → size + S.open_len s.configuration ≤ S.bound + 1
             → IsMerged (done ++ s ∷ []) (record { keys = new.keys ++ s.configuration ∷ []; origins = new.origins ++ s.origin ∷ []; cut = new.cut })
         offered_new absent fits =
@@ -253,54 +270,56 @@ module _ {C : Type 0} where
               ];
               accounted = subst (λ l. (i : ℕ) (t : Successor C) → slice_get (done ++ s ∷ []) i ≡ Some t → IsAccounted S keys' l new.cut t.configuration (word_of (words_of old.origins) t.origin)) (sym pushed)
                   (accounted_so_far (IsAccounted S keys' (words ++ own_word ∷ []) new.cut)
-                  (λ i t at. IsAccounted-append S new.keys (s.configuration ∷ []) words (own_word ∷ []) new.cut new.cut t.configuration (word_of (words_of old.origins) t.origin) (λ cut. cut) (merged.accounted i t at))
+                  (λ i t at. IsAccounted-append S new.keys (s.configuration ∷ []) words (own_word ∷ []) new.cut new.cut t.configuration (word_of (words_of old.origins) t.origin) (λ cut. cut) (omega arith) (merged.accounted i t at))
                   (inl covered));
               cut_stays = merged.cut_stays;
+              past_falls = merged.past_falls;
               met = merged.met;
             }
 
         -- whichever it is, what is said holds of one successor more
-        pub IsMerged-offer : IsMerged (done ++ s ∷ []) (offer eq new s (nat_le (S.open_len s.configuration) room))
-        IsMerged-offer = by (list_any (eq s.configuration) new.keys) refl (nat_le (S.open_len s.configuration) room) (leb_tells (S.open_len s.configuration) room)
+        pub IsMerged-offer : (after : Contents C) → IsOffered new s (S.open_len s.configuration) room after → IsMerged (done ++ s ∷ []) after
+        IsMerged-offer after offered =
+            elim offered [
+              | inl there ↦ subst (IsMerged (done ++ s ∷ [])) (sym there.2) (offered_known there.0 there.1)
+              | inr absent ↦ subst (IsMerged (done ++ s ∷ [])) (sym absent.1)
+                  (by (nat_le (S.open_len s.configuration) room) (leb_tells (S.open_len s.configuration) room) absent.0)
+            ]
           where
-            by : (known : Bool) → list_any (eq s.configuration) new.keys ≡ known → (fits : Bool)
-                → ((fits ≡ true) × (S.open_len s.configuration ≤ room)) ⊎ ((fits ≡ false) × (room < S.open_len s.configuration))
-                → IsMerged (done ++ s ∷ []) (if known then new
-                else if fits then record { keys = new.keys ++ s.configuration ∷ []; origins = new.origins ++ s.origin ∷ []; cut = new.cut }
-                else record { keys = new.keys; origins = new.origins; cut = true })
-            by true known fits tells = let there = found eq same reflexive new.keys s.configuration known in offered_known there.0 there.1
-            by false absent true (inl tells) = offered_new (λ r at. true≢false (sym (present eq same reflexive new.keys s.configuration r at) ∙ absent)) (let e : S.open_len s.configuration ≤ room = tells.1 in omega arith)
-            by false absent true (inr tells) = absurd (true≢false tells.0)
-            by false absent false (inl tells) = absurd (true≢false (sym tells.0))
-            by false absent false (inr tells) = offered_past (λ r at. true≢false (sym (present eq same reflexive new.keys s.configuration r at) ∙ absent)) (let e : room < S.open_len s.configuration = tells.1 in omega arith)
+            by : (fits : Bool) → ((fits ≡ true) × (S.open_len s.configuration ≤ room)) ⊎ ((fits ≡ false) × (room < S.open_len s.configuration))
+                → ((r : ℕ) → slice_get new.keys r ≡ Some s.configuration → ⊥)
+                → IsMerged (done ++ s ∷ []) (if fits then record { keys = new.keys ++ s.configuration ∷ []; origins = new.origins ++ s.origin ∷ []; cut = new.cut }
+                else record { keys = new.keys; origins = new.origins; cut = cut_more new.cut (S.open_len s.configuration - room) })
+            by true (inl tells) absent = offered_new absent (let e : S.open_len s.configuration ≤ room = tells.1 in omega arith)
+            by true (inr tells) absent = absurd (true≢false tells.0)
+            by false (inl tells) absent = absurd (true≢false (sym tells.0))
+            by false (inr tells) absent = offered_past absent tells.1
 
       -- and so of the whole batch
-      merged_all : (done rest : List (Successor C)) (new : Contents C) → IsBatch S (words_of old.origins) size (done ++ rest) → IsMerged done new
-          → IsMerged (done ++ rest) (offer_all eq S.open_len room new rest)
-      merged_all done [] new batch merged = subst (λ l. IsMerged l new) (sym (append-nil done)) merged
-      merged_all done (s ∷ rest) new batch merged =
+      merged_all : (done rest : List (Successor C)) (new after : Contents C) → IsBatch S (words_of old.origins) size (done ++ rest) → IsMerged done new
+          → AreOffered S.open_len room new rest after → IsMerged (done ++ rest) after
+      merged_all done [] new after batch merged offered = subst (λ l. IsMerged l after) (sym (append-nil done)) (subst (IsMerged done) (sym offered) merged)
+      merged_all done (s ∷ rest) new after batch merged offered =
           let joined : (done ++ s ∷ []) ++ rest ≡ done ++ s ∷ rest = append_assoc done (s ∷ []) rest in
-          subst (λ l. IsMerged l (offer_all eq S.open_len room (offer eq new s (nat_le (S.open_len s.configuration) room)) rest)) joined
-          (merged_all (done ++ s ∷ []) rest (offer eq new s (nat_le (S.open_len s.configuration) room))
-          (subst (IsBatch S (words_of old.origins) size) (sym joined) batch) (IsMerged-offer done s rest new batch merged))
+          subst (λ l. IsMerged l after) joined
+          (merged_all (done ++ s ∷ []) rest offered.0 after
+          (subst (IsBatch S (words_of old.origins) size) (sym joined) batch) (IsMerged-offer done s rest new batch merged offered.0 offered.1) offered.2)
 
-      pub merges : (batch : List (Successor C)) → IsBatch S (words_of old.origins) size batch
-          → IsKept S old.keys (words_of old.origins) → (old.cut ≡ true → MeetsBound S.Step S.open_len S.initials S.bound)
-          → IsMerged batch (offer_all eq S.open_len room old batch)
-      merges batch is_batch kept met = merged_all [] batch old is_batch (IsMerged-none kept met)
+      -- a batch that was offered is merged
+      pub merges : (batch : List (Successor C)) (new : Contents C) → IsBatch S (words_of old.origins) size batch
+          → IsKept S old.keys (words_of old.origins) → (old.cut.any ≡ true → MeetsBound S.Step S.open_len S.initials S.bound)
+          → AreOffered S.open_len room old batch new → IsMerged batch new
+      merges batch new is_batch kept met offered = merged_all [] batch old new is_batch (IsMerged-none kept met) offered
 
 -- one successor more that is offered
 module _ {C : Type 0} (eq : C → C → Bool) where
-  pub offer_grows : (contents : Contents C) (s : Successor C) (fits : Bool) → length contents.keys ≤ length (offer eq contents s fits).keys
-  offer_grows contents s fits = by (list_any (eq s.configuration) contents.keys) fits
+  -- no offer takes anything away
+  pub offer_grows : (contents : Contents C) (s : Successor C) (left room : ℕ) → length contents.keys ≤ length (offer eq contents s left room).keys
+  offer_grows contents s left room = by (list_any (eq s.configuration) contents.keys) (nat_le left room)
     where
       by : (known fits : Bool) → length contents.keys ≤ length (if known then contents
           else if fits then record { keys = contents.keys ++ s.configuration ∷ []; origins = contents.origins ++ s.origin ∷ []; cut = contents.cut }
-          else record { keys = contents.keys; origins = contents.origins; cut = true }).keys
+          else record { keys = contents.keys; origins = contents.origins; cut = cut_more contents.cut (left - room) }).keys
       by true fits = omega arith
       by false true = omega (arith, length-append contents.keys (s.configuration ∷ []))
       by false false = omega arith
-
-  pub offer_all-push : (open_len : C → ℕ) (room : ℕ) (contents : Contents C) (batch : List (Successor C)) (s : Successor C)
-      → offer_all eq open_len room contents (batch ++ s ∷ []) ≡ offer eq (offer_all eq open_len room contents batch) s (nat_le (open_len s.configuration) room)
-  offer_all-push open_len room contents batch s = fold-append (λ done s. offer eq done s (nat_le (open_len s.configuration) room)) contents batch (s ∷ [])

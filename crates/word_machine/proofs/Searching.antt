@@ -1,19 +1,23 @@
 -- The closed list from the start on, level by level, as the merges leave it.
-use Rattle.std.proofs.Common.{◌≡◌, ℕ, ◌+◌, Bool, true, true≢false, List, [], ◌∷◌, length, refl, sym, subst, arith, slice_get, Some}
+use Rattle.std.proofs.Common.{◌≡◌, ℕ, ◌+◌, true≢false, List, [], ◌∷◌, length, refl, sym, subst, arith, slice_get, Some}
 use Rattle.std.proofs.lemmas.Option.{none-some}
 use Rattle.word_machine.specs.declared.closed.Successor.{Successor}
-use Rattle.word_machine.specs.Contents.{Contents, offer_all, initial_successors, words_of}
+use Rattle.word_machine.specs.Contents.{Contents, AreOffered, initial_successors, words_of}
 use Rattle.word_machine.specs.Closed.{Search, IsKept, IsClosedTo, IsCompleteBelow}
 use Rattle.std.specs.Prelude.{Vec}
 use Rattle.std.specs.declared.alloc.Global.{Global}
 use Rattle.htn_level.specs.declared.order.Expanded.{Expanded}
 use Rattle.htn_level.specs.declared.order.Expanded.TheVariants.{Whole, Done}
-use Rattle.word_machine.specs.Expansion.{IsExpansion, IsFirstDone, IsExpanded}
+use Rattle.word_machine.specs.Expansion.{IsExpansion}
+use Rattle.word_machine.specs.Machine.{WordMachine}
+use Rattle.word_machine.specs.Meaning.{Meaning}
+use Rattle.word_machine.specs.Ranks.{IsExpandedBy}
 use Rattle.word_machine.proofs.Complete.{CountsOpen, complete}
-use Rattle.word_machine.proofs.Merging.{IsMerged, merges}
+use Rattle.word_machine.proofs.Merging.{merges}
 use Rattle.word_machine.proofs.Levels.{empty, start_batch, start_closed, numbered_start, older_than_next, expansion_batch, next_level}
 
-module _ {C : Type 0} (S : Search C) (eq : C → C → Bool) (same : (c d : C) → eq c d ≡ true → c ≡ d) (reflexive : (c : C) → eq c c ≡ true) where
+module _ {C : Type 0} (S : Search C) where
+  -- an empty list is in order
   nothing_kept : IsKept S [] []
   nothing_kept = record {
     as_many = refl;
@@ -23,40 +27,44 @@ module _ {C : Type 0} (S : Search C) (eq : C → C → Bool) (same : (c d : C) �
     ascending = λ r s v w less at other. absurd (none-some v at);
   }
 
+  -- and misses no shorter word
   nothing_missed : IsCompleteBelow S [] [] 1
   nothing_missed [] c short reached fits = absurd reached
   nothing_missed (i ∷ ns) c short reached fits = absurd (omega arith)
 
+  -- the first level, after the initial configurations were offered
   pub first_level : ((i : ℕ) (c : C) → slice_get S.initials i ≡ Some c → S.IsDone c → ⊥) → (new : Contents C)
-      → new ≡ offer_all eq S.open_len S.bound (empty S) (initial_successors 0 S.initials) → IsClosedTo S new.keys (words_of new.origins) new.cut 0 0
-  first_level unfinished new is =
+      → AreOffered S.open_len S.bound (empty S) (initial_successors 0 S.initials) new → IsClosedTo S new.keys (words_of new.origins) new.cut 0 0
+  first_level unfinished new offered =
       let batch = initial_successors 0 S.initials in
       let start = numbered_start S unfinished in
       let room : 1 + S.bound ≡ S.bound + 1 = omega arith in
       start_closed S batch start new
-      (subst (λ n. IsMerged S (empty S) batch n) (sym is)
-      (merges S (empty S) eq same reflexive 1 S.bound room (λ r w at. absurd (none-some w at)) nothing_missed
-      batch (start_batch S batch start) nothing_kept (λ cut. absurd (true≢false (sym cut)))))
+      (merges S (empty S) 1 S.bound room (λ r w at. absurd (none-some w at)) nothing_missed
+      batch new (start_batch S batch start) nothing_kept (λ cut. absurd (true≢false (sym cut))) offered)
 
+  -- and each later one
   pub later_level : CountsOpen S → (old : Contents C) (level low : ℕ) → IsClosedTo S old.keys (words_of old.origins) old.cut level low
       → (successors : List (Successor C)) → IsExpansion S.Step S.IsDone old.keys low (length old.keys) successors
-      → (room : ℕ) → (level + 2) + room ≡ S.bound + 1 → (new : Contents C) → new ≡ offer_all eq S.open_len room old successors
+      → (room : ℕ) → (level + 2) + room ≡ S.bound + 1 → (new : Contents C) → AreOffered S.open_len room old successors new
       → IsClosedTo S new.keys (words_of new.origins) new.cut (level + 1) (length old.keys)
-  later_level laws old level low closed successors expanded room room_is new is =
+  later_level laws old level low closed successors expanded room room_is new offered =
       next_level S old level low closed successors expanded new
-      (subst (λ n. IsMerged S old successors n) (sym is)
-      (merges S old eq same reflexive (level + 2) room room_is (older_than_next S old level low closed)
+      (merges S old (level + 2) room room_is (older_than_next S old level low closed)
       (complete S laws old.keys (words_of old.origins) old.cut level low closed)
-      successors (expansion_batch S old level low closed successors expanded) closed.kept closed.met))
+      successors new (expansion_batch S old level low closed successors expanded) closed.kept closed.met offered)
 
--- what an expansion says of the list that lends the configurations
-module _ {C : Type 0} (Step : C → ℕ → C → Type 0) (IsDone : C → Type 0) (keys lent counted : List C) (same_keys : lent ≡ keys) (same_count : counted ≡ keys) (low : ℕ) (e : Expanded (Successor C) ℕ)
-    (expanded : IsExpanded Step IsDone lent low (length counted) e) where
-  of_keys : IsExpanded Step IsDone keys low (length keys) e
-  of_keys = subst (λ l. IsExpanded Step IsDone l low (length keys) e) same_keys (subst (λ l. IsExpanded Step IsDone lent low (length l) e) same_count expanded)
+-- what an expansion by ranks says of the list that lends the configurations
+module _ {C R P : Type 0} (m : WordMachine P) (meaning : Meaning C R P) (keys lent counted : List C) (same_keys : lent ≡ keys) (same_count : counted ≡ keys) (low : ℕ) (e : Expanded (Successor R) ℕ)
+    (expanded : IsExpandedBy m meaning lent low (length counted) e) where
+  -- the same, of the list
+  of_keys : IsExpandedBy m meaning keys low (length keys) e
+  of_keys = subst (λ l. IsExpandedBy m meaning l low (length keys) e) same_keys (subst (λ l. IsExpandedBy m meaning lent low (length l) e) same_count expanded)
 
-  pub whole : (successors : Vec (Successor C) Global) → e ≡ Whole successors → IsExpansion Step IsDone keys low (length keys) successors.items
-  whole successors is = subst (IsExpanded Step IsDone keys low (length keys)) is of_keys
+  -- where all were expanded
+  pub whole : (successors : Vec (Successor R) Global) → e ≡ Whole successors → IsExpandedBy m meaning keys low (length keys) (Whole successors)
+  whole successors is = subst (IsExpandedBy m meaning keys low (length keys)) is of_keys
 
-  pub first_done : (p n : ℕ) → e ≡ Done p n → IsFirstDone Step IsDone keys low (length keys) p n
-  first_done p n is = subst (IsExpanded Step IsDone keys low (length keys)) is of_keys
+  -- where a done one was found
+  pub first_done : (p n : ℕ) → e ≡ Done p n → IsExpandedBy m meaning keys low (length keys) (Done p n)
+  first_done p n is = subst (IsExpandedBy m meaning keys low (length keys)) is of_keys

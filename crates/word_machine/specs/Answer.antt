@@ -1,9 +1,13 @@
 -- What a search answers.
 use Rattle.std.specs.Prelude.{ℕ, ◌<◌, ◌≤◌, List}
-use Rattle.word_machine.specs.Words.{Precedes, step_count}
-use Rattle.word_machine.specs.Machine.{WordMachine, IsFinishing, IsMet}
+use Rattle.word_machine.specs.Words.{Precedes, MeetsBound, step_count}
+use Rattle.word_machine.specs.Machine.{WordMachine, IsFinishing, IsLiveStep, IsMet}
 use Rattle.word_machine.specs.declared.found.Found.{Found}
 use Rattle.word_machine.specs.declared.found.Found.TheVariants.{Word, None, Unsolvable}
+use Rattle.word_machine.specs.declared.found.Outcome.{Outcome}
+use Rattle.word_machine.specs.declared.found.Outcome.TheVariants.{Finished, Past, Exhausted}
+use Rattle.word_machine.specs.declared.measure.Measure.{Measure}
+use Rattle.word_machine.specs.declared.measure.Measure.TheVariants.{OpenNodes, LowerBound}
 
 module _ {Configuration : Type 0} (m : WordMachine Configuration) where
   -- the word finishes within the bound, and none that finishes comes before it
@@ -16,6 +20,10 @@ module _ {Configuration : Type 0} (m : WordMachine Configuration) where
   abbrev pub NoneFinishes : ℕ → Type 0
   NoneFinishes bound = (word : List ℕ) → IsFinishing m word → bound < step_count word
 
+  -- no word finishes with fewer steps
+  abbrev pub NoneFinishesBefore : ℕ → Type 0
+  NoneFinishesBefore steps = (word : List ℕ) → IsFinishing m word → steps ≤ step_count word
+
   -- no word finishes
   abbrev pub NeverFinishes : Type 0
   NeverFinishes = (word : List ℕ) → IsFinishing m word → ⊥
@@ -25,3 +33,20 @@ module _ {Configuration : Type 0} (m : WordMachine Configuration) where
   IsAnswer bound (Word word) = IsLeastFinishing bound word.items
   IsAnswer bound None = NoneFinishes bound × IsMet m bound
   IsAnswer bound Unsolvable = NeverFinishes × (IsMet m bound → ⊥)
+
+  -- the same by a measure of what is left, in the place of the open nodes
+  abbrev pub IsOutcome : (Configuration → ℕ) → ℕ → Outcome → Type 0
+  IsOutcome measure bound (Finished word) = IsLeastFinishing bound word.items
+  IsOutcome measure bound (Past least wide) = NoneFinishes bound × MeetsBound (IsLiveStep m) measure m.initials bound × NoneFinishesBefore least
+  IsOutcome measure bound Exhausted = NeverFinishes × (MeetsBound (IsLiveStep m) measure m.initials bound → ⊥)
+
+  -- what is left at least of a configuration, by the measure
+  abbrev pub measure_of : (Configuration → ℕ) → Measure → Configuration → ℕ
+  measure_of lower_bound OpenNodes = m.open_len
+  measure_of lower_bound LowerBound = lower_bound
+
+-- an outcome by the open nodes, as an answer
+abbrev pub found_of : Outcome → Found
+found_of (Finished word) = Word word
+found_of (Past least wide) = None
+found_of Exhausted = Unsolvable

@@ -1,11 +1,11 @@
 -- What a closed list holds in the middle of a search.
-use Rattle.std.specs.Prelude.{◌≡◌, ℕ, ◌+◌, ◌<◌, ◌≤◌, ◌⊎◌, Bool, true, List, [], ◌∷◌, ◌++◌, length, Some, slice_get}
+use Rattle.std.specs.Prelude.{◌≡◌, ℕ, ◌+◌, ◌<◌, ◌≤◌, ◌⊎◌, true, List, [], ◌∷◌, ◌++◌, length, Some, slice_get}
 use Rattle.word_machine.specs.Words.{Precedes, Reaches, MeetsBound}
 use Rattle.word_machine.specs.Machine.{WordMachine, IsLiveStep, IsDone}
-use Rattle.word_machine.specs.Contents.{word_of, IsOriginWithin}
+use Rattle.word_machine.specs.Contents.{CutOff, word_of, IsOriginWithin}
 use Rattle.word_machine.specs.declared.closed.Successor.{Successor}
 
--- what is searched: the steps, what is done, the open nodes, the initial configurations, and the bound on steps
+-- what is searched: the steps, what is done, what bounds the steps that are left (as the open nodes), the initial configurations, and the bound on steps
 pub record Search (C : Type 0) : Type 1 where
   pub Step : C → ℕ → C → Type 0
   pub IsDone : C → Type 0
@@ -13,9 +13,9 @@ pub record Search (C : Type 0) : Type 1 where
   pub initials : List C
   pub bound : ℕ
 
--- the search of a machine, over the steps that are not dead
-abbrev pub search_of : {C : Type 0} → WordMachine C → ℕ → Search C
-search_of m bound = record { Step = IsLiveStep m; IsDone = IsDone m; open_len = m.open_len; initials = m.initials; bound = bound }
+-- the search of a machine by a measure, over the steps that are not dead
+abbrev pub search_by : {C : Type 0} → WordMachine C → (C → ℕ) → ℕ → Search C
+search_by m measure bound = record { Step = IsLiveStep m; IsDone = IsDone m; open_len = measure; initials = m.initials; bound = bound }
 
 -- w is v or comes before it
 abbrev pub IsAtMost : List ℕ → List ℕ → Type 0
@@ -39,9 +39,9 @@ module _ {C : Type 0} where
     abbrev pub FitsBound : C → List ℕ → Type 0
     FitsBound c w = length w + S.open_len c ≤ S.bound + 1
 
-    -- the configuration that v reaches is covered, or it was cut
-    abbrev pub IsAccounted : List C → List (List ℕ) → Bool → C → List ℕ → Type 0
-    IsAccounted keys words cut c v = IsCovered keys words c v ⊎ ((cut ≡ true) × (S.bound + 1 < length v + S.open_len c))
+    -- the configuration that v reaches is covered, or it was cut, and is past the bound by as much as the least that was
+    abbrev pub IsAccounted : List C → List (List ℕ) → CutOff → C → List ℕ → Type 0
+    IsAccounted keys words cut c v = IsCovered keys words c v ⊎ ((cut.any ≡ true) × (S.bound + 1 < length v + S.open_len c) × (S.bound + 1 + cut.past ≤ length v + S.open_len c))
 
     -- each rank has a configuration that its word reaches; the words ascend
     pub record IsKept (keys : List C) (words : List (List ℕ)) : Type 0 where
@@ -52,14 +52,14 @@ module _ {C : Type 0} where
       pub ascending : (r s : ℕ) (v w : List ℕ) → r < s → slice_get words r ≡ Some v → slice_get words s ≡ Some w → Precedes v w
 
     -- the ranks below `low` are expanded, and have words of at most `level` numbers; the others are the level's own
-    pub record IsClosedTo (keys : List C) (words : List (List ℕ)) (cut : Bool) (level low : ℕ) : Type 0 where
+    pub record IsClosedTo (keys : List C) (words : List (List ℕ)) (cut : CutOff) (level low : ℕ) : Type 0 where
       pub kept : IsKept keys words
       pub low_within : low ≤ length keys
       pub older : (r : ℕ) (w : List ℕ) → r < low → slice_get words r ≡ Some w → length w ≤ level
       pub current : (r : ℕ) (w : List ℕ) → low ≤ r → slice_get words r ≡ Some w → length w ≡ level + 1
       pub started : (i : ℕ) (c : C) → slice_get S.initials i ≡ Some c → IsAccounted keys words cut c (i ∷ [])
       pub expanded : (r : ℕ) (c d : C) (w : List ℕ) (n : ℕ) → r < low → IsAt keys words r c w → S.Step c n d → IsAccounted keys words cut d (w ++ n ∷ [])
-      pub met : cut ≡ true → MeetsBound S.Step S.open_len S.initials S.bound
+      pub met : cut.any ≡ true → MeetsBound S.Step S.open_len S.initials S.bound
 
     -- each configuration that a word of fewer than `size` numbers reaches within the bound is covered
     abbrev pub IsCompleteBelow : List C → List (List ℕ) → ℕ → Type 0

@@ -1,27 +1,61 @@
 -- What a closed list holds, and what offering a configuration to it changes.
-use Rattle.std.specs.Prelude.{◌≡◌, ℕ, ◌+◌, ◌<◌, Some, slice_get, Bool, true, List, [], ◌∷◌, ◌++◌, if◌then◌else◌, fold, nat_le, slice_index_or}
+use Rattle.std.specs.Prelude.{◌≡◌, ℕ, ◌+◌, ◌<◌, ◌⊎◌, Some, slice_get, nat_eq, Bool, true, List, [], ◌∷◌, ◌++◌, if◌then◌else◌, fold, nat_le, ◌-◌, min, slice_index_or}
 use Rattle.std.specs.List.{list_any}
 use Rattle.word_machine.specs.declared.closed.Origin.{Origin}
 use Rattle.word_machine.specs.declared.closed.Origin.TheVariants.{Initial, Step}
+use Rattle.word_machine.specs.declared.closed.Link.{Link}
 use Rattle.word_machine.specs.declared.closed.Successor.{Successor}
 
--- the configurations by rank, where each came from, and whether one was ever cut off
+-- whether a configuration was ever cut off, and then by how much the least was past the room
+pub record CutOff : Type 0 where
+  pub any : Bool
+  pub past : ℕ
+
+-- where one that is past the room by so much is counted
+abbrev pub slot_of : ℕ → ℕ
+slot_of past = min (past - 1) 63
+
+-- the configurations by rank, where each came from, and what was cut off
 pub record Contents (C : Type 0) : Type 0 where
   pub keys : List C
   pub origins : List Origin
-  pub cut : Bool
+  pub cut : CutOff
+
+-- one more was cut off, past the room by so much
+abbrev pub cut_more : CutOff → ℕ → CutOff
+cut_more cut past = record { any = true; past = min cut.past past }
 
 module _ {C : Type 0} (eq : C → C → Bool) where
-  -- a configuration that is there changes nothing; another goes last if it fits, and else it is cut off
-  abbrev pub offer : Contents C → Successor C → Bool → Contents C
-  offer contents s fits =
+  -- a configuration that is there changes nothing; another goes last if there is room for what is left of it, and else it is cut off
+  abbrev pub offer : Contents C → Successor C → ℕ → ℕ → Contents C
+  offer contents s left room =
       if list_any (eq s.configuration) contents.keys then contents
-      else if fits then record { keys = contents.keys ++ s.configuration ∷ []; origins = contents.origins ++ s.origin ∷ []; cut = contents.cut }
-      else record { keys = contents.keys; origins = contents.origins; cut = true }
+      else if nat_le left room then record { keys = contents.keys ++ s.configuration ∷ []; origins = contents.origins ++ s.origin ∷ []; cut = contents.cut }
+      else record { keys = contents.keys; origins = contents.origins; cut = cut_more contents.cut (left - room) }
 
-  -- the same, one after another, where as many nodes may be open as there is room for
+  -- the same, one after another, by a measure of what is left
   abbrev pub offer_all : (C → ℕ) → ℕ → Contents C → List (Successor C) → Contents C
-  offer_all open_len room contents batch = fold (λ done s. offer done s (nat_le (open_len s.configuration) room)) contents batch
+  offer_all measure room contents batch = fold (λ done s. offer done s (measure s.configuration) room) contents batch
+
+-- the same by what a configuration stands for, whatever tells that it is there
+module _ {C : Type 0} where
+  -- one is offered: it is there, and nothing changes; or it is not, and it goes last if there is room for what is left of it, and else it is cut off
+  abbrev pub IsOffered : Contents C → Successor C → ℕ → ℕ → Contents C → Type 0
+  IsOffered old s left room new =
+      ((r : ℕ) × (slice_get old.keys r ≡ Some s.configuration) × (new ≡ old))
+      ⊎ (((r : ℕ) → slice_get old.keys r ≡ Some s.configuration → ⊥)
+      × (new ≡ (if nat_le left room then record { keys = old.keys ++ s.configuration ∷ []; origins = old.origins ++ s.origin ∷ []; cut = old.cut }
+      else record { keys = old.keys; origins = old.origins; cut = cut_more old.cut (left - room) })))
+
+  -- the same, one after another, by a measure of what is left
+  abbrev pub AreOffered : (C → ℕ) → ℕ → Contents C → List (Successor C) → Contents C → Type 0
+  AreOffered measure room old [] new = new ≡ old
+  AreOffered measure room old (s ∷ batch) new =
+      (next : Contents C) × IsOffered old s (measure s.configuration) room next × AreOffered measure room next batch new
+
+-- the origin that is kept with no tag: an initial one has the greatest number for its parent's rank
+abbrev pub origin_of : Link → Origin
+origin_of link = if nat_eq link.parent 18446744073709551615 then Initial link.number else Step link.parent link.number
 
 -- the word of an origin, where `words` are those of the ranks before
 abbrev pub word_of : List (List ℕ) → Origin → List ℕ

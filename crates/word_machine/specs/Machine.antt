@@ -16,9 +16,11 @@ module _ {Configuration : Type 0} (m : WordMachine Configuration) where
   abbrev pub IsStep : Configuration → ℕ → Configuration → Type 0
   IsStep c n d = m.step c n ≡ Some d
 
+  -- the configuration is done
   abbrev pub IsDone : Configuration → Type 0
   IsDone c = m.is_done c ≡ true
 
+  -- no finishing word has the number there
   abbrev pub IsDead : Configuration → ℕ → Type 0
   IsDead c n = m.is_dead c n ≡ true
 
@@ -49,3 +51,9 @@ module _ {Configuration : Type 0} (m : WordMachine Configuration) where
     pub closes_one : (c d : Configuration) (n : ℕ) → IsStep c n d → m.open_len c ≤ m.open_len d + 1
     pub done_closed : (c : Configuration) → IsDone c → m.open_len c ≡ 0
     pub dead_never : (c d e : Configuration) (n : ℕ) (ns : List ℕ) → belongs c → IsDead c n → IsStep c n d → Leads IsStep d ns e → IsDone e → ⊥
+
+  -- a bound from below on the steps that are left, at least the number of open nodes
+  pub record IsLowerBound (bound : Configuration → ℕ) : Type 0 where
+    pub lowers_one : (c d : Configuration) (n : ℕ) → IsLiveStep c n d → bound c ≤ bound d + 1
+    pub done_zero : (c : Configuration) → IsDone c → bound c ≡ 0
+    pub above_open : (c : Configuration) → m.open_len c ≤ bound c

@@ -1,7 +1,10 @@
 //! The closed list: all configurations that a search kept, each with where it came from.
-ghost use Rattle.std.specs.Prelude.{◌≡◌, ℕ, ◌+◌, ◌^◌, ◌<◌, false, length, [], OnOk, OnErr};
+ghost use Rattle.std.specs.Prelude.{◌≡◌, ℕ, ◌+◌, ◌-◌, ◌^◌, ◌<◌, Some, false, length, slice_get, [], OnOk, OnErr};
 ghost use Rattle.indexmap.specs.IndexSet.{contains};
+ghost use Rattle.word_machine.specs.Contents.{origin_of};
+ghost use Rattle.word_machine.specs.declared.closed.Origin.TheVariants.{Step};
 
+use crate::overshoots::Overshoots;
 use indexmap::IndexSet;
 use std::alloc::{AllocError, Global};
 use std::hash::Hash;
@@ -14,42 +17,85 @@ pub enum Origin {
     Step { parent: usize, number: u64 },
 }
 
-/// A configuration that a search came to.
+/// A configuration that a search came to, and from where.
 #[derive(Drop)]
 pub struct Successor<C> {
     pub origin: Origin,
     pub configuration: C,
 }
 
+/// An origin with no tag, as the list keeps it: an initial one has `NO_RANK` for its parent's.
+#[derive(Clone, Copy, Debug)]
+pub struct Link {
+    parent: usize,
+    number: u64,
+}
+
+const NO_RANK: usize = usize::MAX;
+
+impl Link {
+    fn new(origin: Origin) -> Link
+        requires { (parent number : ℕ) → origin ≡ Step parent number → parent < 2 ^ 64 - 1 }
+        ensures { origin_of result ≡ origin }
+    {
+        match origin {
+            Origin::Initial(number) => Link {
+                parent: NO_RANK,
+                number,
+            },
+            Origin::Step { parent, number } => Link { parent, number },
+        }
+    }
+
+    fn origin(self) -> Origin
+        ensures { result ≡ origin_of self }
+    {
+        if self.parent == NO_RANK {
+            Origin::Initial(self.number)
+        } else {
+            Origin::Step {
+                parent: self.parent,
+                number: self.number,
+            }
+        }
+    }
+}
+
 /// The configurations that were kept, in the order in which they were found, none of them twice. The position of one is its rank.
 #[derive(Drop)]
 pub struct Closed<C: Eq + Hash> {
     configurations: IndexSet<C>,
-    origins: Vec<Origin>,
+    links: Vec<Link>,
     was_cut: bool,
+    // By how much the least that was cut off was past the bound.
+    least_past: u64,
+    // For speed alone: by how much all of them were. The list's value goes without.
+    overshoots: Overshoots,
 }
 
 impl<C: Eq + Hash> Model for Closed<C> {
-    ghost use Rattle.std.specs.Prelude.{◌≡◌, length};
-    ghost use Rattle.word_machine.specs.Contents.{Contents, IsForest};
+    ghost use Rattle.std.specs.Prelude.{◌≡◌, length, map};
+    ghost use Rattle.word_machine.specs.Contents.{Contents, IsForest, origin_of};
 
     ghost Value = { Contents C };
 
-    ghost view = { λ a. record { keys = a.configurations.keys; origins = a.origins.items; cut = a.was_cut } };
+    ghost view = { λ a. record { keys = a.configurations.keys; origins = map origin_of a.links.items; cut = record { any = a.was_cut; past = a.least_past } } };
 
-    ghost invariant = { λ a. record { as_many : length a.origins.items ≡ length a.configurations.keys; forest : IsForest a.origins.items } };
+    ghost invariant = { λ a. record { as_many : length a.links.items ≡ length a.configurations.keys; forest : IsForest (map origin_of a.links.items) } };
 }
 
 impl<C: Eq + Hash + Drop> Closed<C> {
-    ghost use Rattle.word_machine.specs.Contents.{offer, IsForest, IsOriginWithin};
+    ghost use Rattle.word_machine.specs.Contents.{cut_more, offer, IsForest, IsOriginWithin};
 
     pub fn new(alloc: Global) -> Self
-        ensures { result ≡ record { keys = []; origins = []; cut = false } }
+        ensures { result ≡ record { keys = []; origins = []; cut = record { any = false; past = 2 ^ 64 - 1 } } }
     {
         Closed {
             configurations: IndexSet::new(alloc),
-            origins: Vec::new(alloc),
+            links: Vec::new(alloc),
             was_cut: false,
+            least_past: u64::MAX,
+            overshoots: Overshoots::new(),
         }
     }
 
@@ -60,41 +106,62 @@ impl<C: Eq + Hash + Drop> Closed<C> {
         self.configurations.as_slice()
     }
 
-    /// Where each configuration came from.
-    pub fn origins(&self) -> &[Origin]
-        ensures origins { result.now ≡ self.now.origins }
-        ensures as_many { length result.now ≡ length self.now.keys }
-        ensures forest { IsForest result.now }
+    /// Where the configuration of this rank came from.
+    pub fn origin(&self, rank: usize) -> Origin
+        requires { rank < length self.now.keys }
+        ensures origin { slice_get self.now.origins rank ≡ Some result }
+        ensures forest { IsForest self.now.origins }
     {
-        &self.origins
+        self.links[rank].origin()
     }
 
     /// Whether a configuration past the bound was ever cut off.
     pub fn was_cut(&self) -> bool
-        ensures { result ≡ self.now.cut }
+        ensures { result ≡ self.now.cut.any }
     {
         self.was_cut
     }
 
-    /// Offers a configuration to the list, which keeps it if it is new and fits the bound.
-    pub fn keep(&mut self, successor: Successor<C>, fits: bool) -> Result<(), AllocError>
+    /// By how much the least that was cut off was past the bound.
+    pub fn least_past(&self) -> u64
+        ensures { result ≡ self.now.cut.past }
+    {
+        self.least_past
+    }
+
+    /// How far past the bound a search lets in as many of those that were cut off as were kept.
+    pub fn reach(&self) -> u64 {
+        self.overshoots.reach(self.configurations.len() as u64)
+    }
+
+    /// Offers a configuration to the list, which keeps it if it is new and there is room for what is left of it.
+    pub fn keep(&mut self, successor: Successor<C>, left: u64, room: u64) -> Result<(), AllocError>
         requires { IsOriginWithin (length self.old.keys) successor.origin }
-        ensures ok { OnOk result (self.new ≡ offer C.eq self.old successor fits) }
+        ensures ok { OnOk result (self.new ≡ offer C.eq self.old successor left room) }
         ensures err { OnErr result (self.new ≡ self.old) }
     {
         let Successor {
             origin,
             configuration,
         } = successor;
-        if fits {
-            self.origins.reserve(1)?;
+        if left <= room {
+            self.links.reserve(1)?;
             let (_, added) = self.configurations.insert_full(configuration)?;
             if added {
-                self.origins.push(origin)?;
+                self.links.push(Link::new(origin))?;
             }
         } else if !self.configurations.contains(&configuration) {
-            self.was_cut = true;
+            self.cut_off(left - room);
         }
         Ok(())
+    }
+
+    /// Leaves out one that is not in the list, and is past the room by so much.
+    pub fn cut_off(&mut self, past: u64)
+        ensures { self.new ≡ record { keys = self.old.keys; origins = self.old.origins; cut = cut_more self.old.cut past } }
+    {
+        self.was_cut = true;
+        self.least_past = self.least_past.min(past);
+        self.overshoots.add(past);
     }
 }

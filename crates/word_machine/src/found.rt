@@ -1,5 +1,9 @@
 //! What a search answers, and why it may not.
 
+ghost use Rattle.std.specs.Prelude.{◌≡◌};
+ghost use Rattle.word_machine.specs.Answer.{found_of};
+ghost use Rattle.word_machine.specs.declared.found.Outcome.TheVariants.{Past};
+
 use htn_level::LevelFault;
 use std::alloc::AllocError;
 use std::convert::From;
@@ -14,6 +18,41 @@ pub enum Found {
     None,
     /// No word finishes at all.
     Unsolvable,
+}
+
+/// What became of a search within a bound, by some measure of the steps that are left.
+#[derive(Drop)]
+pub enum Outcome {
+    /// The finishing word that is shortest and then least.
+    Finished(Vec<u64>),
+    /// No word finishes within the bound, nor in fewer steps than `least`; something past the bound was left out.
+    /// `wide` is for speed alone: a search to this bound is to let in as many of those as were kept.
+    Past { least: u64, wide: u64 },
+    /// No word finishes, and nothing was left out.
+    Exhausted,
+}
+
+impl Outcome {
+    /// No word finishes in fewer steps than these, and something was left out.
+    pub fn past(steps: u64) -> Outcome
+        ensures { result ≡ Past steps steps }
+    {
+        Outcome::Past {
+            least: steps,
+            wide: steps,
+        }
+    }
+
+    /// The answer, where the measure is the number of open nodes.
+    pub fn found(self) -> Found
+        ensures { result ≡ found_of self }
+    {
+        match self {
+            Outcome::Finished(word) => Found::Word(word),
+            Outcome::Past { .. } => Found::None,
+            Outcome::Exhausted => Found::Unsolvable,
+        }
+    }
 }
 
 /// Why a search has no answer. It can be made again.

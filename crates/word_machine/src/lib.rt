@@ -3,17 +3,20 @@
 
 mod bounds;
 mod closed;
+mod deepen;
 mod expand;
 mod found;
 pub mod machine;
+mod measure;
 mod merge;
+mod overshoots;
 mod search;
-mod walk;
 mod word;
 
 pub use bounds::Bounds;
+pub use closed::{Origin, Successor};
+pub use deepen::find_word_deepening;
 pub use found::{Found, SearchFault};
 pub use htn_level::{Gate, NoGate};
 pub use machine::Machine;
 pub use search::find_word;
-pub use walk::finishes;

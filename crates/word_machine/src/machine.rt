@@ -1,92 +1,151 @@
 //! Word machines: a number leads from a configuration to the next one.
-ghost use Rattle.std.specs.Prelude.{◌≡◌, ℕ, true, map, All, Some, IfOk, OnOk};
-ghost use Rattle.word_machine.specs.Machine.{WordMachine, IsLiveNumbers, IsLawful};
+ghost use Rattle.std.specs.Prelude.{◌≡◌, ℕ, ◌++◌, List, true, map, All, IfOk, OnOk, OnErr, IfSome, IfNone};
+ghost use Rattle.word_machine.specs.Machine.{WordMachine, IsLawful, IsLowerBound, IsLiveStep, IsDone};
+ghost use Rattle.word_machine.specs.Meaning.{Meaning, IsGrown, IsOneToOne, AreSuccessors};
+ghost use Rattle.word_machine.specs.Expansion.{IsLeastDone};
+ghost use Rattle.word_machine.specs.declared.closed.Successor.{Successor};
 
+use crate::closed::Successor;
 use std::alloc::AllocError;
 use std::hash::Hash;
 
 /// A machine whose steps are numbered. A word is the number of an initial configuration, and then one number for each
-/// step.
+/// step. A search numbers the configurations too, in tables that grow, and goes by these numbers.
 pub trait Machine: Sync {
-    type Configuration: Eq + Hash + Drop + Send + Sync;
+    /// A configuration, by its numbers in the tables.
+    type Configuration: Copy + Eq + Hash + Send + Sync;
 
-    type Choice: Drop + Send + Sync;
+    /// A configuration that a worker reached: by its numbers where the tables have them, and else written out.
+    type Reached: Drop + Send;
 
-    /// What a search keeps about choices from one configuration to the next.
-    type Cache: Drop + Send + Sync;
+    /// What a search has numbered, and what it keeps about it.
+    type Tables: Drop + Send + Sync;
+
+    // What a configuration stands for.
+    ghost Point: { Type 0 };
 
     // What the machine does.
-    ghost words: { Self → WordMachine Self.Configuration };
+    ghost words: { Self → WordMachine Point };
 
-    // The configuration is one of this machine's.
-    ghost belongs: { Self → Self.Configuration → Type 0 };
+    // The point is one of this machine's.
+    ghost belongs: { Self → Point → Type 0 };
 
-    // The cache is one that this machine made, and no other has changed it.
-    ghost owns: { Self → Self.Cache → Type 0 };
+    // A bound from below on the steps that are left.
+    ghost estimate: { Self → Point → ℕ };
 
-    // The cache has what the choices at this configuration need.
-    ghost is_ready: { Self → Self.Cache → Self.Configuration → Type 0 };
+    // What the numbers stand for, by these tables.
+    ghost meaning: { Self → Self.Tables → Meaning Self.Configuration Self.Reached Point };
 
-    // What the number of a choice is, and where it is a choice.
-    ghost number: { Self.Choice → ℕ };
+    // The tables are ones that this machine made, and no other has changed them.
+    ghost owns: { Self → Self.Tables → Type 0 };
 
-    ghost offers: { Self → Self.Cache → Self.Configuration → Self.Choice → Type 0 };
+    // The tables have what the steps at this configuration need.
+    ghost is_ready: { Self → Self.Tables → Self.Configuration → Type 0 };
 
-    /// The initial configurations, in the order of their numbers.
-    fn initials(&self) -> Result<Vec<Self::Configuration>, AllocError>
-        ensures { IfOk result (λ initials. initials.items ≡ (words self.now).initials) };
-
-    /// A cache at the start of a search.
-    fn new_cache(&self) -> Result<Self::Cache, AllocError>
+    /// The tables at the start of a search.
+    fn new_tables(&self) -> Result<Self::Tables, AllocError>
         ensures { IfOk result (owns self.now) };
 
-    /// Puts into the cache what the choices at this configuration need. It keeps what it has, also where memory is
-    /// refused: the cache can be used on.
-    fn prepare(&self, cache: &mut Self::Cache, at: &Self::Configuration) -> Result<(), AllocError>
-        requires known { belongs self.now at.now }
-        requires own { owns self.now cache.old }
-        ensures owned { owns self.now cache.new }
-        ensures ready { OnOk result (is_ready self.now cache.new at.now) }
-        ensures kept { (c : Self.Configuration) → is_ready self.now cache.old c → is_ready self.now cache.new c };
+    /// Numbers the initial configurations, in their order.
+    fn initials(&self, tables: &mut Self::Tables) -> Result<Vec<Self::Configuration>, AllocError>
+        requires own { owns self.now tables.old }
+        ensures owned { OnOk result (owns self.now tables.new) }
+        ensures grown { OnOk result (IsGrown (meaning self.now tables.old) (meaning self.now tables.new)) }
+        ensures known { IfOk result (λ initials. All (meaning self.now tables.new).knows initials.items) }
+        ensures initials { IfOk result (λ initials. map (meaning self.now tables.new).point initials.items ≡ (words self.now).initials) };
 
-    /// The choices whose numbers are not dead, ascending.
-    fn live_choices(
+    /// Puts into the tables what the steps at this configuration need.
+    fn prepare(&self, tables: &mut Self::Tables, at: Self::Configuration) -> Result<(), AllocError>
+        requires own { owns self.now tables.old }
+        requires known { (meaning self.now tables.old).knows at }
+        requires belongs { belongs self.now ((meaning self.now tables.old).point at) }
+        ensures owned { OnOk result (owns self.now tables.new) }
+        ensures grown { OnOk result (IsGrown (meaning self.now tables.old) (meaning self.now tables.new)) }
+        ensures ready { OnOk result (is_ready self.now tables.new at) }
+        ensures kept { OnOk result ((c : Self.Configuration) → is_ready self.now tables.old c → is_ready self.now tables.new c) };
+
+    /// Adds the successors by the numbers that are not dead, ascending, each with this rank for its parent's. If one is
+    /// done, it returns the least number that leads to a done one. Where memory is refused, those that were there still
+    /// stand there, at the front.
+    fn expand(
         &self,
-        cache: &Self::Cache,
-        from: &Self::Configuration,
-    ) -> Result<Vec<Self::Choice>, AllocError>
-        requires known { belongs self.now from.now }
-        requires ready { is_ready self.now cache.now from.now }
-        ensures offered { IfOk result (λ choices. All (offers self.now cache.now from.now) choices.items) }
-        ensures numbers { IfOk result (λ choices. IsLiveNumbers (words self.now) from.now (map number choices.items)) };
+        tables: &Self::Tables,
+        rank: usize,
+        from: Self::Configuration,
+        successors: &mut Vec<Successor<Self::Reached>>,
+    ) -> Result<Option<u64>, AllocError>
+        requires own { owns self.now tables.now }
+        requires known { (meaning self.now tables.now).knows from }
+        requires belongs { belongs self.now ((meaning self.now tables.now).point from) }
+        requires ready { is_ready self.now tables.now from }
+        ensures whole { IfOk result (λ done. IfNone done ((more : List (Successor Self.Reached)) × (successors.new.items ≡ successors.old.items ++ more) × AreSuccessors (words self.now) (meaning self.now tables.now) rank from more)) }
+        ensures done { IfOk result (λ done. IfSome done (IsLeastDone (IsLiveStep (words self.now)) (IsDone (words self.now)) ((meaning self.now tables.now).point from))) }
+        ensures refused { OnErr result ((more : List (Successor Self.Reached)) × (successors.new.items ≡ successors.old.items ++ more)) };
 
-    /// The number of a choice.
-    fn number(choice: &Self::Choice) -> u64
-        ensures { result ≡ number choice.now };
-
-    /// The configuration that a choice leads to.
-    fn step(
+    /// The numbers of a configuration that a worker reached.
+    fn keep(
         &self,
-        cache: &Self::Cache,
-        from: &Self::Configuration,
-        choice: &Self::Choice,
+        tables: &mut Self::Tables,
+        reached: Self::Reached,
     ) -> Result<Self::Configuration, AllocError>
-        requires known { belongs self.now from.now }
-        requires offered { offers self.now cache.now from.now choice.now }
-        ensures { IfOk result (λ to. (words self.now).step from.now (number choice.now) ≡ Some to) };
+        requires own { owns self.now tables.old }
+        requires allowed { (meaning self.now tables.old).allows reached }
+        requires belongs { belongs self.now ((meaning self.now tables.old).point_of reached) }
+        ensures owned { OnOk result (owns self.now tables.new) }
+        ensures grown { OnOk result (IsGrown (meaning self.now tables.old) (meaning self.now tables.new)) }
+        ensures known { IfOk result (meaning self.now tables.new).knows }
+        ensures same { IfOk result (λ c. (meaning self.now tables.new).point c ≡ (meaning self.now tables.old).point_of reached) };
 
     /// Whether the configuration is done.
-    fn is_done(&self, at: &Self::Configuration) -> bool
-        requires { belongs self.now at.now }
-        ensures { result ≡ (words self.now).is_done at.now };
+    fn is_done(&self, tables: &Self::Tables, at: Self::Configuration) -> bool
+        requires own { owns self.now tables.now }
+        requires known { (meaning self.now tables.now).knows at }
+        requires belongs { belongs self.now ((meaning self.now tables.now).point at) }
+        ensures { result ≡ (words self.now).is_done ((meaning self.now tables.now).point at) };
 
     /// How many nodes are open.
-    fn open_len(&self, at: &Self::Configuration) -> u64
-        requires { belongs self.now at.now }
-        ensures { result ≡ (words self.now).open_len at.now };
+    fn open_len(&self, tables: &Self::Tables, at: Self::Configuration) -> u64
+        requires own { owns self.now tables.now }
+        requires known { (meaning self.now tables.now).knows at }
+        requires belongs { belongs self.now ((meaning self.now tables.now).point at) }
+        ensures { result ≡ (words self.now).open_len ((meaning self.now tables.now).point at) };
+
+    /// A bound from below on the steps that are left.
+    fn lower_bound(&self, tables: &Self::Tables, at: Self::Configuration) -> u64
+        requires own { owns self.now tables.now }
+        requires known { (meaning self.now tables.now).knows at }
+        requires belongs { belongs self.now ((meaning self.now tables.now).point at) }
+        ensures { result ≡ estimate self.now ((meaning self.now tables.now).point at) };
+
+    /// The numbers of a configuration that a worker reached, if the tables have them. It takes no memory.
+    fn find(&self, tables: &Self::Tables, reached: &Self::Reached) -> Option<Self::Configuration>
+        requires own { owns self.now tables.now }
+        requires allowed { (meaning self.now tables.now).allows reached.now }
+        ensures known { IfSome result (meaning self.now tables.now).knows }
+        ensures same { IfSome result (λ c. (meaning self.now tables.now).point c ≡ (meaning self.now tables.now).point_of reached.now) }
+        ensures none { IfNone result ((c : Self.Configuration) → (meaning self.now tables.now).knows c → (meaning self.now tables.now).point c ≡ (meaning self.now tables.now).point_of reached.now → ⊥) };
+
+    /// How many nodes are open in a configuration that a worker reached.
+    fn open_len_of(&self, tables: &Self::Tables, reached: &Self::Reached) -> u64
+        requires own { owns self.now tables.now }
+        requires allowed { (meaning self.now tables.now).allows reached.now }
+        requires belongs { belongs self.now ((meaning self.now tables.now).point_of reached.now) }
+        ensures { result ≡ (words self.now).open_len ((meaning self.now tables.now).point_of reached.now) };
+
+    /// A bound from below on the steps that are left from a configuration that a worker reached.
+    fn lower_bound_of(&self, tables: &Self::Tables, reached: &Self::Reached) -> u64
+        requires own { owns self.now tables.now }
+        requires allowed { (meaning self.now tables.now).allows reached.now }
+        requires belongs { belongs self.now ((meaning self.now tables.now).point_of reached.now) }
+        ensures { result ≡ estimate self.now ((meaning self.now tables.now).point_of reached.now) };
 
     // Configurations that compare equal are the same.
     ghost same: { (c d : Self.Configuration) → Self.Configuration.eq c d ≡ true → c ≡ d };
 
+    // No point has two numbers.
+    ghost one_to_one: { (m : Self) (t : Self.Tables) → owns m t → IsOneToOne (meaning m t) };
+
     ghost lawful: { (m : Self) → IsLawful (words m) (belongs m) };
+
+    ghost bounded: { (m : Self) → IsLowerBound (words m) (estimate m) };
 }

@@ -1,16 +1,19 @@
 //! The search for the least finishing word, level by level.
-ghost use Rattle.std.specs.Prelude.{◌≡◌, ℕ, ◌<◌, ◌∷◌, [], true, All, Some, slice_get, if◌then◌else◌, IfOk, IfErr, IfSome, IfNone};
-ghost use Rattle.word_machine.specs.Contents.{initial_successors};
+ghost use Rattle.std.specs.Prelude.{◌≡◌, ℕ, ◌+◌, ◌<◌, ◌≤◌, ◌∷◌, [], true, false, map, All, Some, slice_get, IfOk, IfErr, IfSome, IfNone, OnOk};
 ghost use Rattle.word_machine.specs.Machine.{IsDone};
-ghost use Rattle.word_machine.specs.Answer.{IsAnswer};
+ghost use Rattle.word_machine.specs.Meaning.{IsGrown};
+ghost use Rattle.word_machine.specs.Ranks.{IsOwned};
+ghost use Rattle.word_machine.specs.Answer.{IsAnswer, IsOutcome, NoneFinishes, measure_of};
 ghost use Rattle.word_machine.specs.declared.found.SearchFault.TheVariants.{NoThread};
+ghost use Rattle.word_machine.specs.declared.found.Outcome.TheVariants.{Past, Exhausted};
 
 use crate::bounds::Bounds;
-use crate::closed::{Closed, Origin, Successor};
+use crate::closed::Closed;
 use crate::expand::{expand_ranks, prepare_ranks};
-use crate::found::{Found, SearchFault};
+use crate::found::{Found, Outcome, SearchFault};
 use crate::machine::Machine;
-use crate::merge::merge;
+use crate::measure::{Limits, Measure};
+use crate::merge::{merge, offer_initials};
 use crate::word::read_word;
 use htn_level::{Expanded, Gate};
 use std::alloc::{AllocError, Global};
@@ -19,14 +22,19 @@ use std::sync::Wait;
 use std::thread::Threads;
 
 // The first initial configuration that is done.
-fn first_done<M: Machine>(machine: &M, initials: &[M::Configuration]) -> Option<u64>
-    requires { All (M.belongs machine.now) initials.now }
-    ensures none { IfNone result ((i : ℕ) (c : M.Configuration) → slice_get initials.now i ≡ Some c → IsDone (M.words machine.now) c → ⊥) }
-    ensures found { IfSome result (λ n. (c : M.Configuration) × (slice_get initials.now n ≡ Some c) × IsDone (M.words machine.now) c) }
-    ensures first { IfSome result (λ n. (i : ℕ) (c : M.Configuration) → i < n → slice_get initials.now i ≡ Some c → IsDone (M.words machine.now) c → ⊥) }
+fn first_done<M: Machine>(
+    machine: &M,
+    tables: &M::Tables,
+    initials: &[M::Configuration],
+) -> Option<u64>
+    requires own { M.owns machine.now tables.now }
+    requires known { All (IsOwned (M.meaning machine.now tables.now) (M.belongs machine.now)) initials.now }
+    ensures none { IfNone result ((i : ℕ) (c : M.Configuration) → slice_get initials.now i ≡ Some c → IsDone (M.words machine.now) ((M.meaning machine.now tables.now).point c) → ⊥) }
+    ensures found { IfSome result (λ n. (c : M.Configuration) × (slice_get initials.now n ≡ Some c) × IsDone (M.words machine.now) ((M.meaning machine.now tables.now).point c)) }
+    ensures first { IfSome result (λ n. (i : ℕ) (c : M.Configuration) → i < n → slice_get initials.now i ≡ Some c → IsDone (M.words machine.now) ((M.meaning machine.now tables.now).point c) → ⊥) }
 {
     for (i, initial) in initials.iter().enumerate() {
-        if machine.is_done(initial) {
+        if machine.is_done(tables, *initial) {
             return Some(i as u64);
         }
     }
@@ -41,22 +49,73 @@ fn word_of_one(alloc: Global, number: u64) -> Result<Vec<u64>, AllocError>
     Ok(word)
 }
 
-// The initial configurations as successors, each with its number.
-fn number_initials<C: Drop>(
+/// The least finishing word within the bound, in a search that leaves out what this measure puts past it. Where none is
+/// known to finish within the bound, it ends with the level in which the first is left out.
+pub fn search<M: Machine, G: Gate, R: Threads + Wait + Sync>(
+    rt: &R,
     alloc: Global,
-    initials: Vec<C>,
-) -> Result<Vec<Successor<C>>, AllocError>
-    ensures { IfOk result (λ successors. successors.items ≡ initial_successors 0 initials.items) }
+    machine: &M,
+    tables: &mut M::Tables,
+    initials: &[M::Configuration],
+    limits: Limits,
+    gate: &G,
+) -> Result<Outcome, SearchFault>
+    requires own { M.owns machine.now tables.old }
+    requires known { All (M.meaning machine.now tables.old).knows initials.now }
+    requires initials { map (M.meaning machine.now tables.old).point initials.now ≡ (M.words machine.now).initials }
+    requires none { limits.none_within ≡ true → NoneFinishes (M.words machine.now) limits.bounds.nodes }
+    ensures owned { OnOk result (M.owns machine.now tables.new) }
+    ensures grown { OnOk result (IsGrown (M.meaning machine.now tables.old) (M.meaning machine.now tables.new)) }
+    ensures outcome { IfOk result (IsOutcome (M.words machine.now) (measure_of (M.words machine.now) (M.estimate machine.now) limits.measure) limits.bounds.nodes) }
+    ensures no_thread { IfErr result (λ e. e ≡ NoThread → 1 < limits.bounds.workers) }
 {
-    let mut successors = Vec::new(alloc);
-    for configuration in initials {
-        let origin = Origin::Initial(successors.len() as u64);
-        successors.push(Successor {
-            origin,
-            configuration,
-        })?;
+    if let Some(initial) = first_done(machine, tables, initials) {
+        return Ok(Outcome::Finished(word_of_one(alloc, initial)?));
     }
-    Ok(successors)
+    let bounds = limits.bounds;
+    let measure = limits.measure;
+    let bound = bounds.nodes;
+    let mut closed = Closed::new(alloc);
+    offer_initials(machine, tables, &mut closed, initials, measure, bound)?;
+    let mut low = 0;
+    for level in 0..bound {
+        if limits.none_within && closed.was_cut() {
+            return Ok(Outcome::past(bound + 1));
+        }
+        let high = closed.configurations().len();
+        if low == high {
+            return Ok(exhausted(&closed, bound));
+        }
+        let kept = closed.configurations();
+        prepare_ranks(machine, tables, kept, low)?;
+        match expand_ranks(rt, alloc, machine, tables, kept, low, bounds, gate)? {
+            Expanded::Whole(successors) => {
+                let room = bound - level - 1;
+                merge(machine, tables, &mut closed, successors, measure, room)?;
+            }
+            Expanded::Done { rank, finish } => {
+                let word = read_word(alloc, &closed, rank, finish)?;
+                return Ok(Outcome::Finished(word));
+            }
+        }
+        low = high;
+    }
+    Ok(exhausted(&closed, bound))
+}
+
+// The outcome where nothing is left to expand.
+fn exhausted<C: Eq + Hash + Drop>(closed: &Closed<C>, bound: u64) -> Outcome
+    ensures cut { closed.now.cut.any ≡ true → (least : ℕ) × (wide : ℕ) × (result ≡ Past least wide) × (least ≤ bound + closed.now.cut.past) }
+    ensures uncut { closed.now.cut.any ≡ false → result ≡ Exhausted }
+{
+    if closed.was_cut() {
+        Outcome::Past {
+            least: bound.saturating_add(closed.least_past()),
+            wide: bound.saturating_add(closed.reach()),
+        }
+    } else {
+        Outcome::Exhausted
+    }
 }
 
 /// The least finishing word of at most `bounds.nodes` steps. The answer is the same for every number of workers, size
@@ -71,52 +130,13 @@ pub fn find_word<M: Machine, G: Gate, R: Threads + Wait + Sync>(
     ensures answer { IfOk result (IsAnswer (M.words machine.now) bounds.nodes) }
     ensures no_thread { IfErr result (λ e. e ≡ NoThread → 1 < bounds.workers) }
 {
-    let initials = machine.initials()?;
-    if let Some(initial) = first_done(machine, &initials) {
-        return Ok(Found::Word(word_of_one(alloc, initial)?));
-    }
-    let mut closed = Closed::new(alloc);
-    let start = number_initials(alloc, initials)?;
-    merge(machine, &mut closed, start, bounds.nodes)?;
-    let mut cache = machine.new_cache()?;
-    let mut low = 0;
-    for level in 0..bounds.nodes {
-        let high = closed.configurations().len();
-        if low == high {
-            return Ok(exhausted(&closed));
-        }
-        let configurations = closed.configurations();
-        prepare_ranks(machine, &mut cache, configurations, low)?;
-        match expand_ranks(
-            rt,
-            alloc,
-            machine,
-            &cache,
-            configurations,
-            low,
-            bounds,
-            gate,
-        )? {
-            Expanded::Whole(successors) => {
-                merge(machine, &mut closed, successors, bounds.nodes - level - 1)?;
-            }
-            Expanded::Done { rank, finish } => {
-                let word = read_word(alloc, closed.origins(), rank, finish)?;
-                return Ok(Found::Word(word));
-            }
-        }
-        low = high;
-    }
-    Ok(exhausted(&closed))
-}
-
-// The answer where nothing is left to expand.
-fn exhausted<C: Eq + Hash + Drop>(closed: &Closed<C>) -> Found
-    ensures { result ≡ (if closed.now.cut then Found.None else Found.Unsolvable) }
-{
-    if closed.was_cut() {
-        Found::None
-    } else {
-        Found::Unsolvable
-    }
+    let mut tables = machine.new_tables()?;
+    let initials = machine.initials(&mut tables)?;
+    let limits = Limits {
+        bounds,
+        measure: Measure::OpenNodes,
+        none_within: false,
+    };
+    let outcome = search(rt, alloc, machine, &mut tables, &initials, limits, gate)?;
+    Ok(outcome.found())
 }

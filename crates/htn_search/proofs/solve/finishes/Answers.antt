@@ -1,13 +1,12 @@
-use Rattle.std.proofs.Common.{◌≡◌, ◌+◌, ◌<◌, ◌&&◌, [], ◌∷◌, length, get_or, drop, option_map, true≢false, sym, ap, ◌∙◌, subst, arith}
+use Rattle.std.proofs.Common.{◌≡◌, ◌+◌, ◌<◌, ◌&&◌, [], ◌∷◌, length, get_or, drop, Some, option_map, true≢false, sym, ap, ◌∙◌, subst, arith}
 use Rattle.std.proofs.lemmas.List.{drop_more, drop_all}
-use Rattle.std.proofs.lemmas.Option.{MatchOption-at_some}
 use Rattle.htn_model.specs.Choice.{is_empty}
 use Rattle.htn_model.specs.Grounding.{problem_of}
 use Rattle.htn_model.specs.Levels.{is_done}
 use Rattle.htn_model.specs.Literal.{holds}
-use Rattle.htn_model.specs.Machine.{choose, Finishes, FinishesFrom, step_by}
+use Rattle.htn_model.specs.Machine.{Finishes, FinishesFrom, result_of, step_by}
 use Rattle.htn_answer.proofs.Words.{done_from, done_back}
-use Rattle.htn_net.specs.Choices.{choice_of}
+use Rattle.htn_net.specs.Choices.{chosen_of}
 use Rattle.htn_search.proofs.Finishing.{one_onward, one_back, stuck, is_initial, finishes_back, finishes_onward}
 use Rattle.htn_search.proofs.solve.finishes.Goals as goal
 
@@ -19,11 +18,10 @@ start-requires c =
 pub loop-number-init : goal.loop-number-init
 loop-number-init c = record { onward = λ h. h; back = λ h. h }
 
-pub step-requires : goal.step-requires
-step-requires c =
+pub after-requires : goal.after-requires
+after-requires c =
     let at = c.loop-number.config in
-    ap (choose (problem_of c.args.task.now) at) (MatchOption-at_some _ _ _ c.in-Some-2.is c.in_ok-choice.ensures.number)
-    ∙ sym c.in_ok-choice.ensures.choice ∙ ap (option_map (choice_of at)) c.in-Some-2.is
+    (get_or c.in-Some.numbers.now c.loop-number.number-index 0, sym c.in_ok-position.ensures.choice ∙ ap (option_map (chosen_of at)) c.in-Some-2.is)
 
 pub loop-number-preserved : goal.loop-number-preserved
 loop-number-preserved c =
@@ -33,7 +31,8 @@ loop-number-preserved c =
     let i = c.loop-number.number-index in
     let n = get_or numbers i 0 in
     let left : drop i numbers ≡ n ∷ drop (i + 1) numbers = drop_more numbers i 0 c.loop-number-test.true in
-    let step = ap (step_by problem at) (sym (MatchOption-at_some _ _ _ c.in-Some-2.is c.in_ok-choice.ensures.number)) ∙ c.in_ok-next.ensures in
+    let step : step_by problem at n ≡ Some c.in_ok-next.next =
+    ap (option_map (result_of at)) (sym c.in_ok-position.ensures.choice ∙ ap (option_map (chosen_of at)) c.in-Some-2.is) ∙ ap Some (sym c.in_ok-next.ensures) in
     record {
       onward = λ h. one_onward problem at n (drop (i + 1) numbers) c.in_ok-next.next step (subst (λ l. FinishesFrom problem l at) left (c.loop-number.invariant.onward h));
       back = λ h. c.loop-number.invariant.back (subst (λ l. FinishesFrom problem l at) (sym left) (one_back problem at n (drop (i + 1) numbers) c.in_ok-next.next step h));
@@ -50,7 +49,7 @@ returns-in_default-2 c =
     let left : drop i numbers ≡ n ∷ drop (i + 1) numbers = drop_more numbers i 0 c.loop-number-test.true in
     let inside : c.in-Some.initial.now < length c.in_ok-instances.instances.items = omega (arith, c.if-place-len.false, c.len.ensures) in (
       (λ t. absurd (true≢false (sym t))),
-      (λ h. absurd (stuck problem at n (drop (i + 1) numbers) (sym c.in_ok-choice.ensures.choice ∙ ap (option_map (choice_of at)) c.in_default-2.is)
+      (λ h. absurd (stuck problem at n (drop (i + 1) numbers) (sym c.in_ok-position.ensures.choice ∙ ap (option_map (chosen_of at)) c.in_default-2.is)
           (subst (λ l. FinishesFrom problem l at) left (c.loop-number.invariant.onward (subst (FinishesFrom problem numbers) (sym c.in_ok-config.ensures)
           (finishes_onward t c.in-Some.initial.now c.in_ok-instances.instances.items c.index.result.now c.in_ok-instances.ensures inside c.index.ensures numbers (subst (Finishes problem) c.in-Some.ensures.cases.0 h))))))),
     )

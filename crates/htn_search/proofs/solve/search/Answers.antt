@@ -1,5 +1,5 @@
 use Rattle.std.proofs.Common.{sym, subst}
-use Rattle.htn_ground.specs.Trees.{solution_of}
+use Rattle.htn_tree.specs.Trees.{solution_of}
 use Rattle.htn_model.specs.Grounding.{problem_of}
 use Rattle.htn_model.proofs.Grounded.{tasks_are_grounded}
 use Rattle.word_machine.specs.Answer.{IsAnswer, IsLeastFinishing}
@@ -19,9 +19,9 @@ returns-in_ok-rebuild_listed-in-Word-clause-answer g c =
     let grounded = tasks_are_grounded t c.objects-typed.ensures.typed in
     let plan = c.in_ok-rebuild_listed-in-Word.field-0 in
     let least = subst (IsAnswer (listing_machine t) c.args.bounds.nodes) c.in-Word.is c.in_ok-ranks.ensures.answer in
-    plan_answers (problem_of t) c.args.bounds.nodes grounded plan
-    (told_solution t grounded c.args.bounds.nodes c.in-Word.ranks.items (solution_of plan) least
-    (subst (λ w. IsSolutionOf (problem_of t) (told_word t w) (solution_of plan)) c.deref.ensures.value c.in_ok-rebuild_listed-in-Word.ensures))
+    plan_answers t c.args.bounds.nodes grounded plan
+    (told_solution t grounded c.args.bounds.nodes c.in-Word.ranks.items (solution_of t plan) least
+    (subst (λ w. IsSolutionOf (problem_of t) (told_word t w) (solution_of t plan)) c.deref.ensures.value c.in_ok-rebuild_listed-in-Word.ensures))
 
 pub returns-in-None-clause-answer : goal.returns-in-None-clause-answer
 returns-in-None-clause-answer g c =
@@ -29,7 +29,7 @@ returns-in-None-clause-answer g c =
     let grounded = tasks_are_grounded t c.objects-typed.ensures.typed in
     let own = answered (problem_of t) c.args.bounds.nodes None grounded
     (told_answer t grounded c.args.bounds.nodes None None (subst (IsAnswer (listing_machine t) c.args.bounds.nodes) c.in-None.is c.in_ok-ranks.ensures.answer) tt) in
-    none_answers (problem_of t) c.args.bounds.nodes own.0 own.1
+    none_answers t c.args.bounds.nodes own.0 own.1
 
 pub returns-in-Unsolvable-clause-answer : goal.returns-in-Unsolvable-clause-answer
 returns-in-Unsolvable-clause-answer g c =
@@ -37,7 +37,7 @@ returns-in-Unsolvable-clause-answer g c =
     let grounded = tasks_are_grounded t c.objects-typed.ensures.typed in
     let own = answered (problem_of t) c.args.bounds.nodes Unsolvable grounded
     (told_answer t grounded c.args.bounds.nodes Unsolvable Unsolvable (subst (IsAnswer (listing_machine t) c.args.bounds.nodes) c.in-Unsolvable.is c.in_ok-ranks.ensures.answer) tt) in
-    unsolvable_answers (problem_of t) c.args.bounds.nodes own.0 own.1
+    unsolvable_answers t c.args.bounds.nodes own.0 own.1
 
 pub rebuild_listed-requires : goal.rebuild_listed-requires
 rebuild_listed-requires g c =

@@ -1,8 +1,6 @@
-use Rattle.std.proofs.Common.{◌≡◌, List, length}
-use Rattle.htn_model.specs.Tree.{Node}
 use Rattle.htn_search.specs.Trail.{AreWithin}
 use Rattle.htn_search.proofs.tests.a_deep_tree_grows_back.Given as goal
 
 -- one tree may follow
 abbrev pub invariant-loop : goal.invariant-loop
-invariant-loop g l = (trees : List Node) → length trees ≡ 1 → AreWithin l.trail.items trees
+invariant-loop g l = AreWithin l.trail.items 1

@@ -1,12 +1,12 @@
-use Rattle.std.proofs.Common.{◌≡◌, ◌+◌, ◌∷◌, ◌++◌, [], get_or, drop, sym, refl, ap, ◌∙◌, subst, append_assoc, append-nil}
-use Rattle.std.proofs.lemmas.List.{drop_more, drop_all, map-append}
+use Rattle.std.proofs.Common.{◌≡◌, ◌+◌, ◌∷◌, [], get_or, drop, sym, refl, ap, ◌∙◌, subst}
+use Rattle.std.proofs.lemmas.List.{drop_more, drop_all}
 use Rattle.htn_model.specs.Grounding.{problem_of}
 use Rattle.htn_model.specs.Machine.{FinishesFrom, start}
 use Rattle.htn_model.proofs.Grounded.{tasks_are_grounded}
 use Rattle.htn_net.specs.Listed.{number_of}
-use Rattle.htn_search.specs.declared.trail.Move.{Move}
+use Rattle.htn_tree.specs.Trees as trees
 use Rattle.htn_search.specs.Places.{places_view}
-use Rattle.htn_search.specs.Told.{FinishesListed, numbers_of_moves, told}
+use Rattle.htn_search.specs.Told.{FinishesListed, told}
 use Rattle.htn_search.specs.Walk.{recorded}
 use Rattle.htn_search.proofs.Told.{finishes_told, next_chooses, one_told}
 use Rattle.htn_search.proofs.Way.{IsUnderWay, way_begins, walk_on}
@@ -21,10 +21,9 @@ loop-rank-init c =
     let walk = c.in_ok-walk.walk in
     let begins = c.in_ok-walk.ensures in
     record {
-      way = way_begins (problem_of t) (told t walk.config ranks) network walk begins
+      way = way_begins (trees.number_of t) (problem_of t) (told t walk.config ranks) network walk begins
           (subst (λ x. FinishesFrom (problem_of t) (told t x ranks) (start (problem_of t) network)) (sym begins.config) (finishes_told t ranks (start (problem_of t) network) c.requires.finishes));
       leads = subst (λ x. FinishesListed t x ranks) (sym begins.config) c.requires.finishes;
-      numbers = ap (λ l. numbers_of_moves l ++ told t walk.config ranks) begins.trail;
     }
 
 pub follow_listed-requires-clause-chosen : goal.follow_listed-requires-clause-chosen
@@ -55,31 +54,15 @@ loop-rank-preserved c =
     let on = one_told t old.config rank later one.choice new.config leads one.chooses one.config in
     let rest = told t new.config later in
     let split : told t old.config (drop i ranks) ≡ number ∷ rest = ap (told t old.config) left ∙ on.0 in
-    let way : IsUnderWay problem word first roots (number ∷ rest) old.config old.trail.items (places_view old.places.items) (places_view old.visits.items) =
-    subst (λ l. IsUnderWay problem word first roots l old.config old.trail.items (places_view old.places.items) (places_view old.visits.items)) split c.loop-rank.invariant.way in
+    let way : IsUnderWay (trees.number_of t) problem word first roots (number ∷ rest) old.config old.trail.items (places_view old.places.items) (places_view old.visits.items) =
+    subst (λ l. IsUnderWay (trees.number_of t) problem word first roots l old.config old.trail.items (places_view old.places.items) (places_view old.visits.items)) split c.loop-rank.invariant.way in
     record {
-      way = subst (λ x. IsUnderWay problem word first roots rest x new.trail.items (places_view new.places.items) (places_view new.visits.items)) (sym one.config)
-          (walk_on problem old.config number one.choice one.chooses one.last one.is_move rest word first roots
+      way = subst (λ x. IsUnderWay (trees.number_of t) problem word first roots rest x new.trail.items (places_view new.places.items) (places_view new.visits.items)) (sym one.config)
+          (walk_on (trees.number_of t) problem old.config number one.choice one.chooses one.last one.is_move rest word first roots
           old.trail.items new.trail.items (places_view old.places.items) (places_view new.places.items) (places_view old.visits.items) (places_view new.visits.items)
           way one.trail one.places one.visits);
       leads = on.1;
-      numbers =
-          ap (λ l. numbers_of_moves l ++ rest) one.trail
-          ∙ ap (λ l. l ++ rest) (map-append (λ (m : Move). m.number) old.trail.items (one.last ∷ []))
-          ∙ append_assoc (numbers_of_moves old.trail.items) (one.last.number ∷ []) rest
-          ∙ ap (λ n. numbers_of_moves old.trail.items ++ n ∷ rest) one.is_move.chosen_by
-          ∙ ap (λ l. numbers_of_moves old.trail.items ++ l) (sym split)
-          ∙ c.loop-rank.invariant.numbers;
     }
-
-pub returns-clause-numbers : goal.returns-clause-numbers
-returns-clause-numbers c =
-    let t = c.args.task.now in
-    let ranks = c.args.ranks.now in
-    let old = c.loop-rank.walk in
-    let none : drop c.loop-rank.rank-index ranks ≡ [] = drop_all c.loop-rank.rank-index ranks c.loop-rank-test.false in
-    sym (append-nil (numbers_of_moves old.trail.items)) ∙ ap (λ l. numbers_of_moves old.trail.items ++ told t old.config l) (sym none)
-    ∙ c.loop-rank.invariant.numbers ∙ ap (λ x. told t x ranks) c.in_ok-walk.ensures.config
 
 pub returns-clause-within : goal.returns-clause-within
 returns-clause-within c =
@@ -89,7 +72,7 @@ returns-clause-within c =
     let roots = places_view c.in_ok-walk.walk.places.items in
     let old = c.loop-rank.walk in
     let none : drop c.loop-rank.rank-index ranks ≡ [] = drop_all c.loop-rank.rank-index ranks c.loop-rank-test.false in
-    (subst (λ l. IsUnderWay (problem_of t) (told t first ranks) first roots (told t old.config l) old.config old.trail.items (places_view old.places.items) (places_view old.visits.items)) none c.loop-rank.invariant.way).within
+    (subst (λ l. IsUnderWay (trees.number_of t) (problem_of t) (told t first ranks) first roots (told t old.config l) old.config old.trail.items (places_view old.places.items) (places_view old.visits.items)) none c.loop-rank.invariant.way).within
 
 pub returns-clause-solved : goal.returns-clause-solved
 returns-clause-solved c =
@@ -102,10 +85,10 @@ returns-clause-solved c =
     let old = c.loop-rank.walk in
     let none : drop c.loop-rank.rank-index ranks ≡ [] = drop_all c.loop-rank.rank-index ranks c.loop-rank-test.false in
     let numbers = told t (start problem network) ranks in
-    let way : IsUnderWay problem numbers first roots [] old.config old.trail.items (places_view old.places.items) (places_view old.visits.items) =
-    subst (λ w. IsUnderWay problem w first roots [] old.config old.trail.items (places_view old.places.items) (places_view old.visits.items)) (ap (λ x. told t x ranks) c.in_ok-walk.ensures.config)
-    (subst (λ l. IsUnderWay problem (told t first ranks) first roots (told t old.config l) old.config old.trail.items (places_view old.places.items) (places_view old.visits.items)) none c.loop-rank.invariant.way) in
+    let way : IsUnderWay (trees.number_of t) problem numbers first roots [] old.config old.trail.items (places_view old.places.items) (places_view old.visits.items) =
+    subst (λ w. IsUnderWay (trees.number_of t) problem w first roots [] old.config old.trail.items (places_view old.places.items) (places_view old.visits.items)) (ap (λ x. told t x ranks) c.in_ok-walk.ensures.config)
+    (subst (λ l. IsUnderWay (trees.number_of t) problem (told t first ranks) first roots (told t old.config l) old.config old.trail.items (places_view old.places.items) (places_view old.visits.items)) none c.loop-rank.invariant.way) in
     λ number is.
-    solved problem (tasks_are_grounded t c.objects-typed.ensures.typed) number numbers (network, is, finishes_told t ranks (start problem network) c.requires.finishes) network is first roots
+    solved (trees.number_of t) problem (tasks_are_grounded t c.objects-typed.ensures.typed) number numbers (network, is, finishes_told t ranks (start problem network) c.requires.finishes) network is first roots
     c.in_ok-walk.ensures.config c.in_ok-walk.ensures.places
-    old.config old.trail.items (places_view old.places.items) (places_view old.visits.items) way (recorded number old) refl refl refl
+    old.config old.trail.items (places_view old.places.items) (places_view old.visits.items) way (recorded t number old) refl refl refl

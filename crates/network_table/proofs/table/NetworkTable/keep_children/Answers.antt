@@ -17,6 +17,7 @@ loop-place-init c =
       numbers = subst (λ ids. AreNumbers t.children ids []) (sym c.in_ok-ids.ensures.items) (All-nil (λ id. id < length (numbered_children t.children)), refl);
       bounds = λ measure given old. old;
       sound = λ live old. old;
+      remembered = λ n. refl;
     }
 
 pub keep_child-requires : goal.keep_child-requires
@@ -46,6 +47,7 @@ loop-place-preserved c =
           (ap (λ x. measure (child_view x)) c.in_ok-clone.ensures.cases ∙ bound_at measure nodes c.args.bounds.now k node given c.loop-place-test.true c.index-nodes-place.is)
           (i.bounds measure given old);
       sound = λ live old. c.in_ok-keep_child.ensures.sound live (i.sound live old);
+      remembered = λ n. c.in_ok-keep_child.ensures.remembered n ∙ i.remembered n;
     }
 
 pub returns-clause-whole : goal.returns-clause-whole
@@ -64,3 +66,6 @@ returns-clause-bounds c = c.loop-place.invariant.bounds
 
 pub returns-clause-sound : goal.returns-clause-sound
 returns-clause-sound c = c.loop-place.invariant.sound
+
+pub returns-clause-remembered : goal.returns-clause-remembered
+returns-clause-remembered c = c.loop-place.invariant.remembered

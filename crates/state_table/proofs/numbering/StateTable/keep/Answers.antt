@@ -1,7 +1,7 @@
-use Rattle.std.proofs.Common.{rules, ◌≡◌, ◌∙◌, ◌++◌, ◌∷◌, ◌<◌, ◌^◌, [], ℕ, length, slice_get, Some, subst, sym, ap, List}
+use Rattle.std.proofs.Common.{rules, ◌≡◌, ◌∙◌, ◌++◌, ◌∷◌, ◌<◌, ◌^◌, ◌⊎◌, inl, inr, [], ℕ, length, slice_get, Some, subst, sym, ap, List}
 use Rattle.state_table.specs.Bits.{words_eq, words_eq-decides}
 use Rattle.state_table.specs.Numberings.{IsNumbering}
-use Rattle.state_table.proofs.Keys.{at_end, if_none, inserted, numbering_push}
+use Rattle.state_table.proofs.Keys.{at_end, at_push, if_none, inserted, numbering_push}
 use Rattle.state_table.proofs.numbering.StateTable.keep.Goals as goal
 
 -- the state has no number yet
@@ -38,3 +38,9 @@ pub returns-clause-number : goal.returns-clause-number
 returns-clause-number c =
     subst (λ n. slice_get c.insert.new.self.keys n ≡ Some c.args.state) (sym (count c))
     (ap (λ (l : List (List ℕ)). slice_get l (length c.self.inside.states.keys)) (keys_are c) ∙ at_end c.self.inside.states.keys c.args.state)
+
+pub returns-clause-others : goal.returns-clause-others
+returns-clause-others c = λ n other at. elim (at_push c.self.inside.states.keys c.args.state n other (sym (ap (λ (l : List (List ℕ)). slice_get l n) (keys_are c)) ∙ at)) [
+  | inl before ↦ inl (ap (λ (l : List (List ℕ)). slice_get l n) (sym c.self.view_is) ∙ before)
+  | inr here ↦ inr (sym here.1)
+]

@@ -1,0 +1,2 @@
+pub mod TreeSizes
+pub mod Numbers

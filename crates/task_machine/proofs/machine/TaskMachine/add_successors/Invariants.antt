@@ -1,0 +1,10 @@
+use Rattle.htn_net.specs.Listed.{listing_machine}
+use Rattle.task_machine.specs.Meaning.{meaning}
+use Rattle.task_machine.specs.Prefix.{IsMade}
+use Rattle.task_machine.proofs.machine.TaskMachine.add_successors.Given as goal
+
+-- the successors by the ranks so far
+abbrev pub invariant-loop-number : goal.invariant-loop-number
+invariant-loop-number l =
+    IsMade (listing_machine l.self.task.now) (meaning l.tables) l.rank l.from l.number l.fn.successors.items
+    l.successors.items

@@ -1,0 +1,26 @@
+use Rattle.std.proofs.Common.{◌∙◌, ap, subst, sym}
+use Rattle.std.proofs.lemmas.Option.{slice_get_within}
+use Rattle.task_machine.specs.Meaning.{allows, config_in, point_of}
+use Rattle.task_machine.proofs.Owned.{with_state, words_of_number}
+use Rattle.task_machine.proofs.machine.TaskMachineMachine.keep.Goals as goal
+
+pub returns-in_ok-state-in-New-clause-owned : goal.returns-in_ok-state-in-New-clause-owned
+returns-in_ok-state-in-New-clause-owned c =
+    let tables = c.args.tables.now in
+    let allowed = subst (allows tables) c.in-New.is c.requires.allowed in
+    record {
+      tables = with_state c.args.self.now.task.now tables c.keep.new.self c.in-New.state c.in_ok-state-in-New.ensures.numbering allowed.0 c.in_ok-state-in-New.ensures.others c.requires.own.tables;
+      sized = c.requires.own.sized;
+    }
+
+pub returns-in_ok-state-in-New-clause-known : goal.returns-in_ok-state-in-New-clause-known
+returns-in_ok-state-in-New-clause-known c =
+    let tables = c.args.tables.now in
+    let allowed = subst (allows tables) c.in-New.is c.requires.allowed in
+    (slice_get_within c.keep.new.self c.in_ok-state-in-New.state c.in-New.state c.in_ok-state-in-New.ensures.number, allowed.1)
+
+pub returns-in_ok-state-in-New-clause-same : goal.returns-in_ok-state-in-New-clause-same
+returns-in_ok-state-in-New-clause-same c =
+    let tables = c.args.tables.now in
+    ap (λ words. config_in tables words c.in-New.network) (words_of_number c.keep.new.self c.in_ok-state-in-New.state c.in-New.state c.in_ok-state-in-New.ensures.number)
+    ∙ sym (ap (point_of tables) c.in-New.is)

@@ -1,0 +1,17 @@
+-- Tables of networks in which each node stands with its size.
+use Rattle.htn_model.specs.Task.{Task}
+use Rattle.network_table.specs.Children.{AreBounds}
+use Rattle.network_table.specs.declared.table.NetworkTable.{NetworkTable}
+use Rattle.tree_sizes.specs.Sizes.{size_of}
+use Rattle.tree_sizes.specs.declared.tree_sizes.TreeSizes.{TreeSizes}
+use Rattle.task_machine.specs.Tables.{AreTables}
+use Rattle.task_machine.specs.declared.tables.Tables.{Tables}
+
+-- each node stands there with its size
+abbrev pub HasSizes : TreeSizes → NetworkTable → Type 0
+HasSizes sizes t = AreBounds (size_of sizes) t.children
+
+-- the tables of a task's machine, in which the nodes stand with these sizes
+pub record AreOwned (t : Task) (sizes : TreeSizes) (found : Tables) : Type 0 where
+  pub tables : AreTables t found
+  pub sized : HasSizes sizes found.networks

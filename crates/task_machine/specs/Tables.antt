@@ -1,0 +1,115 @@
+-- What the tables of a search have, and when they are right.
+use Rattle.std.specs.Prelude.{◌≡◌, ℕ, ◌<◌, ◌&&◌, not, List, length, map, get_or, All, Option, Some, None, IsSome, slice_get}
+use Rattle.std.specs.Option.{option_map}
+use Rattle.htn_model.specs.Atom.{Atom}
+use Rattle.htn_model.specs.Choice.{child_of}
+use Rattle.htn_model.specs.Grounding as ground
+use Rattle.htn_model.specs.Grounding.{problem_of}
+use Rattle.htn_model.specs.Literal.{Literal, Action as ModelAction}
+use Rattle.htn_model.specs.Problem.{Child, GroundTask, precondition, action, task, perform}
+use Rattle.htn_model.specs.State.{State, contains}
+use Rattle.htn_model.specs.Task.{Task}
+use Rattle.state_table.specs.Compiled.{AreCompiled, IsCompiled}
+use Rattle.state_table.specs.Numberings.{IsExtension, IsNumbering}
+use Rattle.state_table.specs.Table.{Table, IsLater, IsSetOf, IsTable, is_changed, is_fluent}
+use Rattle.network_table.specs.Expansions.{first_free, IsSound}
+use Rattle.network_table.specs.Networks.{children, expansion_at, IsGrown, IsWhole, network_at}
+use Rattle.network_table.specs.Numbered.{Numbered}
+use Rattle.network_table.specs.declared.expansion.Expansion.{Expansion}
+use Rattle.network_table.specs.declared.expansion.Expansion.TheVariants.{Decomposed, Performed}
+use Rattle.network_table.specs.declared.table.NetworkTable.{NetworkTable}
+use Rattle.task_machine.specs.Growing.{StandFor}
+use Rattle.task_machine.specs.Steps.{live_networks}
+use Rattle.task_machine.specs.declared.performer.Performer.{Performer}
+use Rattle.task_machine.specs.declared.performer.Performer.TheVariants.{Step, Action as Acts, Never}
+use Rattle.task_machine.specs.declared.tables.Tables.{Tables}
+
+-- what stands at a number, where there is something
+abbrev pub slot : {A : Type 0} → List (Option A) → ℕ → Option A
+slot slots n = get_or slots n None
+
+-- ## Nodes
+
+-- this tells when the node can be performed, and what the state is then, by this table and later ones
+abbrev pub IsPerformer : Task → Table → Child → Performer → Type 0
+IsPerformer t atoms child (Step literals) =
+    (model : List Literal) × (child ≡ precondition model) × AreCompiled atoms literals model
+IsPerformer t atoms child (Acts compiled) =
+    (g : GroundTask) × (model : ModelAction) × (child ≡ action g) × ((problem_of t).action_of g ≡ Some model) × IsCompiled atoms compiled model
+IsPerformer t atoms child Never = (state : State) → perform (problem_of t) state child ≡ None
+
+-- each one that is there is its node's
+abbrev pub ArePerformers : Task → Table → NetworkTable → List (Option Performer) → Type 0
+ArePerformers t atoms networks performers =
+    (n : ℕ) (p : Performer) → slot performers n ≡ Some p
+    → (n < length (children networks)) × IsPerformer t atoms (child_of (children networks) n) p
+
+-- each node that can go has its own
+abbrev pub HasPerformers : List (Option Performer) → Expansion → Type 0
+HasPerformers performers (Decomposed position successors) = Unit {0}
+HasPerformers performers (Performed removals) = All (λ r. IsSome (slot performers r.node)) removals.items
+
+-- the nodes that can go have numbers
+abbrev pub IsKnownExpansion : NetworkTable → Expansion → Type 0
+IsKnownExpansion networks (Decomposed position successors) = Unit {0}
+IsKnownExpansion networks (Performed removals) = All (λ r. r.node < length (children networks)) removals.items
+
+-- ## Instances
+
+-- those that are there are their compound task's
+abbrev pub AreListings : Task → NetworkTable → (ℕ → Option (List Numbered)) → Type 0
+AreListings t networks instances =
+    (n : ℕ) (found : List Numbered) → instances n ≡ Some found
+    → (n < length (children networks))
+    × ((g : GroundTask) → child_of (children networks) n ≡ task g → StandFor networks found (live_networks t g))
+
+-- the numbered networks of a compound task's instances, by the number of its node
+abbrev pub instances_at : Tables → ℕ → Option (List Numbered)
+instances_at t n = option_map (λ v. v.items) (slot t.instances.items n)
+
+-- the node of this number is a network's first free compound task
+pub record IsFirstTask (networks : NetworkTable) (network node : ℕ) : Type 0 where
+  pub position : ℕ
+  pub goal : GroundTask
+  pub first : first_free (network_at networks network) ≡ Some position
+  pub stands : child_of (network_at networks network).children position ≡ task goal
+  pub known : node < length (children networks)
+  pub same : child_of (children networks) node ≡ child_of (network_at networks network).children position
+
+-- ## All of them
+
+-- the atoms are told apart as the task does: those of a predicate that some effect names are fluent, and of the others those that are true at first are static
+pub record AreAtoms (t : Task) (atoms : Table) : Type 0 where
+  pub table : IsTable atoms
+  pub fluents : (predicate : ℕ) → is_changed atoms.fluents predicate ≡ ground.is_changed t predicate
+  pub statics : (a : Atom) → contains atoms.statics a ≡ (contains t.initial_atoms a && not (is_fluent atoms a))
+
+-- the tables of a task's machine
+pub record AreTables (t : Task) (tables : Tables) : Type 0 where
+  pub atoms : AreAtoms t tables.atoms
+  pub numbering : IsNumbering tables.states
+  pub sets : (i : ℕ) (words : List ℕ) → slice_get tables.states i ≡ Some words → IsSetOf tables.atoms words
+  pub networks : IsWhole tables.networks
+  pub sound : IsSound (live_networks t) tables.networks
+  pub goal : AreCompiled tables.atoms tables.goal (problem_of t).goal
+  pub performers : ArePerformers t tables.atoms tables.networks tables.performers.items
+  pub performed : (n : ℕ) (e : Expansion) → expansion_at tables.networks n ≡ Some e → HasPerformers tables.performers.items e
+  pub instances : AreListings t tables.networks (instances_at tables)
+
+-- the same, but that what becomes of one network is known, and the nodes that go from it may have no performers
+pub record AreExpanded (t : Task) (tables : Tables) (network : ℕ) : Type 0 where
+  pub atoms : AreAtoms t tables.atoms
+  pub numbering : IsNumbering tables.states
+  pub sets : (i : ℕ) (words : List ℕ) → slice_get tables.states i ≡ Some words → IsSetOf tables.atoms words
+  pub networks : IsWhole tables.networks
+  pub sound : IsSound (live_networks t) tables.networks
+  pub goal : AreCompiled tables.atoms tables.goal (problem_of t).goal
+  pub performers : ArePerformers t tables.atoms tables.networks tables.performers.items
+  pub performed : (n : ℕ) (e : Expansion) → (n ≡ network → ⊥) → expansion_at tables.networks n ≡ Some e → HasPerformers tables.performers.items e
+  pub instances : AreListings t tables.networks (instances_at tables)
+
+-- the tables with more in them
+pub record AreLater (old new : Tables) : Type 0 where
+  pub atoms : IsLater old.atoms new.atoms
+  pub states : IsExtension old.states new.states
+  pub networks : IsGrown old.networks new.networks

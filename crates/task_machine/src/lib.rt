@@ -1,0 +1,17 @@
+//! The word machine of a planning task over numbered states and networks.
+#![tactic(auto)]
+
+mod configuration;
+mod expand;
+mod fluents;
+mod instances;
+mod machine;
+mod performer;
+mod prepare;
+mod slots;
+mod tables;
+
+pub use configuration::{Configuration, Reached};
+pub use machine::TaskMachine;
+pub use performer::Performer;
+pub use tables::Tables;

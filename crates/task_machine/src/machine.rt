@@ -1,0 +1,152 @@
+//! The word machine of a planning task, by numbers.
+ghost use Rattle.std.specs.Prelude.{◌≡◌, IfOk};
+ghost use Rattle.htn_model.specs.Grounding.{problem_of};
+ghost use Rattle.htn_model.specs.Problem.{IsGrounded};
+ghost use Rattle.htn_net.specs.Grounded.{grounded-prop};
+ghost use Rattle.task_machine.specs.Bounds.{measure-prop};
+ghost use Rattle.tree_sizes.specs.Measure.{IsLowerMeasure};
+ghost use Rattle.tree_sizes.specs.Sizes.{size_of};
+
+use crate::configuration::{Configuration, Reached};
+use crate::tables::Tables;
+use htn_task::Task;
+use std::alloc::{AllocError, Global};
+use tree_sizes::TreeSizes;
+use word_machine::{Machine, Successor};
+
+/// How much is listed at most to find sizes: ground tasks, their instances, and the nodes of these.
+const MOST_LISTED: u64 = 100_000;
+
+/// The word machine of a task as a search takes it: from a configuration a rank leads to the next
+/// one. Of instances with equal networks only the first is listed, and so no number is counted.
+/// By the sizes of open nodes it bounds how many steps are left.
+#[derive(Drop)]
+pub struct TaskMachine<'a> {
+    pub task: &'a Task,
+    pub(crate) alloc: Global,
+    sizes: TreeSizes,
+    ghost grounded: { IsGrounded (problem_of task.now) } by { grounded-prop (problem_of task.now) },
+    ghost measured: { IsLowerMeasure (problem_of task.now) (size_of sizes) } by { measure-prop (problem_of task.now) (size_of sizes) },
+}
+
+impl<'a> TaskMachine<'a> {
+    /// The word machine of a task.
+    pub fn new(alloc: Global, task: &'a Task) -> Result<TaskMachine<'a>, AllocError>
+        ensures { IfOk result (λ m. m.task.now ≡ task.now) }
+    {
+        let _initial = task.initial_atoms();
+        let sizes = TreeSizes::of(alloc, task, MOST_LISTED)?;
+        Ok(TaskMachine { task, alloc, sizes })
+    }
+}
+
+impl<'a> Machine for TaskMachine<'a> {
+    ghost use Rattle.std.specs.Prelude.{IsSome};
+    ghost use Rattle.std.proofs.Common.{rules};
+    ghost use Rattle.htn_model.specs.Grounding.{problem_of};
+    ghost use Rattle.htn_model.specs.Machine.{Config};
+    ghost use Rattle.htn_answer.specs.Machine.{IsOwn};
+    ghost use Rattle.htn_net.specs.Laws.{listing_lawful};
+    ghost use Rattle.htn_net.specs.Listed.{listing_machine};
+    ghost use Rattle.network_table.specs.Networks.{expansion_at};
+    ghost use Rattle.task_machine.specs.Bounds.{bounded, most_steps};
+    ghost use Rattle.task_machine.specs.Laws.{one_to_one};
+    ghost use Rattle.task_machine.specs.Meaning.{meaning};
+    ghost use Rattle.task_machine.specs.Sized.{AreOwned};
+    ghost use Rattle.tree_sizes.specs.Measure.{lower_bound};
+    ghost use Rattle.tree_sizes.specs.Sizes.{size_of};
+
+    type Configuration = Configuration;
+
+    type Reached = Reached;
+
+    type Tables = Tables;
+
+    ghost Point = { Config };
+
+    ghost words = { λ m. listing_machine m.task.now };
+
+    ghost belongs = { λ m c. IsOwn (problem_of m.task.now) c };
+
+    ghost estimate = { λ m c. lower_bound (problem_of m.task.now) (size_of m.sizes) most_steps c };
+
+    ghost meaning = { λ m t. meaning t };
+
+    ghost owns = { λ m t. AreOwned m.task.now m.sizes t };
+
+    ghost is_ready = { λ m t c. IsSome (expansion_at t.networks c.network) };
+
+    ghost same = { λ c d e. Prim.search rules };
+
+    ghost one_to_one = { λ m t own. one_to_one m.task.now t own.tables };
+
+    ghost lawful = { λ m. listing_lawful m.task.now m.grounded };
+
+    ghost bounded = { λ m. bounded m.task.now m.grounded (size_of m.sizes) m.measured };
+
+    fn new_tables(&self) -> Result<Tables, AllocError> {
+        Tables::new(self.alloc, self.task)
+    }
+
+    fn initials(&self, tables: &mut Tables) -> Result<Vec<Configuration>, AllocError> {
+        tables.initials(self.alloc, self.task, &self.sizes)
+    }
+
+    fn prepare(&self, tables: &mut Tables, at: Configuration) -> Result<(), AllocError> {
+        tables.prepare(self.alloc, self.task, &self.sizes, at.network)
+    }
+
+    fn expand(
+        &self,
+        tables: &Tables,
+        rank: usize,
+        from: Configuration,
+        successors: &mut Vec<Successor<Reached>>,
+    ) -> Result<Option<u64>, AllocError> {
+        self.add_successors(tables, rank, from, successors)
+    }
+
+    fn keep(&self, tables: &mut Tables, reached: Reached) -> Result<Configuration, AllocError> {
+        match reached {
+            Reached::Known(known) => Ok(known),
+            Reached::New(state, network) => {
+                let state = tables.states.keep(state)?;
+                Ok(Configuration { state, network })
+            }
+        }
+    }
+
+    fn find(&self, tables: &Tables, reached: &Reached) -> Option<Configuration> {
+        match reached {
+            Reached::Known(known) => Some(*known),
+            Reached::New(state, network) => {
+                let state = tables.states.number_of(state)?;
+                Some(Configuration {
+                    state,
+                    network: *network,
+                })
+            }
+        }
+    }
+
+    fn is_done(&self, tables: &Tables, at: Configuration) -> bool {
+        let states = tables.states.states();
+        tables.is_finished(&states[at.state as usize], at.network)
+    }
+
+    fn open_len(&self, tables: &Tables, at: Configuration) -> u64 {
+        tables.networks.open_len(at.network)
+    }
+
+    fn lower_bound(&self, tables: &Tables, at: Configuration) -> u64 {
+        tables.lower_bound(at.network)
+    }
+
+    fn open_len_of(&self, tables: &Tables, reached: &Reached) -> u64 {
+        tables.networks.open_len(reached.network())
+    }
+
+    fn lower_bound_of(&self, tables: &Tables, reached: &Reached) -> u64 {
+        tables.lower_bound(reached.network())
+    }
+}

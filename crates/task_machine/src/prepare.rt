@@ -1,0 +1,151 @@
+//! What the steps at a configuration need.
+ghost use Rattle.std.specs.Prelude.{◌≡◌, ◌<◌, ℕ, [], All, IfOk, IfNone, IfSome, IsSome, None, OnOk, Some, length, map, unwrap_or};
+ghost use Rattle.std.specs.Option.{option_map};
+ghost use Rattle.network_table.specs.Expansions.{first_free};
+ghost use Rattle.network_table.specs.Networks.{children, expansion_at, IsWhole, Knows, network_at};
+ghost use Rattle.htn_net.specs.Listed.{listing_machine};
+ghost use Rattle.task_machine.specs.Sized.{HasSizes};
+ghost use Rattle.task_machine.specs.Meaning.{knows, point};
+ghost use Rattle.task_machine.specs.Tables.{AreExpanded, AreLater, AreTables, instances_at, IsFirstTask, slot};
+
+use crate::configuration::Configuration;
+use crate::instances::{configurations_of, instances_of, number_networks};
+use crate::performer::prepare_performers;
+use crate::slots::{is_taken, put};
+use crate::tables::Tables;
+use htn_ground::distinct_initials;
+use htn_task::Task;
+use network_table::{Network, NetworkTable};
+use state_table::initial_state;
+use std::alloc::{AllocError, Global};
+use tree_sizes::TreeSizes;
+
+/// The number of a network's first free compound task.
+fn first_task(networks: &NetworkTable, network: u32) -> Option<u32>
+    requires whole { IsWhole networks.now }
+    requires known { Knows networks.now network }
+    ensures some { IfSome result (IsFirstTask networks.now network) }
+    ensures none { IfNone result (first_free (network_at networks.now network) ≡ None) }
+{
+    let (position, _) = networks.first_free_task(network)?;
+    let nodes = networks.network(network).nodes();
+    Some(nodes[position])
+}
+
+/// The instances that stand at a number; none where nothing does.
+fn listed(instances: &[Option<Vec<Network>>], node: u32) -> &[Network]
+    ensures { result.now ≡ unwrap_or (option_map (λ v. v.items) (slot instances.now node)) [] }
+{
+    match instances.get(node as usize) {
+        Some(Some(found)) => found.as_slice(),
+        _ => &[],
+    }
+}
+
+impl Tables {
+    /// Numbers the configurations at the start, in the order of the instances of the initial network.
+    pub(crate) fn initials(
+        &mut self,
+        alloc: Global,
+        task: &Task,
+        sizes: &TreeSizes,
+    ) -> Result<Vec<Configuration>, AllocError>
+        requires own { AreTables task.now self.old }
+        requires sized { HasSizes sizes.now self.old.networks }
+        ensures owned { OnOk result (AreTables task.now self.new) }
+        ensures sized { OnOk result (HasSizes sizes.now self.new.networks) }
+        ensures later { OnOk result (AreLater self.old self.new) }
+        ensures known { IfOk result (λ v. All (knows self.new) v.items) }
+        ensures points { IfOk result (λ v. map (point self.new) v.items ≡ (listing_machine task.now).initials) }
+    {
+        let initial = task.initial_atoms();
+        let state = initial_state(alloc, &mut self.atoms, initial)?;
+        let number = self.states.keep(state)?;
+        let instances = distinct_initials(alloc, task)?;
+        let initials = configurations_of(alloc, &mut self.networks, sizes, number, &instances)?;
+        Ok(initials)
+    }
+
+    /// Sees that the instances of a compound task are listed, by the number of its node.
+    fn prepare_instances(
+        &mut self,
+        alloc: Global,
+        task: &Task,
+        sizes: &TreeSizes,
+        node: u32,
+    ) -> Result<(), AllocError>
+        requires own { AreTables task.now self.old }
+        requires sized { HasSizes sizes.now self.old.networks }
+        requires known { node < length (children self.old.networks) }
+        ensures owned { OnOk result (AreTables task.now self.new) }
+        ensures sized { OnOk result (HasSizes sizes.now self.new.networks) }
+        ensures later { OnOk result (AreLater self.old self.new) }
+        ensures remembered { OnOk result ((n : ℕ) → expansion_at self.new.networks n ≡ expansion_at self.old.networks n) }
+        ensures there { OnOk result (IsSome (instances_at self.new node)) }
+    {
+        if is_taken(&self.instances, node) {
+            return Ok(());
+        }
+        let found = instances_of(alloc, task, self.networks.child(node))?;
+        let numbered = number_networks(alloc, &mut self.networks, sizes, &found)?;
+        put(&mut self.instances, node, numbered)?;
+        Ok(())
+    }
+
+    /// Finds what becomes of the network of a number, of which that is not known.
+    fn expand(
+        &mut self,
+        alloc: Global,
+        task: &Task,
+        sizes: &TreeSizes,
+        network: u32,
+    ) -> Result<(), AllocError>
+        requires own { AreTables task.now self.old }
+        requires sized { HasSizes sizes.now self.old.networks }
+        requires known { Knows self.old.networks network }
+        ensures expanded { OnOk result (AreExpanded task.now self.new network) }
+        ensures sized { OnOk result (HasSizes sizes.now self.new.networks) }
+        ensures later { OnOk result (AreLater self.old self.new) }
+        ensures ready { OnOk result (IsSome (expansion_at self.new.networks network)) }
+    {
+        let Some(node) = first_task(&self.networks, network) else {
+            self.networks.expand(alloc, network, &[])?;
+            return Ok(());
+        };
+        self.prepare_instances(alloc, task, sizes, node)?;
+        let instances = listed(&self.instances, node);
+        self.networks.expand(alloc, network, instances)?;
+        Ok(())
+    }
+
+    /// Sees that it is known what becomes of the network of a number, and what the nodes do that go.
+    pub(crate) fn prepare(
+        &mut self,
+        alloc: Global,
+        task: &Task,
+        sizes: &TreeSizes,
+        network: u32,
+    ) -> Result<(), AllocError>
+        requires own { AreTables task.now self.old }
+        requires sized { HasSizes sizes.now self.old.networks }
+        requires known { Knows self.old.networks network }
+        ensures owned { OnOk result (AreTables task.now self.new) }
+        ensures sized { OnOk result (HasSizes sizes.now self.new.networks) }
+        ensures later { OnOk result (AreLater self.old self.new) }
+        ensures ready { OnOk result (IsSome (expansion_at self.new.networks network)) }
+    {
+        if self.networks.expansion(network).is_some() {
+            return Ok(());
+        }
+        self.expand(alloc, task, sizes, network)?;
+        prepare_performers(
+            alloc,
+            task,
+            &mut self.atoms,
+            &self.networks,
+            &mut self.performers,
+            network,
+        )?;
+        Ok(())
+    }
+}

@@ -1,0 +1,83 @@
+//! What a search has numbered.
+ghost use Rattle.std.specs.Prelude.{◌≡◌, IfOk};
+ghost use Rattle.htn_model.specs.Grounding.{problem_of};
+ghost use Rattle.htn_model.specs.Levels.{is_done};
+ghost use Rattle.htn_model.specs.Task as model;
+ghost use Rattle.htn_model.specs.State.{State};
+ghost use Rattle.network_table.specs.Networks.{IsWhole, Knows, network_at};
+ghost use Rattle.network_table.specs.Numbered.{config_at};
+ghost use Rattle.task_machine.specs.Bounds.{most_steps};
+ghost use Rattle.task_machine.specs.Sized.{HasSizes};
+ghost use Rattle.task_machine.specs.Meaning.{config_in};
+ghost use Rattle.task_machine.specs.Tables.{AreTables};
+ghost use Rattle.tree_sizes.specs.Measure.{estimate};
+ghost use Rattle.tree_sizes.specs.Sizes.{size_of};
+ghost use Rattle.tree_sizes.specs.declared.tree_sizes.TreeSizes.{TreeSizes};
+
+use crate::fluents::fluent_predicates;
+use crate::performer::Performer;
+use htn_ground::goal_literals;
+use htn_task::Task;
+use network_table::{Network, NetworkTable};
+use state_table::{AtomTable, BitState, CompiledLiterals, StateTable};
+use std::alloc::{AllocError, Global};
+
+/// The most steps that a plan may have, and as far as a bound on them goes.
+const MOST_STEPS: u64 = 10_000;
+
+/// The atoms, states and task networks that a search has met, by number, and what it keeps about them.
+#[derive(Drop)]
+pub struct Tables {
+    pub(crate) atoms: AtomTable,
+    pub(crate) states: StateTable,
+    pub(crate) networks: NetworkTable,
+    pub(crate) goal: CompiledLiterals,
+    /// By the number of a step's or an action's node, once it was free.
+    pub(crate) performers: Vec<Option<Performer>>,
+    /// By the number of a compound task's node, once it was the first free one: the networks of its
+    /// instances that are listed.
+    pub(crate) instances: Vec<Option<Vec<Network>>>,
+}
+
+impl Tables {
+    /// The tables of a task, of which nothing has a number yet but the fluent atoms of the goal.
+    pub(crate) fn new(alloc: Global, task: &Task) -> Result<Tables, AllocError>
+        ensures own { IfOk result (AreTables task.now) }
+        ensures sized { IfOk result (λ t. (sizes : TreeSizes) → HasSizes sizes t.networks) }
+    {
+        let fluents = fluent_predicates(alloc, task)?;
+        let mut atoms = AtomTable::new(alloc, fluents, task.initial_atoms())?;
+        let literals = goal_literals(alloc, task)?;
+        let goal = CompiledLiterals::of(alloc, &mut atoms, literals.as_slice())?;
+        Ok(Tables {
+            atoms,
+            states: StateTable::new(alloc),
+            networks: NetworkTable::new(alloc),
+            goal,
+            performers: Vec::new(alloc),
+            instances: Vec::new(alloc),
+        })
+    }
+
+    /// Whether a network has no node and the goal holds in a state. It takes no memory.
+    pub(crate) fn is_finished(&self, state: &BitState, network: u32) -> bool
+        requires whole { IsWhole self.now.networks }
+        requires known { Knows self.now.networks network }
+        ensures { (t : model.Task) → AreTables t self.now
+            → result ≡ is_done (problem_of t) (config_in self.now state.now network) }
+    {
+        self.networks.open_len(network) == 0 && self.goal.hold(state)
+    }
+
+    /// How many steps a network takes at least, by the sizes of its nodes: at least one for each.
+    pub(crate) fn lower_bound(&self, network: u32) -> u64
+        requires whole { IsWhole self.now.networks }
+        requires known { Knows self.now.networks network }
+        ensures { (sizes : TreeSizes) (state : State) → HasSizes sizes self.now.networks
+            → result ≡ estimate (size_of sizes) most_steps (config_at state (network_at self.now.networks network)) }
+    {
+        let open_len = self.networks.open_len(network);
+        let bound = self.networks.bound(network);
+        open_len.max(bound.min(MOST_STEPS))
+    }
+}

@@ -1,0 +1,144 @@
+-- The levels of a search whose configurations are numbers.
+use Rattle.std.proofs.Common.{◌≡◌, ℕ, ◌+◌, ◌<◌, ◌≤◌, ◌⊎◌, Bool, true, false, List, [], ◌∷◌, ◌++◌, length, map, sym, ap, subst, ◌∙◌, inl, inr, arith, slice_get, Some, get_or, All}
+use Rattle.std.specs.Prelude.{Vec}
+use Rattle.std.specs.declared.alloc.Global.{Global}
+use Rattle.std.proofs.lemmas.List.{length-map}
+use Rattle.htn_level.specs.declared.order.Expanded.TheVariants.{Whole, Done}
+use Rattle.word_machine.specs.declared.closed.Successor.{Successor}
+use Rattle.word_machine.specs.declared.found.Outcome.{Outcome}
+use Rattle.word_machine.specs.declared.found.Outcome.TheVariants.{Past, Exhausted}
+use Rattle.word_machine.specs.Machine.{WordMachine, IsLawful, IsLiveStep, IsDone}
+use Rattle.word_machine.specs.Meaning.{Meaning, IsGrown, IsOneToOne, successor_at, contents_at}
+use Rattle.word_machine.specs.Contents.{Contents, AreOffered, offer_all, initial_successors, words_of, IsOriginWithin}
+use Rattle.word_machine.specs.Closed.{search_by, IsClosedTo}
+use Rattle.word_machine.specs.Expansion.{IsExpansion, IsFirstDone}
+use Rattle.word_machine.specs.Ranks.{IsOwned, IsExpandedBy}
+use Rattle.word_machine.specs.Words.{step_count}
+use Rattle.word_machine.specs.Answer.{IsOutcome, IsLeastFinishing, NoneFinishes}
+use Rattle.word_machine.proofs.Complete.{CountsOpen}
+use Rattle.word_machine.proofs.Meanings.{slice_get-map, slice_get-map_back, all_of_map, same_points, known_still, all_owned}
+use Rattle.word_machine.proofs.Offering.{offers}
+use Rattle.word_machine.proofs.Levels.{numbered_each, numbered_map, empty}
+use Rattle.word_machine.proofs.Answering.{answer_initial, answer_found, outcome, keys_belong, successors_belong, successors_within}
+use Rattle.word_machine.proofs.Searching.{first_level, later_level}
+
+module _ {C R P : Type 0} (m : WordMachine P) (belongs : P → Type 0) (laws : IsLawful m belongs) (measure : P → ℕ) (bound : ℕ) (counts : CountsOpen (search_by m measure bound)) where
+  -- the closed list in the middle of a search, by what its numbers stand for
+  pub record IsSearched (meaning : Meaning C R P) (contents : Contents C) (level low : ℕ) : Type 0 where
+    pub closed : IsClosedTo (search_by m measure bound) (map meaning.point contents.keys) (words_of contents.origins) contents.cut level low
+    pub known : All meaning.knows contents.keys
+
+  -- tables that grew change nothing
+  pub searched_still : (a b : Meaning C R P) → IsGrown a b → (contents : Contents C) (level low : ℕ) → IsSearched a contents level low → IsSearched b contents level low
+  searched_still a b g contents level low s = record {
+    closed = subst (λ l. IsClosedTo (search_by m measure bound) l (words_of contents.origins) contents.cut level low) (sym (same_points a b g contents.keys s.known)) s.closed;
+    known = known_still a b g contents.keys s.known;
+  }
+
+  module _ (meaning : Meaning C R P) (initials : List C) (known : All meaning.knows initials) (is : map meaning.point initials ≡ m.initials) where
+    -- the initial configurations are the machine's
+    pub initials_owned : All (IsOwned meaning belongs) initials
+    initials_owned = all_owned meaning belongs initials known (subst (All belongs) (sym is) laws.starts)
+
+    -- and so is each with its number
+    start_owned : All (λ (s : Successor C). IsOwned meaning belongs s.configuration) (initial_successors 0 initials)
+    start_owned = numbered_each (λ (s : Successor C). IsOwned meaning belongs s.configuration) (IsOwned meaning belongs) (λ n d own. own) 0 initials initials_owned
+
+    -- the first that is done is an answer
+    pub initial_found : (n : ℕ) → ((c : C) × (slice_get initials n ≡ Some c) × IsDone m (meaning.point c))
+        → ((i : ℕ) (c : C) → i < n → slice_get initials i ≡ Some c → IsDone m (meaning.point c) → ⊥) → IsLeastFinishing m bound (n ∷ [])
+    initial_found n done first =
+        answer_initial m belongs laws measure bound counts n (meaning.point done.0)
+        (ap (λ l. slice_get l n) (sym is) ∙ slice_get-map meaning.point initials n done.0 done.1) done.2
+        (λ j d less at finish. (
+        let back = slice_get-map_back meaning.point initials j d (ap (λ l. slice_get l j) is ∙ at) in
+        first j back.0 less back.1 (subst (IsDone m) (sym back.2) finish)))
+
+    -- the list after they were offered
+    pub started : (eq : C → C → Bool) → ((c d : C) → eq c d ≡ true → c ≡ d) → ((c : C) → eq c c ≡ true) → IsOneToOne meaning
+        → ((i : ℕ) (c : C) → slice_get initials i ≡ Some c → IsDone m (meaning.point c) → ⊥)
+        → (after : Contents C) → after ≡ offer_all eq (λ c. measure (meaning.point c)) bound (record { keys = []; origins = []; cut = record { any = false; past = 18446744073709551615 } }) (initial_successors 0 initials)
+        → IsSearched meaning after 0 0
+    started eq same reflexive one unfinished after after_is =
+        let nothing : Contents C = record { keys = []; origins = []; cut = record { any = false; past = 18446744073709551615 } } in
+        let batch = initial_successors 0 initials in
+        let all = offers eq same reflexive meaning.knows meaning.point one measure bound nothing batch (λ k d inside. absurd (omega arith)) (λ k d inside. (start_owned k d inside).0) in
+        let batch_is : map (successor_at meaning.point) batch ≡ initial_successors 0 m.initials = numbered_map meaning.point 0 initials ∙ ap (initial_successors 0) is in
+        let offered : AreOffered measure bound (empty (search_by m measure bound)) (map (successor_at meaning.point) batch) (contents_at meaning.point after) =
+        subst (λ (n : Contents C). AreOffered measure bound (contents_at meaning.point nothing) (map (successor_at meaning.point) batch) (contents_at meaning.point n)) (sym after_is) all.0 in
+        record {
+          closed = first_level (search_by m measure bound)
+              (λ i d at finish. (
+              let back = slice_get-map_back meaning.point initials i d (ap (λ l. slice_get l i) is ∙ at) in
+              unfinished i back.0 back.1 (subst (IsDone m) (sym back.2) finish)))
+              (contents_at meaning.point after)
+              (subst (λ b. AreOffered measure bound (empty (search_by m measure bound)) b (contents_at meaning.point after)) batch_is offered);
+          known = subst (λ (n : Contents C). All meaning.knows n.keys) (sym after_is) all.1;
+        }
+
+  module _ (meaning : Meaning C R P) (contents : Contents C) (level low : ℕ) (s : IsSearched meaning contents level low) where
+    -- as many points as numbers
+    many : length (map meaning.point contents.keys) ≡ length contents.keys
+    many = length-map contents.keys meaning.point
+
+    -- each configuration of the list is the machine's
+    pub keys_owned : All (IsOwned meaning belongs) contents.keys
+    keys_owned = all_owned meaning belongs contents.keys s.known (keys_belong m belongs laws measure bound counts (contents_at meaning.point contents) level low s.closed)
+
+    -- what is told at the end of the search
+    pub ended : (bound ≤ level) ⊎ (low ≡ length contents.keys) → (told : Outcome)
+        → (contents.cut.any ≡ true → (least : ℕ) × (wide : ℕ) × (told ≡ Past least wide) × (least ≤ bound + contents.cut.past)) → (contents.cut.any ≡ false → told ≡ Exhausted) → IsOutcome m measure bound told
+    ended end told past exhausted_so =
+        outcome m belongs laws measure bound counts (contents_at meaning.point contents) level low s.closed
+        (elim end [ inl over ↦ inl over | inr all ↦ inr (all ∙ sym many) ]) told past exhausted_so
+
+    -- where no word finishes within the bound, something that is left out tells all
+    pub ended_early : contents.cut.any ≡ true → NoneFinishes m bound → IsOutcome m measure bound (Past (bound + 1) (bound + 1))
+    ended_early cut none = (none, s.closed.met cut, λ word finish. (let over : bound < step_count word = none word finish in omega arith))
+
+    -- the first done successor gives the answer
+    pub word_found : (p n : ℕ) → level < bound → IsExpandedBy {C = C} {R = R} m meaning contents.keys low (length contents.keys) (Done p n)
+        → IsLeastFinishing m bound (get_or (words_of contents.origins) p [] ++ n ∷ [])
+    word_found p n short first =
+        answer_found m belongs laws measure bound counts (contents_at meaning.point contents) level low s.closed p n short
+        (subst (λ l. IsFirstDone (IsLiveStep m) (IsDone m) (map meaning.point contents.keys) low l p n) (sym many) first)
+
+    module _ (successors : Vec (Successor R) Global) (expanded : IsExpandedBy m meaning contents.keys low (length contents.keys) (Whole successors)) where
+      -- the expansion of the level, by points
+      expansion : IsExpansion (IsLiveStep m) (IsDone m) (map meaning.point contents.keys) low (length (map meaning.point contents.keys)) (map (successor_at meaning.point_of) successors.items)
+      expansion = subst (λ l. IsExpansion (IsLiveStep m) (IsDone m) (map meaning.point contents.keys) low l (map (successor_at meaning.point_of) successors.items)) (sym many) expanded.1
+
+      -- each point that was reached is the machine's
+      reached_belong : All (λ (t : Successor P). belongs t.configuration) (map (successor_at meaning.point_of) successors.items)
+      reached_belong =
+          successors_belong m belongs laws measure bound counts (contents_at meaning.point contents) level low s.closed (length (map meaning.point contents.keys))
+          (map (successor_at meaning.point_of) successors.items) expansion
+
+      -- and so for what the workers handed back
+      pub successors_own : All (λ (t : Successor R). belongs (meaning.point_of t.configuration)) successors.items
+      successors_own = all_of_map (successor_at meaning.point_of) (λ (t : Successor P). belongs t.configuration) successors.items reached_belong
+
+      -- their parents stand in the list
+      pub reached_within : All (λ (t : Successor R). IsOriginWithin (length contents.keys) t.origin) successors.items
+      reached_within =
+          let each : All (λ (t : Successor P). IsOriginWithin (length (map meaning.point contents.keys)) t.origin) (map (successor_at meaning.point_of) successors.items) =
+          successors_within m belongs laws measure bound counts (contents_at meaning.point contents) level low s.closed (map (successor_at meaning.point_of) successors.items) expansion in
+          all_of_map (successor_at meaning.point_of) (λ (t : Successor P). IsOriginWithin (length contents.keys) t.origin) successors.items
+          (subst (λ n. All (λ (t : Successor P). IsOriginWithin n t.origin) (map (successor_at meaning.point_of) successors.items)) many each)
+
+      -- once they are merged, the next level is closed
+      pub next_searched : (new : Meaning C R P) → IsGrown meaning new → (room : ℕ) → (level + 2) + room ≡ bound + 1
+          → (after : Contents C) → All new.knows after.keys
+          → AreOffered measure room (contents_at new.point contents) (map (successor_at meaning.point_of) successors.items) (contents_at new.point after)
+          → IsSearched new after (level + 1) (length contents.keys)
+      next_searched new g room room_is after known offered =
+          let S = search_by m measure bound in
+          let now = searched_still meaning new g contents level low s in
+          let reached = map (successor_at meaning.point_of) successors.items in
+          let whole : IsExpansion (IsLiveStep m) (IsDone m) (map new.point contents.keys) low (length (map new.point contents.keys)) reached =
+          subst (λ l. IsExpansion (IsLiveStep m) (IsDone m) l low (length l) reached) (sym (same_points meaning new g contents.keys s.known)) expansion in
+          let later = later_level S counts (contents_at new.point contents) level low now.closed reached whole room room_is (contents_at new.point after) offered in
+          record {
+            closed = subst (λ n. IsClosedTo S (map new.point after.keys) (words_of after.origins) after.cut (level + 1) n) (length-map contents.keys new.point) later;
+            known = known;
+          }

@@ -1,0 +1,72 @@
+//! The search with growing bounds.
+ghost use Rattle.std.specs.Prelude.{◌≡◌, ◌<◌, ◌≤◌, All, map, IfOk, IfErr};
+ghost use Rattle.word_machine.specs.Answer.{IsAnswer};
+ghost use Rattle.word_machine.specs.Ranks.{IsOwned};
+ghost use Rattle.word_machine.specs.declared.found.SearchFault.TheVariants.{NoThread};
+
+use crate::bounds::Bounds;
+use crate::found::{Found, Outcome, SearchFault};
+use crate::machine::Machine;
+use crate::measure::{Limits, Measure};
+use crate::search::search;
+use htn_level::Gate;
+use std::alloc::Global;
+use std::sync::Wait;
+use std::thread::Threads;
+
+// The least of the bounds from below on the initial configurations.
+fn least_bound<M: Machine>(machine: &M, tables: &M::Tables, initials: &[M::Configuration]) -> u64
+    requires own { M.owns machine.now tables.now }
+    requires known { All (IsOwned (M.meaning machine.now tables.now) (M.belongs machine.now)) initials.now }
+    ensures { All (λ c. result ≤ M.estimate machine.now ((M.meaning machine.now tables.now).point c)) initials.now }
+{
+    let mut least = u64::MAX;
+    for initial in initials {
+        least = least.min(machine.lower_bound(tables, *initial));
+    }
+    least
+}
+
+/// The answer of `find_word`. It searches by the machine's own bound on the steps that are left, within bounds that
+/// grow from the least of the initial configurations on, each so far that about as many more are looked at. Only where
+/// no word is found so, a search by the open nodes tells whether the bound was met, and ends where it is.
+pub fn find_word_deepening<M: Machine, G: Gate, R: Threads + Wait + Sync>(
+    rt: &R,
+    alloc: Global,
+    machine: &M,
+    bounds: Bounds,
+    gate: &G,
+) -> Result<Found, SearchFault>
+    ensures answer { IfOk result (IsAnswer (M.words machine.now) bounds.nodes) }
+    ensures no_thread { IfErr result (λ e. e ≡ NoThread → 1 < bounds.workers) }
+{
+    let mut tables = machine.new_tables()?;
+    let initials = machine.initials(&mut tables)?;
+    // No word finishes in fewer steps than `least`.
+    let mut least = least_bound(machine, &tables, &initials);
+    let mut nodes = least;
+    while least <= bounds.nodes {
+        let within = bounds.within(nodes.min(bounds.nodes));
+        let limits = Limits {
+            bounds: within,
+            measure: Measure::LowerBound,
+            none_within: false,
+        };
+        let outcome = search(rt, alloc, machine, &mut tables, &initials, limits, gate)?;
+        match outcome {
+            Outcome::Finished(word) => return Ok(Found::Word(word)),
+            Outcome::Exhausted => return Ok(Found::Unsolvable),
+            Outcome::Past { least: past, wide } => {
+                least = past.max(within.nodes + 1);
+                nodes = wide.max(least);
+            }
+        }
+    }
+    let limits = Limits {
+        bounds,
+        measure: Measure::OpenNodes,
+        none_within: true,
+    };
+    let outcome = search(rt, alloc, machine, &mut tables, &initials, limits, gate)?;
+    Ok(outcome.found())
+}

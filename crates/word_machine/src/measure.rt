@@ -1,0 +1,59 @@
+//! What bounds the steps that are left of a configuration.
+ghost use Rattle.std.specs.Prelude.{◌≡◌};
+ghost use Rattle.word_machine.specs.Answer.{measure_of};
+ghost use Rattle.word_machine.specs.Ranks.{IsOwned};
+
+use crate::bounds::Bounds;
+use crate::machine::Machine;
+
+/// What a search takes as the steps that are left at least.
+#[derive(Clone, Copy, Debug)]
+pub enum Measure {
+    /// The number of open nodes.
+    OpenNodes,
+    /// The machine's own bound.
+    LowerBound,
+}
+
+/// How far a search goes, by which measure of what is left, and whether it is known that no word finishes within.
+#[derive(Clone, Copy, Debug)]
+pub struct Limits {
+    pub bounds: Bounds,
+    pub measure: Measure,
+    pub none_within: bool,
+}
+
+/// How many steps are left at least, by this measure.
+pub fn measured<M: Machine>(
+    machine: &M,
+    tables: &M::Tables,
+    measure: Measure,
+    at: M::Configuration,
+) -> u64
+    requires own { M.owns machine.now tables.now }
+    requires owned { IsOwned (M.meaning machine.now tables.now) (M.belongs machine.now) at }
+    ensures { result ≡ measure_of (M.words machine.now) (M.estimate machine.now) measure ((M.meaning machine.now tables.now).point at) }
+{
+    match measure {
+        Measure::OpenNodes => machine.open_len(tables, at),
+        Measure::LowerBound => machine.lower_bound(tables, at),
+    }
+}
+
+/// How many steps are left at least of what a worker reached, by this measure.
+pub fn measured_of<M: Machine>(
+    machine: &M,
+    tables: &M::Tables,
+    measure: Measure,
+    reached: &M::Reached,
+) -> u64
+    requires own { M.owns machine.now tables.now }
+    requires allowed { (M.meaning machine.now tables.now).allows reached.now }
+    requires belongs { M.belongs machine.now ((M.meaning machine.now tables.now).point_of reached.now) }
+    ensures { result ≡ measure_of (M.words machine.now) (M.estimate machine.now) measure ((M.meaning machine.now tables.now).point_of reached.now) }
+{
+    match measure {
+        Measure::OpenNodes => machine.open_len_of(tables, reached),
+        Measure::LowerBound => machine.lower_bound_of(tables, reached),
+    }
+}

@@ -1,0 +1,41 @@
+//! How far past a bound those were that a search left out.
+ghost use Rattle.std.specs.Prelude.{◌≡◌, ℕ, ◌+◌, ◌-◌, ◌^◌, ◌<◌, ◌≤◌, ◌⊎◌, min, take, slice_index, slice_set};
+ghost use Rattle.std.specs.List.{sum};
+ghost use Rattle.word_machine.specs.Contents.{slot_of};
+
+/// How many were left out, by how far past the bound they were: 1, 2 and so on, and at the end all that were 64 or more.
+#[derive(Clone, Copy, Debug)]
+pub struct Overshoots {
+    pub counts: [u32; 64],
+}
+
+impl Overshoots {
+    pub fn new() -> Overshoots
+        ensures { (d : ℕ) → sum (take d result.counts) ≡ 0 }
+    {
+        Overshoots { counts: [0; 64] }
+    }
+
+    /// Counts one more, past the bound by so much.
+    pub fn add(&mut self, past: u64)
+        ensures { self.new.counts ≡ slice_set self.old.counts (slot_of past) (min (slice_index self.old.counts (slot_of past) + 1) (2 ^ 32 - 1)) }
+    {
+        let slot = past.saturating_sub(1).min(63) as usize;
+        self.counts[slot] = self.counts[slot].saturating_add(1);
+    }
+
+    /// How far past the bound at least so many were, or all that were counted.
+    pub fn reach(&self, wanted: u64) -> u64
+        ensures enough { (wanted ≤ sum (take result self.now.counts)) ⊎ (result ≡ 64) }
+        ensures least { (d : ℕ) → d < result → sum (take d self.now.counts) < wanted }
+    {
+        let mut total: u64 = 0;
+        for distance in 0..64_u64 {
+            if total >= wanted {
+                return distance;
+            }
+            total += u64::from(self.counts[distance as usize]);
+        }
+        64
+    }
+}
