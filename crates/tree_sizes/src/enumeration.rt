@@ -7,9 +7,12 @@ ghost use Rattle.tree_sizes.specs.Enumerated.{IsCovered, IsEnumeration, IsMore};
 use crate::barred::Actions;
 use crate::parts::{Parts, compound_of, number_for, parts_of};
 use htn_ground::{Child, GroundTask, Instance, distinct_initials, distinct_live_methods_of};
-use htn_task::Task;
+use htn_task::{MethodSchema, Task, Term};
 use indexmap::IndexSet;
 use std::alloc::{AllocError, Global};
+
+/// How many combinations of objects a method may leave open at most, for the instances of its task to be listed.
+const MOST_COMBINATIONS: u64 = 1_000_000;
 
 /// Ground tasks by number, those that were expanded first, and the instances of these, apart from those with an
 /// action that is never carried out.
@@ -32,6 +35,42 @@ fn initial_tasks(alloc: Global, task: &Task) -> Result<IndexSet<GroundTask>, All
         }
     }
     Ok(tasks)
+}
+
+/// Whether the parameter at a place is among the arguments of a method's task.
+fn is_given(method: &MethodSchema, place: usize) -> bool {
+    for argument in method.task().arguments() {
+        if let Term::Parameter(given) = argument {
+            if *given as usize == place {
+                return true;
+            }
+        }
+    }
+    false
+}
+
+/// How many combinations of objects there are for the parameters of a method that its task doesn't give, as far as 64
+/// bits hold the count.
+fn combinations_of(task: &Task, method: &MethodSchema) -> u64 {
+    let mut count = 1u64;
+    for (place, type_number) in method.parameters().iter().enumerate() {
+        if !is_given(method, place) {
+            count = count.saturating_mul(task.objects_of(*type_number).len() as u64);
+        }
+    }
+    count
+}
+
+/// Whether the instances of a ground task may be listed: none of its methods leaves too many combinations open.
+fn may_be_listed(task: &Task, goal: &GroundTask) -> bool {
+    for method in task.methods() {
+        if method.task().name() == goal.name()
+            && combinations_of(task, method) > MOST_COMBINATIONS
+        {
+            return false;
+        }
+    }
+    true
 }
 
 /// How much is kept of a task with these instances: one for the task, one for each instance, and one for each
@@ -101,13 +140,16 @@ impl Enumeration {
 }
 
 /// The ground tasks that the initial network reaches, in the order in which they are found, with the instances
-/// that are listed for them, until these would cost more than the limit.
+/// that are listed for them, until these would cost more than the limit or a task may have too many.
 pub(crate) fn enumerate(alloc: Global, task: &Task, limit: u64) -> Result<Enumeration, AllocError>
     ensures { IfOk result (λ e. IsEnumeration task.now e) }
 {
     let mut found = Enumeration::new(alloc, task)?;
     let mut left = limit;
     while let Some(goal) = found.tasks.get_index(found.expanded) {
+        if !may_be_listed(task, goal) {
+            break;
+        }
         let listed = distinct_live_methods_of(alloc, task, goal)?;
         let cost = cost_of(&listed);
         let Ok(number) = u32::try_from(found.expanded) else {
