@@ -170,14 +170,14 @@ module _ {C : Type 0} (m : WordMachine C) (belongs : C → Type 0) (laws : IsLaw
 
       -- what is told where nothing is left to expand
       pub outcome : (bound ≤ level) ⊎ (low ≡ length contents.keys) → (told : Outcome)
-          → (contents.cut.any ≡ true → (least : ℕ) × (wide : ℕ) × (told ≡ Past least wide) × (least ≤ bound + contents.cut.past)) → (contents.cut.any ≡ false → told ≡ Exhausted) → IsOutcome m measure bound told
+          → (contents.cut.any ≡ true → (least : ℕ) × (wide : ℕ) × (kept : ℕ) × (told ≡ Past least wide kept) × (least ≤ bound + contents.cut.past)) → (contents.cut.any ≡ false → told ≡ Exhausted) → IsOutcome m measure bound told
       outcome end told past exhausted_so = by contents.cut.any refl
         where
           by : (cut : Bool) → contents.cut.any ≡ cut → IsOutcome m measure bound told
           by true cut =
               let p = past cut in
               let none = answer_none end cut in
-              subst (IsOutcome m measure bound) (sym p.2) (none.0, none.1, none_before_next end p.0 p.3)
+              subst (IsOutcome m measure bound) (sym p.3) (none.0, none.1, none_before_next end p.0 p.4)
           by false cut = subst (IsOutcome m measure bound) (sym (exhausted_so cut)) (answer_unsolvable end cut)
 
       -- each configuration of the list is one of the machine's
@@ -229,7 +229,7 @@ module _ {C : Type 0} (m : WordMachine C) (lower : C → ℕ) (is_lower : IsLowe
 -- an outcome by the open nodes is an answer
 pub answer_of : {C : Type 0} (m : WordMachine C) (bound : ℕ) (told : Outcome) → IsOutcome m m.open_len bound told → IsAnswer m bound (found_of told)
 answer_of m bound (Finished word) is = is
-answer_of m bound (Past least wide) is = (is.0, is.1)
+answer_of m bound (Past least wide kept) is = (is.0, is.1)
 answer_of m bound Exhausted is = is
 
 -- no word finishes with fewer steps than are left at least at each initial configuration
