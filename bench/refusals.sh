@@ -9,7 +9,7 @@
 set -eu
 root=$(cd "$(dirname "$0")/.." && pwd)
 if [ "$#" -eq 0 ]; then
-    set -- htn_command htn_run acceptance task_tests search_tests plan_forest hddl_check
+    set -- text_tests search_tests task_tests acceptance
 fi
 numbers=${NUMBERS:-$(seq 1 50) 64 128 256 512 1024 2048 4096 8192 16384 32768 65536}
 

@@ -16,6 +16,8 @@ mod process;
 #[cfg(test)]
 mod refusals;
 #[cfg(test)]
+mod verdicts;
+#[cfg(test)]
 mod words;
 #[cfg(test)]
 mod writers;

@@ -8,8 +8,6 @@ mod objects;
 mod pair;
 mod schemas;
 mod shape;
-#[cfg(test)]
-mod tests;
 
 pub use hddl_meaning::{At, CheckFault, Source};
 pub use hddl_tree::{DomainText, ProblemText};

@@ -3,8 +3,6 @@
 #![tactic(auto)]
 
 mod fault;
-#[cfg(test)]
-mod tests;
 
 ghost use Rattle.hddl_meaning.specs.Agreement.{TasksAreUnique, TasksAreWellTyped, TasksExist};
 ghost use Rattle.hddl_meaning.specs.Examples.{FaultsHavePlaces, FaultsHaveReasons, PackingIsATask, TreesHaveMeanings};

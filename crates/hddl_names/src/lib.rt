@@ -23,6 +23,3 @@ pub use members::ObjectsByType;
 pub use names::Names;
 pub use text::{fold, fold_into};
 pub use vocabulary::Vocabulary;
-
-#[cfg(test)]
-mod tests;

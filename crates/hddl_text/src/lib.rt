@@ -10,8 +10,6 @@ mod parts;
 mod problem;
 mod sections;
 mod terms;
-#[cfg(test)]
-mod tests;
 mod text;
 mod words;
 

@@ -8,8 +8,6 @@ mod fault;
 mod items;
 mod lexer;
 mod name;
-#[cfg(test)]
-mod tests;
 mod token;
 mod variable;
 

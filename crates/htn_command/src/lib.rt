@@ -4,8 +4,6 @@
 mod laws;
 mod refusal;
 mod request;
-#[cfg(test)]
-mod tests;
 
 pub use laws::{requests_are_unique, worked_lines_hold};
 pub use refusal::Refusal;

@@ -15,6 +15,3 @@ pub use level::expand_level;
 pub use order::{Expanded, expand_in_order};
 pub use work::{Expand, Gate, NoGate};
 pub use worker::Level;
-
-#[cfg(test)]
-mod tests;

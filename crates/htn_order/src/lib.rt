@@ -14,6 +14,3 @@ mod sequence;
 
 pub use closure::{OrderFault, close, close_chain};
 pub use order::Order;
-
-#[cfg(test)]
-mod tests;

@@ -12,8 +12,6 @@ mod reply;
 mod run;
 mod source;
 mod stop;
-#[cfg(test)]
-mod tests;
 mod texts;
 mod verdict;
 mod words;

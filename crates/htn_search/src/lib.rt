@@ -5,8 +5,6 @@ mod answer;
 mod places;
 mod solution;
 mod solve;
-#[cfg(test)]
-mod tests;
 mod trail;
 mod walk;
 

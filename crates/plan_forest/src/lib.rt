@@ -4,8 +4,6 @@
 mod forest;
 mod ids;
 mod laws;
-#[cfg(test)]
-mod tests;
 mod walk;
 
 pub use forest::{Forest, forest_of};

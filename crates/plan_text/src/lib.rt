@@ -12,8 +12,6 @@ mod out;
 mod piece;
 mod plan_file;
 mod reader;
-#[cfg(test)]
-mod tests;
 mod word;
 mod writer;
 

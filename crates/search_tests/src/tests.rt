@@ -79,6 +79,28 @@ fn expect<R: Threads + Wait + Sync + Abort>(
     Ok(())
 }
 
+// Expects this answer by growing bounds, and that pieces go through so often.
+fn expect_calls<R: Threads + Wait + Sync + Abort>(
+    rt: &R,
+    machine: &Counter,
+    nodes: u64,
+    wanted: &str,
+    calls: u64,
+) -> Result<(), Fail> {
+    let alloc: Global = machine.alloc;
+    let gate = CountingGate {
+        calls: AtomicU64::new(0),
+    };
+    let bounds = Bounds::new(nodes, 1, 1).ok_or("in range")?;
+    let found = text(
+        alloc,
+        find_word_deepening(rt, alloc, machine, bounds, &gate)?,
+    )?;
+    assert_eq!(rt; found.as_str(), wanted);
+    assert_eq!(rt; gate.calls.load(Ordering::SeqCst), calls);
+    Ok(())
+}
+
 fn counter(alloc: Global, target: u64, first: Tally, second: Tally) -> Counter {
     Counter {
         target,
@@ -149,6 +171,21 @@ fn each_piece_passes_the_gate_once(rt: HostRuntime) -> Result<(), Fail> {
     assert_eq!(rt; found.as_str(), "unsolvable");
     assert_eq!(rt; gate.calls.load(Ordering::SeqCst), 2);
     Ok(())
+}
+
+// No word has fewer than 3 steps. To double the value is one, and leaves 2: so a dive sees that the bound is met, and
+// no level is searched.
+#[test]
+fn a_dive_tells_none(rt: HostRuntime) -> Result<(), Fail> {
+    let machine = counter(rt.alloc(), 500, tally(2, 249), tally(2, 249));
+    expect_calls(&rt, &machine, 2, "none", 0)
+}
+
+// A dive sees nothing here, as the bound is not met: that it is not takes a search, of one level.
+#[test]
+fn a_search_tells_unsolvable(rt: HostRuntime) -> Result<(), Fail> {
+    let machine = counter(rt.alloc(), 5, tally(1, 0), tally(1, 0));
+    expect_calls(&rt, &machine, 1, "unsolvable", 1)
 }
 
 #[test]

@@ -8,6 +8,8 @@ mod many;
 #[cfg(test)]
 mod names;
 #[cfg(test)]
+mod orders;
+#[cfg(test)]
 mod pairs;
 #[cfg(test)]
 mod plans;

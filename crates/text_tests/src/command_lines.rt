@@ -1,4 +1,4 @@
-use crate::{Refusal, Request, parse};
+use htn_command::{Refusal, Request, parse};
 use std::alloc::{AllocError, Global};
 use std::test::Fail;
 

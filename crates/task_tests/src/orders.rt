@@ -1,4 +1,4 @@
-use super::*;
+use htn_order::{Order, OrderFault, close, close_chain};
 use std::alloc::{AllocError, Global};
 use std::collections::HashSet;
 use std::test::Fail;

@@ -1,4 +1,6 @@
-use crate::{Condition, DomainText, ProblemText, Term, TextFault, lex, read_domain, read_problem};
+use hddl_text::{
+    Condition, DomainText, ProblemText, Term, TextFault, lex, read_domain, read_problem,
+};
 use std::alloc::Global;
 use std::test::Fail;
 

@@ -1,4 +1,4 @@
-use crate::{Sink, run_verify};
+use htn_run::{Sink, run_verify};
 use std::alloc::{AllocError, Global};
 use std::test::Fail;
 

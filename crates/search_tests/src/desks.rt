@@ -1,7 +1,7 @@
 ghost use Rattle.std.specs.Prelude.{◌≡◌, false, true, replicate, IfOk};
 ghost use Rattle.htn_desk.specs.Desk.{new_pass};
 
-use super::*;
+use htn_desk::{Desk, Pass};
 use std::alloc::{AllocError, Global};
 use std::test::*;
 use std::thread::{Threads, join};

@@ -1,4 +1,4 @@
-use crate::{At, CheckFault, Source, check};
+use hddl_check::{At, CheckFault, Source, check};
 use hddl_text::{read_domain, read_problem};
 use std::alloc::Global;
 use std::test::Fail;
@@ -388,6 +388,24 @@ fn deep_quantifiers(rt: HostRuntime) -> Result<(), Fail> {
     assert_eq!(rt;
         fault(rt.alloc(), &none, problem),
         Some(CheckFault::UnknownName(in_domain(406)))
+    );
+    Ok(())
+}
+
+#[test]
+fn faults_are_told(rt: HostRuntime) -> Result<(), Fail> {
+    let first = CheckFault::Duplicate(At {
+        source: Source::Domain,
+        place: 37,
+    });
+    let second = CheckFault::OrderCycle(At {
+        source: Source::Problem,
+        place: 32,
+    });
+    let text = format!(in rt.alloc(); "{first}, {second}, {}", CheckFault::OutOfMemory)?;
+    assert_eq!(rt;
+        text.as_str(),
+        "domain: Duplicate at 37, problem: OrderCycle at 32, OutOfMemory"
     );
     Ok(())
 }

@@ -1,6 +1,6 @@
 ghost use Rattle.std.specs.Prelude.{◌<◌};
 
-use super::*;
+use htn_level::{Expand, Expanded, Gate, Level, LevelFault, NoGate, expand_in_order, expand_level};
 use std::alloc::{AllocError, Global};
 use std::process::Abort;
 use std::sync::Wait;

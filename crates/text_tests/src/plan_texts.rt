@@ -1,4 +1,4 @@
-use crate::{MAX_BYTES, PlanFault, Sink, WriteFault, read_plan, write_plan};
+use plan_text::{MAX_BYTES, PlanFault, Sink, WriteFault, read_plan, write_plan};
 use std::alloc::Global;
 use std::io;
 use std::io::Write;

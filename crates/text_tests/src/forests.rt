@@ -1,4 +1,4 @@
-use crate::{Forest, forest_of};
+use plan_forest::{Forest, forest_of};
 use plan_text::read_plan;
 use std::alloc::Global;
 use std::test::Fail;

@@ -1,4 +1,4 @@
-use crate::{
+use hddl_words::{
     Class, Cursor, Items, Keyword, Kind, Name, Stop, TextFault, Variable, check_brackets, class_of,
     is_same, lex,
 };

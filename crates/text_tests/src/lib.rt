@@ -1,0 +1,17 @@
+//! Tests of words, texts, names, checks, plan texts, forests and command lines.
+#![tactic(auto)]
+
+#[cfg(test)]
+mod checks;
+#[cfg(test)]
+mod command_lines;
+#[cfg(test)]
+mod forests;
+#[cfg(test)]
+mod names;
+#[cfg(test)]
+mod plan_texts;
+#[cfg(test)]
+mod texts;
+#[cfg(test)]
+mod words;
