@@ -14,8 +14,8 @@ use Rattle.word_machine.specs.Expansion.{IsFirstDone, IsExpansion}
 use Rattle.word_machine.specs.declared.measure.Measure.{Measure}
 use Rattle.word_machine.specs.declared.measure.Measure.TheVariants.{OpenNodes, LowerBound}
 use Rattle.word_machine.specs.declared.found.Outcome.{Outcome}
-use Rattle.word_machine.specs.declared.found.Outcome.TheVariants.{Finished, Past, Exhausted}
-use Rattle.word_machine.specs.Answer.{IsAnswer, IsOutcome, found_of, measure_of, IsLeastFinishing, NoneFinishes, NoneFinishesBefore, NeverFinishes}
+use Rattle.word_machine.specs.declared.found.Outcome.TheVariants.{Past, Exhausted}
+use Rattle.word_machine.specs.Answer.{IsOutcome, measure_of, IsLeastFinishing, NoneFinishes, NoneFinishesBefore, NeverFinishes}
 use Rattle.word_machine.proofs.Meanings.{all_at}
 use Rattle.word_machine.proofs.Order.{open_len-leads, IsAtMost-length, step_count-reached}
 use Rattle.word_machine.proofs.Complete.{CountsOpen, found_finishes, found_length, found_least, close_last, none_within, none_before, never, never_met}
@@ -170,14 +170,14 @@ module _ {C : Type 0} (m : WordMachine C) (belongs : C → Type 0) (laws : IsLaw
 
       -- what is told where nothing is left to expand
       pub outcome : (bound ≤ level) ⊎ (low ≡ length contents.keys) → (told : Outcome)
-          → (contents.cut.any ≡ true → (least : ℕ) × (wide : ℕ) × (told ≡ Past least wide) × (least ≤ bound + contents.cut.past)) → (contents.cut.any ≡ false → told ≡ Exhausted) → IsOutcome m measure bound told
+          → (contents.cut.any ≡ true → (least : ℕ) × (wide : ℕ) × (kept : ℕ) × (told ≡ Past least wide kept) × (least ≤ bound + contents.cut.past)) → (contents.cut.any ≡ false → told ≡ Exhausted) → IsOutcome m measure bound told
       outcome end told past exhausted_so = by contents.cut.any refl
         where
           by : (cut : Bool) → contents.cut.any ≡ cut → IsOutcome m measure bound told
           by true cut =
               let p = past cut in
               let none = answer_none end cut in
-              subst (IsOutcome m measure bound) (sym p.2) (none.0, none.1, none_before_next end p.0 p.3)
+              subst (IsOutcome m measure bound) (sym p.3) (none.0, none.1, none_before_next end p.0 p.4)
           by false cut = subst (IsOutcome m measure bound) (sym (exhausted_so cut)) (answer_unsolvable end cut)
 
       -- each configuration of the list is one of the machine's
@@ -203,34 +203,6 @@ module _ {C : Type 0} (m : WordMachine C) (belongs : C → Type 0) (laws : IsLaw
           let e = expanded.each k s (slice_get-get_or successors k d inside) in
           let own : IsOriginWithin (length contents.keys) (Stepped e.0 e.1) = e.4 in
           subst (IsOriginWithin (length contents.keys)) (sym e.6.origin) own)
-
--- what a search by a bound from below tells of the open nodes, and of a bound that is no less
-module _ {C : Type 0} (m : WordMachine C) (lower : C → ℕ) (is_lower : IsLowerBound m lower) (within bound : ℕ) (less : within ≤ bound) where
-  -- what meets the bound by the open nodes meets the smaller one by the bound from below
-  pub met_by_lower : MeetsBound (IsLiveStep m) m.open_len m.initials bound → MeetsBound (IsLiveStep m) lower m.initials within
-  met_by_lower met = (
-    met.0,
-    met.1,
-    met.2,
-    λ other reached. (
-        let over : bound < step_count other + m.open_len met.1 = met.3 other reached in
-        let more : m.open_len met.1 ≤ lower met.1 = is_lower.above_open met.1 in
-        omega arith),
-  )
-
-  -- the least word within the smaller bound is the least within the other
-  pub least_within : (word : List ℕ) → IsLeastFinishing m within word → IsLeastFinishing m bound word
-  least_within word found = record {
-    finishes = found.finishes;
-    within = (let short : step_count word ≤ within = found.within in omega arith);
-    least = found.least;
-  }
-
--- an outcome by the open nodes is an answer
-pub answer_of : {C : Type 0} (m : WordMachine C) (bound : ℕ) (told : Outcome) → IsOutcome m m.open_len bound told → IsAnswer m bound (found_of told)
-answer_of m bound (Finished word) is = is
-answer_of m bound (Past least wide) is = (is.0, is.1)
-answer_of m bound Exhausted is = is
 
 -- no word finishes with fewer steps than are left at least at each initial configuration
 pub none_before_least : {C : Type 0} (m : WordMachine C) (belongs : C → Type 0) (laws : IsLawful m belongs) (lower : C → ℕ) (is_lower : IsLowerBound m lower) (least : ℕ)

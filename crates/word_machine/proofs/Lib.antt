@@ -10,3 +10,4 @@ pub mod ReadingBack
 pub mod Answering
 pub mod Searching
 pub mod Numbered
+pub mod Diving

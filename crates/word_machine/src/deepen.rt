@@ -1,10 +1,11 @@
 //! The search with growing bounds.
 ghost use Rattle.std.specs.Prelude.{◌≡◌, ◌<◌, ◌≤◌, All, map, IfOk, IfErr};
-ghost use Rattle.word_machine.specs.Answer.{IsAnswer};
+ghost use Rattle.word_machine.specs.Answer.{IsAnswer, NoneFinishes};
 ghost use Rattle.word_machine.specs.Ranks.{IsOwned};
 ghost use Rattle.word_machine.specs.declared.found.SearchFault.TheVariants.{NoThread};
 
 use crate::bounds::Bounds;
+use crate::dive::dive;
 use crate::found::{Found, Outcome, SearchFault};
 use crate::machine::Machine;
 use crate::measure::{Limits, Measure};
@@ -27,9 +28,56 @@ fn least_bound<M: Machine>(machine: &M, tables: &M::Tables, initials: &[M::Confi
     least
 }
 
+// How a bound grows, for speed alone: how many the last search kept, and by how much the bound has grown at least.
+#[derive(Drop)]
+struct Growth {
+    kept: u64,
+    step: u64,
+}
+
+impl Growth {
+    // The next bound after a search to this one that kept so many: the wide one, or further by 1, and by 4, 16 and so
+    // on while each search keeps less than half as many more than the one before.
+    fn next(&mut self, bound: u64, wide: u64, kept: u64) -> u64 {
+        let is_slow = kept / 3 < self.kept / 2;
+        self.step = if is_slow {
+            self.step.saturating_mul(4)
+        } else {
+            1
+        };
+        self.kept = kept;
+        wide.max(bound.saturating_add(self.step))
+    }
+}
+
+// The answer where no word finishes within the bound. A search by the open nodes tells whether the bound was met, and
+// ends where it is.
+fn search_open_nodes<M: Machine, G: Gate, R: Threads + Wait + Sync>(
+    rt: &R,
+    alloc: Global,
+    machine: &M,
+    bounds: Bounds,
+    gate: &G,
+) -> Result<Found, SearchFault>
+    requires { NoneFinishes (M.words machine.now) bounds.nodes }
+    ensures answer { IfOk result (IsAnswer (M.words machine.now) bounds.nodes) }
+    ensures no_thread { IfErr result (λ e. e ≡ NoThread → 1 < bounds.workers) }
+{
+    let mut tables = machine.new_tables()?;
+    let initials = machine.initials(&mut tables)?;
+    let limits = Limits {
+        bounds,
+        measure: Measure::OpenNodes,
+        none_within: true,
+    };
+    let outcome = search(rt, alloc, machine, &mut tables, &initials, limits, gate)?;
+    Ok(outcome.found())
+}
+
 /// The answer of `find_word`. It searches by the machine's own bound on the steps that are left, within bounds that
-/// grow from the least of the initial configurations on, each so far that about as many more are looked at. Only where
-/// no word is found so, a search by the open nodes tells whether the bound was met, and ends where it is.
+/// grow from the least of the initial configurations on, each so far that about as many more are looked at, and
+/// further where that turns out to be too few. Only where no word is found so, a dive looks for a configuration that
+/// tells that the bound was met, and where it finds none, a search by the open nodes tells whether it was.
 pub fn find_word_deepening<M: Machine, G: Gate, R: Threads + Wait + Sync>(
     rt: &R,
     alloc: Global,
@@ -42,9 +90,11 @@ pub fn find_word_deepening<M: Machine, G: Gate, R: Threads + Wait + Sync>(
 {
     let mut tables = machine.new_tables()?;
     let initials = machine.initials(&mut tables)?;
+    let first = least_bound(machine, &tables, &initials);
     // No word finishes in fewer steps than `least`.
-    let mut least = least_bound(machine, &tables, &initials);
-    let mut nodes = least;
+    let mut least = first;
+    let mut nodes = first;
+    let mut growth = Growth { kept: 0, step: 1 };
     while least <= bounds.nodes {
         let within = bounds.within(nodes.min(bounds.nodes));
         let limits = Limits {
@@ -56,17 +106,20 @@ pub fn find_word_deepening<M: Machine, G: Gate, R: Threads + Wait + Sync>(
         match outcome {
             Outcome::Finished(word) => return Ok(Found::Word(word)),
             Outcome::Exhausted => return Ok(Found::Unsolvable),
-            Outcome::Past { least: past, wide } => {
+            Outcome::Past {
+                least: past,
+                wide,
+                kept,
+            } => {
                 least = past.max(within.nodes + 1);
-                nodes = wide.max(least);
+                nodes = growth.next(within.nodes, wide, kept).max(least);
             }
         }
     }
-    let limits = Limits {
-        bounds,
-        measure: Measure::OpenNodes,
-        none_within: true,
-    };
-    let outcome = search(rt, alloc, machine, &mut tables, &initials, limits, gate)?;
-    Ok(outcome.found())
+    // The dive lets the tables go. That memory was refused to it tells nothing.
+    let is_met = dive(alloc, machine, tables, &initials, first, bounds.nodes).unwrap_or(false);
+    if is_met {
+        return Ok(Found::None);
+    }
+    search_open_nodes(rt, alloc, machine, bounds, gate)
 }

@@ -4,6 +4,7 @@
 mod bounds;
 mod closed;
 mod deepen;
+mod dive;
 mod expand;
 mod found;
 pub mod machine;

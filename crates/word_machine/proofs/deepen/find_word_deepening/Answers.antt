@@ -3,10 +3,10 @@ use Rattle.word_machine.specs.Machine.{IsLawful, IsLowerBound}
 use Rattle.std.specs.Prelude.{max}
 use Rattle.std.proofs.Math.Nat.{le-max_right}
 use Rattle.word_machine.specs.declared.found.Outcome.TheVariants.{Past}
-use Rattle.word_machine.specs.Answer.{IsAnswer, IsOutcome, NoneFinishesBefore}
+use Rattle.word_machine.specs.Answer.{IsOutcome, NoneFinishesBefore}
 use Rattle.word_machine.specs.Ranks.{IsOwned}
 use Rattle.word_machine.proofs.Meanings.{all_map, all_owned, known_still, same_points}
-use Rattle.word_machine.proofs.Answering.{none_before_least, none_before_more, answer_of}
+use Rattle.word_machine.proofs.Answering.{none_before_least, none_before_more}
 use Rattle.word_machine.proofs.deepen.find_word_deepening.Given as given
 use Rattle.word_machine.proofs.deepen.find_word_deepening.Goals as goal
 
@@ -18,8 +18,8 @@ laws g machine = (g.met.M.Machine g.world.𝓛 g.world.𝓜 g.world.𝓡 ((λ s 
 bounded : (g : given.Over) (machine : g.row.M.Denot) → IsLowerBound (g.M.Machine.words machine) (g.M.Machine.estimate machine)
 bounded g machine = (g.met.M.Machine g.world.𝓛 g.world.𝓜 g.world.𝓡 ((λ s x. x), (λ x. x), (λ x. x), λ x. x)).bounded machine
 
-pub least_bound-least-requires-clause-known : goal.least_bound-least-requires-clause-known
-least_bound-least-requires-clause-known g c = λ _ _.
+pub least_bound-first-requires-clause-known : goal.least_bound-first-requires-clause-known
+least_bound-first-requires-clause-known g c = λ _ _.
     let machine = c.args.machine.now in
     let meaning = g.M.Machine.meaning machine c.initials.new.tables in
     let belongs = g.M.Machine.belongs machine in
@@ -31,11 +31,11 @@ pub loop-least-init : goal.loop-least-init
 loop-least-init g c =
     let machine = c.args.machine.now in
     let meaning = g.M.Machine.meaning machine c.initials.new.tables in
-    let least = c.least_bound-least.result in
+    let least = c.least_bound-first.result in
     let lower = g.M.Machine.estimate machine in
     let listed = c.in_ok-initials.initials.items in
     let each : All (λ (x : g.row.M-Configuration.Denot). least ≤ lower (meaning.point x)) listed =
-    subst (All (λ (x : g.row.M-Configuration.Denot). least ≤ lower (meaning.point x))) c.deref.ensures.value c.least_bound-least.ensures in
+    subst (All (λ (x : g.row.M-Configuration.Denot). least ≤ lower (meaning.point x))) c.deref.ensures.value c.least_bound-first.ensures in
     record {
       own = c.in_ok-initials.ensures.owned;
       known = c.in_ok-initials.ensures.known;
@@ -54,20 +54,25 @@ loop-least-preserved g c =
     let initials = c.in_ok-initials.initials.items in
     let i = c.loop-least.invariant in
     let bound = c.within-within.result.nodes in
-    let told : IsOutcome m (g.M.Machine.estimate machine) bound (Past c.in-Past.past c.in-Past.wide) =
+    let told : IsOutcome m (g.M.Machine.estimate machine) bound (Past c.in-Past.past c.in-Past.wide c.in-Past.kept) =
     subst (IsOutcome m (g.M.Machine.estimate machine) bound) c.in-Past.is c.in_ok-outcome.ensures.outcome in
     let least : max c.in-Past.past (bound + 1) ≡ c.max-least.result = search rules in
-    let nodes : max c.in-Past.wide c.max-least.result ≡ c.max-nodes.result = search rules in
+    let nodes : max c.next.result c.max-least.result ≡ c.max-nodes.result = search rules in
     record {
       own = c.in_ok-outcome.ensures.owned;
       known = known_still old new c.in_ok-outcome.ensures.grown initials i.known;
       none = subst (NoneFinishesBefore m) least (none_before_more m bound c.in-Past.past told.0 told.2);
-      rising = subst (λ n. c.max-least.result ≤ n) nodes (le-max_right c.in-Past.wide c.max-least.result);
+      rising = subst (λ n. c.max-least.result ≤ n) nodes (le-max_right c.next.result c.max-least.result);
       initials = same_points old new c.in_ok-outcome.ensures.grown initials i.known ∙ i.initials;
     }
 
-pub returns-clause-answer : goal.returns-clause-answer
-returns-clause-answer g c =
+pub dive-requires-clause-least : goal.dive-requires-clause-least
+dive-requires-clause-least g c = λ _ _.
     let machine = c.args.machine.now in
-    let m = g.M.Machine.words machine in
-    subst (IsAnswer m c.args.bounds.nodes) (sym c.found.ensures) (answer_of m c.args.bounds.nodes c.in_ok-outcome-2.outcome c.in_ok-outcome-2.ensures.outcome)
+    let meaning = g.M.Machine.meaning machine c.initials.new.tables in
+    let first = c.least_bound-first.result in
+    let lower = g.M.Machine.estimate machine in
+    let listed = c.in_ok-initials.initials.items in
+    let each : All (λ (x : g.row.M-Configuration.Denot). first ≤ lower (meaning.point x)) listed =
+    subst (All (λ (x : g.row.M-Configuration.Denot). first ≤ lower (meaning.point x))) c.deref.ensures.value c.least_bound-first.ensures in
+    subst (All (λ p. first ≤ lower p)) c.in_ok-initials.ensures.initials (all_map meaning.point (λ p. first ≤ lower p) listed each)

@@ -1,0 +1,10 @@
+use Rattle.std.proofs.Common.{All}
+use Rattle.word_machine.specs.Dive.{IsVisited}
+use Rattle.word_machine.proofs.dive.dive.Given as goal
+
+-- each that was kept is visited
+abbrev pub invariant-loop-turn : goal.invariant-loop-turn
+invariant-loop-turn g l = record {
+  own : g.M.Machine.owns l.machine l.tables;
+  kept : All (IsVisited (g.M.Machine.words l.machine) (g.M.Machine.belongs l.machine) (g.M.Machine.meaning l.machine l.tables)) l.frontier.kept.keys;
+}

@@ -1,0 +1,48 @@
+use Rattle.std.proofs.Common.{◌≡◌, ◌++◌, ap, ◌∙◌, sym, subst, All}
+use Rattle.std.proofs.lemmas.Option.{MatchOption-at_none}
+use Rattle.word_machine.specs.declared.closed.Successor.{Successor}
+use Rattle.word_machine.specs.Machine.{IsLawful}
+use Rattle.word_machine.specs.Dive.{IsReached}
+use Rattle.word_machine.proofs.Diving.{all_visited_still, successors_reached, visited_still}
+use Rattle.word_machine.proofs.dive.expand.Given as given
+use Rattle.word_machine.proofs.dive.expand.Goals as goal
+
+-- the machine's laws
+laws : (g : given.Over) (machine : g.row.M.Denot) → IsLawful (g.M.Machine.words machine) (g.M.Machine.belongs machine)
+laws g machine = (g.met.M.Machine g.world.𝓛 g.world.𝓜 g.world.𝓡 ((λ s x. x), (λ x. x), (λ x. x), λ x. x)).lawful machine
+
+pub keep_all-requires-clause-kept : goal.keep_all-requires-clause-kept
+keep_all-requires-clause-kept g c = λ _ _.
+    let machine = c.args.machine.now in
+    all_visited_still (g.M.Machine.words machine) (g.M.Machine.belongs machine) (g.M.Machine.meaning machine c.args.tables.now) (g.M.Machine.meaning machine c.prepare.new.tables)
+    c.in_ok-prepare.ensures.grown c.args.frontier.now.kept.keys c.requires.kept
+
+pub keep_all-requires-clause-belongs : goal.keep_all-requires-clause-belongs
+keep_all-requires-clause-belongs g c = λ _ _.
+    let machine = c.args.machine.now in
+    let m = g.M.Machine.words machine in
+    let belongs = g.M.Machine.belongs machine in
+    let new = g.M.Machine.meaning machine c.prepare.new.tables in
+    let listed = MatchOption-at_none _ _ c.in-None.is c.in_ok-expand.ensures.whole in
+    let all : c.expand.new.successors.items ≡ listed.0 = listed.1 ∙ ap (λ l. l ++ listed.0) c.new-successors.ensures.items in
+    let from = visited_still m belongs (g.M.Machine.meaning machine c.args.tables.now) new c.in_ok-prepare.ensures.grown c.args.from c.requires.from in
+    subst (All (λ (s : Successor g.row.M-Reached.Denot). belongs (new.point_of s.configuration))) (sym all)
+    (successors_reached m belongs (laws g machine) new 0 c.args.from listed.0 from listed.2).0
+
+pub keep_all-requires-clause-reached : goal.keep_all-requires-clause-reached
+keep_all-requires-clause-reached g c = λ _ _.
+    let machine = c.args.machine.now in
+    let m = g.M.Machine.words machine in
+    let belongs = g.M.Machine.belongs machine in
+    let new = g.M.Machine.meaning machine c.prepare.new.tables in
+    let listed = MatchOption-at_none _ _ c.in-None.is c.in_ok-expand.ensures.whole in
+    let all : c.expand.new.successors.items ≡ listed.0 = listed.1 ∙ ap (λ l. l ++ listed.0) c.new-successors.ensures.items in
+    let from = visited_still m belongs (g.M.Machine.meaning machine c.args.tables.now) new c.in_ok-prepare.ensures.grown c.args.from c.requires.from in
+    subst (All (λ (s : Successor g.row.M-Reached.Denot). IsReached m (new.point_of s.configuration))) (sym all)
+    (successors_reached m belongs (laws g machine) new 0 c.args.from listed.0 from listed.2).1
+
+pub returns-in-Some-clause-kept : goal.returns-in-Some-clause-kept
+returns-in-Some-clause-kept g c =
+    let machine = c.args.machine.now in
+    all_visited_still (g.M.Machine.words machine) (g.M.Machine.belongs machine) (g.M.Machine.meaning machine c.args.tables.now) (g.M.Machine.meaning machine c.prepare.new.tables)
+    c.in_ok-prepare.ensures.grown c.args.frontier.now.kept.keys c.requires.kept

@@ -1,0 +1,187 @@
+//! A dive for a configuration that tells that the bound is met.
+ghost use Rattle.std.specs.Prelude.{◌≡◌, ◌≤◌, ◌-◌, ◌^◌, ℕ, [], true, All, Some, IfOk, IfSome, OnOk, map, min, slice_get};
+ghost use Rattle.indexmap.specs.IndexSet.{insert_key};
+ghost use Rattle.word_machine.specs.Dive.{IsReached, IsVisited, extent};
+ghost use Rattle.word_machine.specs.Machine.{IsMet};
+ghost use Rattle.word_machine.specs.Ranks.{IsOwned};
+
+use crate::closed::Successor;
+use crate::machine::Machine;
+use indexmap::IndexSet;
+use std::alloc::{AllocError, Global};
+use std::collections::BinaryHeap;
+use std::hash::Hash;
+
+// Where a dive finds what it looks for at all, some hundreds of configurations mostly do. Once it has kept so many, it
+// gives up.
+const MOST_KEPT: usize = 10_000;
+
+// The configurations that a dive came to, none of them twice, and which of them it has not expanded.
+#[derive(Drop)]
+struct Frontier<C: Eq + Hash> {
+    kept: IndexSet<C>,
+    // Each with its extent, by its place among those that were kept.
+    open: BinaryHeap<(u64, usize)>,
+}
+
+impl<C: Eq + Hash + Copy> Frontier<C> {
+    fn new(alloc: Global) -> Frontier<C>
+        ensures { result.kept.keys ≡ [] }
+    {
+        Frontier {
+            kept: IndexSet::new(alloc),
+            open: BinaryHeap::new(alloc),
+        }
+    }
+
+    // Keeps a configuration of this extent, unless it is there.
+    fn keep(&mut self, configuration: C, extent: u64) -> Result<(), AllocError>
+        ensures { OnOk result (self.new.kept.keys ≡ insert_key C.eq self.old.kept.keys configuration) }
+    {
+        let (place, is_new) = self.kept.insert_full(configuration)?;
+        if is_new {
+            self.open.push((extent, place))?;
+        }
+        Ok(())
+    }
+
+    // Takes the next one to be expanded: of the greatest extent, and of those the one that was kept last.
+    fn pop(&mut self) -> Option<C>
+        ensures kept { self.new.kept.keys ≡ self.old.kept.keys }
+        ensures next { IfSome result (λ c. (place : ℕ) × (slice_get self.old.kept.keys place ≡ Some c)) }
+    {
+        let (_, place) = self.open.pop()?;
+        self.kept.get_index(place).copied()
+    }
+}
+
+// The steps to a configuration at least, where no word begins with fewer than `least` left, and its open nodes.
+fn extent<M: Machine>(machine: &M, tables: &M::Tables, least: u64, at: M::Configuration) -> u64
+    requires own { M.owns machine.now tables.now }
+    requires owned { IsOwned (M.meaning machine.now tables.now) (M.belongs machine.now) at }
+    ensures { result ≡ min
+        (extent (M.words machine.now) (M.estimate machine.now) least ((M.meaning machine.now tables.now).point at))
+        (2 ^ 64 - 1) }
+{
+    let steps = least.saturating_sub(machine.lower_bound(tables, at));
+    steps.saturating_add(machine.open_len(tables, at))
+}
+
+// Keeps the initial configurations.
+fn keep_initials<M: Machine>(
+    machine: &M,
+    tables: &M::Tables,
+    frontier: &mut Frontier<M::Configuration>,
+    initials: &[M::Configuration],
+    least: u64,
+) -> Result<(), AllocError>
+    requires own { M.owns machine.now tables.now }
+    requires kept { All
+        (IsVisited (M.words machine.now) (M.belongs machine.now) (M.meaning machine.now tables.now))
+        frontier.old.kept.keys }
+    requires visited { All
+        (IsVisited (M.words machine.now) (M.belongs machine.now) (M.meaning machine.now tables.now))
+        initials.now }
+    ensures { OnOk result (All
+        (IsVisited (M.words machine.now) (M.belongs machine.now) (M.meaning machine.now tables.now))
+        frontier.new.kept.keys) }
+{
+    for initial in initials {
+        let extent = extent(machine, tables, least, *initial);
+        frontier.keep(*initial, extent)?;
+    }
+    Ok(())
+}
+
+// Numbers successors, and keeps them.
+fn keep_all<M: Machine>(
+    machine: &M,
+    tables: &mut M::Tables,
+    frontier: &mut Frontier<M::Configuration>,
+    batch: Vec<Successor<M::Reached>>,
+    least: u64,
+) -> Result<(), AllocError>
+    requires own { M.owns machine.now tables.old }
+    requires kept { All
+        (IsVisited (M.words machine.now) (M.belongs machine.now) (M.meaning machine.now tables.old))
+        frontier.old.kept.keys }
+    requires allowed { All (λ s. (M.meaning machine.now tables.old).allows s.configuration) batch.items }
+    requires belongs { All
+        (λ s. M.belongs machine.now ((M.meaning machine.now tables.old).point_of s.configuration))
+        batch.items }
+    requires reached { All
+        (λ s. IsReached (M.words machine.now) ((M.meaning machine.now tables.old).point_of s.configuration))
+        batch.items }
+    ensures owned { OnOk result (M.owns machine.now tables.new) }
+    ensures kept { OnOk result (All
+        (IsVisited (M.words machine.now) (M.belongs machine.now) (M.meaning machine.now tables.new))
+        frontier.new.kept.keys) }
+{
+    for successor in batch {
+        let configuration = machine.keep(tables, successor.configuration)?;
+        let extent = extent(machine, tables, least, configuration);
+        frontier.keep(configuration, extent)?;
+    }
+    Ok(())
+}
+
+// Keeps the successors of a configuration. If one of them is done they are not listed, and none is kept.
+fn expand<M: Machine>(
+    alloc: Global,
+    machine: &M,
+    tables: &mut M::Tables,
+    frontier: &mut Frontier<M::Configuration>,
+    from: M::Configuration,
+    least: u64,
+) -> Result<(), AllocError>
+    requires own { M.owns machine.now tables.old }
+    requires kept { All
+        (IsVisited (M.words machine.now) (M.belongs machine.now) (M.meaning machine.now tables.old))
+        frontier.old.kept.keys }
+    requires from { IsVisited (M.words machine.now) (M.belongs machine.now) (M.meaning machine.now tables.old) from }
+    ensures owned { OnOk result (M.owns machine.now tables.new) }
+    ensures kept { OnOk result (All
+        (IsVisited (M.words machine.now) (M.belongs machine.now) (M.meaning machine.now tables.new))
+        frontier.new.kept.keys) }
+{
+    machine.prepare(tables, from)?;
+    let mut successors = Vec::new(alloc);
+    match machine.expand(tables, 0, from, &mut successors)? {
+        None => keep_all(machine, tables, frontier, successors, least),
+        Some(_) => Ok(()),
+    }
+}
+
+/// Looks for a configuration that no word reaches with its steps and its open nodes within the bound, and tells whether
+/// there was one. It goes by the greatest extent first, where no word begins with fewer than `least` steps left, and
+/// may give up.
+pub fn dive<M: Machine>(
+    alloc: Global,
+    machine: &M,
+    mut tables: M::Tables,
+    initials: &[M::Configuration],
+    least: u64,
+    bound: u64,
+) -> Result<bool, AllocError>
+    requires own { M.owns machine.now tables }
+    requires known { All (M.meaning machine.now tables).knows initials.now }
+    requires initials { map (M.meaning machine.now tables).point initials.now ≡ (M.words machine.now).initials }
+    requires least { All (λ c. least ≤ M.estimate machine.now c) (M.words machine.now).initials }
+    ensures { IfOk result (λ is_met. is_met ≡ true → IsMet (M.words machine.now) bound) }
+{
+    let mut frontier = Frontier::new(alloc);
+    keep_initials(machine, &tables, &mut frontier, initials, least)?;
+    for _turn in 0..MOST_KEPT {
+        let Some(from) = frontier.pop() else {
+            return Ok(false);
+        };
+        if extent(machine, &tables, least, from) > bound {
+            return Ok(true);
+        }
+        if frontier.kept.len() >= MOST_KEPT {
+            return Ok(false);
+        }
+        expand(alloc, machine, &mut tables, &mut frontier, from, least)?;
+    }
+    Ok(false)
+}
