@@ -170,14 +170,14 @@ module _ {C : Type 0} (m : WordMachine C) (belongs : C → Type 0) (laws : IsLaw
 
       -- what is told where nothing is left to expand
       pub outcome : (bound ≤ level) ⊎ (low ≡ length contents.keys) → (told : Outcome)
-          → (contents.cut.any ≡ true → (least : ℕ) × (wide : ℕ) × (kept : ℕ) × (told ≡ Past least wide kept) × (least ≤ bound + contents.cut.past)) → (contents.cut.any ≡ false → told ≡ Exhausted) → IsOutcome m measure bound told
+          → (contents.cut.any ≡ true → (least : ℕ) × (wide : ℕ) × (told ≡ Past least wide) × (least ≤ bound + contents.cut.past)) → (contents.cut.any ≡ false → told ≡ Exhausted) → IsOutcome m measure bound told
       outcome end told past exhausted_so = by contents.cut.any refl
         where
           by : (cut : Bool) → contents.cut.any ≡ cut → IsOutcome m measure bound told
           by true cut =
               let p = past cut in
               let none = answer_none end cut in
-              subst (IsOutcome m measure bound) (sym p.3) (none.0, none.1, none_before_next end p.0 p.4)
+              subst (IsOutcome m measure bound) (sym p.2) (none.0, none.1, none_before_next end p.0 p.3)
           by false cut = subst (IsOutcome m measure bound) (sym (exhausted_so cut)) (answer_unsolvable end cut)
 
       -- each configuration of the list is one of the machine's

@@ -37,7 +37,7 @@ module _ {Configuration : Type 0} (m : WordMachine Configuration) where
   -- the same by a measure of what is left, in the place of the open nodes
   abbrev pub IsOutcome : (Configuration → ℕ) → ℕ → Outcome → Type 0
   IsOutcome measure bound (Finished word) = IsLeastFinishing bound word.items
-  IsOutcome measure bound (Past least wide kept) = NoneFinishes bound × MeetsBound (IsLiveStep m) measure m.initials bound × NoneFinishesBefore least
+  IsOutcome measure bound (Past least wide) = NoneFinishes bound × MeetsBound (IsLiveStep m) measure m.initials bound × NoneFinishesBefore least
   IsOutcome measure bound Exhausted = NeverFinishes × (MeetsBound (IsLiveStep m) measure m.initials bound → ⊥)
 
   -- what is left at least of a configuration, by the measure
@@ -48,5 +48,5 @@ module _ {Configuration : Type 0} (m : WordMachine Configuration) where
 -- an outcome by the open nodes, as an answer
 abbrev pub found_of : Outcome → Found
 found_of (Finished word) = Word word
-found_of (Past least wide kept) = None
+found_of (Past least wide) = None
 found_of Exhausted = Unsolvable

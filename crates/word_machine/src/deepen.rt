@@ -28,28 +28,6 @@ fn least_bound<M: Machine>(machine: &M, tables: &M::Tables, initials: &[M::Confi
     least
 }
 
-// How a bound grows, for speed alone: how many the last search kept, and by how much the bound has grown at least.
-#[derive(Drop)]
-struct Growth {
-    kept: u64,
-    step: u64,
-}
-
-impl Growth {
-    // The next bound after a search to this one that kept so many: the wide one, or further by 1, and by 4, 16 and so
-    // on while each search keeps less than half as many more than the one before.
-    fn next(&mut self, bound: u64, wide: u64, kept: u64) -> u64 {
-        let is_slow = kept / 3 < self.kept / 2;
-        self.step = if is_slow {
-            self.step.saturating_mul(4)
-        } else {
-            1
-        };
-        self.kept = kept;
-        wide.max(bound.saturating_add(self.step))
-    }
-}
-
 // The answer where no word finishes within the bound. A search by the open nodes tells whether the bound was met, and
 // ends where it is.
 fn search_open_nodes<M: Machine, G: Gate, R: Threads + Wait + Sync>(
@@ -75,9 +53,9 @@ fn search_open_nodes<M: Machine, G: Gate, R: Threads + Wait + Sync>(
 }
 
 /// The answer of `find_word`. It searches by the machine's own bound on the steps that are left, within bounds that
-/// grow from the least of the initial configurations on, each so far that about as many more are looked at, and
-/// further where that turns out to be too few. Only where no word is found so, a dive looks for a configuration that
-/// tells that the bound was met, and where it finds none, a search by the open nodes tells whether it was.
+/// grow from the least of the initial configurations on, each so far that about as many more are looked at. Only where
+/// no word is found so, a dive looks for a configuration that tells that the bound was met, and where it finds none, a
+/// search by the open nodes tells whether it was.
 pub fn find_word_deepening<M: Machine, G: Gate, R: Threads + Wait + Sync>(
     rt: &R,
     alloc: Global,
@@ -94,7 +72,6 @@ pub fn find_word_deepening<M: Machine, G: Gate, R: Threads + Wait + Sync>(
     // No word finishes in fewer steps than `least`.
     let mut least = first;
     let mut nodes = first;
-    let mut growth = Growth { kept: 0, step: 1 };
     while least <= bounds.nodes {
         let within = bounds.within(nodes.min(bounds.nodes));
         let limits = Limits {
@@ -106,13 +83,9 @@ pub fn find_word_deepening<M: Machine, G: Gate, R: Threads + Wait + Sync>(
         match outcome {
             Outcome::Finished(word) => return Ok(Found::Word(word)),
             Outcome::Exhausted => return Ok(Found::Unsolvable),
-            Outcome::Past {
-                least: past,
-                wide,
-                kept,
-            } => {
+            Outcome::Past { least: past, wide } => {
                 least = past.max(within.nodes + 1);
-                nodes = growth.next(within.nodes, wide, kept).max(least);
+                nodes = wide.max(least);
             }
         }
     }

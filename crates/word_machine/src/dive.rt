@@ -14,7 +14,7 @@ use std::hash::Hash;
 
 // Where a dive finds what it looks for at all, some hundreds of configurations mostly do. Once it has kept so many, it
 // gives up.
-const MOST_KEPT: usize = 10_000;
+const MOST_KEPT: usize = 1_000;
 
 // The configurations that a dive came to, none of them twice, and which of them it has not expanded.
 #[derive(Drop)]

@@ -26,9 +26,8 @@ pub enum Outcome {
     /// The finishing word that is shortest and then least.
     Finished(Vec<u64>),
     /// No word finishes within the bound, nor in fewer steps than `least`; something past the bound was left out.
-    /// `wide` and `kept` are for speed alone: so many were kept, and a search to the bound `wide` is to let in as many
-    /// of those that were left out.
-    Past { least: u64, wide: u64, kept: u64 },
+    /// `wide` is for speed alone: a search to this bound is to let in as many of those as were kept.
+    Past { least: u64, wide: u64 },
     /// No word finishes, and nothing was left out.
     Exhausted,
 }
@@ -36,12 +35,11 @@ pub enum Outcome {
 impl Outcome {
     /// No word finishes in fewer steps than these, and something was left out.
     pub fn past(steps: u64) -> Outcome
-        ensures { result ≡ Past steps steps 0 }
+        ensures { result ≡ Past steps steps }
     {
         Outcome::Past {
             least: steps,
             wide: steps,
-            kept: 0,
         }
     }
 

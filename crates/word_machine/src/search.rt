@@ -105,14 +105,13 @@ pub fn search<M: Machine, G: Gate, R: Threads + Wait + Sync>(
 
 // The outcome where nothing is left to expand.
 fn exhausted<C: Eq + Hash + Drop>(closed: &Closed<C>, bound: u64) -> Outcome
-    ensures cut { closed.now.cut.any ≡ true → (least : ℕ) × (wide : ℕ) × (kept : ℕ) × (result ≡ Past least wide kept) × (least ≤ bound + closed.now.cut.past) }
+    ensures cut { closed.now.cut.any ≡ true → (least : ℕ) × (wide : ℕ) × (result ≡ Past least wide) × (least ≤ bound + closed.now.cut.past) }
     ensures uncut { closed.now.cut.any ≡ false → result ≡ Exhausted }
 {
     if closed.was_cut() {
         Outcome::Past {
             least: bound.saturating_add(closed.least_past()),
             wide: bound.saturating_add(closed.reach()),
-            kept: closed.configurations().len() as u64,
         }
     } else {
         Outcome::Exhausted

@@ -54,15 +54,15 @@ loop-least-preserved g c =
     let initials = c.in_ok-initials.initials.items in
     let i = c.loop-least.invariant in
     let bound = c.within-within.result.nodes in
-    let told : IsOutcome m (g.M.Machine.estimate machine) bound (Past c.in-Past.past c.in-Past.wide c.in-Past.kept) =
+    let told : IsOutcome m (g.M.Machine.estimate machine) bound (Past c.in-Past.past c.in-Past.wide) =
     subst (IsOutcome m (g.M.Machine.estimate machine) bound) c.in-Past.is c.in_ok-outcome.ensures.outcome in
     let least : max c.in-Past.past (bound + 1) ≡ c.max-least.result = search rules in
-    let nodes : max c.next.result c.max-least.result ≡ c.max-nodes.result = search rules in
+    let nodes : max c.in-Past.wide c.max-least.result ≡ c.max-nodes.result = search rules in
     record {
       own = c.in_ok-outcome.ensures.owned;
       known = known_still old new c.in_ok-outcome.ensures.grown initials i.known;
       none = subst (NoneFinishesBefore m) least (none_before_more m bound c.in-Past.past told.0 told.2);
-      rising = subst (λ n. c.max-least.result ≤ n) nodes (le-max_right c.next.result c.max-least.result);
+      rising = subst (λ n. c.max-least.result ≤ n) nodes (le-max_right c.in-Past.wide c.max-least.result);
       initials = same_points old new c.in_ok-outcome.ensures.grown initials i.known ∙ i.initials;
     }
 
