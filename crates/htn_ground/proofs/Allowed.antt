@@ -102,6 +102,37 @@ length-only p x only xs up =
 pub nothing-only : (p : ℕ → Bool) (x : ℕ) → ((o : ℕ) → p o ≡ true → o ≡ x) → (xs : List ℕ) → IsStrictlySortedBy nat_cmp xs → (list_any (eqb x) xs && p x) ≡ false → filter p xs ≡ []
 nothing-only p x only xs up fails = nil_from_length (filter p xs) (length-only p x only xs up ∙ ap (λ b. cond b 1 0) fails)
 
+differ : (b l q : Bool) → (b ≡ true → q ≡ false) → (l && q) ≡ ((b || l) && q)
+differ true l q h = and_false l q (h refl) ∙ sym (h refl)
+differ false l q h = refl
+
+-- where the test allows x alone, what passes is x or nothing
+pub only_kept : (p : ℕ → Bool) (x : ℕ) → ((o : ℕ) → p o ≡ true → o ≡ x) → (xs : List ℕ) → IsStrictlySortedBy nat_cmp xs → filter p xs ≡ cond (list_any (eqb x) xs && p x) (x ∷ []) []
+only_kept p x only [] up = refl
+only_kept p x only (y ∷ xs) up =
+    elim (p y) as (λ b. p y ≡ b → cond b (y ∷ filter p xs) (filter p xs) ≡ cond ((eqb x y || list_any (eqb x) xs) && p x) (x ∷ []) []) [
+      | true ↦ λ e.
+          let same : y ≡ x = only y e in
+          let none : list_any (eqb x) xs ≡ false = none_above x xs (subst (λ z. All (λ w. nat_cmp z w ≡ Less) xs) same (All-after_first nat_cmp y xs up)) in
+          let rest : filter p xs ≡ [] = nothing-only p x only xs (sorted_tail nat_cmp y xs up) (ap (λ b. b && p x) none) in
+          let here : ((eqb x y || list_any (eqb x) xs) && p x) ≡ true = λ i. (is_itself x y (sym same) i || list_any (eqb x) xs) && (ap p (sym same) ∙ e) i in
+          (λ i. same i ∷ rest i) ∙ sym (ap (λ b. cond b (x ∷ []) []) here)
+      | false ↦ λ e.
+          only_kept p x only xs (sorted_tail nat_cmp y xs up)
+          ∙ ap (λ b. cond b (x ∷ []) []) (differ (eqb x y) (list_any (eqb x) xs) (p x) (λ h. ap p (sym (is_equal x y h)) ∙ e))
+    ] refl
+
+or_later : (a b : Bool) → b ≡ true → (a || b) ≡ true
+or_later true b h = refl
+or_later false b h = h
+
+-- where the test allows all that stand in a list
+pub all_kept : (p : ℕ → Bool) (xs : List ℕ) → ((o : ℕ) → list_any (eqb o) xs ≡ true → p o ≡ true) → filter p xs ≡ xs
+all_kept p [] passes = refl
+all_kept p (y ∷ xs) passes =
+    ap (λ b. cond b (y ∷ filter p xs) (filter p xs)) (passes y (ap (λ b. b || list_any (eqb y) xs) (is_itself y y refl)))
+    ∙ ap (λ l. y ∷ l) (all_kept p xs (λ o h. passes o (or_later (eqb o y) (list_any (eqb o) xs) h)))
+
 -- ## One relation more
 
 beq_true : (b : Bool) → beq true b ≡ b

@@ -12,12 +12,12 @@ ghost use Rattle.htn_ground.specs.Shown.{AreShown};
 
 use crate::by_network::ByNetwork;
 use crate::conditions::initial_conditions;
-use crate::dead::{fixed_literals, is_dead};
+use crate::dead::is_dead;
 use crate::fixed::FixedLiteral;
 use crate::ground_task::GroundTask;
 use crate::instance::Instance;
 use crate::instances::distinct_values;
-use crate::methods::{conditions_for, initial_instance, method_instance, number_at};
+use crate::methods::{conditions_for, initial_instance, literals_for, method_instance, number_at};
 use crate::object_list::ObjectList;
 use crate::shown::shown_parameters;
 use htn_task::{FormulaList, InitialSchema, MethodSchema, Task};
@@ -111,7 +111,7 @@ pub fn distinct_live_methods_of(
     let mut found = IndexSet::new(alloc);
     for (place, method) in task.methods().iter().enumerate() {
         let number = number_at(place)?;
-        let literals = fixed_literals(alloc, task, method.precondition())?;
+        let literals = literals_for(alloc, task, goal, method)?;
         let values = distinct_values_for(alloc, task, goal, method, &literals)?;
         insert_methods(alloc, task, number, method, &values, &mut found)?;
     }

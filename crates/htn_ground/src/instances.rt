@@ -1,13 +1,14 @@
 //! The values of a schema's instances.
-ghost use Rattle.std.specs.Prelude.{◌≡◌, ◌+◌, Bool, IfOk, List, length, map, ℕ};
-ghost use Rattle.std.specs.List.{All, filter, list_all};
+ghost use Rattle.std.specs.Prelude.{◌&&◌, ◌≡◌, ◌+◌, Bool, IfOk, IfSome, IsTrue, List, length, map, nat_eq, true, ℕ};
+ghost use Rattle.std.specs.List.{All, filter, list_all, list_any};
 ghost use Rattle.std.specs.List.Sorted.{IsStrictlySortedBy};
 ghost use Rattle.std.specs.Ordering.{nat_cmp};
 ghost use Rattle.std.specs.Option.{option_to_list};
 ghost use Rattle.htn_model.specs.Instance.{Instance};
 ghost use Rattle.htn_model.specs.Instances as model;
 ghost use Rattle.htn_model.specs.Problem.{Network};
-ghost use Rattle.htn_model.specs.Task.{has_type};
+ghost use Rattle.htn_model.specs.Task.{has_type, objects_of};
+ghost use Rattle.htn_model.specs.Task as schema;
 ghost use Rattle.htn_task.specs.Views.{term_of};
 ghost use Rattle.htn_ground.specs.Counted.{fitted, fitting};
 ghost use Rattle.htn_ground.specs.Distinct.{gathered};
@@ -21,7 +22,7 @@ use crate::distinct::distinct_assignments;
 use crate::fixed::FixedLiteral;
 use crate::literals::value_of;
 use crate::object_list::ObjectList;
-use crate::relation::Relation;
+use crate::relation::{Relation, object_beside};
 use crate::search::live_assignments;
 use htn_task::{EqualitySchema, Task, Term};
 use std::alloc::{AllocError, Global};
@@ -157,17 +158,102 @@ fn singles_hold(task: &Task, conditions: &Conditions, at: usize, object: u16) ->
         && place_singles_hold(task, conditions.places(), at, object)
 }
 
-/// The objects at a place that the conditions on one parameter allow.
-fn narrow(
+/// The object that an equality asks of a parameter, if there is one.
+fn object_asked(equalities: &[EqualitySchema], at: usize) -> Option<u16>
+    ensures { IfSome result (λ x. (o : ℕ) → search.equality_singles equalities.now at o ≡ true → o ≡ x) }
+{
+    for equality in equalities {
+        if equality.is_positive() {
+            if let Some(object) = object_beside(equality.left(), equality.right(), at) {
+                return Some(object);
+            }
+        }
+    }
+    None
+}
+
+/// Whether no equality is between a parameter and an object.
+fn is_untied(equalities: &[EqualitySchema], at: usize) -> bool
+    ensures { IsTrue result → (o : ℕ) → search.equality_singles equalities.now at o ≡ true }
+{
+    for equality in equalities {
+        if object_beside(equality.left(), equality.right(), at).is_some() {
+            return false;
+        }
+    }
+    true
+}
+
+/// Whether a place is of this type, unless it is an object's or another parameter's.
+fn is_of_type(place: Place, at: usize, type_number: u16) -> bool
+    ensures { IsTrue result → (t : schema.Task) (o : ℕ) → has_type t type_number o ≡ true
+        → search.place_single t (place_of place) at o ≡ true }
+{
+    match place.term {
+        Term::Object(_) => true,
+        Term::Parameter(p) => at != p as usize || place.type_number == type_number,
+    }
+}
+
+/// Whether a parameter stands at places of one type alone.
+fn are_of_type(places: &[Place], at: usize, type_number: u16) -> bool
+    ensures { IsTrue result → (t : schema.Task) (o : ℕ) → has_type t type_number o ≡ true
+        → search.place_singles t (places_of places.now) at o ≡ true }
+{
+    for place in places {
+        if !is_of_type(*place, at, type_number) {
+            return false;
+        }
+    }
+    true
+}
+
+/// Whether the conditions on one parameter allow all objects of its type.
+fn allow_all(conditions: &Conditions, at: usize, type_number: u16) -> bool
+    ensures { IsTrue result → (t : schema.Task) (o : ℕ) → has_type t type_number o ≡ true
+        → search.singles_of t conditions.now at o ≡ true }
+{
+    is_untied(conditions.equalities(), at) && are_of_type(conditions.places(), at, type_number)
+}
+
+/// Whether an object stands in a list and the conditions on one parameter allow it.
+fn is_left(task: &Task, conditions: &Conditions, objects: &[u16], at: usize, object: u16) -> bool
+    requires { IsStrictlySortedBy nat_cmp objects.now }
+    ensures { result ≡ (list_any (nat_eq object) objects.now && search.singles_of task.now conditions.now at object) }
+{
+    objects.binary_search(&object).is_ok() && singles_hold(task, conditions, at, object)
+}
+
+/// The objects of a list that the conditions on one parameter allow, where they allow this one at most.
+fn narrow_to(
+    alloc: Global,
+    task: &Task,
+    conditions: &Conditions,
+    objects: &[u16],
+    at: usize,
+    object: u16,
+) -> Result<ObjectList, AllocError>
+    requires ascending { IsStrictlySortedBy nat_cmp objects.now }
+    requires only { (o : ℕ) → search.singles_of task.now conditions.now at o ≡ true → o ≡ object }
+    ensures { IfOk result (λ l. l ≡ filter (search.singles_of task.now conditions.now at) objects.now) }
+{
+    if !is_left(task, conditions, objects, at, object) {
+        return Ok(ObjectList::new(alloc));
+    }
+    let mut one = ObjectList::new(alloc);
+    one.push(object)?;
+    Ok(one)
+}
+
+/// The objects of a list that the conditions on one parameter allow.
+fn narrow_each(
     alloc: Global,
     task: &Task,
     conditions: &Conditions,
     objects: &[u16],
     at: usize,
 ) -> Result<ObjectList, AllocError>
-    requires { IsStrictlySortedBy nat_cmp objects.now }
-    ensures kept { IfOk result (λ l. l ≡ filter (search.singles_of task.now conditions.now at) objects.now) }
-    ensures ascending { IfOk result (IsStrictlySortedBy nat_cmp) }
+    ensures { IfOk result (λ l. l ≡ filter (search.singles_of task.now conditions.now at) objects.now) }
 {
     let mut kept = ObjectList::new(alloc);
     for object in objects {
@@ -175,6 +261,32 @@ fn narrow(
             kept.push(*object)?;
         }
     }
+    Ok(kept)
+}
+
+/// The objects of a type that the conditions on one parameter allow. Each is looked at only where some
+/// equality or another type may forbid it.
+fn narrow(
+    alloc: Global,
+    task: &Task,
+    conditions: &Conditions,
+    type_number: u16,
+    at: usize,
+) -> Result<ObjectList, AllocError>
+    ensures kept { IfOk result (λ l.
+        l ≡ filter (search.singles_of task.now conditions.now at) (objects_of task.now type_number)) }
+    ensures ascending { IfOk result (IsStrictlySortedBy nat_cmp) }
+{
+    let objects = task.objects_of(type_number);
+    if let Some(object) = object_asked(conditions.equalities(), at) {
+        let one = narrow_to(alloc, task, conditions, objects, at, object)?;
+        return Ok(one);
+    }
+    if allow_all(conditions, at, type_number) {
+        let all = ObjectList::of(alloc, objects)?;
+        return Ok(all);
+    }
+    let kept = narrow_each(alloc, task, conditions, objects, at)?;
     Ok(kept)
 }
 
@@ -189,7 +301,7 @@ fn narrow_all(
 {
     let mut lists = Vec::new(alloc);
     for (at, type_number) in conditions.parameters().iter().enumerate() {
-        lists.push(narrow(alloc, task, conditions, task.objects_of(*type_number), at)?)?;
+        lists.push(narrow(alloc, task, conditions, *type_number, at)?)?;
     }
     Ok(lists)
 }

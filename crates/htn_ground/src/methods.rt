@@ -1,8 +1,9 @@
 //! The instances of a task's methods, of its initial network and of its actions.
 ghost use Rattle.std.specs.Prelude.{◌≡◌, ◌+◌, ◌++◌, [], List, ℕ, IfNone, IfOk, IfSome, OnOk, length, map};
-ghost use Rattle.std.specs.List.{enumerate_from};
+ghost use Rattle.std.specs.List.{All, enumerate_from};
 ghost use Rattle.htn_model.specs.Instances as model;
 ghost use Rattle.htn_model.specs.Task.{IsMethodSchema};
+ghost use Rattle.htn_ground.specs.Fixed.{IsFixed};
 ghost use Rattle.htn_ground.specs.Counted.{fitted, fitting};
 ghost use Rattle.htn_ground.specs.Methods.{fits_task, instances_for, live_instances, numbered_instances};
 ghost use Rattle.htn_ground.specs.Search.{AreBound, AreLiteralsOf, live_from};
@@ -60,6 +61,23 @@ pub(crate) fn conditions_for(
     let conditions = method_conditions(alloc, task, method)?;
     let pinned = pin(conditions, method.task().arguments(), goal.arguments())?;
     Ok(Some(pinned))
+}
+
+/// The literals of a method's precondition that rule values out for a ground task. None are sought where
+/// the method is for another task, since to see whether a predicate changes takes all actions.
+pub(crate) fn literals_for(
+    alloc: Global,
+    task: &Task,
+    goal: &GroundTask,
+    method: &MethodSchema,
+) -> Result<Vec<FixedLiteral>, AllocError>
+    ensures { IfOk result (λ literals. All (IsFixed task.now method.now.precondition) literals.items) }
+{
+    if !fits_task(method.task(), goal) {
+        return Ok(Vec::new(alloc));
+    }
+    let literals = fixed_literals(alloc, task, method.precondition())?;
+    Ok(literals)
 }
 
 /// The values of a method's instances for a ground task that no literal rules out, each with its
@@ -181,7 +199,7 @@ pub fn live_methods_of(
     let mut first = Some(0);
     for (place, method) in task.methods().iter().enumerate() {
         let number = number_at(place)?;
-        let literals = fixed_literals(alloc, task, method.precondition())?;
+        let literals = literals_for(alloc, task, goal, method)?;
         let (values, next) = values_for(alloc, task, goal, method, &literals, first)?;
         push_live_instances(alloc, task, number, method, values, &mut found)?;
         first = next;

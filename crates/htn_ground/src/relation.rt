@@ -18,7 +18,7 @@ fn term_after(values: &[u16], parameter: u16) -> Term
 }
 
 /// The object beside a parameter, where that is the only parameter of an equality.
-fn object_beside(left: Term, right: Term, place: usize) -> Option<u16>
+pub(crate) fn object_beside(left: Term, right: Term, place: usize) -> Option<u16>
     ensures some { IfSome result (λ x. (positive : Bool) (o : ℕ) → single_of positive (term_of left) (term_of right) place o ≡ beq positive (o == x)) }
     ensures none { IfNone result ((positive : Bool) (o : ℕ) → single_of positive (term_of left) (term_of right) place o ≡ true) }
 {

@@ -3,7 +3,6 @@ use Rattle.std.specs.List.{All, enumerate_from, filter, flat_map}
 use Rattle.std.proofs.lemmas.List.{take_all}
 use Rattle.htn_model.specs.Instance.{Instance}
 use Rattle.htn_model.specs.Instances.{instances_of_method, method_instance}
-use Rattle.htn_model.specs.Schema.{Formula}
 use Rattle.htn_model.specs.Task.{MethodSchema}
 use Rattle.htn_ground.specs.declared.fixed.FixedLiteral.{FixedLiteral}
 use Rattle.htn_ground.specs.Distinct.{distinct, gathered, is_live}
@@ -16,7 +15,7 @@ distinct_values_for-requires-clause-fixed c =
     let t = c.args.task.now in
     let m = c.method-item.result in
     subst (λ (ls : List FixedLiteral). All (IsFixed t m.precondition) ls) (sym c.deref.ensures.value)
-    (subst (λ (fs : List Formula). All (IsFixed t fs) c.in_ok-literals.literals.items) c.precondition.ensures c.in_ok-literals.ensures)
+    c.in_ok-literals.ensures
 
 pub loop-place-preserved : goal.loop-place-preserved
 loop-place-preserved c =

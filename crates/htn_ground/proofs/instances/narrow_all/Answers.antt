@@ -1,4 +1,4 @@
-use Rattle.std.proofs.Common.{◌++◌, ◌∙◌, ◌∷◌, List, [], ap, filter, subst, sym, ℕ}
+use Rattle.std.proofs.Common.{◌++◌, ◌∙◌, ◌∷◌, List, [], subst, sym, ℕ}
 use Rattle.std.specs.List.{All}
 use Rattle.std.specs.List.Sorted.{IsStrictlySortedBy}
 use Rattle.std.specs.Ordering.{nat_cmp}
@@ -13,7 +13,7 @@ loop-at-preserved c =
     let test = singles_of t c.args.conditions.now in
     let i = c.loop-at.at in (
       c.in_ok-push.ensures.items
-          ∙ (λ k. c.loop-at.invariant.0 k ++ (c.in_ok-narrow.ensures.kept ∙ ap (λ (l : List ℕ). filter (test i) l) c.objects_of.ensures.value) k ∷ [])
+          ∙ (λ k. c.loop-at.invariant.0 k ++ c.in_ok-narrow.ensures.kept k ∷ [])
           ∙ sym (narrowed_more t test c.parameters-type_number-items.result.now i c.loop-at-test.true),
       subst (λ (ls : List (List ℕ)). All (IsStrictlySortedBy nat_cmp) ls) (sym c.in_ok-push.ensures.items)
           (All-push (IsStrictlySortedBy nat_cmp) c.loop-at.lists.items c.in_ok-narrow.field-0 c.loop-at.invariant.1 c.in_ok-narrow.ensures.ascending),

@@ -1,6 +1,5 @@
 use Rattle.std.proofs.Common.{◌∙◌, List, ap, length, refl, subst, sym, take, ℕ}
 use Rattle.std.specs.List.{All, enumerate_from, flat_map}
-use Rattle.htn_model.specs.Schema.{Formula}
 use Rattle.htn_ground.specs.declared.fixed.FixedLiteral.{FixedLiteral}
 use Rattle.htn_ground.specs.Fixed.{IsFixed}
 use Rattle.htn_model.specs.Instances.{instances_of_method}
@@ -15,7 +14,7 @@ pub values_for-requires-clause-literals : goal.values_for-requires-clause-litera
 values_for-requires-clause-literals c =
     let t = c.args.task.now in
     let m = c.method-item.result in
-    let fixed : All (IsFixed t m.precondition) c.in_ok-literals.literals.items = subst (λ (fs : List Formula). All (IsFixed t fs) c.in_ok-literals.literals.items) c.precondition.ensures c.in_ok-literals.ensures in
+    let fixed : All (IsFixed t m.precondition) c.in_ok-literals.literals.items = c.in_ok-literals.ensures in
     subst (λ (ls : List FixedLiteral). AreLiteralsOf ls (length m.parameters)) (sym c.deref.ensures.value)
     (literals_bound t m (method_at t c.methods-method-items.result.now c.loop-place.place m c.methods-method-items.ensures.value c.methods-method-items.ensures.typed c.loop-place-test.true c.method-item.is) c.in_ok-literals.literals.items fixed)
 
@@ -24,7 +23,7 @@ loop-place-preserved c =
     let t = c.args.task.now in
     let g = c.args.goal.now in
     let m = c.method-item.result in
-    let fixed : All (IsFixed t m.precondition) c.in_ok-literals.literals.items = subst (λ (fs : List Formula). All (IsFixed t fs) c.in_ok-literals.literals.items) c.precondition.ensures c.in_ok-literals.ensures in
+    let fixed : All (IsFixed t m.precondition) c.in_ok-literals.literals.items = c.in_ok-literals.ensures in
     let methods = c.methods-method-items.result.now in
     let first : ℕ = length (flat_map (λ (p : ℕ × MethodSchema). instances_of_method t g p.0 p.1) (enumerate_from 0 (take c.loop-place.place methods))) in
     let live : List (ℕ × List ℕ) = live_from t.initial_atoms c.deref.result.now first (instances_for t g m) in
