@@ -1,5 +1,5 @@
 -- The trees of placed lines, and the networks that may fit them.
-use Rattle.std.proofs.Common.{◌≡◌, ℕ, zero, suc, ◌+◌, ◌-◌, ◌≤◌, ◌<◌, Bool, true, false, cond, ltb, List, [], ◌∷◌, length, map, get_or, Some, None, slice_get, refl, sym, ap, ◌∙◌, subst, arith}
+use Rattle.std.proofs.Common.{◌≡◌, ℕ, zero, suc, ◌+◌, ◌-◌, ◌≤◌, ◌<◌, Bool, true, false, cond, ltb, List, [], ◌∷◌, length, map, get_or, Option, Some, None, slice_get, refl, sym, ap, ◌∙◌, subst, arith}
 use Rattle.std.proofs.lemmas.Bool.{le-ltb}
 use Rattle.std.proofs.lemmas.List.{get_or_default}
 use Rattle.std.proofs.lemmas.Option.{slice_get_read}
@@ -96,23 +96,15 @@ module _ (t : Task) (file : PlanFile) (forest : Forest) (tasks : List GroundTask
   }
 
   -- the next gap of the history is that of the states, up to the last one
-  pub next_there : (literals : List Literal) (from gap : ℕ) → Turns.IsNextGap (literals_truth h literals) from (Some gap) → gap ≤ length file.actions
-      → IsNextGap lines_placed.states (length file.actions) literals from (Some gap)
-  next_there literals from gap (after, hold, none) low = (
+  pub next_same : (literals : List Literal) (from last : ℕ) (r : Option ℕ) → last ≤ length file.actions → Turns.IsNextGap (literals_truth h literals) from last r
+      → IsNextGap lines_placed.states last literals from r
+  next_same literals from last None small none = λ k m b. placed.states k (omega arith) literals ∙ none k m b
+  next_same literals from last (Some gap) small (after, low, hold, none) = (
     after,
     low,
-    placed.states gap low literals ∙ hold,
+    placed.states gap (omega arith) literals ∙ hold,
     (λ k m b. placed.states k (omega arith) literals ∙ none k m b),
   )
-
-  -- none comes before a gap past the last one
-  pub next_past : (literals : List Literal) (from gap : ℕ) → Turns.IsNextGap (literals_truth h literals) from (Some gap) → length file.actions < gap
-      → IsNextGap lines_placed.states (length file.actions) literals from None
-  next_past literals from gap (after, hold, none) high k m b = placed.states k b literals ∙ none k m (omega arith)
-
-  -- and where the history has none there is none
-  pub next_none : (literals : List Literal) (from : ℕ) → Turns.IsNextGap (literals_truth h literals) from None → IsNextGap lines_placed.states (length file.actions) literals from None
-  next_none literals from none k m b = placed.states k b literals ∙ none k m
 
 -- ## What is read
 

@@ -85,11 +85,7 @@ impl PlanLines for PlacedLines<'_, '_> {
         Ok(found)
     }
 
-    fn next_gap(&self, literals: &LiteralList, from: usize) -> Option<usize> {
-        let last = self.file.actions().len();
-        let Some(gap) = self.turns.next_gap(literals.as_slice(), from) else {
-            return None;
-        };
-        if gap <= last { Some(gap) } else { None }
+    fn next_gap(&self, literals: &LiteralList, from: usize, last: usize) -> Option<usize> {
+        self.turns.next_gap(literals.as_slice(), from, last)
     }
 }

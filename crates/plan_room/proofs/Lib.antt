@@ -17,3 +17,4 @@ pub mod Answered
 pub mod Suited
 pub mod Reordered
 pub mod Listed
+pub mod Windowed

@@ -1,19 +1,22 @@
 -- The networks of a line, one after another.
-use Rattle.std.proofs.Common.{◌≡◌, ℕ, ◌+◌, ◌≤◌, ◌<◌, ◌⊎◌, inl, inr, List, length, Option, Some, None, slice_get, subst, arith}
+use Rattle.std.proofs.Common.{◌≡◌, ℕ, ◌+◌, ◌≤◌, ◌<◌, ◌⊎◌, inl, inr, List, length, Option, Some, None, slice_get, refl, subst, arith}
 use Rattle.std.proofs.lemmas.Bool.{cases_lt, cases_eq}
 use Rattle.std.proofs.lemmas.Option.{slice_get_within}
 use Rattle.htn_model.specs.Instance.{Instance}
 use Rattle.htn_model.specs.Problem.{IsNetwork}
 use Rattle.htn_model.proofs.Ascending.{in_at, at_in, in_map, in_mapped}
-use Rattle.plan_room.specs.Placing.{IsFirst}
+use Rattle.plan_room.specs.Bound.{IsLower}
+use Rattle.plan_room.specs.Placing.{IsFinish, IsFirst}
 use Rattle.plan_room.specs.Matching.{IsBeaten, IsFound}
 use Rattle.plan_room.specs.Lines.{Lines, AreLines, AreCandidates, networks_of}
 use Rattle.plan_room.specs.Seats.{children_of, IsOneOf, LineFits}
 use Rattle.plan_room.specs.Frames.{IsLine, IsFrame, IsWork, NetworkHasRoom, SomeFits}
+use Rattle.plan_room.specs.Windows.{finish_of, IsLastBetter}
 use Rattle.plan_room.specs.declared.frames.Frame.{Frame}
 use Rattle.plan_room.specs.declared.frames.Work.{Work}
-use Rattle.plan_room.proofs.Searched.{beaten_later}
+use Rattle.plan_room.proofs.Reordered.{all_end}
 use Rattle.plan_room.proofs.Unrolled.{unrolled, rolled, is_network}
+use Rattle.plan_room.proofs.Windowed.{beaten_past}
 
 module _ (l : Lines) (children : List ℕ) (instances : List Instance) (gap : ℕ) where
   abbrev Some_of : ℕ → ℕ → Type 0
@@ -44,12 +47,12 @@ module _ (l : Lines) (children : List ℕ) (instances : List Instance) (gap : �
     pub passed_found : IsFound (Some_of (tried + 1)) l.actions best
     passed_found = wider tried best found
 
-    pub passed_none : ((h : ℕ) → h ≤ l.actions → NetworkHasRoom l children instance.network gap h → ⊥) → NoneBetter (tried + 1) best
-    passed_none never h low some = elim (one_of h some) [ inl before ↦ none_better h low before | inr here ↦ absurd (never h low here) ]
-
-    -- it has, but no earlier
-    pub late_none : (end : ℕ) → IsFirst (NetworkHasRoom l children instance.network gap) l.actions end → IsBeaten best end → NoneBetter (tried + 1) best
-    late_none end first beaten h low some = elim (one_of h some) [ inl before ↦ none_better h low before | inr here ↦ beaten_later best beaten (first.least h here) ]
+    -- it has, but past the last gap that is better
+    pub late_none : (least last : ℕ) → IsLastBetter best least l.actions (Some last) → ((h : ℕ) → h ≤ last → NetworkHasRoom l children instance.network gap h → ⊥) → NoneBetter (tried + 1) best
+    late_none least last is never h low some = elim (one_of h some) [
+      | inl before ↦ none_better h low before
+      | inr here ↦ elim (cases_lt last h) [ inl past ↦ beaten_past l.actions least last h best is low past | inr early ↦ absurd (never h early here) ]
+    ]
 
     -- it has it earlier
     module _ (end : ℕ) (first : IsFirst (NetworkHasRoom l children instance.network gap) l.actions end) (better : IsBeaten best end → ⊥) where
@@ -102,10 +105,26 @@ module _ (l : Lines) (are : AreLines l) (i gap : ℕ) (line : IsLine l i) (insta
     pub line_never : best ≡ None → (k : ℕ) → k ≤ l.actions → LineFits l i gap k → ⊥
     line_never is k small fits = subst (λ b. IsBeaten b k) is (none_earlier k small fits)
 
+  -- the answer, when all networks are done with
+  pub line_done : (tried : ℕ) (best : Option ℕ) → length instances ≤ tried → tried ≤ length instances → IsFound (SomeFits l (children_of l i) instances tried gap) l.actions best
+      → ((h : ℕ) → h ≤ l.actions → SomeFits l (children_of l i) instances tried gap h → IsBeaten best h) → IsFinish (LineFits l i gap) l.actions (finish_of best)
+  line_done tried None all low found none_better = line_never tried None all low found none_better refl
+  line_done tried (Some end) all low found none_better = line_first tried (Some end) all low found none_better end refl
+
+  -- and when none can be better than the best
+  pub line_least : (tried least : ℕ) (best : Option ℕ) → IsFound (SomeFits l (children_of l i) instances tried gap) l.actions best → IsLower l (children_of l i) gap least
+      → IsLastBetter best least l.actions None → IsFinish (LineFits l i gap) l.actions (finish_of best)
+  line_least tried least None found lower is = absurd is
+  line_least tried least (Some end) (small, some) lower is = record {
+    within = small;
+    fits = some_rolled tried end some;
+    least = λ k fits. (let (network, one, room) = unrolled l are i gap k line fits in let e = lower k (all_end l (children_of l i) network gap k room) in omega arith);
+  }
+
 -- a frame with its work gone on
 pub reworked : (l : Lines) (frame : Frame) → IsFrame l frame → (instance : Instance) → slice_get frame.networks.items frame.tried ≡ Some instance → (work : Option Work)
     → IsWork l (children_of l frame.question.line) instance.network frame.question.gap work
-    → IsFrame l (record { question = frame.question; networks = frame.networks; tried = frame.tried; best = frame.best; work = work })
+    → IsFrame l (record { question = frame.question; networks = frame.networks; tried = frame.tried; best = frame.best; least = frame.least; work = work })
 reworked l frame is instance at work is_work = record {
   line = is.line;
   within = is.within;
@@ -113,5 +132,6 @@ reworked l frame is instance at work is_work = record {
   low = is.low;
   found = is.found;
   none_better = is.none_better;
+  lower = is.lower;
   work = λ other there. (let same : instance ≡ other = cc in subst (λ (x : Instance). IsWork l (children_of l frame.question.line) x.network frame.question.gap work) same is_work);
 }

@@ -44,6 +44,8 @@ pub record IsFrame (l : Lines) (frame : Frame) : Type 0 where
   -- the best is that of the networks that are done with
   pub found : IsFound (SomeFits l (children_of l frame.question.line) frame.networks.items frame.tried frame.question.gap) l.actions frame.best
   pub none_better : (h : ℕ) → h ≤ l.actions → SomeFits l (children_of l frame.question.line) frame.networks.items frame.tried frame.question.gap h → IsBeaten frame.best h
+  -- and none is better than the least
+  pub lower : IsLower l (children_of l frame.question.line) frame.question.gap frame.least
   pub work : (instance : Instance) → slice_get frame.networks.items frame.tried ≡ Some instance
       → IsWork l (children_of l frame.question.line) instance.network frame.question.gap frame.work
 

@@ -10,3 +10,4 @@ pub mod Ranks
 pub mod Frames
 pub mod Steps
 pub mod Bound
+pub mod Windows

@@ -92,7 +92,7 @@ fn literals_finish<L: PlanLines>(lines: &L, literals: &LiteralList, start: usize
     ensures known { IsFinish (IsStepRoom (L.lines lines.now).states (precondition literals.now) start) (L.lines lines.now).actions result }
     ensures asked { IsAsked (λ q. ⊥) result }
 {
-    match lines.next_gap(literals, start) {
+    match lines.next_gap(literals, start, lines.actions()) {
         Some(gap) => Finish::At(gap),
         None => Finish::Never,
     }

@@ -1,6 +1,5 @@
 //! A line whose finish is asked, with how far its networks are tried.
 ghost use Rattle.std.specs.Prelude.{◌≡◌, ◌≤◌, ◌<◌, ◌+◌, ◌^◌, ℕ, Some, IfOk, IsPermutation, get_or, length};
-ghost use Rattle.htn_model.specs.Fits.{subtask_positions};
 ghost use Rattle.htn_model.specs.Problem.{IsClosed, IsSquare};
 ghost use Rattle.plan_room.specs.Bound.{IsLower};
 ghost use Rattle.plan_room.specs.Frames.{IsFrame, IsLine, IsWork, NetworkHasRoom};
@@ -15,11 +14,12 @@ use crate::bound::{Bound, raise_bound};
 use crate::guess::guessed_children;
 use crate::lines::PlanLines;
 use crate::links::{Links, links_of};
-use crate::matching::{Trial, best_matching, is_beaten, start};
+use crate::matching::{Trial, best_matching, start};
 use crate::memo::Memo;
 use crate::rooms::{Finish, Question};
 use crate::sequence::sequence;
-use htn_ground::{Child, Instance};
+use crate::window::{Window, finish_of, last_better, least_end, may_fit, up_to};
+use htn_ground::Instance;
 use std::alloc::{AllocError, Global};
 
 /// How far the matchings of one network are tried.
@@ -44,6 +44,8 @@ pub(crate) struct Frame {
     tried: usize,
     /// The first gap by which one of these can have finished.
     best: Option<usize>,
+    /// A gap before which none of all can have finished.
+    least: usize,
     /// How far the next one is tried.
     work: Option<Work>,
 }
@@ -66,6 +68,7 @@ pub(crate) fn frame_of<L: PlanLines>(
     lines: &L,
     question: Question,
 ) -> Result<Frame, AllocError>
+    requires lines { AreLines (L.lines lines.now) }
     requires line { IsLine (L.lines lines.now) question.line }
     requires within { question.gap ≤ (L.lines lines.now).actions }
     ensures frame { IfOk result (IsFrame (L.lines lines.now)) }
@@ -77,29 +80,16 @@ pub(crate) fn frame_of<L: PlanLines>(
     } else {
         lines.initials()?
     };
+    let children = children_of(lines, question.line);
+    let least = least_end(lines, children, question.gap);
     Ok(Frame {
         question,
         networks,
         tried: 0,
         best: None,
+        least,
         work: None,
     })
-}
-
-/// How many subtasks a network has.
-fn subtask_count(instance: &Instance) -> usize
-    ensures { result ≡ length (subtask_positions 0 instance.now.network.children) }
-{
-    let nodes = instance.children();
-    let _size = nodes.len();
-    let mut count = 0;
-    for child in nodes.as_slice() {
-        match child {
-            Child::Precondition(_) => {}
-            _ => count += 1,
-        }
-    }
-    count
 }
 
 /// The search among the matchings of a network before its first step, with the children in some order.
@@ -232,34 +222,36 @@ fn try_matchings<L: PlanLines>(
     (finish, work)
 }
 
-/// Goes on matching a network's positions to the children. It stops where the finish of one of them
-/// has to be known first.
+/// Goes on matching a network's positions to the children, to finish in a window. It stops where the
+/// finish of one of them has to be known first.
 fn try_network<L: PlanLines>(
     alloc: Global,
     lines: &L,
     memo: &Memo,
     children: &[usize],
     instance: &Instance,
-    gap: usize,
+    window: Window,
     work: &mut Option<Work>,
 ) -> Result<Finish, AllocError>
     requires lines { AreLines (L.lines lines.now) }
     requires memo { IsMemo (L.lines lines.now) memo.now }
     requires low { (i : ℕ) → i < length children.now → get_or children.now i 0 < (L.lines lines.now).count }
     requires square { IsSquare (length instance.now.network.children) instance.now.network.order }
-    requires within { gap ≤ (L.lines lines.now).actions }
-    requires work { IsWork (L.lines lines.now) children.now instance.now.network gap work.old }
-    ensures work { IsWork (L.lines lines.now) children.now instance.now.network gap work.new }
-    ensures finish { IfOk result (IsFinish (NetworkHasRoom (L.lines lines.now) children.now instance.now.network gap) (L.lines lines.now).actions) }
+    requires first { window.first ≤ (L.lines lines.now).actions }
+    requires last { window.last ≤ (L.lines lines.now).actions }
+    requires work { IsWork (L.lines lines.now) children.now instance.now.network window.first work.old }
+    ensures work { IsWork (L.lines lines.now) children.now instance.now.network window.first work.new }
+    ensures finish { IfOk result (IsFinish (NetworkHasRoom (L.lines lines.now) children.now instance.now.network window.first) window.last) }
     ensures asked { IfOk result (IsAsked (IsOpenBelow (L.lines lines.now) memo.now children.now)) }
 {
+    let gap = window.first;
     let Some(_) = children.len().checked_add(instance.children().len()) else {
         return Err(AllocError);
     };
     let mut current = match work.take() {
         Some(current) => current,
         None => {
-            if subtask_count(instance) != children.len() {
+            if !may_fit(lines, children, instance, window) {
                 return Ok(Finish::Never);
             }
             let bound = Bound { end: gap, seen: 0 };
@@ -282,7 +274,7 @@ fn try_network<L: PlanLines>(
     }
     let (finish, next) = try_matchings(lines, memo, children, instance, gap, current);
     *work = Some(next);
-    Ok(finish)
+    Ok(up_to(finish, window.last))
 }
 
 impl Frame {
@@ -303,31 +295,30 @@ impl Frame {
     {
         let children = children_of(lines, self.question.line);
         while self.tried < self.networks.len() {
-            let gap = self.question.gap;
+            let Some(last) = last_better(self.best, self.least, lines.actions()) else {
+                return Ok(finish_of(self.best));
+            };
+            let window = Window {
+                first: self.question.gap,
+                last,
+            };
             let finish = try_network(
                 alloc,
                 lines,
                 memo,
                 children,
                 &self.networks[self.tried],
-                gap,
+                window,
                 &mut self.work,
             )?;
             match finish {
                 Finish::Unknown(question) => return Ok(Finish::Unknown(question)),
                 Finish::Never => {}
-                Finish::At(end) => {
-                    if !is_beaten(self.best, end) {
-                        self.best = Some(end);
-                    }
-                }
+                Finish::At(end) => self.best = Some(end),
             }
             self.tried += 1;
             self.work = None;
         }
-        match self.best {
-            Some(end) => Ok(Finish::At(end)),
-            None => Ok(Finish::Never),
-        }
+        Ok(finish_of(self.best))
     }
 }

@@ -14,7 +14,7 @@ use crate::rooms::Finish;
 use htn_order::Order;
 use std::alloc::{AllocError, Global};
 
-/// More children than these are left as they are listed.
+/// More children than these are sorted alone.
 const MOST: usize = 1024;
 
 /// So many rounds times children at most.
@@ -325,15 +325,15 @@ pub(crate) fn guessed_children<L: PlanLines>(
     requires low { (i : ℕ) → i < length children.now → get_or children.now i 0 < (L.lines lines.now).count }
     ensures { IfOk result (λ v. IsPermutation children.now v.items) }
 {
-    let mut places = vec![in alloc; 0; children.len()]?;
+    let mut spans = spans_of(alloc, lines, memo, children, &links.after, gap)?;
     if children.len() <= MOST {
-        let mut spans = spans_of(alloc, lines, memo, children, &links.after, gap)?;
         let seats = seats_of(alloc, order, sequence, &links.first, children.len())?;
         improve(alloc, &seats, &mut spans)?;
-        for (place, span) in spans.iter().enumerate() {
-            if let Some(of_child) = places.get_mut(span.child) {
-                *of_child = place;
-            }
+    }
+    let mut places = vec![in alloc; 0; children.len()]?;
+    for (place, span) in spans.iter().enumerate() {
+        if let Some(of_child) = places.get_mut(span.child) {
+            *of_child = place;
         }
     }
     by_places(alloc, children, &places)

@@ -13,6 +13,7 @@ mod memo;
 mod places;
 mod rooms;
 mod sequence;
+mod window;
 
 pub use fits::forest_fits;
 pub use lines::PlanLines;

@@ -44,7 +44,8 @@ pub trait PlanLines {
     fn initials(&self) -> Result<Vec<Instance>, AllocError>
         ensures { IfOk result (λ v. AreCandidates (lines self.now) (IsInitial (lines self.now)) (lines self.now).roots (networks_of v.items)) };
 
-    /// The first gap from `from` on in which all literals hold, if there is one up to the last gap.
-    fn next_gap(&self, literals: &LiteralList, from: usize) -> Option<usize>
-        ensures { IsNextGap (lines self.now).states (lines self.now).actions literals.now from result };
+    /// The first gap from one on, up to the last, in which all literals hold.
+    fn next_gap(&self, literals: &LiteralList, from: usize, last: usize) -> Option<usize>
+        requires { last ≤ (lines self.now).actions }
+        ensures { IsNextGap (lines self.now).states last literals.now from result };
 }

@@ -1,20 +1,20 @@
 -- The next gap in which literals hold.
-use Rattle.std.proofs.Common.{◌≡◌, ℕ, ◌+◌, ◌<◌, ◌≤◌, Bool, true, false, not, ◌&&◌, eqb, List, [], ◌∷◌, ◌++◌, length, map, take, drop, get_or, append_assoc, Option, Some, None, inl, inr, refl, sym, ap, ap₂, ◌∙◌, subst, arith}
+use Rattle.std.proofs.Common.{◌≡◌, ℕ, ◌+◌, ◌<◌, ◌≤◌, Bool, true, false, not, ◌&&◌, List, [], ◌∷◌, ◌++◌, length, map, take, drop, get_or, append_assoc, Option, Some, None, inl, inr, refl, sym, ap, ap₂, ◌∙◌, subst, arith}
 use Rattle.std.specs.Bool.{beq}
 use Rattle.std.specs.List.{list_all}
-use Rattle.std.proofs.lemmas.Bool.{cases_lt, eq-eqb, ne_eqb}
+use Rattle.std.proofs.lemmas.Bool.{cases_lt}
 use Rattle.std.proofs.lemmas.List.{drop_more, map-append, take-append-drop}
 use Rattle.htn_model.specs.Literal.{Literal, atom, equality, literal_holds, holds}
 use Rattle.htn_model.specs.Atom.{Atom}
 use Rattle.htn_model.specs.State.{State, contains}
-use Rattle.plan_run.specs.Turns.{IsNextGap, IsWithin, IsOnward, History, truth, literal_truth, literals_truth}
+use Rattle.plan_run.specs.Turns.{IsNextGap, IsOnward, History, truth, literal_truth, literals_truth}
 
 -- ## Tests that say the same
 
 -- tests that are alike have one next gap
-pub next_alike : (f g : ℕ → Bool) (from : ℕ) (r : Option ℕ) → ((k : ℕ) → f k ≡ g k) → IsNextGap f from r → IsNextGap g from r
-next_alike f g from None same next = λ k h. sym (same k) ∙ next k h
-next_alike f g from (Some gap) same next = (next.0, sym (same gap) ∙ next.1, (λ k h l. sym (same k) ∙ next.2 k h l))
+pub next_alike : (f g : ℕ → Bool) (from last : ℕ) (r : Option ℕ) → ((k : ℕ) → f k ≡ g k) → IsNextGap f from last r → IsNextGap g from last r
+next_alike f g from last None same next = λ k h b. sym (same k) ∙ next k h b
+next_alike f g from last (Some gap) same next = (next.0, next.1, sym (same gap) ∙ next.2, (λ k h l. sym (same k) ∙ next.3 k h l))
 
 -- a truth that is to be true
 pub beq_true : (b : Bool) → beq b true ≡ b
@@ -25,10 +25,6 @@ beq_true false = refl
 pub beq_false : (b : Bool) → beq b false ≡ not b
 beq_false true = refl
 beq_false false = refl
-
--- what is so in every gap is so here, and what is so in none has no next gap
-pub always : (test : ℕ → Bool) (from : ℕ) → ((k : ℕ) → test k ≡ true) → IsNextGap test from (Some from)
-always test from so = (omega arith, so from, (λ k h l. absurd (omega arith)))
 
 -- ## One round
 
@@ -54,32 +50,29 @@ pub false_right : (a b : Bool) → b ≡ false → (a && b) ≡ false
 false_right true b h = h
 false_right false b h = refl
 
--- where literals up to one have moved the gap
-pub record HaveMoved (h : History) (literals : List Literal) (from gap : ℕ) : Type 0 where
+-- where literals up to one have moved the gap, up to a last one
+pub record HaveMoved (h : History) (literals : List Literal) (from last gap : ℕ) : Type 0 where
   pub low : from ≤ gap
+  pub within : gap ≤ last
   pub skipped : (k : ℕ) → from ≤ k → k < gap → literals_truth h literals k ≡ false
   pub hold : gap ≡ from → literals_truth h literals from ≡ true
-  pub within : from < gap → gap ≤ h.last
 
 -- no literal has come yet
-pub none_moved : (h : History) (from : ℕ) → HaveMoved h [] from from
-none_moved h from = record { low = omega arith; skipped = λ k m l. absurd (omega arith); hold = λ e. refl; within = λ l. absurd (omega arith) }
+pub none_moved : (h : History) (from last : ℕ) → from ≤ last → HaveMoved h [] from last from
+none_moved h from last b = record { low = omega arith; within = b; skipped = λ k m l. absurd (omega arith); hold = λ e. refl }
 
 -- one literal moves the gap on
-pub one_moved : (h : History) (literals : List Literal) (l : Literal) (from gap next : ℕ) → HaveMoved h literals from gap → IsNextGap (literal_truth h l) gap (Some next)
-    → IsWithin h.last gap (Some next) → HaveMoved h (literals ++ l ∷ []) from next
-one_moved h literals l from gap next moved (low, holds_next, none) within = record {
+pub one_moved : (h : History) (literals : List Literal) (l : Literal) (from last gap next : ℕ) → HaveMoved h literals from last gap
+    → IsNextGap (literal_truth h l) gap last (Some next) → HaveMoved h (literals ++ l ∷ []) from last next
+one_moved h literals l from last gap next moved (low, within, holds_next, none) = record {
   low = (let a = moved.low in omega arith);
+  within = within;
   skipped = λ k m b. all_join (λ x. literal_truth h x k) literals l ∙ (elim (cases_lt k gap) [
     | inl less ↦ false_left _ (literal_truth h l k) (moved.skipped k m less)
     | inr more ↦ false_right (literals_truth h literals k) _ (none k more b)
   ]);
   hold = λ e. (let a = moved.low in let same : gap ≡ from = omega arith in
       all_join (λ x. literal_truth h x from) literals l ∙ ap₂ (λ x y. x && y) (moved.hold same) (subst (λ k. literal_truth h l k ≡ true) e holds_next));
-  within = λ b. elim (cases_lt gap next) [
-    | inl less ↦ within less
-    | inr more ↦ (let same : next ≡ gap = omega arith in let w = moved.within (omega arith) in omega arith)
-  ];
 }
 
 -- what fails of the first ones fails of all
@@ -92,37 +85,35 @@ joined test (x ∷ xs) ys e = by (test x) refl (joined test xs ys)
     by false t more = ap (λ b. b && list_all test (xs ++ ys)) t
 
 -- where one literal holds nowhere from there on
-pub none_left : (h : History) (before rest : List Literal) (l : Literal) (from gap : ℕ) → HaveMoved h before from gap → IsNextGap (literal_truth h l) gap None
-    → (k : ℕ) → from ≤ k → literals_truth h ((before ++ l ∷ []) ++ rest) k ≡ false
-none_left h before rest l from gap moved none k m = joined (λ x. literal_truth h x k) (before ++ l ∷ []) rest first
+pub none_left : (h : History) (before rest : List Literal) (l : Literal) (from last gap : ℕ) → HaveMoved h before from last gap → IsNextGap (literal_truth h l) gap last None
+    → (k : ℕ) → from ≤ k → k ≤ last → literals_truth h ((before ++ l ∷ []) ++ rest) k ≡ false
+none_left h before rest l from last gap moved none k m b = joined (λ x. literal_truth h x k) (before ++ l ∷ []) rest first
   where
     first : literals_truth h (before ++ l ∷ []) k ≡ false
     first = all_join (λ x. literal_truth h x k) before l ∙ (elim (cases_lt k gap) [
       | inl less ↦ false_left _ (literal_truth h l k) (moved.skipped k m less)
-      | inr more ↦ false_right (literals_truth h before k) _ (none k more)
+      | inr more ↦ false_right (literals_truth h before k) _ (none k more b)
     ])
 
 -- ## Rounds
 
 -- a round that doesn't move the gap has found it
-pub found : (test : ℕ → Bool) (from gap : ℕ) → from ≤ gap → ((k : ℕ) → from ≤ k → k < gap → test k ≡ false) → IsOnward test gap (Some gap) → IsNextGap test from (Some gap)
-found test from gap low skipped onward = (low, onward.2 refl, skipped)
+pub found : (test : ℕ → Bool) (from last gap : ℕ) → from ≤ gap → ((k : ℕ) → from ≤ k → k < gap → test k ≡ false) → IsOnward test gap last (Some gap)
+    → IsNextGap test from last (Some gap)
+found test from last gap low skipped onward = (low, onward.1, onward.3 refl, skipped)
 
 -- the next round skips no gap in which all hold
-pub skipped_more : (test : ℕ → Bool) (from gap next : ℕ) → ((k : ℕ) → from ≤ k → k < gap → test k ≡ false) → IsOnward test gap (Some next)
+pub skipped_more : (test : ℕ → Bool) (from last gap next : ℕ) → ((k : ℕ) → from ≤ k → k < gap → test k ≡ false) → IsOnward test gap last (Some next)
     → (k : ℕ) → from ≤ k → k < next → test k ≡ false
-skipped_more test from gap next skipped onward k m l = elim (cases_lt k gap) [ inl less ↦ skipped k m less | inr more ↦ onward.1 k more l ]
+skipped_more test from last gap next skipped onward k m l = elim (cases_lt k gap) [ inl less ↦ skipped k m less | inr more ↦ onward.2 k more l ]
 
 -- nor does the last one
-pub skipped_all : (test : ℕ → Bool) (from gap : ℕ) → ((k : ℕ) → from ≤ k → k < gap → test k ≡ false) → IsOnward test gap None → IsNextGap test from None
-skipped_all test from gap skipped onward k m = elim (cases_lt k gap) [ inl less ↦ skipped k m less | inr more ↦ onward k more ]
+pub skipped_all : (test : ℕ → Bool) (from last gap : ℕ) → ((k : ℕ) → from ≤ k → k < gap → test k ≡ false) → IsOnward test gap last None → IsNextGap test from last None
+skipped_all test from last gap skipped onward k m b = elim (cases_lt k gap) [ inl less ↦ skipped k m less | inr more ↦ onward k more b ]
 
--- what the next gap from a gap on tells of the gap
-pub tells : (test : ℕ → Bool) (gap next : ℕ) → IsNextGap test gap (Some next) → eqb next gap ≡ test gap
-tells test gap next (low, there, none) = elim (cases_lt gap next) [
-  | inl less ↦ ne_eqb next gap (λ same. omega arith) ∙ sym (none gap (omega arith) less)
-  | inr more ↦ (let same : next ≡ gap = omega arith in eq-eqb next gap same ∙ sym (subst (λ k. test k ≡ true) same there))
-]
+-- what the next gap from a gap on up to it tells of the gap
+pub tells : (test : ℕ → Bool) (gap next : ℕ) → IsNextGap test gap gap (Some next) → test gap ≡ true
+tells test gap next (low, within, there, none) = let same : next ≡ gap = omega arith in subst (λ k. test k ≡ true) same there
 
 -- ## States
 

@@ -1,10 +1,10 @@
 -- Truth by turns: how it comes from the number of those passed, and what one more does.
-use Rattle.std.proofs.Common.{◌≡◌, ℕ, zero, suc, ◌+◌, ◌*◌, ◌%◌, ◌/◌, ◌<◌, ◌≤◌, Bool, true, false, not, cond, ltb, eqb, List, [], ◌∷◌, ◌++◌, length, get_or, Some, None, slice_get, take, ◌-◌, ◌⊎◌, inl, inr, refl, sym, ap, ap₂, ◌∙◌, subst, arith}
+use Rattle.std.proofs.Common.{◌≡◌, ℕ, zero, suc, ◌+◌, ◌*◌, ◌%◌, ◌/◌, ◌<◌, ◌≤◌, Bool, true, false, not, cond, ltb, eqb, List, [], ◌∷◌, ◌++◌, length, get_or, Option, Some, None, slice_get, take, ◌-◌, ◌⊎◌, inl, inr, refl, sym, ap, ap₂, ◌∙◌, subst, arith}
 use Rattle.std.specs.Bool.{beq}
 use Rattle.std.proofs.lemmas.Bool.{both_ways, cases_lt, lt-ltb, le-ltb}
 use Rattle.std.proofs.lemmas.List.{length-append, get_or_append_left, get_or_at, take_at}
 use Rattle.std.proofs.lemmas.Option.{slice_get-get_or, slice_get_past}
-use Rattle.plan_run.specs.Turns.{is_true_in, is_turned, IsRising, Splits, IsTurnedOver, IsNextGap, IsWithin}
+use Rattle.plan_run.specs.Turns.{is_true_in, is_turned, IsRising, Splits, IsTurnedOver, IsNextGap}
 
 -- ## Turns passed
 
@@ -67,14 +67,27 @@ turned_beq true false n = refl
 turned_beq false true n = refl
 turned_beq false false n = absurd (n refl)
 
+-- the first gap from one on, however late, that passes the test
+abbrev pub IsNext : (ℕ → Bool) → ℕ → Option ℕ → Type 0
+IsNext test from None = (k : ℕ) → from ≤ k → test k ≡ false
+IsNext test from (Some gap) = (from ≤ gap) × (test gap ≡ true) × ((k : ℕ) → from ≤ k → k < gap → test k ≡ false)
+
+-- it is the next one up to a last gap where it comes no later
+pub next_up_to : (test : ℕ → Bool) (from last gap : ℕ) → IsNext test from (Some gap) → gap ≤ last → IsNextGap test from last (Some gap)
+next_up_to test from last gap (after, there, none) low = (after, low, there, none)
+
+-- and else there is none up to that gap
+pub none_up_to : (test : ℕ → Bool) (from last gap : ℕ) → IsNext test from (Some gap) → last < gap → IsNextGap test from last None
+none_up_to test from last gap (after, there, none) high k m b = none k m (omega arith)
+
 -- where it is so already
 pub next_here : (first : Bool) (turns : List ℕ) (wanted : Bool) (from passed : ℕ) → Splits turns from passed → is_turned first passed ≡ wanted
-    → IsNextGap (λ k. beq (is_true_in first turns k) wanted) from (Some from)
+    → IsNext (λ k. beq (is_true_in first turns k) wanted) from (Some from)
 next_here first turns wanted from passed s is = (omega arith, is_beq _ wanted (split_truth first turns from passed s ∙ is), (λ k h l. absurd (omega arith)))
 
 -- and else at the next turn
 pub next_there : (first : Bool) (turns : List ℕ) (wanted : Bool) (from passed last : ℕ) → IsRising last turns → Splits turns from passed
-    → (is_turned first passed ≡ wanted → ⊥) → IsNextGap (λ k. beq (is_true_in first turns k) wanted) from (slice_get turns passed)
+    → (is_turned first passed ≡ wanted → ⊥) → IsNext (λ k. beq (is_true_in first turns k) wanted) from (slice_get turns passed)
 next_there first turns wanted from passed last rising s other = by (cases_lt passed (length turns))
   where
     until : (k : ℕ) → from ≤ k → ((i : ℕ) → passed ≤ i → i < length turns → k < get_or turns i 0) → beq (is_true_in first turns k) wanted ≡ false
@@ -97,25 +110,17 @@ next_there first turns wanted from passed last rising s other = by (cases_lt pas
       | inr more ↦ (let same : passed ≡ i = omega arith in subst (λ j. get_or turns passed 0 ≤ get_or turns j 0) same (omega arith))
     ]
 
-    by : (passed < length turns) ⊎ (length turns ≤ passed) → IsNextGap (λ k. beq (is_true_in first turns k) wanted) from (slice_get turns passed)
+    by : (passed < length turns) ⊎ (length turns ≤ passed) → IsNext (λ k. beq (is_true_in first turns k) wanted) from (slice_get turns passed)
     by (inl low) =
         let after = s.high passed (omega arith) low in
-        subst (IsNextGap (λ k. beq (is_true_in first turns k) wanted) from) (sym (slice_get-get_or turns passed 0 low)) (
+        subst (IsNext (λ k. beq (is_true_in first turns k) wanted) from) (sym (slice_get-get_or turns passed 0 low)) (
           (omega arith),
           subst (λ b. beq b wanted ≡ true) (sym (split_truth first turns (get_or turns passed 0) (suc passed) (at_turn low) ∙ turned_more first passed)) (turned_beq _ wanted other),
           (λ k h l. until k h (λ i m n. let r = later i m n low in omega arith)),
         )
     by (inr high) =
-        subst (IsNextGap (λ k. beq (is_true_in first turns k) wanted) from) (sym (slice_get_past turns passed high))
+        subst (IsNext (λ k. beq (is_true_in first turns k) wanted) from) (sym (slice_get_past turns passed high))
         (λ k h. until k h (λ i m l. absurd (omega arith)))
-
--- which is no later than the last one
-pub next_within : (turns : List ℕ) (from passed last : ℕ) → IsRising last turns → IsWithin last from (slice_get turns passed)
-next_within turns from passed last rising = by (cases_lt passed (length turns))
-  where
-    by : (passed < length turns) ⊎ (length turns ≤ passed) → IsWithin last from (slice_get turns passed)
-    by (inl low) = subst (IsWithin last from) (sym (slice_get-get_or turns passed 0 low)) (λ h. rising.low passed low)
-    by (inr high) = subst (IsWithin last from) (sym (slice_get_past turns passed high)) tt
 
 -- ## One turn more
 
@@ -248,15 +253,15 @@ beq_other a b h same = both_ways _ h (is_beq a b same)
 
 -- the next turn, where there is one
 pub next_turn : (first : Bool) (turns : List ℕ) (wanted : Bool) (from passed last : ℕ) → IsRising last turns → Splits turns from passed
-    → (is_turned first passed ≡ wanted → ⊥) → passed < length turns → IsNextGap (λ k. beq (is_true_in first turns k) wanted) from (Some (get_or turns passed 0))
+    → (is_turned first passed ≡ wanted → ⊥) → passed < length turns → IsNext (λ k. beq (is_true_in first turns k) wanted) from (Some (get_or turns passed 0))
 next_turn first turns wanted from passed last rising s other low =
-    subst (IsNextGap (λ k. beq (is_true_in first turns k) wanted) from) (slice_get-get_or turns passed 0 low) (next_there first turns wanted from passed last rising s other)
+    subst (IsNext (λ k. beq (is_true_in first turns k) wanted) from) (slice_get-get_or turns passed 0 low) (next_there first turns wanted from passed last rising s other)
 
 -- and where there is none
 pub no_turn : (first : Bool) (turns : List ℕ) (wanted : Bool) (from passed last : ℕ) → IsRising last turns → Splits turns from passed
-    → (is_turned first passed ≡ wanted → ⊥) → length turns ≤ passed → IsNextGap (λ k. beq (is_true_in first turns k) wanted) from None
+    → (is_turned first passed ≡ wanted → ⊥) → length turns ≤ passed → IsNext (λ k. beq (is_true_in first turns k) wanted) from None
 no_turn first turns wanted from passed last rising s other high =
-    subst (IsNextGap (λ k. beq (is_true_in first turns k) wanted) from) (slice_get_past turns passed high) (next_there first turns wanted from passed last rising s other)
+    subst (IsNext (λ k. beq (is_true_in first turns k) wanted) from) (slice_get_past turns passed high) (next_there first turns wanted from passed last rising s other)
 
 -- what is left once the last one is taken off
 pub popped : (front old new : List ℕ) (gap n : ℕ) → old ≡ front ++ gap ∷ [] → n ≡ length old → new ≡ take (n - 1) old → new ≡ front

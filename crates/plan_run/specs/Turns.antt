@@ -85,20 +85,15 @@ literal_truth h (equality false x y) k = not (nat_eq x y)
 abbrev pub literals_truth : History → List Literal → ℕ → Bool
 literals_truth h literals k = list_all (λ l. literal_truth h l k) literals
 
--- the first gap from one on that passes the test, if there is one
-abbrev pub IsNextGap : (ℕ → Bool) → ℕ → Option ℕ → Type 0
-IsNextGap test from None = (k : ℕ) → from ≤ k → test k ≡ false
-IsNextGap test from (Some gap) = (from ≤ gap) × (test gap ≡ true) × ((k : ℕ) → from ≤ k → k < gap → test k ≡ false)
+-- the first gap from one on, up to the last of them, that passes the test, if there is one
+abbrev pub IsNextGap : (ℕ → Bool) → (from last : ℕ) → Option ℕ → Type 0
+IsNextGap test from last None = (k : ℕ) → from ≤ k → k ≤ last → test k ≡ false
+IsNextGap test from last (Some gap) = (from ≤ gap) × (gap ≤ last) × (test gap ≡ true) × ((k : ℕ) → from ≤ k → k < gap → test k ≡ false)
 
--- a later gap is no later than the last one
-abbrev pub IsWithin : ℕ → ℕ → Option ℕ → Type 0
-IsWithin last from None = Unit {0}
-IsWithin last from (Some gap) = from < gap → gap ≤ last
-
--- a gap from one on before which none passes, and that passes if it is the same one; or that none does
-abbrev pub IsOnward : (ℕ → Bool) → ℕ → Option ℕ → Type 0
-IsOnward test from None = (k : ℕ) → from ≤ k → test k ≡ false
-IsOnward test from (Some gap) = (from ≤ gap) × ((k : ℕ) → from ≤ k → k < gap → test k ≡ false) × (gap ≡ from → test from ≡ true)
+-- a gap from one on, up to the last of them, before which none passes, and that passes if it is the same one; or that none does
+abbrev pub IsOnward : (ℕ → Bool) → (from last : ℕ) → Option ℕ → Type 0
+IsOnward test from last None = (k : ℕ) → from ≤ k → k ≤ last → test k ≡ false
+IsOnward test from last (Some gap) = (from ≤ gap) × (gap ≤ last) × ((k : ℕ) → from ≤ k → k < gap → test k ≡ false) × (gap ≡ from → test from ≡ true)
 
 -- ## Steps
 

@@ -8,7 +8,7 @@ ghost use Rattle.htn_model.specs.Atom.{atom_cmp};
 ghost use Rattle.htn_model.specs.State.{atoms_of, contains};
 ghost use Rattle.htn_state.specs.Views.{literal_of, literals_of};
 ghost use Rattle.plan_run.specs.Turns as spec;
-ghost use Rattle.plan_run.specs.Turns.{AreTurned, IsApplied, IsEverTrue, IsHistory, IsNextGap, IsOnward, IsStart, IsRising, IsTurnedOver, IsWithin, Splits, is_true_in, literal_truth, literals_truth, truth, turns_of};
+ghost use Rattle.plan_run.specs.Turns.{AreTurned, IsApplied, IsEverTrue, IsHistory, IsNextGap, IsOnward, IsStart, IsRising, IsTurnedOver, Splits, is_true_in, literal_truth, literals_truth, truth, turns_of};
 
 use htn_state::{Action, Atom, Literal, State};
 use indexmap::IndexSet;
@@ -56,20 +56,27 @@ fn is_turned(first: bool, turns: usize) -> bool
     if turns % 2 == 0 { first } else { !first }
 }
 
-/// The first gap from one on in which something is as wanted that turns in these gaps, ascending.
-fn next_wanted(first: bool, turns: &[usize], wanted: bool, from: usize) -> Option<usize>
-    requires { (last : ℕ) × IsRising last turns.now }
-    ensures next { IsNextGap (λ k. beq (is_true_in first turns.now k) wanted) from result }
-    ensures within { (last : ℕ) → IsRising last turns.now → IsWithin last from result }
+/// The first gap from one on, up to the last, in which something is as wanted that turns in these gaps, ascending.
+fn next_wanted(
+    first: bool,
+    turns: &[usize],
+    wanted: bool,
+    from: usize,
+    last: usize,
+) -> Option<usize>
+    requires rising { (end : ℕ) × IsRising end turns.now }
+    requires within { from ≤ last }
+    ensures { IsNextGap (λ k. beq (is_true_in first turns.now k) wanted) from last result }
 {
     let passed = count_passed(turns, from);
     if is_turned(first, passed) == wanted {
         return Some(from);
     }
-    if passed < turns.len() {
-        return Some(turns[passed]);
+    if turns.len() <= passed {
+        return None;
     }
-    None
+    let turn = turns[passed];
+    if last < turn { None } else { Some(turn) }
 }
 
 /// Whether the last of the gaps is this one.
@@ -219,14 +226,14 @@ impl<'a> Turns<'a> {
         }
     }
 
-    /// The first gap from one on in which an atom is true or false, as wanted.
-    fn next_with(&self, atom: &Atom, wanted: bool, from: usize) -> Option<usize>
-        requires { IsHistory self.now }
-        ensures next { IsNextGap (λ k. beq (truth self.now atom.now k) wanted) from result }
-        ensures within { IsWithin self.now.last from result }
+    /// The first gap from one on, up to the last, in which an atom is true or false, as wanted.
+    fn next_with(&self, atom: &Atom, wanted: bool, from: usize, last: usize) -> Option<usize>
+        requires history { IsHistory self.now }
+        requires within { from ≤ last }
+        ensures { IsNextGap (λ k. beq (truth self.now atom.now k) wanted) from last result }
     {
         let (first, turns) = self.course_of(atom);
-        next_wanted(first, turns, wanted, from)
+        next_wanted(first, turns, wanted, from, last)
     }
 
     /// Whether an atom is true in some gap.
@@ -234,18 +241,18 @@ impl<'a> Turns<'a> {
         requires { IsHistory self.now }
         ensures { IsTrue result ↔ IsEverTrue self.now atom.now }
     {
-        self.next_with(atom, true, 0).is_some()
+        self.next_with(atom, true, 0, self.last).is_some()
     }
 
-    /// The first gap from one on in which a literal holds.
-    fn next_holding(&self, literal: &Literal, from: usize) -> Option<usize>
-        requires { IsHistory self.now }
-        ensures next { IsNextGap (literal_truth self.now (literal_of literal.now)) from result }
-        ensures within { IsWithin self.now.last from result }
+    /// The first gap from one on, up to the last, in which a literal holds.
+    fn next_holding(&self, literal: &Literal, from: usize, last: usize) -> Option<usize>
+        requires history { IsHistory self.now }
+        requires within { from ≤ last }
+        ensures { IsNextGap (literal_truth self.now (literal_of literal.now)) from last result }
     {
         match literal {
-            Literal::Positive(atom) => self.next_with(atom, true, from),
-            Literal::Negative(atom) => self.next_with(atom, false, from),
+            Literal::Positive(atom) => self.next_with(atom, true, from, last),
+            Literal::Negative(atom) => self.next_with(atom, false, from, last),
             Literal::Same(x, y) if x == y => Some(from),
             Literal::Different(x, y) if x != y => Some(from),
             _ => None,
@@ -253,14 +260,14 @@ impl<'a> Turns<'a> {
     }
 
     /// One round through literals, each of which moves the gap on to the first in which it holds.
-    fn onward(&self, literals: &[Literal], from: usize) -> Option<usize>
-        requires { IsHistory self.now }
-        ensures next { IsOnward (literals_truth self.now (literals_of literals.now)) from result }
-        ensures within { IsWithin self.now.last from result }
+    fn onward(&self, literals: &[Literal], from: usize, last: usize) -> Option<usize>
+        requires history { IsHistory self.now }
+        requires within { from ≤ last }
+        ensures { IsOnward (literals_truth self.now (literals_of literals.now)) from last result }
     {
         let mut gap = from;
         for literal in literals {
-            let Some(next) = self.next_holding(literal, gap) else {
+            let Some(next) = self.next_holding(literal, gap, last) else {
                 return None;
             };
             gap = next;
@@ -268,14 +275,16 @@ impl<'a> Turns<'a> {
         Some(gap)
     }
 
-    /// The first gap from one on in which all literals hold. Past the last gap all stays as it is there.
-    pub fn next_gap(&self, literals: &[Literal], from: usize) -> Option<usize>
+    /// The first gap from one on, up to the last, in which all literals hold.
+    pub fn next_gap(&self, literals: &[Literal], from: usize, last: usize) -> Option<usize>
         requires { IsHistory self.now }
-        ensures next { IsNextGap (literals_truth self.now (literals_of literals.now)) from result }
-        ensures within { IsWithin self.now.last from result }
+        ensures { IsNextGap (literals_truth self.now (literals_of literals.now)) from last result }
     {
+        if last < from {
+            return None;
+        }
         let mut gap = from;
-        while let Some(next) = self.onward(literals, gap) {
+        while let Some(next) = self.onward(literals, gap, last) {
             if next == gap {
                 return Some(gap);
             }
@@ -289,9 +298,6 @@ impl<'a> Turns<'a> {
         requires { IsHistory self.now }
         ensures { result ≡ literals_truth self.now (literals_of literals.now) gap }
     {
-        match self.next_gap(literals, gap) {
-            Some(next) => next == gap,
-            None => false,
-        }
+        self.next_gap(literals, gap, gap).is_some()
     }
 }

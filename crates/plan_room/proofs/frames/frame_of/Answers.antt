@@ -1,9 +1,17 @@
-use Rattle.std.proofs.Common.{sym, subst, arith}
+use Rattle.std.proofs.Common.{◌<◌, ℕ, length, get_or, sym, subst, arith}
 use Rattle.std.proofs.lemmas.Bool.{lt-ltb, le-ltb}
+use Rattle.plan_room.specs.Bound.{IsLower}
 use Rattle.plan_room.specs.Lines.{AreCandidates, networks_of}
 use Rattle.plan_room.specs.Seats.{children_at, children_of, IsOneAt, IsOneOf}
+use Rattle.plan_room.proofs.Unrolled.{child_low}
 use Rattle.plan_room.proofs.frames.frame_of.Goals as goal
 use Rattle.plan_room.proofs.frames.frame_of.Goals.{then-question-count+in_ok-networks, else-question-count+in_ok-networks-2}
+
+pub least_end-least-requires-clause-low : goal.least_end-least-requires-clause-low
+least_end-least-requires-clause-low g c =
+    let l = g.L.PlanLines.lines c.args.lines.now in
+    subst (λ cs. (i : ℕ) → i < length cs → get_or cs i 0 < l.count) (sym c.children_of-children.ensures)
+    (λ i low. child_low l c.requires.lines c.args.question.line i c.requires.line low)
 
 pub returns-clause-frame : goal.returns-clause-frame
 returns-clause-frame g c =
@@ -23,5 +31,6 @@ returns-clause-frame g c =
       low = omega arith;
       found = tt;
       none_better = λ h low some. absurd (let less = some.1 in omega arith);
+      lower = subst (λ cs. IsLower l cs c.args.question.gap c.least_end-least.result) c.children_of-children.ensures c.least_end-least.ensures;
       work = λ instance is. tt;
     }

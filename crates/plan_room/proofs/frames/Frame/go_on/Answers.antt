@@ -1,12 +1,23 @@
-use Rattle.std.proofs.Common.{◌≡◌, ℕ, ◌+◌, ◌≤◌, length, Some, None, false, slice_get, sym, subst, refl, ap, ◌∙◌, arith}
-use Rattle.std.proofs.lemmas.Bool.{both_ways}
+use Rattle.std.proofs.Common.{◌≡◌, ℕ, ◌+◌, ◌≤◌, length, Some, None, slice_get, sym, subst, refl, ap, ◌∙◌, arith}
 use Rattle.std.proofs.lemmas.Option.{slice_get_read}
 use Rattle.plan_room.specs.Placing.{IsFinish, IsFirst}
+use Rattle.plan_room.specs.Memo.{IsOpenBelow}
 use Rattle.plan_room.specs.Seats.{children_of, LineFits}
-use Rattle.plan_room.specs.Frames.{IsFrame, IsWork, NetworkHasRoom}
-use Rattle.plan_room.proofs.Tried.{passed_found, passed_none, late_none, better_found, better_none, network_at, line_first, line_never, reworked}
+use Rattle.plan_room.specs.Frames.{IsFrame, IsWork, NetworkHasRoom, SomeFits}
+use Rattle.plan_room.specs.Trials.{IsAsked}
+use Rattle.plan_room.specs.Windows.{IsLastBetter}
+use Rattle.plan_room.proofs.Tried.{passed_found, late_none, better_found, better_none, network_at, line_done, line_least, reworked}
+use Rattle.plan_room.proofs.Windowed.{asked_best, better_low, first_wider, not_beaten}
 use Rattle.plan_room.proofs.frames.Frame.go_on.Goals as goal
-use Rattle.plan_room.proofs.frames.Frame.go_on.Goals.{in-Never, in-At+then-not-is_beaten, in-At+else-not-is_beaten}
+use Rattle.plan_room.proofs.frames.Frame.go_on.Goals.{in-Never, in-At}
+
+pub try_network-requires-clause-last : goal.try_network-requires-clause-last
+try_network-requires-clause-last g c =
+    let l = g.L.PlanLines.lines c.args.lines.now in
+    let f = c.loop-self.self in
+    let inv = c.loop-self.invariant in
+    better_low (SomeFits l (children_of l f.question.line) f.networks.items f.tried f.question.gap) l.actions f.least c.in-Some.last f.best inv.frame.found
+    (subst (λ n. IsLastBetter f.best f.least n (Some c.in-Some.last)) c.actions.ensures c.in-Some.ensures)
 
 pub try_network-requires-clause-square : goal.try_network-requires-clause-square
 try_network-requires-clause-square g c =
@@ -56,50 +67,48 @@ loop-self-preserved-after-finish g c =
     let f = c.loop-self.self in
     let inv = c.loop-self.invariant in
     let instance = c.index.result.now in
+    let last = c.in-Some.last in
+    let children = children_of l f.question.line in
     let is : slice_get f.networks.items f.tried ≡ Some instance =
     slice_get_read f.networks.items (length f.networks.items) f.tried instance refl (let a = c.loop-self-test.true in let b = c.len.ensures in let o = f.networks.ok.0 in omega arith) c.index.ensures in
-    let finish : IsFinish (NetworkHasRoom l (children_of l f.question.line) instance.network f.question.gap) l.actions c.in_ok-finish.finish =
-    subst (λ cs. IsFinish (NetworkHasRoom l cs instance.network f.question.gap) l.actions c.in_ok-finish.finish) inv.children c.in_ok-finish.ensures.finish in
+    let better : IsLastBetter f.best f.least l.actions (Some last) = subst (λ n. IsLastBetter f.best f.least n (Some last)) c.actions.ensures c.in-Some.ensures in
+    let low = better_low (SomeFits l children f.networks.items f.tried f.question.gap) l.actions f.least last f.best inv.frame.found better in
+    let finish : IsFinish (NetworkHasRoom l children instance.network f.question.gap) last c.in_ok-finish.finish =
+    subst (λ cs. IsFinish (NetworkHasRoom l cs instance.network f.question.gap) last c.in_ok-finish.finish) inv.children c.in_ok-finish.ensures.finish in
     elim c.match-finish.branch [
       | in-Never w ↦ record {
-        frame = subst (λ s. IsFrame l (record { question = s.question; networks = s.networks; tried = s.tried + 1; best = s.best; work = None })) (sym w.self-is) (record {
+        frame = subst (λ s. IsFrame l (record { question = s.question; networks = s.networks; tried = s.tried + 1; best = s.best; least = s.least; work = None })) (sym w.self-is) (record {
           line = inv.frame.line;
           within = inv.frame.within;
           candidates = inv.frame.candidates;
           low = (let a = c.loop-self-test.true in let b = c.len.ensures in let o = f.networks.ok.0 in omega arith);
-          found = passed_found l (children_of l f.question.line) f.networks.items f.question.gap f.tried f.best inv.frame.found inv.frame.none_better instance is;
-          none_better = passed_none l (children_of l f.question.line) f.networks.items f.question.gap f.tried f.best inv.frame.found inv.frame.none_better instance is (subst (IsFinish (NetworkHasRoom l (children_of l f.question.line) instance.network f.question.gap) l.actions) w.in-Never.is finish);
+          found = passed_found l children f.networks.items f.question.gap f.tried f.best inv.frame.found inv.frame.none_better instance is;
+          none_better = late_none l children f.networks.items f.question.gap f.tried f.best inv.frame.found inv.frame.none_better instance is f.least last better
+              (subst (IsFinish (NetworkHasRoom l children instance.network f.question.gap) last) w.in-Never.is finish);
+          lower = inv.frame.lower;
           work = λ other at. tt;
         });
         question = ap (λ s. s.question) w.self-is ∙ inv.question;
         children = inv.children ∙ ap (λ s. children_of l s.question.line) (sym w.self-is);
       }
-      | in-At+then-not-is_beaten w ↦ record {
-        frame = subst (λ s. IsFrame l (record { question = s.question; networks = s.networks; tried = s.tried + 1; best = s.best; work = None })) (sym w.self-is) (record {
-          line = inv.frame.line;
-          within = inv.frame.within;
-          candidates = inv.frame.candidates;
-          low = (let a = c.loop-self-test.true in let b = c.len.ensures in let o = f.networks.ok.0 in omega arith);
-          found = better_found l (children_of l f.question.line) f.networks.items f.question.gap f.tried f.best inv.frame.found inv.frame.none_better instance is w.in-At.end (subst (IsFinish (NetworkHasRoom l (children_of l f.question.line) instance.network f.question.gap) l.actions) w.in-At.is finish) (λ b. both_ways false refl (w.if-not-is_beaten.ensures.1 b));
-          none_better = better_none l (children_of l f.question.line) f.networks.items f.question.gap f.tried f.best inv.frame.found inv.frame.none_better instance is w.in-At.end (subst (IsFinish (NetworkHasRoom l (children_of l f.question.line) instance.network f.question.gap) l.actions) w.in-At.is finish) (λ b. both_ways false refl (w.if-not-is_beaten.ensures.1 b));
-          work = λ other at. tt;
-        });
-        question = ap (λ s. s.question) w.self-is ∙ inv.question;
-        children = inv.children ∙ ap (λ s. children_of l s.question.line) (sym w.self-is);
-      }
-      | in-At+else-not-is_beaten w ↦ record {
-        frame = subst (λ s. IsFrame l (record { question = s.question; networks = s.networks; tried = s.tried + 1; best = s.best; work = None })) (sym w.self-is) (record {
-          line = inv.frame.line;
-          within = inv.frame.within;
-          candidates = inv.frame.candidates;
-          low = (let a = c.loop-self-test.true in let b = c.len.ensures in let o = f.networks.ok.0 in omega arith);
-          found = passed_found l (children_of l f.question.line) f.networks.items f.question.gap f.tried f.best inv.frame.found inv.frame.none_better instance is;
-          none_better = late_none l (children_of l f.question.line) f.networks.items f.question.gap f.tried f.best inv.frame.found inv.frame.none_better instance is w.in-At.end (subst (IsFinish (NetworkHasRoom l (children_of l f.question.line) instance.network f.question.gap) l.actions) w.in-At.is finish) (w.if-not-is_beaten.ensures.0 refl);
-          work = λ other at. tt;
-        });
-        question = ap (λ s. s.question) w.self-is ∙ inv.question;
-        children = inv.children ∙ ap (λ s. children_of l s.question.line) (sym w.self-is);
-      }
+      | in-At w ↦ (let end = w.in-At.end in
+          let first : IsFirst (NetworkHasRoom l children instance.network f.question.gap) last end = subst (IsFinish (NetworkHasRoom l children instance.network f.question.gap) last) w.in-At.is finish in
+          let wider = first_wider (NetworkHasRoom l children instance.network f.question.gap) l.actions last end low first in
+          let fresh = not_beaten l.actions f.least last end f.best better first.within in
+          record {
+            frame = subst (λ s. IsFrame l (record { question = s.question; networks = s.networks; tried = s.tried + 1; best = s.best; least = s.least; work = None })) (sym w.self-is) (record {
+              line = inv.frame.line;
+              within = inv.frame.within;
+              candidates = inv.frame.candidates;
+              low = (let a = c.loop-self-test.true in let b = c.len.ensures in let o = f.networks.ok.0 in omega arith);
+              found = better_found l children f.networks.items f.question.gap f.tried f.best inv.frame.found inv.frame.none_better instance is end wider fresh;
+              none_better = better_none l children f.networks.items f.question.gap f.tried f.best inv.frame.found inv.frame.none_better instance is end wider fresh;
+              lower = inv.frame.lower;
+              work = λ other at. tt;
+            });
+            question = ap (λ s. s.question) w.self-is ∙ inv.question;
+            children = inv.children ∙ ap (λ s. children_of l s.question.line) (sym w.self-is);
+          })
     ]
 
 pub loop-self-preserved : goal.loop-self-preserved
@@ -108,66 +117,78 @@ loop-self-preserved g c =
     let f = c.loop-self.self in
     let inv = c.loop-self.invariant in
     let instance = c.index.result.now in
+    let last = c.in-Some.last in
+    let children = children_of l f.question.line in
     let is : slice_get f.networks.items f.tried ≡ Some instance =
     slice_get_read f.networks.items (length f.networks.items) f.tried instance refl (let a = c.loop-self-test.true in let b = c.len.ensures in let o = f.networks.ok.0 in omega arith) c.index.ensures in
-    let finish : IsFinish (NetworkHasRoom l (children_of l f.question.line) instance.network f.question.gap) l.actions c.in_ok-finish.finish =
-    subst (λ cs. IsFinish (NetworkHasRoom l cs instance.network f.question.gap) l.actions c.in_ok-finish.finish) inv.children c.in_ok-finish.ensures.finish in
+    let better : IsLastBetter f.best f.least l.actions (Some last) = subst (λ n. IsLastBetter f.best f.least n (Some last)) c.actions.ensures c.in-Some.ensures in
+    let low = better_low (SomeFits l children f.networks.items f.tried f.question.gap) l.actions f.least last f.best inv.frame.found better in
+    let finish : IsFinish (NetworkHasRoom l children instance.network f.question.gap) last c.in_ok-finish.finish =
+    subst (λ cs. IsFinish (NetworkHasRoom l cs instance.network f.question.gap) last c.in_ok-finish.finish) inv.children c.in_ok-finish.ensures.finish in
     elim c.match-finish.branch [
       | in-Never w ↦ record {
-        frame = subst (λ s. IsFrame l (record { question = s.question; networks = s.networks; tried = s.tried + 1; best = s.best; work = None })) (sym w.self-is) (record {
+        frame = subst (λ s. IsFrame l (record { question = s.question; networks = s.networks; tried = s.tried + 1; best = s.best; least = s.least; work = None })) (sym w.self-is) (record {
           line = inv.frame.line;
           within = inv.frame.within;
           candidates = inv.frame.candidates;
           low = (let a = c.loop-self-test.true in let b = c.len.ensures in let o = f.networks.ok.0 in omega arith);
-          found = passed_found l (children_of l f.question.line) f.networks.items f.question.gap f.tried f.best inv.frame.found inv.frame.none_better instance is;
-          none_better = passed_none l (children_of l f.question.line) f.networks.items f.question.gap f.tried f.best inv.frame.found inv.frame.none_better instance is (subst (IsFinish (NetworkHasRoom l (children_of l f.question.line) instance.network f.question.gap) l.actions) w.in-Never.is finish);
+          found = passed_found l children f.networks.items f.question.gap f.tried f.best inv.frame.found inv.frame.none_better instance is;
+          none_better = late_none l children f.networks.items f.question.gap f.tried f.best inv.frame.found inv.frame.none_better instance is f.least last better
+              (subst (IsFinish (NetworkHasRoom l children instance.network f.question.gap) last) w.in-Never.is finish);
+          lower = inv.frame.lower;
           work = λ other at. tt;
         });
         question = ap (λ s. s.question) w.self-is ∙ inv.question;
         children = inv.children ∙ ap (λ s. children_of l s.question.line) (sym w.self-is);
       }
-      | in-At+then-not-is_beaten w ↦ record {
-        frame = subst (λ s. IsFrame l (record { question = s.question; networks = s.networks; tried = s.tried + 1; best = s.best; work = None })) (sym w.self-is) (record {
-          line = inv.frame.line;
-          within = inv.frame.within;
-          candidates = inv.frame.candidates;
-          low = (let a = c.loop-self-test.true in let b = c.len.ensures in let o = f.networks.ok.0 in omega arith);
-          found = better_found l (children_of l f.question.line) f.networks.items f.question.gap f.tried f.best inv.frame.found inv.frame.none_better instance is w.in-At.end (subst (IsFinish (NetworkHasRoom l (children_of l f.question.line) instance.network f.question.gap) l.actions) w.in-At.is finish) (λ b. both_ways false refl (w.if-not-is_beaten.ensures.1 b));
-          none_better = better_none l (children_of l f.question.line) f.networks.items f.question.gap f.tried f.best inv.frame.found inv.frame.none_better instance is w.in-At.end (subst (IsFinish (NetworkHasRoom l (children_of l f.question.line) instance.network f.question.gap) l.actions) w.in-At.is finish) (λ b. both_ways false refl (w.if-not-is_beaten.ensures.1 b));
-          work = λ other at. tt;
-        });
-        question = ap (λ s. s.question) w.self-is ∙ inv.question;
-        children = inv.children ∙ ap (λ s. children_of l s.question.line) (sym w.self-is);
-      }
-      | in-At+else-not-is_beaten w ↦ record {
-        frame = subst (λ s. IsFrame l (record { question = s.question; networks = s.networks; tried = s.tried + 1; best = s.best; work = None })) (sym w.self-is) (record {
-          line = inv.frame.line;
-          within = inv.frame.within;
-          candidates = inv.frame.candidates;
-          low = (let a = c.loop-self-test.true in let b = c.len.ensures in let o = f.networks.ok.0 in omega arith);
-          found = passed_found l (children_of l f.question.line) f.networks.items f.question.gap f.tried f.best inv.frame.found inv.frame.none_better instance is;
-          none_better = late_none l (children_of l f.question.line) f.networks.items f.question.gap f.tried f.best inv.frame.found inv.frame.none_better instance is w.in-At.end (subst (IsFinish (NetworkHasRoom l (children_of l f.question.line) instance.network f.question.gap) l.actions) w.in-At.is finish) (w.if-not-is_beaten.ensures.0 refl);
-          work = λ other at. tt;
-        });
-        question = ap (λ s. s.question) w.self-is ∙ inv.question;
-        children = inv.children ∙ ap (λ s. children_of l s.question.line) (sym w.self-is);
-      }
+      | in-At w ↦ (let end = w.in-At.end in
+          let first : IsFirst (NetworkHasRoom l children instance.network f.question.gap) last end = subst (IsFinish (NetworkHasRoom l children instance.network f.question.gap) last) w.in-At.is finish in
+          let wider = first_wider (NetworkHasRoom l children instance.network f.question.gap) l.actions last end low first in
+          let fresh = not_beaten l.actions f.least last end f.best better first.within in
+          record {
+            frame = subst (λ s. IsFrame l (record { question = s.question; networks = s.networks; tried = s.tried + 1; best = s.best; least = s.least; work = None })) (sym w.self-is) (record {
+              line = inv.frame.line;
+              within = inv.frame.within;
+              candidates = inv.frame.candidates;
+              low = (let a = c.loop-self-test.true in let b = c.len.ensures in let o = f.networks.ok.0 in omega arith);
+              found = better_found l children f.networks.items f.question.gap f.tried f.best inv.frame.found inv.frame.none_better instance is end wider fresh;
+              none_better = better_none l children f.networks.items f.question.gap f.tried f.best inv.frame.found inv.frame.none_better instance is end wider fresh;
+              lower = inv.frame.lower;
+              work = λ other at. tt;
+            });
+            question = ap (λ s. s.question) w.self-is ∙ inv.question;
+            children = inv.children ∙ ap (λ s. children_of l s.question.line) (sym w.self-is);
+          })
     ]
 
-pub returns-in-Some-clause-finish : goal.returns-in-Some-clause-finish
-returns-in-Some-clause-finish g c =
+pub returns-in_default-clause-finish : goal.returns-in_default-clause-finish
+returns-in_default-clause-finish g c =
     let l = g.L.PlanLines.lines c.args.lines.now in
     let f = c.loop-self.self in
     let inv = c.loop-self.invariant in
-    subst (λ q. IsFirst (LineFits l q.line q.gap) l.actions c.in-Some.end) inv.question
-    (line_first l c.requires.lines f.question.line f.question.gap inv.frame.line f.networks.items inv.frame.candidates f.tried f.best
-    (let a = c.loop-self-test.false in let b = c.len.ensures in let o = f.networks.ok.0 in omega arith) inv.frame.low inv.frame.found inv.frame.none_better c.in-Some.end c.in-Some.is)
+    subst (λ q. IsFinish (LineFits l q.line q.gap) l.actions c.finish_of.result) inv.question
+    (subst (IsFinish (LineFits l f.question.line f.question.gap) l.actions) (sym c.finish_of.ensures)
+    (line_least l c.requires.lines f.question.line f.question.gap inv.frame.line f.networks.items inv.frame.candidates f.tried f.least f.best inv.frame.found inv.frame.lower
+    (subst (λ n. IsLastBetter f.best f.least n None) c.actions.ensures c.in_default.ensures)))
 
-pub returns-in-None-clause-finish : goal.returns-in-None-clause-finish
-returns-in-None-clause-finish g c =
+pub returns-in_default-clause-asked : goal.returns-in_default-clause-asked
+returns-in_default-clause-asked g c =
+    let l = g.L.PlanLines.lines c.args.lines.now in
+    let asks = IsOpenBelow l c.args.memo.now (children_of l c.args.self.now.question.line) in
+    subst (IsAsked asks) (sym c.finish_of.ensures) (asked_best asks c.loop-self.self.best)
+
+pub returns-clause-finish : goal.returns-clause-finish
+returns-clause-finish g c =
     let l = g.L.PlanLines.lines c.args.lines.now in
     let f = c.loop-self.self in
     let inv = c.loop-self.invariant in
-    subst (λ q. (k : ℕ) → k ≤ l.actions → LineFits l q.line q.gap k → ⊥) inv.question
-    (line_never l c.requires.lines f.question.line f.question.gap inv.frame.line f.networks.items inv.frame.candidates f.tried f.best
-    (let a = c.loop-self-test.false in let b = c.len.ensures in let o = f.networks.ok.0 in omega arith) inv.frame.low inv.frame.found inv.frame.none_better c.in-None.is)
+    subst (λ q. IsFinish (LineFits l q.line q.gap) l.actions c.finish_of-2.result) inv.question
+    (subst (IsFinish (LineFits l f.question.line f.question.gap) l.actions) (sym c.finish_of-2.ensures)
+    (line_done l c.requires.lines f.question.line f.question.gap inv.frame.line f.networks.items inv.frame.candidates f.tried f.best
+    (let a = c.loop-self-test.false in let b = c.len.ensures in let o = f.networks.ok.0 in omega arith) inv.frame.low inv.frame.found inv.frame.none_better))
+
+pub returns-clause-asked : goal.returns-clause-asked
+returns-clause-asked g c =
+    let l = g.L.PlanLines.lines c.args.lines.now in
+    let asks = IsOpenBelow l c.args.memo.now (children_of l c.args.self.now.question.line) in
+    subst (IsAsked asks) (sym c.finish_of-2.ensures) (asked_best asks c.loop-self.self.best)

@@ -1,4 +1,4 @@
-use Rattle.std.proofs.Common.{◌≡◌, ◌≤◌, ◌<◌, ◌+◌, ◌-◌, ℕ, false}
+use Rattle.std.proofs.Common.{◌≡◌, ◌≤◌, ◌<◌, ◌-◌, ℕ, false}
 use Rattle.htn_state.specs.Views.{literals_of}
 use Rattle.plan_run.specs.Turns.{literals_truth}
 use Rattle.plan_run.proofs.history.Turns.next_gap.Given as goal
@@ -6,9 +6,9 @@ use Rattle.plan_run.proofs.history.Turns.next_gap.Given as goal
 abbrev pub invariant-loop-next : goal.invariant-loop-next
 invariant-loop-next l = record {
   low : l.from ≤ l.gap;
+  within : l.gap ≤ l.last;
   skipped : (k : ℕ) → l.from ≤ k → k < l.gap → literals_truth l.self (literals_of l.literals) k ≡ false;
-  within : l.from < l.gap → l.gap ≤ l.self.last;
 }
 
 abbrev pub decreases-loop-next : goal.decreases-loop-next
-decreases-loop-next l = l.self.last + 1 - l.gap
+decreases-loop-next l = l.last - l.gap

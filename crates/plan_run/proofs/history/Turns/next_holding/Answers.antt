@@ -6,14 +6,14 @@ use Rattle.plan_run.specs.Turns.{IsNextGap, literal_truth, truth}
 use Rattle.plan_run.proofs.Going.{beq_false, beq_true, next_alike}
 use Rattle.plan_run.proofs.history.Turns.next_holding.Goals as goal
 
-pub returns-in-Positive-clause-next : goal.returns-in-Positive-clause-next
-returns-in-Positive-clause-next c =
-    subst (λ l. IsNextGap (literal_truth c.args.self.now (literal_of l)) c.args.from c.next_with.result) (sym c.in-Positive.is)
-    (next_alike (λ k. beq (truth c.args.self.now c.in-Positive.atom k) true) (truth c.args.self.now c.in-Positive.atom) c.args.from c.next_with.result
-    (λ k. beq_true (truth c.args.self.now c.in-Positive.atom k)) c.next_with.ensures.next)
+pub returns-in-Positive : goal.returns-in-Positive
+returns-in-Positive c =
+    subst (λ l. IsNextGap (literal_truth c.args.self.now (literal_of l)) c.args.from c.args.last c.next_with.result) (sym c.in-Positive.is)
+    (next_alike (λ k. beq (truth c.args.self.now c.in-Positive.atom k) true) (truth c.args.self.now c.in-Positive.atom) c.args.from c.args.last c.next_with.result
+    (λ k. beq_true (truth c.args.self.now c.in-Positive.atom k)) c.next_with.ensures)
 
-pub returns-in-Negative-clause-next : goal.returns-in-Negative-clause-next
-returns-in-Negative-clause-next c =
-    subst (λ l. IsNextGap (literal_truth c.args.self.now (literal_of l)) c.args.from c.next_with-in-Negative.result) (sym c.in-Negative.is)
-    (next_alike (λ k. beq (truth c.args.self.now c.in-Negative.atom k) false) (λ k. literal_truth c.args.self.now (literal_of (Negative c.in-Negative.atom)) k) c.args.from c.next_with-in-Negative.result
-    (λ k. beq_false (truth c.args.self.now c.in-Negative.atom k)) c.next_with-in-Negative.ensures.next)
+pub returns-in-Negative : goal.returns-in-Negative
+returns-in-Negative c =
+    subst (λ l. IsNextGap (literal_truth c.args.self.now (literal_of l)) c.args.from c.args.last c.next_with-in-Negative.result) (sym c.in-Negative.is)
+    (next_alike (λ k. beq (truth c.args.self.now c.in-Negative.atom k) false) (λ k. literal_truth c.args.self.now (literal_of (Negative c.in-Negative.atom)) k) c.args.from c.args.last c.next_with-in-Negative.result
+    (λ k. beq_false (truth c.args.self.now c.in-Negative.atom k)) c.next_with-in-Negative.ensures)

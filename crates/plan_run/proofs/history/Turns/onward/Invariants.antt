@@ -4,4 +4,4 @@ use Rattle.plan_run.proofs.Going.{HaveMoved}
 use Rattle.plan_run.proofs.history.Turns.onward.Given as goal
 
 abbrev pub invariant-loop-literal : goal.invariant-loop-literal
-invariant-loop-literal l = HaveMoved l.self (literals_of (take l.literal-index l.literals)) l.from l.gap
+invariant-loop-literal l = HaveMoved l.self (literals_of (take l.literal-index l.literals)) l.from l.last l.gap

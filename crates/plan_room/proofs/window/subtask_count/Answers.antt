@@ -2,7 +2,7 @@ use Rattle.std.proofs.Common.{◌∙◌, length, ap, arith}
 use Rattle.std.proofs.lemmas.List.{length-map}
 use Rattle.htn_ground.specs.Views.{child_view}
 use Rattle.plan_room.proofs.Subtasks.{counted, counted_low, is_subtask}
-use Rattle.plan_room.proofs.frames.subtask_count.Goals as goal
+use Rattle.plan_room.proofs.window.subtask_count.Goals as goal
 
 pub overflow_add-count : goal.overflow_add-count
 overflow_add-count c =

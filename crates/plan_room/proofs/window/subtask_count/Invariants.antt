@@ -1,6 +1,6 @@
 use Rattle.std.proofs.Common.{◌≡◌, ◌+◌, drop}
 use Rattle.plan_room.proofs.Subtasks.{subtasks}
-use Rattle.plan_room.proofs.frames.subtask_count.Given as goal
+use Rattle.plan_room.proofs.window.subtask_count.Given as goal
 
 -- those so far, with those that are left
 abbrev pub invariant-loop-child : goal.invariant-loop-child

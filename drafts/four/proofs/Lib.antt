@@ -1,0 +1,10 @@
+pub mod Naming
+pub mod Showing
+pub mod Running
+pub mod Tabled
+pub mod Faulted
+pub mod Instanced
+pub mod Tested
+pub mod Fitting
+pub mod Candidates
+pub mod Arranging

@@ -1,0 +1,9 @@
+pub mod Tasks
+pub mod Named
+pub mod Instances
+pub mod Faults
+pub mod Runs
+pub mod Verdicts
+pub mod Placed
+pub mod Alike
+pub mod Shared
