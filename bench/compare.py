@@ -1,5 +1,5 @@
 #!/usr/bin/env python3
-"""Runs programs side by side on the problems that inputs.py wrote, and prints a table.
+"""Runs programs side by side on the problems and plans that inputs.py wrote, and prints a table.
 
 usage: compare.py FOLDER NAME=PROGRAM [NAME=PROGRAM].. [--nodes N] [--seconds S] [--workers N] [--only WORD]
 
@@ -50,6 +50,14 @@ def mean(ratios):
     return math.exp(sum(math.log(max(it, 1e-3)) for it in ratios) / len(ratios)) if ratios else float("nan")
 
 
+def words_for(folder, given):
+    """The words of a run: a plan to verify, where there is one, and else a problem to plan."""
+    texts, plan = [f"{folder}/{name}.hddl" for name in ("domain", "problem")], f"{folder}/plan.txt"
+    if os.path.exists(plan):
+        return ["verify", *texts, plan]
+    return ["plan", *texts, "--nodes", str(given.nodes), "--workers", str(given.workers)]
+
+
 def main():
     words = argparse.ArgumentParser(description=__doc__, formatter_class=argparse.RawDescriptionHelpFormatter)
     words.add_argument("folder")
@@ -68,9 +76,8 @@ def main():
         family = problem.rpartition("-")[0]
         if family in lost:
             continue
-        texts = [f"{given.folder}/{problem}/{name}.hddl" for name in ("domain", "problem")]
-        bounds = ["--nodes", str(given.nodes), "--workers", str(given.workers)]
-        found = [run([program, "plan", *texts, *bounds], given.seconds) for _, program in programs]
+        words = words_for(f"{given.folder}/{problem}", given)
+        found = [run([program, *words], given.seconds) for _, program in programs]
         answers = {it[:2] for it in found if it and it[0] <= 1}
         answer = next((it[1].split(b"\n")[0].decode() for it in found if it), "")
         if len(answers) > 1:

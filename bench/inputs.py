@@ -3,22 +3,44 @@
 
 usage: inputs.py FOLDER [--family NAME].. [--largest SIZE]
 
-FOLDER/NAME-SIZE gets domain.hddl and problem.hddl. The domains are those of examples/ and of bench/domains/."""
+FOLDER/NAME-SIZE gets domain.hddl and problem.hddl, and plan.txt where the family is one of plans to verify. The domains
+are those of examples/ and of bench/domains/, or are made with the problem."""
 import argparse
 import os
 import random
-import shutil
 
 HERE = os.path.dirname(os.path.abspath(__file__))
 FAMILIES = {}
 
 
-def family(domain, largest):
-    """A family of problems for a domain, by sizes from 1 to the largest."""
+def texts(largest):
+    """A family of texts by their files' names, by sizes from 1 to the largest."""
 
     def add(make):
-        FAMILIES[make.__name__.replace("_", "-")] = (domain, largest, make)
+        FAMILIES[make.__name__.replace("_", "-")] = (largest, make)
         return make
+
+    return add
+
+
+def domain_of(name):
+    """The text of a domain that is kept."""
+    for path in (f"{HERE}/domains/{name}.hddl", f"{HERE}/../examples/{name}/domain.hddl"):
+        if os.path.isfile(path):
+            with open(path, encoding="utf-8") as file:
+                return file.read()
+    raise FileNotFoundError(name)
+
+
+def family(domain, largest):
+    """A family of problems for a domain that is kept."""
+
+    def add(make):
+        def both(size):
+            return {"domain.hddl": domain_of(domain), "problem.hddl": make(size)}
+
+        both.__name__ = make.__name__
+        return texts(largest)(both)
 
     return add
 
@@ -165,6 +187,115 @@ def many_facts(size):
     return problem("transport", objects, ["deliver package place-6"], facts)
 
 
+def lines(head, found, tail):
+    return "\n".join([head, *found, tail, ""])
+
+
+@texts(6)
+def many_methods(size):
+    """Texts that are long, and a plan of no node: 10,000 methods and 50,000 facts a size."""
+    methods = [
+        f"  (:method m-{at} :parameters (?t - truck ?a ?b ?p - place) :task (go ?t ?p)"
+        " :precondition (and (at ?t ?a) (road ?a ?b)))"
+        for at in range(10_000 * size)
+    ]
+    head = "(define (domain d) (:types place truck) (:predicates (road ?a ?b - place) (at ?t - truck ?p - place))"
+    facts = [f"  (road place-{at % 1000} place-{at // 1000})" for at in range(50_000 * size)]
+    places = " ".join(f"place-{at}" for at in range(1000))
+    return {
+        "domain.hddl": lines(f"{head}\n  (:task go :parameters (?t - truck ?p - place))", methods, ")"),
+        "problem.hddl": lines(f"(define (problem p) (:domain d) (:objects {places} - place) (:htn :subtasks ()) (:init", facts, "))"),
+    }
+
+
+NO_TASK = "(define (problem p) (:domain types) (:htn :subtasks ()))\n"
+
+
+@texts(6)
+def type_chain(size):
+    """10,000 types a size, each below the one before it, and as many uses of the last where the first may stand."""
+    count = 10_000 * size
+    types = [f"  type-{at} - type-{at - 1}" for at in range(1, count)]
+    uses = ["  (known ?x)"] * count
+    middle = f") (:predicates (known ?x - type-0)) (:action look :parameters (?x - type-{count - 1}) :precondition (and"
+    return {"domain.hddl": lines("(define (domain types) (:types", [*types, middle, *uses], ")))"), "problem.hddl": NO_TASK}
+
+
+@texts(6)
+def type_ladder(size):
+    """10,000 types a size, each below the two before it, and a use of the last where each may stand."""
+    count = 10_000 * size
+    types = [f"  type-{at} - type-{at - 1} type-{at} - type-{at - 2}" for at in range(2, count)]
+    places = [f"  (known-{at} ?x - type-{at})" for at in range(count)]
+    uses = [f"  (known-{at} ?x)" for at in range(count)]
+    middle = f") (:action look :parameters (?x - type-{count - 1}) :precondition (and"
+    head = "(define (domain types) (:types type-1 - type-0"
+    return {"domain.hddl": lines(head, [*types, ") (:predicates", *places, middle, *uses], ")))"), "problem.hddl": NO_TASK}
+
+
+@texts(10)
+def sets(size):
+    """Two unordered actions a size, each of which makes a fact, and a goal that none makes: each set of them is searched."""
+    count = 2 * size
+    facts = " ".join(f"(made-{at})" for at in range(count))
+    actions = [f"  (:action make-{at} :effect (made-{at}))" for at in range(count)]
+    tasks = " ".join(f"(make-{at})" for at in range(count))
+    return {
+        "domain.hddl": lines(f"(define (domain sets) (:predicates (never) {facts})", actions, ")"),
+        "problem.hddl": f"(define (problem all) (:domain sets) (:goal (never)) (:htn :subtasks (and {tasks})))\n",
+    }
+
+
+def ring(size, literals, constraint=""):
+    """A method over four places of a ring of 500 a size."""
+    count = 500 * size
+    roads_of = [f"  (road place-{at} place-{(at + 7) % count})" for at in range(count)]
+    places = " ".join(f"place-{at}" for at in range(count))
+    return {
+        "domain.hddl": (
+            "(define (domain places) (:predicates (road ?from ?to)) (:task go :parameters ())\n"
+            f"  (:method along :parameters (?a ?b ?c ?d) :task (go) :precondition (and {literals}) :subtasks ()\n"
+            f"    :constraints ({constraint})))\n"
+        ),
+        "problem.hddl": lines(f"(define (problem ring) (:domain places) (:htn :subtasks (go)) (:objects {places}) (:init", roads_of, "))"),
+    }
+
+
+@texts(6)
+def ring_forwards(size):
+    """The literals join each parameter to the one before."""
+    return ring(size, "(road ?a ?b) (road ?b ?c) (road ?c ?d)")
+
+
+@texts(6)
+def ring_backwards(size):
+    """The same, with the later parameter first."""
+    return ring(size, "(road ?b ?a) (road ?c ?b) (road ?d ?c)")
+
+
+@texts(6)
+def ring_apart(size):
+    """The same, where two that no literal joins have to differ."""
+    return ring(size, "(road ?a ?b) (road ?b ?c) (road ?c ?d)", "not (= ?b ?d)")
+
+
+@texts(6)
+def long_plan(size):
+    """A plan to verify: 50,000 nested decompositions a size, each with an action."""
+    count = 50_000 * size
+    actions = [f"{at} tick" for at in range(count)]
+    tasks = [f"{count + at} count -> more {at} {count + at + 1}" for at in range(count)]
+    domain = (
+        "(define (domain counting) (:task count :parameters ())\n"
+        "  (:action tick)\n"
+        "  (:method more :task (count) :ordered-subtasks (and (tick) (count)))\n"
+        "  (:method stop :task (count) :subtasks ()))\n"
+    )
+    problem_text = "(define (problem p) (:domain counting) (:htn :subtasks (count)))\n"
+    plan = lines("==>", [*actions, f"root {count}", *tasks, f"{2 * count} count -> stop"], "<==")
+    return {"domain.hddl": domain, "problem.hddl": problem_text, "plan.txt": plan}
+
+
 def main():
     words = argparse.ArgumentParser(description=__doc__, formatter_class=argparse.RawDescriptionHelpFormatter)
     words.add_argument("folder")
@@ -172,18 +303,13 @@ def main():
     words.add_argument("--largest", type=int, default=99)
     given = words.parse_args()
     for name in given.family or FAMILIES:
-        domain, largest, make = FAMILIES[name]
-        text = next(
-            path
-            for path in (f"{HERE}/domains/{domain}.hddl", f"{HERE}/../examples/{domain}/domain.hddl")
-            if os.path.isfile(path)
-        )
+        largest, make = FAMILIES[name]
         for size in range(1, min(largest, given.largest) + 1):
             folder = f"{given.folder}/{name}-{size}"
             os.makedirs(folder, exist_ok=True)
-            shutil.copyfile(text, f"{folder}/domain.hddl")
-            with open(f"{folder}/problem.hddl", "w", encoding="utf-8") as file:
-                file.write(make(size))
+            for file, text in make(size).items():
+                with open(f"{folder}/{file}", "w", encoding="utf-8") as out:
+                    out.write(text)
 
 
 main()
