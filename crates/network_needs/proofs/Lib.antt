@@ -1,0 +1,4 @@
+pub mod Lists
+pub mod Lasting
+pub mod Bounded
+pub mod Checked
