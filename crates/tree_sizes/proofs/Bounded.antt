@@ -28,7 +28,7 @@ sum_splice f i ys xs d inside =
 -- ## Live steps
 
 -- a live step makes a choice that is not dead
-live_choice : (problem : Problem) (c d : Config) (number : ℕ) → live_step problem c number ≡ Some d
+pub live_choice : (problem : Problem) (c d : Config) (number : ℕ) → live_step problem c number ≡ Some d
     → (choice : Choice) × (choose problem c number ≡ Some choice) × (is_dead problem choice.network ≡ false) × (result_of c choice ≡ d)
 live_choice problem c d number is = by (choose problem c number) refl is
   where

@@ -10,11 +10,11 @@ use Rattle.htn_model.specs.Exhaustion.{is_dead}
 use Rattle.htn_model.specs.Grounding.{problem_of}
 use Rattle.htn_model.specs.Instance.{Instance}
 use Rattle.htn_model.specs.Instances.{methods_of}
-use Rattle.htn_model.specs.Problem.{Child, GroundTask, Network, ground_task_eq, network_eq}
+use Rattle.htn_model.specs.Problem.{GroundTask, Network, ground_task_eq, network_eq}
 use Rattle.htn_model.specs.Task.{Task}
 use Rattle.htn_ground.specs.Distinct.{distinct, is_live, live_methods, same_network}
 use Rattle.tree_sizes.specs.Enumerated.{AreCovered, HasParts, IsCovered, IsEnumeration, IsMore}
-use Rattle.tree_sizes.specs.Numbers.{AreParts, IsGrown, is_among}
+use Rattle.tree_sizes.specs.Numbers.{AreParts, HasNetwork, IsGrown, is_among}
 use Rattle.tree_sizes.specs.declared.enumeration.Enumeration.{Enumeration}
 use Rattle.tree_sizes.specs.declared.parts.Parts.{Parts}
 use Rattle.tree_sizes.proofs.Numbers.{grown_at, grown_from, grown_itself, grown_then, parts_stay}
@@ -121,14 +121,14 @@ at_end [] x = refl
 at_end (y ∷ xs) x = at_end xs x
 
 -- parts that are there stay
-has_stays : (old new : List GroundTask) (found more : List Parts) (number : ℕ) (children : List Child) → IsGrown old new → IsGrown found more
-    → HasParts old found number children → HasParts new more number children
-has_stays old new found more number children grown longer (j, p, at, are) = (j, p, grown_at found more j p longer at, parts_stay old new number children p grown are)
+has_stays : (old new : List GroundTask) (found more : List Parts) (number : ℕ) (n : Network) → IsGrown old new → IsGrown found more
+    → HasParts old found number n → HasParts new more number n
+has_stays old new found more number n grown longer (j, p, at, are, of) = (j, p, grown_at found more j p longer at, parts_stay old new number n.children p grown are, of)
 
 -- those that are added are there
-pub has_pushed : (tasks : List GroundTask) (found more : List Parts) (number : ℕ) (children : List Child) (p : Parts) → more ≡ found ++ p ∷ [] → AreParts tasks number children p
-    → HasParts tasks more number children
-has_pushed tasks found more number children p is are = (length found, p, ap (λ l. slice_get l (length found)) is ∙ at_end found p, are)
+pub has_pushed : (tasks : List GroundTask) (found more : List Parts) (number : ℕ) (n : Network) (p : Parts) → more ≡ found ++ p ∷ [] → AreParts tasks number n.children p → HasNetwork p n
+    → HasParts tasks more number n
+has_pushed tasks found more number n p is are of = (length found, p, ap (λ l. slice_get l (length found)) is ∙ at_end found p, are, of)
 
 -- what is among some is among more
 among_stays : (g : GroundTask) (old more : List GroundTask) → is_among old g ≡ true → is_among (old ++ more) g ≡ true
@@ -140,10 +140,10 @@ among_stays g (h ∷ old) more is = by (ground_task_eq g h) is (among_stays g ol
     by false is rest = rest is
 
 -- nodes that are covered stay so
-pub covered_stays : (t : Task) (old new : Enumeration) (number : ℕ) (children : List Child) → IsMore t old new → IsCovered old number children → IsCovered new number children
-covered_stays t old new number children more (inl parts) =
-    inl (has_stays old.tasks.keys new.tasks.keys old.instances.items new.instances.items number children more.tasks more.instances parts)
-covered_stays t old new number children more (inr (k, g, at, among)) =
+pub covered_stays : (t : Task) (old new : Enumeration) (number : ℕ) (n : Network) → IsMore t old new → IsCovered old number n → IsCovered new number n
+covered_stays t old new number n more (inl parts) =
+    inl (has_stays old.tasks.keys new.tasks.keys old.instances.items new.instances.items number n more.tasks more.instances parts)
+covered_stays t old new number n more (inr (k, g, at, among)) =
     inr (k, g, at, ap (λ l. is_among l g) more.actions.1 ∙ among_stays g old.actions.barred.keys more.actions.0 among)
 
 -- more, and then more
@@ -168,31 +168,31 @@ more_itself t e = record {
 
 -- the instances so far, and one more
 pub each_more : (t : Task) (old new : Enumeration) (number : ℕ) (instances : List Instance) (i : ℕ) (item : Instance) → IsMore t old new → item ≡ get_or instances i item
-    → ((k : ℕ) (x : Instance) → k < i → slice_get instances k ≡ Some x → IsCovered old number x.network.children)
-    → IsCovered new number item.network.children
-    → (k : ℕ) (x : Instance) → k < i + 1 → slice_get instances k ≡ Some x → IsCovered new number x.network.children
+    → ((k : ℕ) (x : Instance) → k < i → slice_get instances k ≡ Some x → IsCovered old number x.network)
+    → IsCovered new number item.network
+    → (k : ℕ) (x : Instance) → k < i + 1 → slice_get instances k ≡ Some x → IsCovered new number x.network
 each_more t old new number instances i item more is before here k x low at = elim (cases_lt k i) [
-  | inl less ↦ covered_stays t old new number x.network.children more (before k x less at)
+  | inl less ↦ covered_stays t old new number x.network more (before k x less at)
   | inr other ↦
       (let same : k ≡ i = omega arith in
       let stands : item ≡ x = is ∙ ap (λ j. get_or instances j item) (sym same) ∙ get_or_from_slice_get instances k x item at in
-      subst (λ (y : Instance). IsCovered new number y.network.children) stands here)
+      subst (λ (y : Instance). IsCovered new number y.network) stands here)
 ]
 
 -- the tasks so far, and one more
 pub enumerated_more : (t : Task) (old new : Enumeration) (number : ℕ) (goal : GroundTask) (listed : List Instance)
     → IsMore t old new → slice_get old.tasks.keys old.expanded ≡ Some goal → number ≡ old.expanded → listed ≡ distinct (live_methods t goal)
     → IsEnumeration t old
-    → ((k : ℕ) (x : Instance) → slice_get listed k ≡ Some x → IsCovered new number x.network.children)
+    → ((k : ℕ) (x : Instance) → slice_get listed k ≡ Some x → IsCovered new number x.network)
     → (g : GroundTask) (n : ℕ) → n < old.expanded + 1 → slice_get new.tasks.keys n ≡ Some g → AreCovered t new n g
 enumerated_more t old new number goal listed more stands named are before here g n low at k x there = elim (cases_lt n old.expanded) [
   | inl less ↦
       (let inside = slice_get_within old.tasks.keys old.expanded goal stands in
       let was = grown_from old.tasks.keys new.tasks.keys n g more.tasks (omega (arith, inside, less)) at in
-      covered_stays t old new n x.network.children more (before.covered g n less was k x there))
+      covered_stays t old new n x.network more (before.covered g n less was k x there))
   | inr other ↦
       (let same : n ≡ old.expanded = omega arith in
       let same_goal : goal ≡ g = same_Some goal g (sym (grown_at old.tasks.keys new.tasks.keys old.expanded goal more.tasks stands) ∙ ap (slice_get new.tasks.keys) (sym same) ∙ at) in
       let listed_g : listed ≡ distinct (live_methods t g) = are ∙ ap (λ h. distinct (live_methods t h)) same_goal in
-      subst (λ m. IsCovered new m x.network.children) (named ∙ sym same) (here k x (ap (λ l. slice_get l k) listed_g ∙ there)))
+      subst (λ m. IsCovered new m x.network) (named ∙ sym same) (here k x (ap (λ l. slice_get l k) listed_g ∙ there)))
 ]

@@ -93,13 +93,13 @@ module _ (tasks barred : List GroundTask) (sizes : List ℕ) where
     positive (task g) = number_positive (number_of tasks g)
 
     -- no size is more than an instance gives of which the parts are there
-    within_parts : (n : ℕ) (children : List Child) → HasParts tasks instances n children → size_at sizes n ≤ 1 + sum_by size children
-    within_parts n children (j, p, at, are) =
+    within_parts : (n : ℕ) (x : Network) → HasParts tasks instances n x → size_at sizes n ≤ 1 + sum_by size x.children
+    within_parts n x (j, p, at, are, of) =
         let inside = slice_get_within instances j p at in
         let is : get_or instances j p ≡ p = get_or_from_slice_get instances j p p at in
         let own : size_at sizes p.task ≤ size_by sizes p = subst (λ (q : Parts). size_at sizes q.task ≤ size_by sizes q) is (lower.within j p inside) in
         let named : size_at sizes p.task ≡ size_at sizes n = ap (size_at sizes) are.task in
-        let sum = parts_sum children p n are in
+        let sum = parts_sum x.children p n are in
         omega (arith, own, named, sum)
 
     -- nor more than one gives with an action that is never carried out
@@ -113,12 +113,12 @@ module _ (tasks barred : List GroundTask) (sizes : List ℕ) where
         omega (arith, one, part, most)
 
     -- nor than any other
-    within_covered : (n : ℕ) (children : List Child) → HasParts tasks instances n children ⊎ HasBarred barred children → size_at sizes n ≤ 1 + sum_by size children
-    within_covered n children (inl parts) = within_parts n children parts
-    within_covered n children (inr never) = within_barred n children never
+    within_covered : (n : ℕ) (x : Network) → HasParts tasks instances n x ⊎ HasBarred barred x.children → size_at sizes n ≤ 1 + sum_by size x.children
+    within_covered n x (inl parts) = within_parts n x parts
+    within_covered n x (inr never) = within_barred n x.children never
 
 -- what is among these is never carried out
-among_barred : (t : Task) (barred : List GroundTask) (g : GroundTask) → AreBarred t barred → is_among barred g ≡ true → is_barred (problem_of t) g ≡ true
+pub among_barred : (t : Task) (barred : List GroundTask) (g : GroundTask) → AreBarred t barred → is_among barred g ≡ true → is_barred (problem_of t) g ≡ true
 among_barred t barred g all among =
     let found = Any-from_list_any (ground_task_eq g) barred among in
     let same : g ≡ found.1 = (ground_task_eq-decides g found.1).0 found.4 in
@@ -150,7 +150,7 @@ lower_measure t e sizes enumerated lower = record {
           (let found = listed_of network t g number at live in
           let covered = enumerated.covered g n less (number_at e.tasks.keys g n is) found.0 found.1 found.2 in
           subst (λ (m : Network). size_at sizes n ≤ 1 + sum_by (measure e.tasks.keys e.actions.barred.keys sizes) m.children) (sym found.3)
-          (within_covered e.tasks.keys e.actions.barred.keys sizes e.instances.items e.expanded lower n found.1.network.children covered))
+          (within_covered e.tasks.keys e.actions.barred.keys sizes e.instances.items e.expanded lower n found.1.network covered))
       | inr past ↦ (let one = past_is_one e.tasks.keys e.actions.barred.keys sizes e.instances.items e.expanded lower n past in omega (arith, one))
     ]
 

@@ -1,7 +1,7 @@
 -- Ground tasks by number, and what instances are made of.
 use Rattle.std.specs.Prelude.{◌≡◌, ℕ, ◌+◌, ◌++◌, Bool, true, List, map, length, slice_get, Option, Some, None}
 use Rattle.std.specs.List.{All, filter_map, list_any, position}
-use Rattle.htn_model.specs.Problem.{Child, precondition, action, task, GroundTask, ground_task_eq}
+use Rattle.htn_model.specs.Problem.{Child, precondition, action, task, GroundTask, Network, ground_task_eq}
 use Rattle.htn_model.specs.Grounding.{problem_of}
 use Rattle.htn_model.specs.Task.{Task}
 use Rattle.tree_sizes.specs.Measure.{is_barred}
@@ -30,6 +30,10 @@ pub record AreParts (tasks : List GroundTask) (number : ℕ) (children : List Ch
   pub task : p.task ≡ number
   pub steps : p.steps + length p.subtasks.items ≡ length children
   pub subtasks : map (number_of tasks) (compounds children) ≡ map Some p.subtasks.items
+
+-- they have the nodes of this network, and their order
+abbrev pub HasNetwork : Parts → Network → Type 0
+HasNetwork p n = (p.children ≡ n.children) × (p.order ≡ n.order)
 
 -- ## Actions that are never carried out
 

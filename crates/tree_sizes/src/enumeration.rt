@@ -17,7 +17,7 @@ const MOST_COMBINATIONS: u64 = 1_000_000;
 /// Ground tasks by number, those that were expanded first, and the instances of these, apart from those with an
 /// action that is never carried out.
 #[derive(Drop)]
-pub(crate) struct Enumeration {
+pub struct Enumeration {
     pub(crate) tasks: IndexSet<GroundTask>,
     pub(crate) actions: Actions,
     pub(crate) expanded: usize,
@@ -88,6 +88,34 @@ fn cost_of(instances: &[Instance]) -> u64
 }
 
 impl Enumeration {
+    /// How many ground tasks have their instances listed: those of the first numbers.
+    pub fn expanded(&self) -> usize
+        ensures { result ≡ self.now.expanded }
+    {
+        self.expanded
+    }
+
+    /// The instances.
+    pub fn instances(&self) -> &[Parts]
+        ensures { result.now ≡ self.now.instances.items }
+    {
+        self.instances.as_slice()
+    }
+
+    /// The ground tasks by number.
+    pub fn tasks(&self) -> &IndexSet<GroundTask>
+        ensures { result.now ≡ self.now.tasks }
+    {
+        &self.tasks
+    }
+
+    /// Actions that are never carried out.
+    pub fn barred(&self) -> &IndexSet<GroundTask>
+        ensures { result.now ≡ self.now.actions.barred }
+    {
+        &self.actions.barred
+    }
+
     /// The compound tasks of the initial networks, none of them expanded.
     fn new(alloc: Global, task: &Task) -> Result<Enumeration, AllocError>
         ensures expanded { IfOk result (λ e. e.expanded ≡ 0) }
@@ -107,15 +135,18 @@ impl Enumeration {
         alloc: Global,
         task: &Task,
         number: u32,
-        children: &[Child],
+        instance: &Instance,
     ) -> Result<(), AllocError>
         ensures more { OnOk result (IsMore task.now self.old self.new) }
-        ensures covered { OnOk result (IsCovered self.new number (children_of children.now)) }
+        ensures covered { OnOk result (IsCovered self.new number instance.now.network) }
     {
+        let children = instance.children().as_slice();
         if self.actions.has_barred(alloc, task, children)? {
             return Ok(());
         }
-        let parts = parts_of(alloc, number, children, &mut self.tasks)?;
+        let kept = instance.children().clone()?;
+        let order = instance.order().clone()?;
+        let parts = parts_of(alloc, number, children, kept, order, &mut self.tasks)?;
         self.instances.push(parts)?;
         Ok(())
     }
@@ -130,10 +161,10 @@ impl Enumeration {
     ) -> Result<(), AllocError>
         ensures more { OnOk result (IsMore task.now self.old self.new) }
         ensures covered { OnOk result ((k : ℕ) (x : instance.Instance) → slice_get instances.now k ≡ Some x
-            → IsCovered self.new number x.network.children) }
+            → IsCovered self.new number x.network) }
     {
         for instance in instances {
-            self.push_instance(alloc, task, number, instance.children().as_slice())?;
+            self.push_instance(alloc, task, number, instance)?;
         }
         Ok(())
     }
@@ -141,7 +172,7 @@ impl Enumeration {
 
 /// The ground tasks that the initial network reaches, in the order in which they are found, with the instances
 /// that are listed for them, until these would cost more than the limit or a task may have too many.
-pub(crate) fn enumerate(alloc: Global, task: &Task, limit: u64) -> Result<Enumeration, AllocError>
+pub fn enumerate(alloc: Global, task: &Task, limit: u64) -> Result<Enumeration, AllocError>
     ensures { IfOk result (λ e. IsEnumeration task.now e) }
 {
     let mut found = Enumeration::new(alloc, task)?;

@@ -14,5 +14,7 @@ mod least;
 mod parts;
 mod tree_sizes;
 
+pub use enumeration::{Enumeration, enumerate};
 pub use laws::{measures_are_bounds, states_last};
+pub use parts::Parts;
 pub use tree_sizes::TreeSizes;

@@ -1,12 +1,14 @@
 //! How large the tree below a node is at least.
 ghost use Rattle.std.specs.Prelude.{◌≡◌, IfOk};
 ghost use Rattle.htn_model.specs.Grounding.{problem_of};
+ghost use Rattle.htn_model.specs.Task as model;
 ghost use Rattle.htn_ground.specs.Views.{child_view};
+ghost use Rattle.tree_sizes.specs.Enumerated.{IsEnumeration};
 ghost use Rattle.tree_sizes.specs.Measure.{IsLowerMeasure};
 ghost use Rattle.tree_sizes.specs.Sizes.{size_of};
 
 use crate::check::{OUT_OF_REACH, are_lower, size_at};
-use crate::enumeration::enumerate;
+use crate::enumeration::{Enumeration, enumerate};
 use crate::least::least_sizes;
 use htn_ground::{Child, GroundTask};
 use htn_task::Task;
@@ -30,6 +32,13 @@ impl TreeSizes {
         ensures { IfOk result (λ s. IsLowerMeasure (problem_of task.now) (size_of s)) }
     {
         let found = enumerate(alloc, task, limit)?;
+        TreeSizes::of_enumerated(alloc, found)
+    }
+
+    /// The same by instances that were enumerated.
+    pub fn of_enumerated(alloc: Global, found: Enumeration) -> Result<TreeSizes, AllocError>
+        ensures { IfOk result (λ s. (t : model.Task) → IsEnumeration t found → IsLowerMeasure (problem_of t) (size_of s)) }
+    {
         let least = least_sizes(alloc, found.expanded, &found.instances)?;
         let sizes = if are_lower(&least, &found.instances, found.expanded) {
             least

@@ -1,7 +1,5 @@
-use Rattle.std.proofs.Common.{◌≡◌, ◌∙◌, List, subst, arith}
+use Rattle.std.proofs.Common.{arith}
 use Rattle.std.proofs.lemmas.Option.{slice_get_within}
-use Rattle.htn_model.specs.Problem.{Child}
-use Rattle.htn_ground.specs.Views.{children_of}
 use Rattle.tree_sizes.specs.Enumerated.{IsCovered}
 use Rattle.tree_sizes.proofs.Listed.{each_more, more_itself, more_then}
 use Rattle.tree_sizes.proofs.enumeration.Enumeration.push_instances.Goals as goal
@@ -19,8 +17,7 @@ loop-instance-preserved c =
     let new = c.push_instance.new.self in
     let item = c.instance-item.result in
     let pushed = c.in_ok-push_instance.ensures in
-    let nodes : children_of c.as_slice.result.now ≡ item.network.children = c.as_slice.ensures ∙ c.children.ensures in
-    let here : IsCovered new c.args.number item.network.children = subst (λ (l : List Child). IsCovered new c.args.number l) nodes pushed.covered in
+    let here : IsCovered new c.args.number item.network = pushed.covered in
     record {
       more = more_then t c.args.self.now old new c.loop-instance.invariant.more pushed.more;
       covered = each_more t old new c.args.number c.args.instances.now c.loop-instance.instance-index item pushed.more c.instance-item.is c.loop-instance.invariant.covered here;

@@ -6,5 +6,5 @@ use Rattle.tree_sizes.proofs.enumeration.Enumeration.push_instances.Given as goa
 abbrev pub invariant-loop-instance : goal.invariant-loop-instance
 invariant-loop-instance l = record {
   more : IsMore l.task l.initial.self l.self;
-  covered : (k : ℕ) (x : Instance) → k < l.instance-index → slice_get l.instances k ≡ Some x → IsCovered l.self l.number x.network.children;
+  covered : (k : ℕ) (x : Instance) → k < l.instance-index → slice_get l.instances k ≡ Some x → IsCovered l.self l.number x.network;
 }
