@@ -1,0 +1,5 @@
+pub mod Lists
+pub mod Lasting
+pub mod Bounded
+pub mod Within
+pub mod Checked

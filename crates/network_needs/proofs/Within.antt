@@ -1,0 +1,131 @@
+-- What the checks of one row and one network tell.
+use Rattle.std.proofs.Common.{◌≡◌, ℕ, ◌+◌, ◌<◌, Bool, true, false, ◌||◌, eqb, List, [], ◌∷◌, All, Contains, length, get_or, Option, Some, None, slice_get, inl, inr, refl, sym, ap, ap₂, ◌∙◌, subst, arith}
+use Rattle.std.specs.List.{list_any}
+use Rattle.std.specs.Cmp.Lexicographic.{pointwise}
+use Rattle.std.proofs.lemmas.Bool.{and_parts, cases_Bool, cases_lt, ne_eqb}
+use Rattle.std.proofs.lemmas.Option.{same_Some, slice_get-get_or}
+use Rattle.std.proofs.lemmas.List.{length-map, get_or-map}
+use Rattle.std.proofs.lemmas.List.Elements.{All-contains, All-map}
+use Rattle.htn_model.specs.Choice.{child_of}
+use Rattle.htn_model.specs.Atom.{Atom}
+use Rattle.htn_model.specs.State.{State, atoms_of, contains}
+use Rattle.htn_model.proofs.Sets.{set_of-Contains, set_of-atoms_of}
+use Rattle.htn_model.specs.Literal.{Literal, Action, atom, literal_eq}
+use Rattle.htn_model.specs.Equality.{ground_task_eq-decides, literal_eq-decides}
+use Rattle.htn_model.specs.Problem.{Child, precondition, GroundTask, ground_task_eq, Network, Order, is_before}
+use Rattle.htn_state.specs.Views.{literal_of, literals_of}
+use Rattle.htn_state.specs.declared.literal.Literal.{Literal as Written}
+use Rattle.htn_ground.specs.Views.{child_view, children_of}
+use Rattle.htn_ground.specs.declared.child.Child.{Child as Node}
+use Rattle.tree_sizes.specs.declared.parts.Parts.{Parts}
+use Rattle.network_needs.specs.Checked.{GivesWithin, IsActionRight, IsAllowed}
+use Rattle.network_needs.specs.Needs.{IsNeededAt, IsUngiven, IsWithin, may_give}
+use Rattle.network_needs.specs.Rows.{blocked_by, gives_by, is_marked, literal_number, outlook_of, row_of, task_row, wants_by}
+use Rattle.network_needs.specs.declared.needs.Needs.{Needs}
+use Rattle.network_needs.specs.declared.rows.Row.{Row}
+use Rattle.network_needs.proofs.Lasting.{is_needed, third}
+use Rattle.network_needs.proofs.Lists.{contains_first, contains_later, contains_none}
+
+-- a network as the code has it
+abbrev pub seen : List Node → Order → Network
+seen children order = record { children = children_of children; order = order }
+
+-- the node at a position
+pub node_at : (xs : List Node) (i : ℕ) (x : Node) → i < length xs → x ≡ get_or xs i x → child_of (children_of xs) i ≡ child_view x
+node_at xs i x low is = get_or-map child_view xs i x (precondition _) low ∙ ap child_view (sym is)
+
+-- one that equals an element is an element
+pub contains_equal : (ls : List Literal) (l : Literal) → list_any (literal_eq l) ls ≡ true → Contains ls l
+contains_equal [] l passes = absurd cc
+contains_equal (m ∷ ls) l passes = elim (cases_Bool (literal_eq l m)) [
+  | inl same ↦ contains_first m ls l (sym ((literal_eq-decides l m).0 same))
+  | inr differs ↦ contains_later m ls l (contains_equal ls l (sym (ap (λ b. b || list_any (literal_eq l) ls) differs) ∙ passes))
+]
+
+-- what holds of each written literal holds of each literal
+pub each_literal : (P : Literal → Type 0) (xs : List Written) → All (λ x. P (literal_of x)) xs → (l : Literal) → Contains (literals_of xs) l → P l
+each_literal P xs all l at = All-contains P (literals_of xs) l (All-map P literal_of xs all) at
+
+-- a mark that others have too
+marked_too : (a b : List Bool) → ((k : ℕ) → get_or a k false ≡ true → get_or b k false ≡ true) → (number : Option ℕ) → is_marked a number ≡ true → is_marked b number ≡ true
+marked_too a b h None on = on
+marked_too a b h (Some k) on = h k on
+
+-- a node whose row's marks a row has gives within it
+pub gives_from : (n : Needs) (x : Child) (inner r : Row) → row_of n x ≡ Some inner → ((k : ℕ) → get_or inner.gives.items k false ≡ true → get_or r.gives.items k false ≡ true)
+    → GivesWithin n x r
+gives_from n x inner r is h = λ number on. marked_too inner.gives.items r.gives.items h number (sym (ap (λ o. gives_by o number) is) ∙ on)
+
+-- where no node may give a literal none gives it
+pub ungiven_from_none : (n : Needs) (children : List Node) (order : Order) (l : Literal) (i : ℕ)
+    → ((j : ℕ) → j < length children → may_give (outlook_of n) (seen children order) l i j ≡ false) → IsUngiven (outlook_of n) (seen children order) l i
+ungiven_from_none n children order l i none = λ j low other before.
+    third (eqb i j) (is_before order i j) ((outlook_of n).gives (child_of (children_of children) j) l) (ne_eqb i j other) before
+    (none j (omega (arith, low, length-map children child_view)))
+
+-- a task without a row is within each network
+pub without_row : (n : Needs) (g : GroundTask) (network : Network) → task_row n g ≡ None → IsWithin (outlook_of n) g network
+without_row n g network none = record {
+  ends = ap blocked_by none;
+  wants = λ l at. absurd (contains_none l (subst (λ o. Contains (wants_by o) l) none at));
+  gives = λ l x there given. ap (λ o. gives_by o (literal_number n l)) none;
+}
+
+-- one with a row that was checked is within the network
+pub with_row : (n : Needs) (g : GroundTask) (children : List Node) (order : Order) (r : Row) → task_row n g ≡ Some r → r.is_blocked ≡ false
+    → All (λ x. (i : ℕ) × IsNeededAt (outlook_of n) (seen children order) (literal_of x) i) r.wants.items → All (λ x. GivesWithin n (child_view x) r) children
+    → IsWithin (outlook_of n) g (seen children order)
+with_row n g children order r is ends needs gives = record {
+  ends = ap blocked_by is ∙ ends;
+  wants = λ l at.
+      (let found = each_literal (λ l. (i : ℕ) × IsNeededAt (outlook_of n) (seen children order) l i) r.wants.items needs l (subst (λ o. Contains (wants_by o) l) is at) in
+      is_needed (outlook_of n) (seen children order) l found.0 found.1);
+  gives = λ l x there given.
+      (ap (λ o. gives_by o (literal_number n l)) is
+      ∙ All-contains (λ y. GivesWithin n y r) (children_of children) x (All-map (λ y. GivesWithin n y r) child_view children gives) there (literal_number n l) given);
+}
+
+-- an atom that is true is one of the true atoms
+contains_atom : (s : State) (x : Atom) → contains s x ≡ true → Contains (atoms_of s) x
+contains_atom s x has = (set_of-Contains (atoms_of s) x).0 (ap (λ (t : State). contains t x) (set_of-atoms_of s) ∙ has)
+
+-- the row of an action is right where each part is
+pub action_right : (n : Needs) (a : Action) (r : Row) (wants pre : List Written) (adds deletes : List Atom) → wants ≡ r.wants.items → literals_of pre ≡ a.precondition → adds ≡ atoms_of a.adds
+    → deletes ≡ atoms_of a.deletes → All (λ l. Contains (literals_of pre) (literal_of l)) wants → All (λ x. is_marked r.gives.items (literal_number n (atom true x)) ≡ true) adds
+    → All (λ x. is_marked r.gives.items (literal_number n (atom false x)) ≡ true) deletes → IsActionRight n a r
+action_right n a r wants pre adds deletes wants_are pre_is adds_are deletes_are among added deleted = record {
+  wants = λ l at.
+      subst (λ ls. Contains ls l) pre_is
+      (each_literal (λ m. Contains (literals_of pre) m) wants among l (subst (λ (ls : List Written). Contains (literals_of ls) l) (sym wants_are) at));
+  adds = λ x has. All-contains (λ y. is_marked r.gives.items (literal_number n (atom true y)) ≡ true) adds x added (subst (λ ys. Contains ys x) (sym adds_are) (contains_atom a.adds x has));
+  deletes = λ x has. All-contains (λ y. is_marked r.gives.items (literal_number n (atom false y)) ≡ true) deletes x deleted (subst (λ ys. Contains ys x) (sym deletes_are) (contains_atom a.deletes x has));
+}
+
+-- the network of an instance
+abbrev pub network_by : Parts → Network
+network_by p = record { children = p.children; order = p.order }
+
+-- those before a place are allowed
+abbrev pub AllowedBelow : Needs → List Parts → List GroundTask → ℕ → Type 0
+AllowedBelow n parts tasks i = (j : ℕ) (p : Parts) (g : GroundTask) → j < i → slice_get parts j ≡ Some p → slice_get tasks p.task ≡ Some g → IsAllowed n g (network_by p)
+
+-- one more of them
+pub allowed_more : (n : Needs) (parts : List Parts) (tasks : List GroundTask) (i : ℕ) (item : Parts) (goal : GroundTask) → i < length parts → item ≡ get_or parts i item
+    → slice_get tasks item.task ≡ Some goal → AllowedBelow n parts tasks i → IsAllowed n goal (network_by item) → AllowedBelow n parts tasks (i + 1)
+allowed_more n parts tasks i item goal low is named before here j p g less at at_goal = elim (cases_lt j i) [
+  | inl less ↦ before j p g less at at_goal
+  | inr past ↦
+      (let place : j ≡ i = omega arith in
+      let same : p ≡ item = same_Some p item (sym at ∙ ap (slice_get parts) place ∙ slice_get-get_or parts i item low ∙ ap Some (sym is)) in
+      let goal_is : g ≡ goal = same_Some g goal (sym at_goal ∙ ap (λ (q : Parts). slice_get tasks q.task) same ∙ named) in
+      subst (λ (q : Parts). IsAllowed n g (network_by q)) (sym same) (subst (λ (h : GroundTask). IsAllowed n h (network_by item)) (sym goal_is) here))
+]
+
+-- lists of ground tasks that are equal one by one are the same
+pub same_goals : (xs ys : List GroundTask) → pointwise ground_task_eq xs ys ≡ true → xs ≡ ys
+same_goals [] [] h = refl
+same_goals [] (y ∷ ys) h = absurd cc
+same_goals (x ∷ xs) [] h = absurd cc
+same_goals (x ∷ xs) (y ∷ ys) h =
+    let parts = and_parts (ground_task_eq x y) (pointwise ground_task_eq xs ys) h in
+    ap₂ ◌∷◌ ((ground_task_eq-decides x y).0 parts.0) (same_goals xs ys parts.1)

@@ -1,0 +1,56 @@
+-- What is checked of rows.
+use Rattle.std.specs.Prelude.{◌≡◌, ℕ, ◌≤◌, ◌⊎◌, ⊤, true, false, Contains, length, Option, Some, slice_get}
+use Rattle.htn_model.specs.Atom.{Atom}
+use Rattle.htn_model.specs.Grounding.{problem_of}
+use Rattle.htn_model.specs.Literal.{Literal, atom, Action}
+use Rattle.htn_model.specs.Problem.{Child, precondition, action, task, GroundTask, Network}
+use Rattle.htn_model.specs.State.{contains}
+use Rattle.htn_model.specs.Task.{Task}
+use Rattle.htn_state.specs.Views.{literals_of}
+use Rattle.htn_ground.specs.Views.{child_view}
+use Rattle.htn_ground.specs.declared.child.Child.{Child as Node}
+use Rattle.tree_sizes.specs.declared.enumeration.Enumeration.{Enumeration}
+use Rattle.tree_sizes.specs.declared.parts.Parts.{Parts}
+use Rattle.network_needs.specs.Needs.{IsWithin, has_blocked}
+use Rattle.network_needs.specs.Rows.{gives_by, is_marked, literal_number, outlook_of, row_of}
+use Rattle.network_needs.specs.declared.needs.Needs.{Needs}
+use Rattle.network_needs.specs.declared.rows.Row.{Row}
+
+-- a node gives only what a row does
+abbrev pub GivesWithin : Needs → Child → Row → Type 0
+GivesWithin n x r = (number : Option ℕ) → gives_by (row_of n x) number ≡ true → is_marked r.gives.items number ≡ true
+
+-- a node of the network never ends, or the task is within it
+abbrev pub IsAllowed : Needs → GroundTask → Network → Type 0
+IsAllowed n g network = (has_blocked (outlook_of n) network ≡ true) ⊎ IsWithin (outlook_of n) g network
+
+-- the row of an action wants only literals of its precondition, and gives its effects
+pub record IsActionRight (n : Needs) (a : Action) (r : Row) : Type 0 where
+  pub wants : (l : Literal) → Contains (literals_of r.wants.items) l → Contains a.precondition l
+  pub adds : (x : Atom) → contains a.adds x ≡ true → is_marked r.gives.items (literal_number n (atom true x)) ≡ true
+  pub deletes : (x : Atom) → contains a.deletes x ≡ true → is_marked r.gives.items (literal_number n (atom false x)) ≡ true
+
+-- the row of a step wants only its literals, and that of an action is right
+abbrev pub IsLeafRight : Task → Needs → Child → Row → Type 0
+IsLeafRight t n (precondition literals) r = (l : Literal) → Contains (literals_of r.wants.items) l → Contains literals l
+IsLeafRight t n (action g) r = (a : Action) → (problem_of t).action_of g ≡ Some a → IsActionRight n a r
+IsLeafRight t n (task g) r = ⊤
+
+-- the rows of all leaves are right
+abbrev pub AreLeavesRight : Task → Needs → Type 0
+AreLeavesRight t n =
+    (k : ℕ) (r : Row) → slice_get n.rows.leaf_rows.items k ≡ Some r → (x : Node) → slice_get n.rows.leaves.keys k ≡ Some x → IsLeafRight t n (child_view x) r
+
+-- each task that has a row is within the instances that were listed for it
+abbrev pub AreAllowed : Needs → Enumeration → Type 0
+AreAllowed n e =
+    (j : ℕ) (p : Parts) (g : GroundTask) → slice_get e.instances.items j ≡ Some p → slice_get e.tasks.keys p.task ≡ Some g
+    → IsAllowed n g (record { children = p.children; order = p.order })
+
+-- all that is checked: the rows are of the tasks that were expanded, and right
+pub record IsChecked (t : Task) (n : Needs) (e : Enumeration) : Type 0 where
+  pub tasks : n.tasks.keys ≡ e.tasks.keys
+  pub barred : n.barred.keys ≡ e.actions.barred.keys
+  pub expanded : length n.rows.task_rows.items ≤ e.expanded
+  pub leaves : AreLeavesRight t n
+  pub allowed : AreAllowed n e

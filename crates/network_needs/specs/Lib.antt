@@ -1,0 +1,4 @@
+pub mod Needs
+pub mod Bounds
+pub mod Rows
+pub mod Checked

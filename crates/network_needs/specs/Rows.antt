@@ -1,0 +1,63 @@
+-- What nodes want and give, by rows.
+use Rattle.std.specs.Prelude.{ℕ, Bool, true, false, List, [], get_or, Option, Some, None, slice_get, option_and_then}
+use Rattle.std.specs.List.{position}
+use Rattle.htn_model.specs.Literal.{Literal as ModelLiteral, literal_eq}
+use Rattle.htn_model.specs.Problem.{Child, precondition, action, task, GroundTask, child_eq}
+use Rattle.htn_state.specs.Views.{literal_of, literals_of}
+use Rattle.htn_ground.specs.Views.{child_view}
+use Rattle.tree_sizes.specs.Numbers.{is_among, number_of}
+use Rattle.network_needs.specs.Needs.{Outlook}
+use Rattle.network_needs.specs.declared.needs.Needs.{Needs}
+use Rattle.network_needs.specs.declared.rows.Row.{Row}
+
+-- the row of a compound task, if it has one
+abbrev pub task_row : Needs → GroundTask → Option Row
+task_row n g = option_and_then (slice_get n.rows.task_rows.items) (number_of n.tasks.keys g)
+
+-- the row of a step or an action, if it has one
+abbrev pub leaf_row : Needs → Child → Option Row
+leaf_row n x = option_and_then (slice_get n.rows.leaf_rows.items) (position (λ y. child_eq x (child_view y)) n.rows.leaves.keys)
+
+-- the row of a node, if it has one
+abbrev pub row_of : Needs → Child → Option Row
+row_of n (precondition literals) = leaf_row n (precondition literals)
+row_of n (action g) = leaf_row n (action g)
+row_of n (task g) = task_row n g
+
+-- what a node wants by its row; nothing without one
+abbrev pub wants_by : Option Row → List ModelLiteral
+wants_by None = []
+wants_by (Some r) = literals_of r.wants.items
+
+-- whether a mark stands at a number
+abbrev pub is_marked : List Bool → Option ℕ → Bool
+is_marked marks None = false
+is_marked marks (Some number) = get_or marks number false
+
+-- whether a node gives the literal of a number by its row; all without one
+abbrev pub gives_by : Option Row → Option ℕ → Bool
+gives_by None number = true
+gives_by (Some r) number = is_marked r.gives.items number
+
+-- whether nothing ever ends a task by its row
+abbrev pub blocked_by : Option Row → Bool
+blocked_by None = false
+blocked_by (Some r) = r.is_blocked
+
+-- whether nothing ever ends a node: an action that is never carried out, or a task by its row
+abbrev pub blocks : Needs → Child → Bool
+blocks n (precondition literals) = false
+blocks n (action g) = is_among n.barred.keys g
+blocks n (task g) = blocked_by (task_row n g)
+
+-- the number of a literal
+abbrev pub literal_number : Needs → ModelLiteral → Option ℕ
+literal_number n l = position (λ m. literal_eq l (literal_of m)) n.rows.literals.keys
+
+-- the outlook by the rows
+abbrev pub outlook_of : Needs → Outlook
+outlook_of n = record {
+  wants = λ x. wants_by (row_of n x);
+  gives = λ x l. gives_by (row_of n x) (literal_number n l);
+  is_blocked = blocks n;
+}

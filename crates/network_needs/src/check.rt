@@ -1,0 +1,298 @@
+//! Whether rows are an outlook.
+ghost use Rattle.std.specs.Prelude.{◌≡◌, ◌<◌, ℕ, true, false, All, Contains, IfOk, IsTrue, get_or, length};
+ghost use Rattle.std.specs.List.{list_any};
+ghost use Rattle.htn_model.specs.Literal as model;
+ghost use Rattle.htn_model.specs.Literal.{literal_eq};
+ghost use Rattle.htn_model.specs.State.{contains};
+ghost use Rattle.htn_ground.specs.Views.{child_view, children_of};
+ghost use Rattle.htn_state.specs.Views.{literal_of, literals_of};
+ghost use Rattle.network_needs.specs.Checked.{AreAllowed, AreLeavesRight, GivesWithin};
+ghost use Rattle.network_needs.specs.Checked.{IsActionRight, IsAllowed, IsLeafRight};
+ghost use Rattle.network_needs.specs.Needs.{IsNeededAt, IsUngiven, may_give};
+ghost use Rattle.network_needs.specs.Rows.{is_marked, literal_number, outlook_of};
+
+use crate::needs::Needs;
+use crate::rows::Row;
+use htn_ground::{Child, GroundTask, action_of};
+use htn_order::Order;
+use htn_state::{Action, Atom, Literal};
+use htn_task::Task;
+use std::alloc::{AllocError, Global};
+use tree_sizes::{Enumeration, Parts};
+
+/// Whether a literal is among others.
+fn is_among(literal: &Literal, others: &[Literal]) -> bool
+    ensures { result ≡ list_any (literal_eq (literal_of literal.now)) (literals_of others.now) }
+{
+    for other in others {
+        if literal == other {
+            return true;
+        }
+    }
+    false
+}
+
+/// Whether each of some literals is among others.
+fn are_among(literals: &[Literal], others: &[Literal]) -> bool
+    ensures { IsTrue result → All (λ l. Contains (literals_of others.now) (literal_of l)) literals.now }
+{
+    for literal in literals {
+        if !is_among(literal, others) {
+            return false;
+        }
+    }
+    true
+}
+
+/// Whether a mark stands at a number.
+fn is_marked(marks: &[bool], number: usize) -> bool
+    ensures { result ≡ get_or marks.now number false }
+{
+    match marks.get(number) {
+        Some(mark) => *mark,
+        None => false,
+    }
+}
+
+/// Whether others have the mark of a number, if the first do.
+fn is_marked_too(marks: &[bool], others: &[bool], number: usize) -> bool
+    ensures { IsTrue result → get_or marks.now number false ≡ true → get_or others.now number false ≡ true }
+{
+    !is_marked(marks, number) || is_marked(others, number)
+}
+
+/// Whether others have all marks of the first.
+fn are_marked_too(marks: &[bool], others: &[bool]) -> bool
+    ensures { IsTrue result → (k : ℕ) → get_or marks.now k false ≡ true → get_or others.now k false ≡ true }
+{
+    for number in 0..marks.len() {
+        if !is_marked_too(marks, others, number) {
+            return false;
+        }
+    }
+    true
+}
+
+impl Needs {
+    /// Whether the node at a position may make a literal true for another one: it isn't after it, and gives it.
+    fn may_give(
+        &self,
+        children: &[Child],
+        order: &Order,
+        literal: &Literal,
+        at: usize,
+        position: usize,
+    ) -> bool
+        requires { position < length children.now }
+        ensures { result ≡ may_give (outlook_of self.now)
+            (record { children = children_of children.now; order = order.now }) (literal_of literal.now) at position }
+    {
+        at != position && !order.is_before(at, position) && self.gives(&children[position], literal)
+    }
+
+    /// Whether no node may make a literal true for the one at a position: none but itself and those after it gives it.
+    fn is_ungiven(&self, children: &[Child], order: &Order, at: usize, literal: &Literal) -> bool
+        ensures { IsTrue result → IsUngiven (outlook_of self.now)
+            (record { children = children_of children.now; order = order.now }) (literal_of literal.now) at }
+    {
+        for position in 0..children.len() {
+            if self.may_give(children, order, literal, at, position) {
+                return false;
+            }
+        }
+        true
+    }
+
+    /// Whether a network needs a literal for the node at a position.
+    fn is_needed_at(&self, children: &[Child], order: &Order, at: usize, literal: &Literal) -> bool
+        requires { at < length children.now }
+        ensures { IsTrue result → IsNeededAt (outlook_of self.now)
+            (record { children = children_of children.now; order = order.now }) (literal_of literal.now) at }
+    {
+        if !is_among(literal, self.wants(&children[at])) {
+            return false;
+        }
+        self.is_ungiven(children, order, at, literal)
+    }
+
+    /// Whether a network needs a literal.
+    fn is_needed(&self, children: &[Child], order: &Order, literal: &Literal) -> bool
+        ensures { IsTrue result → (i : ℕ) × IsNeededAt (outlook_of self.now)
+            (record { children = children_of children.now; order = order.now }) (literal_of literal.now) i }
+    {
+        for at in 0..children.len() {
+            if self.is_needed_at(children, order, at, literal) {
+                return true;
+            }
+        }
+        false
+    }
+
+    /// Whether a network needs each of some literals.
+    fn are_needed(&self, children: &[Child], order: &Order, literals: &[Literal]) -> bool
+        ensures { IsTrue result → All (λ l. (i : ℕ) × IsNeededAt (outlook_of self.now)
+            (record { children = children_of children.now; order = order.now }) (literal_of l) i) literals.now }
+    {
+        for literal in literals {
+            if !self.is_needed(children, order, literal) {
+                return false;
+            }
+        }
+        true
+    }
+
+    /// Whether one of some nodes never ends.
+    fn has_blocked(&self, children: &[Child]) -> bool
+        ensures { result ≡ list_any (outlook_of self.now).is_blocked (children_of children.now) }
+    {
+        for child in children {
+            if self.is_blocked(child) {
+                return true;
+            }
+        }
+        false
+    }
+
+    /// Whether a node gives only what a row does.
+    fn gives_within(&self, child: &Child, row: &Row) -> bool
+        ensures { IsTrue result → GivesWithin self.now (child_view child.now) row.now }
+    {
+        let Some(inner) = self.row(child) else {
+            return false;
+        };
+        are_marked_too(inner.gives.as_slice(), row.gives.as_slice())
+    }
+
+    /// Whether nodes give only what a row does.
+    fn give_within(&self, children: &[Child], row: &Row) -> bool
+        ensures { IsTrue result → All (λ x. GivesWithin self.now (child_view x) row.now) children.now }
+    {
+        for child in children {
+            if !self.gives_within(child, row) {
+                return false;
+            }
+        }
+        true
+    }
+
+    /// Whether a compound task is within an instance of it, or a node of the instance never ends.
+    fn is_allowed(&self, goal: &GroundTask, children: &[Child], order: &Order) -> bool
+        ensures { IsTrue result → IsAllowed self.now goal.now
+            (record { children = children_of children.now; order = order.now }) }
+    {
+        if self.has_blocked(children) {
+            return true;
+        }
+        let Some(row) = self.task_row(goal) else {
+            return true;
+        };
+        if row.is_blocked || !self.are_needed(children, order, row.wants.as_slice()) {
+            return false;
+        }
+        self.give_within(children, row)
+    }
+
+    /// Whether each task that has a row is within the instances that were listed for it.
+    pub(crate) fn are_allowed(&self, found: &Enumeration) -> bool
+        ensures { IsTrue result → AreAllowed self.now found.now }
+    {
+        let tasks = found.tasks();
+        for parts in found.instances() {
+            let Some(goal) = tasks.get_index(parts.task() as usize) else {
+                continue;
+            };
+            if !self.is_allowed(goal, parts.children(), parts.order()) {
+                return false;
+            }
+        }
+        true
+    }
+
+    /// Whether a row gives an atom, as true or as false.
+    fn row_gives(&self, row: &Row, atom: &Atom, is_positive: bool) -> Result<bool, AllocError>
+        ensures { IfOk result (λ b. b
+            ≡ is_marked row.now.gives.items (literal_number self.now (model.atom is_positive atom.now))) }
+    {
+        let literal = if is_positive {
+            Literal::Positive(atom.clone()?)
+        } else {
+            Literal::Negative(atom.clone()?)
+        };
+        match self.rows.literals.get_index_of(&literal) {
+            Some(number) => Ok(is_marked(row.gives.as_slice(), number)),
+            None => Ok(false),
+        }
+    }
+
+    /// Whether a row gives some atoms, as true or as false.
+    fn row_gives_all(
+        &self,
+        row: &Row,
+        atoms: &[Atom],
+        is_positive: bool,
+    ) -> Result<bool, AllocError>
+        ensures { IfOk result (λ b. IsTrue b → All
+            (λ a. is_marked row.now.gives.items (literal_number self.now (model.atom is_positive a)) ≡ true)
+            atoms.now) }
+    {
+        for atom in atoms {
+            let gives = self.row_gives(row, atom, is_positive)?;
+            if !gives {
+                return Ok(false);
+            }
+        }
+        Ok(true)
+    }
+
+    /// Whether the row of an action is right.
+    fn is_action_right(&self, action: &Action, row: &Row) -> Result<bool, AllocError>
+        ensures { IfOk result (λ b. IsTrue b → IsActionRight self.now action.now row.now) }
+    {
+        if !are_among(row.wants.as_slice(), action.precondition.as_slice()) {
+            return Ok(false);
+        }
+        let adds = self.row_gives_all(row, action.adds.atoms(), true)?;
+        let deletes = self.row_gives_all(row, action.deletes.atoms(), false)?;
+        Ok(adds && deletes)
+    }
+
+    /// Whether the row of a step or an action is right.
+    fn is_leaf_right(
+        &self,
+        alloc: Global,
+        task: &Task,
+        leaf: &Child,
+        row: &Row,
+    ) -> Result<bool, AllocError>
+        ensures { IfOk result (λ b. IsTrue b → IsLeafRight task.now self.now (child_view leaf.now) row.now) }
+    {
+        match leaf {
+            Child::Precondition(literals) => Ok(are_among(
+                row.wants.as_slice(),
+                literals.as_slice(),
+            )),
+            Child::Action(goal) => match action_of(alloc, task, goal)? {
+                Some(action) => self.is_action_right(&action, row),
+                None => Ok(true),
+            },
+            Child::Task(_) => Ok(true),
+        }
+    }
+
+    /// Whether the rows of all steps and actions are right.
+    pub(crate) fn are_leaves_right(&self, alloc: Global, task: &Task) -> Result<bool, AllocError>
+        ensures { IfOk result (λ b. IsTrue b → AreLeavesRight task.now self.now) }
+    {
+        let leaves = self.rows.leaves.as_slice();
+        for (number, row) in self.rows.leaf_rows.iter().enumerate() {
+            let Some(leaf) = leaves.get(number) else {
+                return Ok(false);
+            };
+            let is_right = self.is_leaf_right(alloc, task, leaf, row)?;
+            if !is_right {
+                return Ok(false);
+            }
+        }
+        Ok(true)
+    }
+}

@@ -1,0 +1,380 @@
+//! Rows for the nodes of enumerated instances: what compound tasks give is the least that fits, and what they want the
+//! most. Nothing is promised of them: whoever uses them checks them.
+
+use crate::leaves::Leaves;
+use crate::rows::{Row, Rows};
+use htn_ground::{Child, GroundTask};
+use htn_order::Order;
+use htn_state::Literal;
+use htn_task::Task;
+use std::alloc::{AllocError, Global};
+use std::mem;
+use tree_sizes::{Enumeration, Parts};
+
+/// How many times the instances are gone through at most, to find what compound tasks give, and what they want.
+const MOST_ROUNDS: usize = 1_000;
+
+/// How many marks the rows have at most together.
+const MOST_MARKS: usize = 1 << 26;
+
+/// How many pairs of nodes the instances have at most together: whether a network needs a literal is asked of pairs.
+const MOST_PAIRS: usize = 1 << 22;
+
+/// A node by its number among the compound tasks, or among the others.
+#[derive(Clone, Copy, Drop)]
+enum Node {
+    Task(u32),
+    Leaf(u32),
+}
+
+/// What is known while rows are sought.
+#[derive(Drop)]
+struct Search {
+    leaves: Leaves,
+    /// By instance, its nodes.
+    nodes: Vec<Vec<Node>>,
+    /// By task, which literals it gives.
+    gives: Vec<Vec<bool>>,
+    /// By task, the literals that it wants, once some tree of it is known.
+    wants: Vec<Option<Vec<u32>>>,
+}
+
+/// The number of a compound task; past all others if it has none.
+fn task_number(found: &Enumeration, goal: &GroundTask) -> u32 {
+    match found.tasks().get_index_of(goal) {
+        Some(number) => u32::try_from(number).unwrap_or(u32::MAX),
+        None => u32::MAX,
+    }
+}
+
+/// How many pairs of nodes the instances have together.
+fn pairs_in(instances: &[Parts]) -> usize {
+    let mut pairs = 0usize;
+    for parts in instances {
+        let nodes = parts.children().len();
+        pairs = pairs.saturating_add(nodes.saturating_mul(nodes));
+    }
+    pairs
+}
+
+/// The numbers of a list that stand in another one too.
+fn common(alloc: Global, numbers: &[u32], others: &[u32]) -> Result<Vec<u32>, AllocError> {
+    let mut both = Vec::new(alloc);
+    for number in numbers {
+        if others.contains(number) {
+            both.push(*number)?;
+        }
+    }
+    Ok(both)
+}
+
+/// Marks at these numbers, as many as there are literals.
+fn marks_of(alloc: Global, literals: usize, numbers: &[u32]) -> Result<Vec<bool>, AllocError> {
+    let mut marks = Vec::with_capacity(alloc, literals)?;
+    for _ in 0..literals {
+        marks.push(false)?;
+    }
+    for number in numbers {
+        if let Some(mark) = marks.get_mut(*number as usize) {
+            *mark = true;
+        }
+    }
+    Ok(marks)
+}
+
+/// Sets the marks of some numbers. Whether one of them wasn't set.
+fn set_marks(marks: &mut [bool], numbers: &[u32]) -> bool {
+    let mut is_more = false;
+    for number in numbers {
+        if let Some(mark) = marks.get_mut(*number as usize) {
+            is_more |= !*mark;
+            *mark = true;
+        }
+    }
+    is_more
+}
+
+/// Sets the marks that others have. Whether one of them wasn't set.
+fn join_marks(marks: &mut [bool], others: &[bool]) -> bool {
+    let mut is_more = false;
+    for (mark, other) in marks.iter_mut().zip(others) {
+        if *other && !*mark {
+            *mark = true;
+            is_more = true;
+        }
+    }
+    is_more
+}
+
+/// Sets all marks. Whether one of them wasn't set.
+fn set_all(marks: &mut [bool]) -> bool {
+    let mut is_more = false;
+    for mark in marks.iter_mut() {
+        is_more |= !*mark;
+        *mark = true;
+    }
+    is_more
+}
+
+impl Search {
+    /// The nodes of all instances have numbers.
+    fn new(alloc: Global, task: &Task, found: &Enumeration) -> Result<Search, AllocError> {
+        let mut leaves = Leaves::new(alloc, task)?;
+        let mut nodes = Vec::new(alloc);
+        for listed in found.instances() {
+            let mut numbers = Vec::new(alloc);
+            for child in listed.children() {
+                let node = match child {
+                    Child::Task(goal) => Node::Task(task_number(found, goal)),
+                    Child::Precondition(_) | Child::Action(_) => {
+                        Node::Leaf(leaves.meet(alloc, task, child)?)
+                    }
+                };
+                numbers.push(node)?;
+            }
+            nodes.push(numbers)?;
+        }
+        Ok(Search {
+            leaves,
+            nodes,
+            gives: Vec::new(alloc),
+            wants: Vec::new(alloc),
+        })
+    }
+
+    /// Whether a node gives the literal of a number.
+    fn gives(&self, node: Node, literal: u32) -> bool {
+        match node {
+            Node::Leaf(number) => match self.leaves.gives.get(number as usize) {
+                Some(given) => given.contains(&literal),
+                None => true,
+            },
+            Node::Task(number) => match self.gives.get(number as usize) {
+                Some(marks) => marks.get(literal as usize).copied().unwrap_or(false),
+                None => true,
+            },
+        }
+    }
+
+    /// Adds to what a task gives what a node gives. Whether that is more.
+    fn join(&self, marks: &mut [bool], node: Node) -> bool {
+        match node {
+            Node::Leaf(number) => match self.leaves.gives.get(number as usize) {
+                Some(given) => set_marks(marks, given),
+                None => set_all(marks),
+            },
+            Node::Task(number) => match self.gives.get(number as usize) {
+                Some(given) => join_marks(marks, given),
+                None => set_all(marks),
+            },
+        }
+    }
+
+    /// Adds to what a task gives what the nodes of an instance give. Whether that is more.
+    fn join_instance(&mut self, alloc: Global, task: u32, instance: usize) -> bool {
+        let Some(own) = self.gives.get_mut(task as usize) else {
+            return false;
+        };
+        let mut marks = mem::replace(own, Vec::new(alloc));
+        let mut is_more = false;
+        if let Some(nodes) = self.nodes.get(instance) {
+            for node in nodes {
+                is_more |= self.join(&mut marks, *node);
+            }
+        }
+        if let Some(own) = self.gives.get_mut(task as usize) {
+            *own = marks;
+        }
+        is_more
+    }
+
+    /// What compound tasks give: the least that fits, from nothing on.
+    fn find_gives(&mut self, alloc: Global, found: &Enumeration) -> Result<(), AllocError> {
+        let literals = self.leaves.literals.len();
+        for _ in 0..found.expanded() {
+            self.gives.push(marks_of(alloc, literals, &[])?)?;
+        }
+        for _ in 0..MOST_ROUNDS {
+            let mut is_more = false;
+            for (instance, listed) in found.instances().iter().enumerate().rev() {
+                is_more |= self.join_instance(alloc, listed.task(), instance);
+            }
+            if !is_more {
+                break;
+            }
+        }
+        Ok(())
+    }
+
+    /// What a node wants; None of a compound task of which no tree is known.
+    fn wants(&self, node: Node) -> Option<&[u32]> {
+        match node {
+            Node::Leaf(number) => match self.leaves.wants.get(number as usize) {
+                Some(wants) => Some(wants),
+                None => Some(&[]),
+            },
+            Node::Task(number) => match self.wants.get(number as usize) {
+                Some(Some(wants)) => Some(wants),
+                Some(None) => None,
+                None => Some(&[]),
+            },
+        }
+    }
+
+    /// Whether no node may make a literal true for the one at a position.
+    fn is_ungiven(&self, nodes: &[Node], order: &Order, at: usize, literal: u32) -> bool {
+        for (position, node) in nodes.iter().enumerate() {
+            if position != at && !order.is_before(at, position) && self.gives(*node, literal) {
+                return false;
+            }
+        }
+        true
+    }
+
+    /// What an instance needs; None where no tree of one of its nodes is known.
+    fn needs(
+        &self,
+        alloc: Global,
+        nodes: &[Node],
+        order: &Order,
+    ) -> Result<Option<Vec<u32>>, AllocError> {
+        let mut needs = Vec::new(alloc);
+        for (at, node) in nodes.iter().enumerate() {
+            let Some(wants) = self.wants(*node) else {
+                return Ok(None);
+            };
+            for literal in wants {
+                if !needs.contains(literal) && self.is_ungiven(nodes, order, at, *literal) {
+                    needs.push(*literal)?;
+                }
+            }
+        }
+        Ok(Some(needs))
+    }
+
+    /// Lowers what a task wants to what an instance of it needs. Whether that is less.
+    fn lower(&mut self, alloc: Global, task: u32, needs: Vec<u32>) -> Result<bool, AllocError> {
+        let Some(own) = self.wants.get_mut(task as usize) else {
+            return Ok(false);
+        };
+        let Some(wants) = own else {
+            *own = Some(needs);
+            return Ok(true);
+        };
+        let both = common(alloc, wants, &needs)?;
+        let is_less = both.len() < wants.len();
+        *own = Some(both);
+        Ok(is_less)
+    }
+
+    /// What compound tasks want: the most that fits, from all on.
+    fn find_wants(&mut self, alloc: Global, found: &Enumeration) -> Result<(), AllocError> {
+        for _ in 0..found.expanded() {
+            self.wants.push(None)?;
+        }
+        for _ in 0..MOST_ROUNDS {
+            let mut is_less = false;
+            for (instance, listed) in found.instances().iter().enumerate().rev() {
+                let Some(nodes) = self.nodes.get(instance) else {
+                    continue;
+                };
+                if let Some(needs) = self.needs(alloc, nodes, listed.order())? {
+                    is_less |= self.lower(alloc, listed.task(), needs)?;
+                }
+            }
+            if !is_less {
+                break;
+            }
+        }
+        Ok(())
+    }
+
+    /// Whether there are not too many marks, nor pairs of nodes.
+    fn fits(&self, found: &Enumeration) -> bool {
+        let rows = found.expanded().saturating_add(self.leaves.leaves.len());
+        rows.saturating_mul(self.leaves.literals.len()) <= MOST_MARKS
+            && pairs_in(found.instances()) <= MOST_PAIRS
+    }
+
+    /// The literals of some numbers.
+    fn literals_of(&self, alloc: Global, numbers: &[u32]) -> Result<Vec<Literal>, AllocError> {
+        let mut literals = Vec::new(alloc);
+        for number in numbers {
+            if let Some(literal) = self.leaves.literals.get_index(*number as usize) {
+                literals.push(literal.clone()?)?;
+            }
+        }
+        Ok(literals)
+    }
+
+    /// The row of a compound task.
+    fn task_row(&self, alloc: Global, number: usize) -> Result<Row, AllocError> {
+        let mut gives = Vec::new(alloc);
+        if let Some(marks) = self.gives.get(number) {
+            gives.extend_from_slice(marks)?;
+        }
+        match self.wants.get(number) {
+            Some(Some(wants)) => Ok(Row {
+                wants: self.literals_of(alloc, wants)?,
+                gives,
+                is_blocked: false,
+            }),
+            _ => Ok(Row {
+                wants: Vec::new(alloc),
+                gives,
+                is_blocked: true,
+            }),
+        }
+    }
+
+    /// The row of a step or an action.
+    fn leaf_row(&self, alloc: Global, number: usize) -> Result<Row, AllocError> {
+        let wants = match self.leaves.wants.get(number) {
+            Some(wants) => self.literals_of(alloc, wants)?,
+            None => Vec::new(alloc),
+        };
+        let gives = match self.leaves.gives.get(number) {
+            Some(given) => marks_of(alloc, self.leaves.literals.len(), given)?,
+            None => Vec::new(alloc),
+        };
+        Ok(Row {
+            wants,
+            gives,
+            is_blocked: false,
+        })
+    }
+
+    /// The rows of all nodes.
+    fn rows(self, alloc: Global, expanded: usize) -> Result<Rows, AllocError> {
+        let mut task_rows = Vec::new(alloc);
+        for number in 0..expanded {
+            task_rows.push(self.task_row(alloc, number)?)?;
+        }
+        let mut leaf_rows = Vec::new(alloc);
+        for number in 0..self.leaves.leaves.len() {
+            leaf_rows.push(self.leaf_row(alloc, number)?)?;
+        }
+        let leaves = self.leaves;
+        Ok(Rows {
+            literals: leaves.literals,
+            task_rows,
+            leaves: leaves.leaves,
+            leaf_rows,
+        })
+    }
+}
+
+/// Rows for the nodes of enumerated instances; none at all where they would be too large.
+pub(crate) fn find_rows(
+    alloc: Global,
+    task: &Task,
+    found: &Enumeration,
+) -> Result<Rows, AllocError> {
+    let mut search = Search::new(alloc, task, found)?;
+    if !search.fits(found) {
+        return Ok(Rows::none(alloc));
+    }
+    search.find_gives(alloc, found)?;
+    search.find_wants(alloc, found)?;
+    search.rows(alloc, found.expanded())
+}

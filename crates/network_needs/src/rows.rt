@@ -1,0 +1,40 @@
+//! What nodes want and give, by rows.
+ghost use Rattle.std.specs.Prelude.{◌≡◌, []};
+
+use htn_ground::Child;
+use htn_state::Literal;
+use indexmap::IndexSet;
+use std::alloc::Global;
+
+/// Of a node: the literals that it wants, and whether it gives each of the numbered ones.
+#[derive(Drop)]
+pub(crate) struct Row {
+    pub(crate) wants: Vec<Literal>,
+    pub(crate) gives: Vec<bool>,
+    /// Nothing ever ends it.
+    pub(crate) is_blocked: bool,
+}
+
+/// The rows of compound tasks by their numbers, and of steps and actions.
+#[derive(Drop)]
+pub(crate) struct Rows {
+    pub(crate) literals: IndexSet<Literal>,
+    pub(crate) task_rows: Vec<Row>,
+    pub(crate) leaves: IndexSet<Child>,
+    pub(crate) leaf_rows: Vec<Row>,
+}
+
+impl Rows {
+    /// No node has a row.
+    pub(crate) fn none(alloc: Global) -> Rows
+        ensures tasks { result.task_rows.items ≡ [] }
+        ensures leaves { result.leaf_rows.items ≡ [] }
+    {
+        Rows {
+            literals: IndexSet::new(alloc),
+            task_rows: Vec::new(alloc),
+            leaves: IndexSet::new(alloc),
+            leaf_rows: Vec::new(alloc),
+        }
+    }
+}
