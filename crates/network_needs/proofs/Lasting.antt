@@ -23,11 +23,11 @@ use Rattle.network_needs.proofs.Lists.{all_from, contains_none, each_passes, fil
 -- ## What a network needs, by its positions
 
 -- one of three tests fails, the first two of which pass
-pub third : (a b c : Bool) → a ≡ false → b ≡ false → (not a && (not b && c)) ≡ false → c ≡ false
+third : (a b c : Bool) → a ≡ false → b ≡ false → (not a && (not b && c)) ≡ false → c ≡ false
 third a b c first second fails = sym (ap₂ (λ x y. not x && (not y && c)) first second) ∙ fails
 
 -- no node may give what is not given
-ungiven_at : (o : Outlook) (n : Network) (l : Literal) (i j : ℕ) → is_ungiven o n i l ≡ true → j < length n.children → (i ≡ j → ⊥) → is_before n.order i j ≡ false
+pub ungiven_at : (o : Outlook) (n : Network) (l : Literal) (i j : ℕ) → is_ungiven o n i l ≡ true → j < length n.children → (i ≡ j → ⊥) → is_before n.order i j ≡ false
     → o.gives (child_of n.children j) l ≡ false
 ungiven_at o n l i j none low other before =
     third (eqb i j) (is_before n.order i j) (o.gives (child_of n.children j) l) (ne_eqb i j other) before

@@ -1,10 +1,12 @@
 -- What the checks of one row and one network tell.
-use Rattle.std.proofs.Common.{◌≡◌, ℕ, ◌+◌, ◌<◌, Bool, true, false, ◌||◌, eqb, List, [], ◌∷◌, All, Contains, length, get_or, Option, Some, None, slice_get, inl, inr, refl, sym, ap, ap₂, ◌∙◌, subst, arith}
-use Rattle.std.specs.List.{list_any}
+use Rattle.std.proofs.Common.{◌≡◌, ℕ, ◌+◌, ◌<◌, Bool, true, false, not, ◌||◌, List, [], ◌∷◌, All, Contains, length, get_or, Option, Some, None, slice_get, inl, inr, refl, sym, ap, ap₂, ◌∙◌, subst, arith, zero-add}
+use Rattle.std.specs.List.{list_any, range_with_len}
 use Rattle.std.specs.Cmp.Lexicographic.{pointwise}
-use Rattle.std.proofs.lemmas.Bool.{and_parts, cases_Bool, cases_lt, ne_eqb}
+use Rattle.std.proofs.lemmas.Bool.{and_parts, cases_Bool, cases_lt}
 use Rattle.std.proofs.lemmas.Option.{same_Some, slice_get-get_or}
 use Rattle.std.proofs.lemmas.List.{length-map, get_or-map}
+use Rattle.std.proofs.lemmas.List.Folds.{list_any_at}
+use Rattle.std.proofs.lemmas.List.FromFn.{get_or-range_with_len, length-range_with_len}
 use Rattle.std.proofs.lemmas.List.Elements.{All-contains, All-map}
 use Rattle.htn_model.specs.Choice.{child_of}
 use Rattle.htn_model.specs.Atom.{Atom}
@@ -12,19 +14,19 @@ use Rattle.htn_model.specs.State.{State, atoms_of, contains}
 use Rattle.htn_model.proofs.Sets.{set_of-Contains, set_of-atoms_of}
 use Rattle.htn_model.specs.Literal.{Literal, Action, atom, literal_eq}
 use Rattle.htn_model.specs.Equality.{ground_task_eq-decides, literal_eq-decides}
-use Rattle.htn_model.specs.Problem.{Child, precondition, GroundTask, ground_task_eq, Network, Order, is_before}
+use Rattle.htn_model.specs.Problem.{Child, precondition, GroundTask, ground_task_eq, Network, Order}
 use Rattle.htn_state.specs.Views.{literal_of, literals_of}
 use Rattle.htn_state.specs.declared.literal.Literal.{Literal as Written}
 use Rattle.htn_ground.specs.Views.{child_view, children_of}
 use Rattle.htn_ground.specs.declared.child.Child.{Child as Node}
 use Rattle.tree_sizes.specs.declared.parts.Parts.{Parts}
 use Rattle.network_needs.specs.Checked.{GivesWithin, IsActionRight, IsAllowed}
-use Rattle.network_needs.specs.Needs.{IsNeededAt, IsUngiven, IsWithin, may_give}
+use Rattle.network_needs.specs.Needs.{IsNeededAt, IsUngiven, IsWithin, is_ungiven, may_give}
 use Rattle.network_needs.specs.Rows.{blocked_by, gives_by, is_marked, literal_number, outlook_of, row_of, task_row, wants_by}
 use Rattle.network_needs.specs.declared.needs.Needs.{Needs}
 use Rattle.network_needs.specs.declared.rows.Row.{Row}
-use Rattle.network_needs.proofs.Lasting.{is_needed, third}
-use Rattle.network_needs.proofs.Lists.{contains_first, contains_later, contains_none}
+use Rattle.network_needs.proofs.Lasting.{is_needed, ungiven_at}
+use Rattle.network_needs.proofs.Lists.{contains_first, contains_later, contains_none, in_range, none_from}
 
 -- a network as the code has it
 abbrev pub seen : List Node → Order → Network
@@ -56,12 +58,28 @@ pub gives_from : (n : Needs) (x : Child) (inner r : Row) → row_of n x ≡ Some
     → GivesWithin n x r
 gives_from n x inner r is h = λ number on. marked_too inner.gives.items r.gives.items h number (sym (ap (λ o. gives_by o number) is) ∙ on)
 
--- where no node may give a literal none gives it
-pub ungiven_from_none : (n : Needs) (children : List Node) (order : Order) (l : Literal) (i : ℕ)
-    → ((j : ℕ) → j < length children → may_give (outlook_of n) (seen children order) l i j ≡ false) → IsUngiven (outlook_of n) (seen children order) l i
-ungiven_from_none n children order l i none = λ j low other before.
-    third (eqb i j) (is_before order i j) ((outlook_of n).gives (child_of (children_of children) j) l) (ne_eqb i j other) before
-    (none j (omega (arith, low, length-map children child_view)))
+-- where no node may give a literal it is not given
+pub ungiven_of_none : (n : Needs) (children : List Node) (order : Order) (l : Literal) (i : ℕ)
+    → ((j : ℕ) → j < length children → may_give (outlook_of n) (seen children order) l i j ≡ false) → is_ungiven (outlook_of n) (seen children order) i l ≡ true
+ungiven_of_none n children order l i none =
+    ap not (none_from (may_give (outlook_of n) (seen children order) l i) (range_with_len 0 (length (children_of children)))
+    (λ j at. (let low = in_range 0 (length (children_of children)) j at in none j (omega (arith, low, length-map children child_view)))))
+
+-- where one may it is
+pub given_by : (n : Needs) (children : List Node) (order : Order) (l : Literal) (i j : ℕ) → j < length children → may_give (outlook_of n) (seen children order) l i j ≡ true
+    → is_ungiven (outlook_of n) (seen children order) i l ≡ false
+given_by n children order l i j low gives =
+    let test = may_give (outlook_of n) (seen children order) l i in
+    let numbers = range_with_len 0 (length (children_of children)) in
+    let long : length (children_of children) ≡ length children = length-map children child_view in
+    let high : j < length (children_of children) = omega arith in
+    let place : get_or numbers j 0 ≡ j = get_or-range_with_len 0 (length (children_of children)) j 0 high ∙ zero-add j in
+    ap not (list_any_at test numbers j 0 (let count = length-range_with_len 0 (length (children_of children)) in omega (arith, count, high)) (ap test place ∙ gives))
+
+-- what isn't given by any other is not given
+pub ungiven_parts : (n : Needs) (children : List Node) (order : Order) (l : Literal) (i : ℕ) → is_ungiven (outlook_of n) (seen children order) i l ≡ true
+    → IsUngiven (outlook_of n) (seen children order) l i
+ungiven_parts n children order l i none = λ j low other before. ungiven_at (outlook_of n) (seen children order) l i j none low other before
 
 -- a task without a row is within each network
 pub without_row : (n : Needs) (g : GroundTask) (network : Network) → task_row n g ≡ None → IsWithin (outlook_of n) g network

@@ -8,7 +8,7 @@ ghost use Rattle.htn_ground.specs.Views.{child_view, children_of};
 ghost use Rattle.htn_state.specs.Views.{literal_of, literals_of};
 ghost use Rattle.network_needs.specs.Checked.{AreAllowed, AreLeavesRight, GivesWithin};
 ghost use Rattle.network_needs.specs.Checked.{IsActionRight, IsAllowed, IsLeafRight};
-ghost use Rattle.network_needs.specs.Needs.{IsNeededAt, IsUngiven, may_give};
+ghost use Rattle.network_needs.specs.Needs.{IsNeededAt, is_ungiven, may_give};
 ghost use Rattle.network_needs.specs.Rows.{is_marked, literal_number, outlook_of};
 
 use crate::needs::Needs;
@@ -91,9 +91,15 @@ impl Needs {
     }
 
     /// Whether no node may make a literal true for the one at a position: none but itself and those after it gives it.
-    fn is_ungiven(&self, children: &[Child], order: &Order, at: usize, literal: &Literal) -> bool
-        ensures { IsTrue result → IsUngiven (outlook_of self.now)
-            (record { children = children_of children.now; order = order.now }) (literal_of literal.now) at }
+    pub(crate) fn is_ungiven(
+        &self,
+        children: &[Child],
+        order: &Order,
+        at: usize,
+        literal: &Literal,
+    ) -> bool
+        ensures { result ≡ is_ungiven (outlook_of self.now)
+            (record { children = children_of children.now; order = order.now }) at (literal_of literal.now) }
     {
         for position in 0..children.len() {
             if self.may_give(children, order, literal, at, position) {
@@ -142,7 +148,7 @@ impl Needs {
     }
 
     /// Whether one of some nodes never ends.
-    fn has_blocked(&self, children: &[Child]) -> bool
+    pub fn has_blocked(&self, children: &[Child]) -> bool
         ensures { result ≡ list_any (outlook_of self.now).is_blocked (children_of children.now) }
     {
         for child in children {

@@ -11,6 +11,7 @@ mod check;
 mod find;
 mod laws;
 mod leaves;
+mod needed;
 mod needs;
 mod of;
 mod rows;

@@ -4,7 +4,7 @@ use Rattle.htn_ground.specs.Views.{child_view}
 use Rattle.htn_model.specs.Problem.{Child}
 use Rattle.htn_state.specs.Views.{literal_of, literals_of}
 use Rattle.network_needs.specs.Rows.{outlook_of}
-use Rattle.network_needs.proofs.Within.{contains_equal, node_at}
+use Rattle.network_needs.proofs.Within.{contains_equal, node_at, ungiven_parts}
 use Rattle.network_needs.proofs.needs.Needs.is_needed_at.Goals as goal
 
 pub returns : goal.returns
@@ -17,5 +17,5 @@ returns c = λ passes.
       wants =
           subst (λ (x : Child). Contains (o.wants x) l) (sym (node_at children c.args.at c.index-children-at.result c.requires c.index-children-at.is))
           (subst (λ ls. Contains ls l) c.wants.ensures (contains_equal (literals_of c.wants.result.now) l (sym c.is_among.ensures ∙ c.if-not-is_among.false)));
-      ungiven = c.is_ungiven.ensures passes;
+      ungiven = ungiven_parts c.args.self.now children c.args.order.now l c.args.at (sym c.is_ungiven.ensures ∙ passes);
     }

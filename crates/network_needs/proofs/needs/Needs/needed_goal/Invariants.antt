@@ -1,0 +1,11 @@
+use Rattle.std.proofs.Common.{◌≡◌, filter, not, take}
+use Rattle.std.specs.List.{list_any}
+use Rattle.htn_ground.specs.Views.{children_of}
+use Rattle.htn_state.specs.Views.{literals_of}
+use Rattle.network_needs.specs.Rows.{outlook_of}
+use Rattle.network_needs.proofs.needs.Needs.needed_goal.Given as goal
+
+abbrev pub invariant-loop-literal : goal.invariant-loop-literal
+invariant-loop-literal l =
+    literals_of l.found.items
+    ≡ filter (λ x. not (list_any (λ y. (outlook_of l.self).gives y x) (children_of l.children))) (literals_of (take l.literal-index l.goal))
