@@ -18,7 +18,7 @@ import threading
 
 
 def run(words, seconds):
-    """The status, the output, the processor time and the greatest memory of a run; None where it did not end in time."""
+    """The status, the output, the processor time and the greatest memory of a run; None if it did not end in time."""
     with tempfile.TemporaryFile() as out:
         program = subprocess.Popen(words, stdin=subprocess.DEVNULL, stdout=out, stderr=subprocess.DEVNULL)
         killed = threading.Event()
@@ -89,7 +89,8 @@ def main():
                 ended[name].append(it[2] / max(found[0][2], 0.005))
         print(f"| {problem} | {answer} | " + " | ".join(cells(it, found[0]) for it in found) + " |", flush=True)
     for name, _ in programs[1:]:
-        print(f"\n{name}: {mean(ended[name]):.2f} times the processor time of {programs[0][0]} in the geometric mean over {len(ended[name])} problems")
+        ratio, count = mean(ended[name]), len(ended[name])
+        print(f"\n{name}: {ratio:.2f} times the time of {programs[0][0]} in the geometric mean over {count} problems")
     sys.exit(differs)
 
 
