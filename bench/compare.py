@@ -4,30 +4,31 @@
 usage: compare.py FOLDER NAME=PROGRAM [NAME=PROGRAM].. [--nodes N] [--seconds S] [--workers N] [--only WORD]
 
 Each line of the table is a problem: the first word of the answer, and for each program its processor time in seconds
-(user and system), its greatest memory in MB, and both as ratios to the first program. `>` is a run that did not end in
-time. A family's larger problems are left out once no program has ended on one. All that end have to give the same
-bytes and status; where they don't, the line says so, and the exit status is 1."""
+(user and system), its greatest memory in MB, and both as ratios to the first program. Less memory than this script's
+own, about 14 MB, isn't told. `>` is a run that did not end in so many seconds of processor time, which other work on
+the machine doesn't take away. A family's larger problems are left out once no program has ended on one. All that end
+have to give the same bytes and status; where they don't, the line says so, and the exit status is 1."""
 import argparse
 import math
 import os
 import re
+import resource
+import signal
 import subprocess
 import sys
 import tempfile
-import threading
 
 
 def run(words, seconds):
-    """The status, the output, the processor time and the greatest memory of a run; None where it did not end in time."""
+    """The status, the output, the processor time and the greatest memory of a run; None if it did not end in time."""
+    limit = lambda: resource.setrlimit(resource.RLIMIT_CPU, (seconds, seconds + 1))
     with tempfile.TemporaryFile() as out:
-        program = subprocess.Popen(words, stdin=subprocess.DEVNULL, stdout=out, stderr=subprocess.DEVNULL)
-        killed = threading.Event()
-        timer = threading.Timer(seconds, lambda: (killed.set(), program.kill()))
-        timer.start()
+        program = subprocess.Popen(
+            words, stdin=subprocess.DEVNULL, stdout=out, stderr=subprocess.DEVNULL, preexec_fn=limit
+        )
         _, status, used = os.wait4(program.pid, 0)
-        timer.cancel()
         program.returncode = os.waitstatus_to_exitcode(status)
-        if killed.is_set():
+        if -program.returncode in (signal.SIGXCPU, signal.SIGKILL):
             return None
         out.seek(0)
         return program.returncode, out.read(), used.ru_utime + used.ru_stime, used.ru_maxrss / 1024
@@ -63,7 +64,7 @@ def main():
     words.add_argument("folder")
     words.add_argument("programs", nargs="+", metavar="NAME=PROGRAM")
     words.add_argument("--nodes", type=int, default=200)
-    words.add_argument("--seconds", type=float, default=60)
+    words.add_argument("--seconds", type=int, default=60)
     words.add_argument("--workers", type=int, default=1)
     words.add_argument("--only", default="")
     given = words.parse_args()
@@ -89,7 +90,8 @@ def main():
                 ended[name].append(it[2] / max(found[0][2], 0.005))
         print(f"| {problem} | {answer} | " + " | ".join(cells(it, found[0]) for it in found) + " |", flush=True)
     for name, _ in programs[1:]:
-        print(f"\n{name}: {mean(ended[name]):.2f} times the processor time of {programs[0][0]} in the geometric mean over {len(ended[name])} problems")
+        ratio, count = mean(ended[name]), len(ended[name])
+        print(f"\n{name}: {ratio:.2f} times the time of {programs[0][0]} in the geometric mean over {count} problems")
     sys.exit(differs)
 
 

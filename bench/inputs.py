@@ -99,7 +99,8 @@ def satellite(size):
     facts = [f"power-available {it}" for it in satellites]
     facts += [f"pointing {it} {chance.choice(stars + images)}" for it in satellites]
     for place, instrument in enumerate(instruments):
-        facts += [f"on-board {instrument} {satellites[place // 2]}", f"calibration-target {instrument} {chance.choice(stars)}"]
+        facts.append(f"on-board {instrument} {satellites[place // 2]}")
+        facts.append(f"calibration-target {instrument} {chance.choice(stars)}")
         facts += [f"supports {instrument} {mode}" for mode in chance.sample(modes, 2)]
     facts += [f"supports {instruments[0]} {mode}" for mode in modes if f"supports {instruments[0]} {mode}" not in facts]
     tasks = [f"observe {it} {chance.choice(modes)}" for it in images]
@@ -121,7 +122,8 @@ def rover(size):
     facts += [f"soil-at {it}" for it in soil] + [f"seen-from {it} {chance.choice(places)}" for it in objectives]
     facts += [f"visible {it} {places[0]}" for it in places[1:3]]
     tasks = [f"get-soil-data {it}" for it in soil] + [f"get-picture-data {it}" for it in objectives]
-    objects = {"waypoint": places, "rover": rovers, "store": stores, "camera": cameras, "objective": objectives, "lander": ["lander"]}
+    objects = {"waypoint": places, "rover": rovers, "store": stores, "camera": cameras}
+    objects |= {"objective": objectives, "lander": ["lander"]}
     return problem("rover", objects, tasks, facts)
 
 
@@ -161,7 +163,8 @@ def snacks(size):
     facts += [f"allergic {it}" for it in allergic] + [f"waits {it} {chance.choice(places)}" for it in children]
     facts += [f"bread-without-gluten {it}" for it in breads[: len(allergic)]]
     facts += [f"content-without-gluten {it}" for it in contents[: len(allergic)]]
-    objects = {"child": children, "bread": breads, "content": contents, "sandwich": sandwiches, "tray": ["tray-1"], "place": places}
+    objects = {"child": children, "bread": breads, "content": contents, "sandwich": sandwiches}
+    objects |= {"tray": ["tray-1"], "place": places}
     return problem("snacks", objects, [f"serve {it}" for it in children], facts, ordered=False)
 
 
@@ -202,13 +205,17 @@ def many_methods(size):
     head = "(define (domain d) (:types place truck) (:predicates (road ?a ?b - place) (at ?t - truck ?p - place))"
     facts = [f"  (road place-{at % 1000} place-{at // 1000})" for at in range(50_000 * size)]
     places = " ".join(f"place-{at}" for at in range(1000))
+    start = f"(define (problem p) (:domain d) (:objects {places} - place) (:htn :subtasks ()) (:init"
     return {
         "domain.hddl": lines(f"{head}\n  (:task go :parameters (?t - truck ?p - place))", methods, ")"),
-        "problem.hddl": lines(f"(define (problem p) (:domain d) (:objects {places} - place) (:htn :subtasks ()) (:init", facts, "))"),
+        "problem.hddl": lines(start, facts, "))"),
     }
 
 
-NO_TASK = "(define (problem p) (:domain types) (:htn :subtasks ()))\n"
+def with_no_task(head, found, tail):
+    """A domain of these lines, and a problem without tasks."""
+    no_task = "(define (problem p) (:domain d) (:htn :subtasks ()))\n"
+    return {"domain.hddl": lines(head, found, tail), "problem.hddl": no_task}
 
 
 @texts(6)
@@ -218,7 +225,7 @@ def type_chain(size):
     types = [f"  type-{at} - type-{at - 1}" for at in range(1, count)]
     uses = ["  (known ?x)"] * count
     middle = f") (:predicates (known ?x - type-0)) (:action look :parameters (?x - type-{count - 1}) :precondition (and"
-    return {"domain.hddl": lines("(define (domain types) (:types", [*types, middle, *uses], ")))"), "problem.hddl": NO_TASK}
+    return with_no_task("(define (domain types) (:types", [*types, middle, *uses], ")))")
 
 
 @texts(6)
@@ -229,13 +236,13 @@ def type_ladder(size):
     places = [f"  (known-{at} ?x - type-{at})" for at in range(count)]
     uses = [f"  (known-{at} ?x)" for at in range(count)]
     middle = f") (:action look :parameters (?x - type-{count - 1}) :precondition (and"
-    head = "(define (domain types) (:types type-1 - type-0"
-    return {"domain.hddl": lines(head, [*types, ") (:predicates", *places, middle, *uses], ")))"), "problem.hddl": NO_TASK}
+    found = [*types, ") (:predicates", *places, middle, *uses]
+    return with_no_task("(define (domain types) (:types type-1 - type-0", found, ")))")
 
 
 @texts(10)
 def sets(size):
-    """Two unordered actions a size, each of which makes a fact, and a goal that none makes: each set of them is searched."""
+    """Two unordered actions a size, each of which makes a fact, and a goal that none makes: each set is searched."""
     count = 2 * size
     facts = " ".join(f"(made-{at})" for at in range(count))
     actions = [f"  (:action make-{at} :effect (made-{at}))" for at in range(count)]
@@ -251,13 +258,14 @@ def ring(size, literals, constraint=""):
     count = 500 * size
     roads_of = [f"  (road place-{at} place-{(at + 7) % count})" for at in range(count)]
     places = " ".join(f"place-{at}" for at in range(count))
+    start = f"(define (problem ring) (:domain places) (:htn :subtasks (go)) (:objects {places}) (:init"
     return {
         "domain.hddl": (
             "(define (domain places) (:predicates (road ?from ?to)) (:task go :parameters ())\n"
             f"  (:method along :parameters (?a ?b ?c ?d) :task (go) :precondition (and {literals}) :subtasks ()\n"
             f"    :constraints ({constraint})))\n"
         ),
-        "problem.hddl": lines(f"(define (problem ring) (:domain places) (:htn :subtasks (go)) (:objects {places}) (:init", roads_of, "))"),
+        "problem.hddl": lines(start, roads_of, "))"),
     }
 
 
@@ -277,6 +285,59 @@ def ring_backwards(size):
 def ring_apart(size):
     """The same, where two that no literal joins have to differ."""
     return ring(size, "(road ?a ?b) (road ?b ?c) (road ?c ?d)", "not (= ?b ?d)")
+
+
+@texts(5)
+def nested_forall(size):
+    """40,000 atoms a size below 55 nested `forall` of 32 variables each."""
+    heads = [
+        f"  (forall ({' '.join(f'?v-{depth}-{at}' for at in range(32))})" for depth in range(55)
+    ]
+    atoms = ["    (known ?v-54-31)"] * (40_000 * size)
+    head = "(define (domain d) (:predicates (known ?x)) (:action look :precondition"
+    return with_no_task(head, [*heads, "  (and", *atoms, "  )"], ")" * 55 + "))")
+
+
+@texts(5)
+def objects_below(size):
+    """4,000 objects a size, each of the last of as many types that are each below the one before."""
+    count = 4_000 * size
+    types = [f"  type-{at} - type-{at - 1}" for at in range(1, count)]
+    objects = [f"  thing-{at}" for at in range(count)]
+    tail = f"  - type-{count - 1}) (:predicates (known ?x - type-0)))"
+    return with_no_task("(define (domain d) (:types", [*types, ") (:constants", *objects], tail)
+
+
+def one_task(size, things, method, atoms=""):
+    """A task with a method over so many things a size, which an action does."""
+    found = " ".join(f"thing-{at}" for at in range(things * size))
+    return {
+        "domain.hddl": (
+            "(define (domain d) (:predicates (wanted ?x)) (:task go :parameters ()) (:action act)\n"
+            f"  (:method way :task (go) {method} :subtasks (act)))\n"
+        ),
+        "problem.hddl": f"(define (problem p) (:domain d) (:objects {found}) (:htn :subtasks (go)) (:init {atoms}))\n",
+    }
+
+
+@texts(4)
+def dead_instances(size):
+    """A method of eight parameters of which no instance can ever be carried out, over 64 things a size."""
+    return one_task(size, 64, ":parameters (?a ?b ?c ?d ?e ?f ?g ?h) :precondition (wanted ?a)")
+
+
+@texts(6)
+def different_parameters(size):
+    """A method of five parameters of which no two may be equal, over 100 things a size."""
+    names_of = "abcde"
+    unequal = [f"(not (= ?{one} ?{other}))" for one in names_of for other in names_of if one < other]
+    return one_task(size, 100, f":parameters (?a ?b ?c ?d ?e) :precondition (and {' '.join(unequal)})")
+
+
+@texts(6)
+def hidden_parameters(size):
+    """A method of four parameters that stand nowhere else, over 60 things a size."""
+    return one_task(size, 60, ":parameters (?a ?b ?c ?d)")
 
 
 @texts(6)
