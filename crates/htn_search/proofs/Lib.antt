@@ -3,6 +3,7 @@ pub mod ChildPlaces
 pub mod Closing
 pub mod Finishing
 pub mod Moves
+pub mod Numbered
 pub mod Shared
 pub mod Solved
 pub mod Told

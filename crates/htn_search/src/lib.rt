@@ -2,6 +2,7 @@
 #![tactic(auto)]
 
 mod answer;
+mod numbers;
 mod places;
 mod solution;
 mod solve;
@@ -10,5 +11,5 @@ mod walk;
 
 pub use answer::Answer;
 pub use solution::rebuild;
-pub use solve::{finishes, search};
+pub use solve::{find_word, finishes, search};
 pub use word_machine::{Bounds, Found, Gate, NoGate, SearchFault};

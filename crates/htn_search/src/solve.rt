@@ -1,5 +1,6 @@
 //! The search of a task.
 ghost use Rattle.std.specs.Prelude.{◌≡◌, ◌<◌, ◌↔◌, IfErr, IfOk, IsTrue};
+ghost use Rattle.htn_answer.specs.Answered.{IsAnswered, IsExact};
 ghost use Rattle.htn_model.specs.Grounding.{problem_of};
 ghost use Rattle.htn_model.specs.Machine.{Finishes};
 ghost use Rattle.htn_net.specs.Listed.{listing_machine};
@@ -8,6 +9,7 @@ ghost use Rattle.word_machine.specs.Answer.{IsAnswer};
 ghost use Rattle.word_machine.specs.declared.found.SearchFault.TheVariants.{NoThread};
 
 use crate::answer::Answer;
+use crate::numbers::word_of_ranks;
 use crate::solution::rebuild_listed;
 use htn_ground::{goal_literals, initials};
 use htn_net::Config;
@@ -32,6 +34,28 @@ fn find_ranks<G: Gate, R: Threads + Wait + Sync>(
     let machine = TaskMachine::new(alloc, task)?;
     let found = word_machine::find_word_deepening(rt, alloc, &machine, bounds, gate)?;
     Ok(found)
+}
+
+/// The least finishing word of a task, by its steps and then by its numbers; or that no solution is
+/// within the bound, or none at all. `SearchFault::NoThread` never comes with one worker. A number of
+/// the word that doesn't fit 64 bits is answered as want of memory.
+pub fn find_word<G: Gate, R: Threads + Wait + Sync>(
+    rt: &R,
+    alloc: Global,
+    task: &Task,
+    bounds: Bounds,
+    gate: &G,
+) -> Result<Found, SearchFault>
+    ensures answered { IfOk result (IsAnswered (problem_of task.now) bounds.nodes) }
+    ensures exact { IfOk result (IsExact (problem_of task.now) bounds.nodes) }
+    ensures no_thread { IfErr result (λ e. e ≡ NoThread → 1 < bounds.workers) }
+{
+    let _typed = task.objects();
+    match find_ranks(rt, alloc, task, bounds, gate)? {
+        Found::Word(ranks) => Ok(Found::Word(word_of_ranks(alloc, task, &ranks)?)),
+        Found::None => Ok(Found::None),
+        Found::Unsolvable => Ok(Found::Unsolvable),
+    }
 }
 
 /// The solution of fewest nodes and then of least code; or that none is within the bound, or none

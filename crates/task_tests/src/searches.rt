@@ -5,7 +5,7 @@ use crate::pairs::{
     THROUGH, TOUCH, TOUCH_NONE, TWO_ACTIONS, TWO_METHODS, task_of,
 };
 use crate::plans::{answer_text, text_of};
-use htn_search::{Answer, Bounds, NoGate, finishes, rebuild, search};
+use htn_search::{Answer, Bounds, Found, NoGate, find_word, finishes, rebuild, search};
 use htn_task::Task;
 use htn_tree::{Node, Solution};
 use std::alloc::{AllocError, Global};
@@ -94,6 +94,48 @@ fn least_plans_are_found(rt: HostRuntime) -> Result<(), Fail> {
         let found = found_text(&rt, rt.alloc(), pair, nodes)?;
         let text = word_text(rt.alloc(), pair, word)?;
         assert!(rt; found == text, "{word:?}");
+    }
+    Ok(())
+}
+
+// The least word of a pair within so many nodes, or why there is none.
+fn least_word<R: Threads + Wait + Sync>(
+    rt: &R,
+    alloc: Global,
+    pair: Pair,
+    nodes: u64,
+) -> Result<String, Fail> {
+    let bounds = Bounds::new(nodes, 1, 64).ok_or("in range")?;
+    let task = task_of(alloc, pair)?;
+    match find_word(rt, alloc, &task, bounds, &NoGate)? {
+        Found::Word(word) => Ok(format!(in alloc; "{word:?}")?),
+        Found::None => Ok(String::from_str(alloc, "none")?),
+        Found::Unsolvable => Ok(String::from_str(alloc, "unsolvable")?),
+    }
+}
+
+// Its numbers are those of all instances, of those also that a search passes over.
+#[test]
+fn least_words_are_found(rt: HostRuntime) -> Result<(), Fail> {
+    let rows = [
+        (ROAD, 8, "[0, 2, 0, 0, 6, 0, 0, 0, 0]"),
+        (ROAD, 7, "none"),
+        (NOTHING, 0, "[0]"),
+        (LATE, 3, "[0, 0, 1, 0]"),
+        (LATE, 2, "none"),
+        (TWO_METHODS, 1, "[0, 0]"),
+        (TWO_ACTIONS, 2, "[0, 0, 0]"),
+        (THROUGH, 4, "[0, 0, 0, 0]"),
+        (AGAINST, 2, "none"),
+        (AGAINST, 4, "unsolvable"),
+        (TOUCH, 1, "[0, 0]"),
+        (NEED, 2, "[0, 1, 0]"),
+        (SET_AND_CLEAR, 6, "[0, 0, 1, 0, 0, 1, 0]"),
+        (SET_AND_CLEAR, 5, "none"),
+    ];
+    for (pair, nodes, text) in rows {
+        let word = least_word(&rt, rt.alloc(), pair, nodes)?;
+        assert_eq!(rt; word.as_str(), text);
     }
     Ok(())
 }
