@@ -1,9 +1,7 @@
 //! Tasks whose methods have very many instances, most of which a search passes over.
 
-use crate::plans::answer_text;
-use hddl_check::check;
-use hddl_text::{read_domain, read_problem};
-use htn_search::Bounds;
+use crate::pairs::task_between;
+use crate::plans::answer_within;
 use htn_task::Task;
 use std::alloc::Global;
 use std::sync::Wait;
@@ -21,10 +19,8 @@ fn problem_text(alloc: Global, things: u64, atoms: &str) -> Result<String, Fail>
 }
 
 fn task_with(alloc: Global, domain: &str, things: u64, atoms: &str) -> Result<Task, Fail> {
-    let domain = read_domain(alloc, domain.as_bytes())?;
-    let problem = read_problem(alloc, problem_text(alloc, things, atoms)?.as_bytes())?;
-    let task = check(alloc, &domain, &problem)?;
-    Ok(task)
+    let problem = problem_text(alloc, things, atoms)?;
+    task_between(alloc, domain, problem.as_str())
 }
 
 // The text of the plan that is found within so many nodes, or why there is none.
@@ -35,9 +31,8 @@ fn found_with<R: Threads + Wait + Sync>(
     nodes: u64,
 ) -> Result<Vec<u8>, Fail> {
     let (domain, things, atoms) = case;
-    let bounds = Bounds::new(nodes, 1, 64).ok_or("in range")?;
     let task = task_with(alloc, domain, things, atoms)?;
-    answer_text(rt, alloc, &task, bounds)
+    answer_within(rt, alloc, &task, nodes)
 }
 
 const NEVER: &str = "(define (domain d) (:types thing) (:predicates (p ?x - thing)) (:task t)

@@ -193,10 +193,15 @@ const LATE_DOMAIN: &str =
   (:method m-a :task (a) :precondition (p) :subtasks ())
   (:action make-p :effect (p)))";
 
-/// The task of a pair.
-pub fn task_of(alloc: Global, pair: Pair) -> Result<Task, Fail> {
-    let domain = read_domain(alloc, pair.domain.as_bytes())?;
-    let problem = read_problem(alloc, pair.problem.as_bytes())?;
+/// The task of a domain's text and a problem's.
+pub fn task_between(alloc: Global, domain: &str, problem: &str) -> Result<Task, Fail> {
+    let domain = read_domain(alloc, domain.as_bytes())?;
+    let problem = read_problem(alloc, problem.as_bytes())?;
     let task = check(alloc, &domain, &problem)?;
     Ok(task)
+}
+
+/// The task of a pair.
+pub fn task_of(alloc: Global, pair: Pair) -> Result<Task, Fail> {
+    task_between(alloc, pair.domain, pair.problem)
 }

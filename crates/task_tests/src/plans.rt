@@ -57,6 +57,17 @@ pub fn answer_text<R: Threads + Wait + Sync>(
     Ok(text)
 }
 
+/// The same of a search by one worker for plans of at most so many nodes.
+pub fn answer_within<R: Threads + Wait + Sync>(
+    rt: &R,
+    alloc: Global,
+    task: &Task,
+    nodes: u64,
+) -> Result<Vec<u8>, Fail> {
+    let bounds = Bounds::new(nodes, 1, 64).ok_or("in range")?;
+    answer_text(rt, alloc, task, bounds)
+}
+
 // The plan file of the solution of a word.
 fn plan_file(alloc: Global, task: &Task, word: &[u64]) -> Result<PlanFile, Fail> {
     let solution = solution_of(alloc, task, word)?.ok_or("finishes")?;

@@ -4,7 +4,7 @@ use crate::pairs::{
     AGAINST, DEAD, DOUBLING, ENDING, ENDLESS, LATE, NEED, NOTHING, Pair, ROAD, SET_AND_CLEAR,
     THROUGH, TOUCH, TOUCH_NONE, TWO_ACTIONS, TWO_METHODS, task_of,
 };
-use crate::plans::{answer_text, text_of};
+use crate::plans::{answer_within, text_of};
 use htn_search::{Answer, Bounds, Found, NoGate, find_word, finishes, rebuild, search};
 use htn_task::Task;
 use htn_tree::{Node, Solution};
@@ -64,9 +64,8 @@ fn found_text<R: Threads + Wait + Sync>(
     pair: Pair,
     nodes: u64,
 ) -> Result<Vec<u8>, Fail> {
-    let bounds = Bounds::new(nodes, 1, 64).ok_or("in range")?;
     let task = task_of(alloc, pair)?;
-    answer_text(rt, alloc, &task, bounds)
+    answer_within(rt, alloc, &task, nodes)
 }
 
 // The text of the plan of a word.

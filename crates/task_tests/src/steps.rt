@@ -46,20 +46,32 @@ fn line(alloc: Global, task: &Task, config: &Config) -> Result<String, Fail> {
     Ok(format!(in alloc; "{} {all:?} {live:?}{done}\n", config.open_len())?)
 }
 
-// A line for each configuration from the first initial network on, up to a number that is none of the choices.
-fn walk(alloc: Global, task: &Task, word: &[u64]) -> Result<String, Fail> {
-    let mut text = String::new(alloc);
+// The configurations along a word from the first initial network on, up to a number that is none of the choices.
+fn configurations(alloc: Global, task: &Task, word: &[u64]) -> Result<Vec<Config>, AllocError> {
+    let mut passed = Vec::new(alloc);
     let mut here = started(alloc, task, 0)?;
     for number in word {
         let Some(config) = here else {
-            return Ok(text);
+            return Ok(passed);
         };
-        text.push_str(&line(alloc, task, &config)?)?;
         here = stepped(alloc, task, &config, *number)?;
+        passed.push(config)?;
     }
-    match here {
-        Some(config) => text.push_str(&line(alloc, task, &config)?)?,
-        None => text.push_str("refused\n")?,
+    if let Some(config) = here {
+        passed.push(config)?;
+    }
+    Ok(passed)
+}
+
+// A line for each configuration along a word.
+fn walk(alloc: Global, task: &Task, word: &[u64]) -> Result<String, Fail> {
+    let mut text = String::new(alloc);
+    let passed = configurations(alloc, task, word)?;
+    for config in &passed {
+        text.push_str(&line(alloc, task, config)?)?;
+    }
+    if passed.len() <= word.len() {
+        text.push_str("refused\n")?;
     }
     Ok(text)
 }
@@ -136,15 +148,7 @@ fn words_go_step_by_step(rt: HostRuntime) -> Result<(), Fail> {
 // How many configurations along a word differ.
 fn count_different(alloc: Global, task: &Task, word: &[u64]) -> Result<usize, AllocError> {
     let mut seen = IndexSet::new(alloc);
-    let mut here = started(alloc, task, 0)?;
-    for number in word {
-        let Some(config) = here else {
-            return Ok(0);
-        };
-        here = stepped(alloc, task, &config, *number)?;
-        seen.insert(config)?;
-    }
-    if let Some(config) = here {
+    for config in configurations(alloc, task, word)? {
         seen.insert(config)?;
     }
     Ok(seen.len())
