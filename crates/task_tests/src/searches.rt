@@ -97,20 +97,29 @@ fn least_plans_are_found(rt: HostRuntime) -> Result<(), Fail> {
     Ok(())
 }
 
-// The least word of a pair within so many nodes, or why there is none.
+// The least word, or why there is none.
 fn least_word<R: Threads + Wait + Sync>(
     rt: &R,
     alloc: Global,
-    pair: Pair,
-    nodes: u64,
+    task: &Task,
+    bounds: Bounds,
 ) -> Result<String, Fail> {
-    let bounds = Bounds::new(nodes, 1, 64).ok_or("in range")?;
-    let task = task_of(alloc, pair)?;
-    match find_word(rt, alloc, &task, bounds, &NoGate)? {
+    match find_word(rt, alloc, task, bounds, &NoGate)? {
         Found::Word(word) => Ok(format!(in alloc; "{word:?}")?),
         Found::None => Ok(String::from_str(alloc, "none")?),
         Found::Unsolvable => Ok(String::from_str(alloc, "unsolvable")?),
     }
+}
+
+// The same for a pair.
+fn least_word_of<R: Threads + Wait + Sync>(
+    rt: &R,
+    alloc: Global,
+    pair: Pair,
+    bounds: Bounds,
+) -> Result<String, Fail> {
+    let task = task_of(alloc, pair)?;
+    least_word(rt, alloc, &task, bounds)
 }
 
 // Its numbers are those of all instances, of those also that a search passes over.
@@ -133,7 +142,8 @@ fn least_words_are_found(rt: HostRuntime) -> Result<(), Fail> {
         (SET_AND_CLEAR, 5, "none"),
     ];
     for (pair, nodes, text) in rows {
-        let word = least_word(&rt, rt.alloc(), pair, nodes)?;
+        let bounds = Bounds::new(nodes, 1, 64).ok_or("in range")?;
+        let word = least_word_of(&rt, rt.alloc(), pair, bounds)?;
         assert_eq!(rt; word.as_str(), text);
     }
     Ok(())
