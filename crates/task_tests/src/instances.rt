@@ -240,21 +240,39 @@ const SPARE_LINES: &str = "0: Some(0)[0, 1]
 2: Some(1)[0, 1] action 1[1]
 ";
 
+// A line for each instance of the first compound task whose network no earlier one has.
+fn distinct_text(alloc: Global, task: &Task) -> Result<String, Fail> {
+    let goal = GroundTask::new(0, ObjectList::of(alloc, &[])?);
+    lines(alloc, &distinct_live_methods_of(alloc, task, &goal)?)
+}
+
+fn distinct_text_of(alloc: Global, pair: Pair) -> Result<String, Fail> {
+    let task = task_of(alloc, pair)?;
+    distinct_text(alloc, &task)
+}
+
 #[test]
 fn equal_networks_are_listed_once(rt: HostRuntime) -> Result<(), Fail> {
-    let task = task_of(rt.alloc(), SPARE)?;
-    let goal = GroundTask::new(0, ObjectList::of(rt.alloc(), &[])?);
-    let found = distinct_live_methods_of(rt.alloc(), &task, &goal)?;
-    assert_eq!(rt; lines(rt.alloc(), found.as_slice())?.as_str(), SPARE_LINES);
+    let found = distinct_text_of(rt.alloc(), SPARE)?;
+    assert_eq!(rt; found.as_str(), SPARE_LINES);
     Ok(())
+}
+
+fn distinct_initials_text(alloc: Global, task: &Task) -> Result<String, Fail> {
+    lines(alloc, &distinct_initials(alloc, task)?)
+}
+
+fn distinct_initials_of(alloc: Global, pair: Pair) -> Result<String, Fail> {
+    let task = task_of(alloc, pair)?;
+    distinct_initials_text(alloc, &task)
 }
 
 #[test]
 fn initial_networks_that_differ_are_listed(rt: HostRuntime) -> Result<(), Fail> {
-    let task = task_of(rt.alloc(), TOUCH)?;
-    let found = distinct_initials(rt.alloc(), &task)?;
-    let all = initials(rt.alloc(), &task)?;
-    let found = lines(rt.alloc(), found.as_slice())?;
-    assert_eq!(rt; found.as_str(), lines(rt.alloc(), all.as_slice())?.as_str());
+    let found = distinct_initials_of(rt.alloc(), TOUCH)?;
+    assert_eq!(rt;
+        found.as_str(),
+        "0: None[1] action 0[1]\n1: None[2] action 0[2]\n"
+    );
     Ok(())
 }

@@ -69,10 +69,15 @@ fn found_text<R: Threads + Wait + Sync>(
 }
 
 // The text of the plan of a word.
-fn word_text(alloc: Global, pair: Pair, word: &[u64]) -> Result<Vec<u8>, Fail> {
+fn word_text(alloc: Global, task: &Task, word: &[u64]) -> Result<Vec<u8>, Fail> {
+    let solution = solution_of(alloc, task, word)?.ok_or("finishes")?;
+    text_of(alloc, task, &solution)
+}
+
+// The same for a pair.
+fn word_text_of(alloc: Global, pair: Pair, word: &[u64]) -> Result<Vec<u8>, Fail> {
     let task = task_of(alloc, pair)?;
-    let solution = solution_of(alloc, &task, word)?.ok_or("finishes")?;
-    text_of(alloc, &task, &solution)
+    word_text(alloc, &task, word)
 }
 
 // Each plan is that of its least word.
@@ -91,7 +96,7 @@ fn least_plans_are_found(rt: HostRuntime) -> Result<(), Fail> {
     ];
     for (pair, nodes, word) in rows {
         let found = found_text(&rt, rt.alloc(), pair, nodes)?;
-        let text = word_text(rt.alloc(), pair, word)?;
+        let text = word_text_of(rt.alloc(), pair, word)?;
         assert!(rt; found == text, "{word:?}");
     }
     Ok(())

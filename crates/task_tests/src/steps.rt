@@ -179,17 +179,23 @@ fn chosen_text(alloc: Global, chosen: Option<(usize, Change)>) -> Result<String,
     }
 }
 
-// What a rank and a number choose at the start.
-fn chosen_texts(
-    alloc: Global,
-    pair: Pair,
-    rank: u64,
-    number: u64,
-) -> Result<(String, String), Fail> {
-    let task = task_of(alloc, pair)?;
-    let config = started(alloc, &task, 0)?.ok_or("starts")?;
-    let listed = chosen_text(alloc, config.choose_listed(alloc, &task, rank)?)?;
-    let numbered = chosen_text(alloc, config.choose(alloc, &task, number)?)?;
+// What a rank chooses at the start.
+fn listed_text(alloc: Global, task: &Task, rank: u64) -> Result<String, Fail> {
+    let config = started(alloc, task, 0)?.ok_or("starts")?;
+    chosen_text(alloc, config.choose_listed(alloc, task, rank)?)
+}
+
+// What a number chooses at the start.
+fn numbered_text(alloc: Global, task: &Task, number: u64) -> Result<String, Fail> {
+    let config = started(alloc, task, 0)?.ok_or("starts")?;
+    chosen_text(alloc, config.choose(alloc, task, number)?)
+}
+
+// Both for the truck.
+fn chosen_texts(alloc: Global, rank: u64, number: u64) -> Result<(String, String), Fail> {
+    let task = task_of(alloc, ROAD)?;
+    let listed = listed_text(alloc, &task, rank)?;
+    let numbered = numbered_text(alloc, &task, number)?;
     Ok((listed, numbered))
 }
 
@@ -203,7 +209,7 @@ fn ranks_choose_what_their_numbers_do(rt: HostRuntime) -> Result<(), Fail> {
         (3, 10, "none"),
     ];
     for (rank, number, text) in rows {
-        let (listed, numbered) = chosen_texts(rt.alloc(), ROAD, rank, number)?;
+        let (listed, numbered) = chosen_texts(rt.alloc(), rank, number)?;
         assert_eq!(rt; listed.as_str(), text);
         assert_eq!(rt; numbered.as_str(), text);
     }

@@ -4,17 +4,23 @@ use crate::pairs::{
     ADDED_AND_DELETED, AGAINST, ENDING, LATE, LATE_ORDERED, NEED, NOTHING, Pair, ROAD, ROAD_TO_B,
     SET_AND_CLEAR, THROUGH, TWO_ACTIONS, TWO_METHODS, task_of,
 };
+use htn_task::Task;
 use htn_verify::{Verdict, verify};
 use plan_text::read_plan;
 use std::alloc::Global;
 use std::process::Abort;
 use std::test::Fail;
 
-// The verdict on a plan text for the task of a pair.
+// The verdict on a plan text.
+fn verdict_of(alloc: Global, task: &Task, text: &str) -> Result<Verdict, Fail> {
+    let file = read_plan(alloc, text.as_bytes())?;
+    Ok(verify(alloc, task, &file)?)
+}
+
+// The same for the task of a pair.
 fn verdict_on(alloc: Global, pair: Pair, text: &str) -> Result<Verdict, Fail> {
     let task = task_of(alloc, pair)?;
-    let file = read_plan(alloc, text.as_bytes())?;
-    Ok(verify(alloc, &task, &file)?)
+    verdict_of(alloc, &task, text)
 }
 
 // The verdict on each text is the one beside it.
