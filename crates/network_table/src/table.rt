@@ -54,6 +54,13 @@ impl NetworkTable {
         &self.networks.as_slice()[number as usize]
     }
 
+    /// The networks in the order of their numbers.
+    pub fn networks(&self) -> &[Network]
+        ensures { result.now ≡ self.now.networks.keys }
+    {
+        self.networks.as_slice()
+    }
+
     /// The node of a number.
     pub fn child(&self, id: u32) -> &Child
         requires { id < length (children self.now) }
