@@ -1,5 +1,5 @@
 -- What is kept of the networks that have numbers.
-use Rattle.std.specs.Prelude.{◌≡◌, ℕ, ◌≤◌, List, true, false, length, Option, None, Some, slice_get}
+use Rattle.std.specs.Prelude.{◌≡◌, ◌×◌, ℕ, ◌≤◌, List, true, false, length, Option, None, Some, slice_get}
 use Rattle.htn_model.specs.Literal.{Literal}
 use Rattle.htn_model.specs.Problem.{Network}
 use Rattle.htn_state.specs.Views.{literals_of}
@@ -18,12 +18,15 @@ IsKept o goal atoms n None = has_blocked o n ≡ true
 IsKept o goal atoms n (Some needed) = (has_blocked o n ≡ false) × AreCompiled atoms needed (all_needed o goal n)
 
 -- so it is with the networks of the first numbers
-pub record AreKept (o : Outlook) (atoms : Table) (networks : NetworkTable) (t : NeedsTable) : Type 0 where
-  pub within : length t.needs.items ≤ length networks.networks.keys
-  pub each : (n : ℕ) (needed : Option CompiledLiterals) → slice_get t.needs.items n ≡ Some needed
-      → IsKept o (literals_of t.goal.items) atoms (network_at networks n) needed
+pub record Keeps (o : Outlook) (goal : List Literal) (atoms : Table) (networks : NetworkTable) (needs : List (Option CompiledLiterals)) : Type 0 where
+  pub within : length needs ≤ length networks.networks.keys
+  pub each : (n : ℕ) (needed : Option CompiledLiterals) → slice_get needs n ≡ Some needed → IsKept o goal atoms (network_at networks n) needed
 
--- and with all
+-- what stands in a table is that of the first networks
+abbrev pub AreKept : Outlook → Table → NetworkTable → NeedsTable → Type 0
+AreKept o atoms networks t = Keeps o (literals_of t.goal.items) atoms networks t.needs.items
+
+-- and that of all
 pub record AreAllKept (o : Outlook) (atoms : Table) (networks : NetworkTable) (t : NeedsTable) : Type 0 where
   pub kept : AreKept o atoms networks t
   pub all : length t.needs.items ≡ length networks.networks.keys
