@@ -1,7 +1,9 @@
 -- What is kept of networks stays right, and tells which configurations may end.
-use Rattle.std.proofs.Common.{◌≡◌, ℕ, ◌+◌, ◌<◌, ◌≤◌, Bool, true, false, not, ◌&&◌, List, [], ◌∷◌, ◌++◌, ◌⊎◌, inl, inr, length, get_or, map, Option, None, Some, slice_get, refl, sym, ap, ap₂, ◌∙◌, subst, arith, length-append}
+use Rattle.std.proofs.Common.{◌≡◌, ℕ, suc, ◌+◌, ◌<◌, ◌≤◌, Bool, true, false, not, ◌&&◌, List, [], ◌∷◌, ◌++◌, ◌⊎◌, inl, inr, length, get_or, map, take, Option, None, Some, slice_get, refl, sym, ap, ap₂, ◌∙◌, subst, arith, length-append}
 use Rattle.std.specs.List.{list_all}
 use Rattle.std.proofs.lemmas.Bool.{both_ways}
+use Rattle.std.proofs.Math.Seq.{take-suc}
+use Rattle.std.proofs.lemmas.List.{map_push}
 use Rattle.std.proofs.lemmas.List.Folds.{list_all-append}
 use Rattle.std.proofs.lemmas.Option.{none-some, same_Some, slice_get-get_or, slice_get_within}
 use Rattle.htn_model.specs.Literal.{Literal, holds, literal_holds}
@@ -72,3 +74,20 @@ needed_ends problem o state n b open is =
 -- and what never does
 pub blocked_ends : (problem : Problem) (o : Outlook) (state : State) (n : Network) → has_blocked o n ≡ true → false ≡ may_end problem o (config_at state n)
 blocked_ends problem o state n blocked = sym (ap (λ x. not x && (holds state (needed o n) && holds state (needed_goal o problem.goal n))) blocked)
+
+-- what is made of one more number
+pub mapped_more : {X Y : Type 0} (f : X → Y) (h : ℕ → X) (ids : List ℕ) (k id : ℕ) → k < length ids → id ≡ get_or ids k id
+    → map f (map h (take (k + 1) ids)) ≡ map f (map h (take k ids)) ++ f (h id) ∷ []
+mapped_more f h ids k id low is =
+    let e : k + 1 ≡ suc k = omega arith in
+    ap (λ j. map f (map h (take j ids))) e
+    ∙ ap (λ l. map f (map h l)) (take-suc ids k id low)
+    ∙ ap (map f) (map_push h (take k ids) (get_or ids k id))
+    ∙ map_push f (map h (take k ids)) (h (get_or ids k id))
+    ∙ ap (λ i. map f (map h (take k ids)) ++ f (h i) ∷ []) (sym is)
+
+-- one more thing made of a node's place
+pub places_more : {P X Y : Type 0} (f : P → Y) (g : X → Y) (h : ℕ → X) (old new : List P) (p : P) (ids : List ℕ) (k id : ℕ) → k < length ids → id ≡ get_or ids k id → new ≡ old ++ p ∷ []
+    → f p ≡ g (h id) → map f old ≡ map g (map h (take k ids)) → map f new ≡ map g (map h (take (k + 1) ids))
+places_more f g h old new p ids k id low is pushed same before =
+    ap (map f) pushed ∙ map_push f old p ∙ ap₂ (λ l x. l ++ x ∷ []) before same ∙ sym (mapped_more g h ids k id low is)

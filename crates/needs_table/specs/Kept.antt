@@ -2,7 +2,6 @@
 use Rattle.std.specs.Prelude.{◌≡◌, ◌×◌, ℕ, ◌≤◌, List, true, false, length, Option, None, Some, slice_get}
 use Rattle.htn_model.specs.Literal.{Literal}
 use Rattle.htn_model.specs.Problem.{Network}
-use Rattle.htn_state.specs.Views.{literals_of}
 use Rattle.network_needs.specs.Needs.{has_blocked, Outlook}
 use Rattle.network_needs.specs.Places.{all_needed}
 use Rattle.network_table.specs.Networks.{network_at}
@@ -24,7 +23,7 @@ pub record Keeps (o : Outlook) (goal : List Literal) (atoms : Table) (networks :
 
 -- what stands in a table is that of the first networks
 abbrev pub AreKept : Outlook → Table → NetworkTable → NeedsTable → Type 0
-AreKept o atoms networks t = Keeps o (literals_of t.goal.items) atoms networks t.needs.items
+AreKept o atoms networks t = Keeps o t.goal atoms networks t.needs.items
 
 -- and that of all
 pub record AreAllKept (o : Outlook) (atoms : Table) (networks : NetworkTable) (t : NeedsTable) : Type 0 where

@@ -1,7 +1,6 @@
 //! What networks need, by number.
 ghost use Rattle.std.specs.Prelude.{◌≡◌, ◌<◌, [], length, map, IfOk, OnOk};
 ghost use Rattle.htn_model.specs.Problem as model;
-ghost use Rattle.htn_state.specs.Views.{literals_of};
 ghost use Rattle.network_needs.specs.Needs.{may_end, Outlook};
 ghost use Rattle.network_needs.specs.Places.{ArePlaces};
 ghost use Rattle.network_needs.specs.Rows.{outlook_of};
@@ -11,7 +10,7 @@ ghost use Rattle.network_table.specs.declared.table.NetworkTable.{NetworkTable a
 ghost use Rattle.state_table.specs.Table.{IsLater, IsTable, state_of, Table};
 ghost use Rattle.needs_table.specs.Kept.{AreAllKept, AreKept, IsKept};
 
-use htn_state::Literal;
+use htn_state::LiteralList;
 use network_needs::{Needs, Place, has_blocked_place};
 use network_table::{Network, NetworkTable};
 use state_table::{AtomTable, BitState, CompiledLiterals};
@@ -20,7 +19,7 @@ use std::alloc::{AllocError, Global};
 /// What each network of a table needs from the start, for its nodes and for a goal.
 #[derive(Drop)]
 pub struct NeedsTable {
-    goal: Vec<Literal>,
+    goal: LiteralList,
     /// By the number of a network; nothing where one of its nodes never ends.
     needs: Vec<Option<CompiledLiterals>>,
 }
@@ -45,7 +44,7 @@ fn places_of(
 
 impl NeedsTable {
     /// Of no network.
-    pub fn new(alloc: Global, goal: Vec<Literal>) -> NeedsTable
+    pub fn new(alloc: Global, goal: LiteralList) -> NeedsTable
         ensures goal { result.goal ≡ goal }
         ensures none { result.needs.items ≡ [] }
     {
@@ -66,7 +65,7 @@ impl NeedsTable {
     ) -> Result<Option<CompiledLiterals>, AllocError>
         requires { IsWithin (children networks.now) network.now }
         ensures later { OnOk result (IsLater atoms.old atoms.new) }
-        ensures kept { IfOk result (IsKept (outlook_of needs.now) (literals_of self.now.goal.items) atoms.new
+        ensures kept { IfOk result (IsKept (outlook_of needs.now) self.now.goal atoms.new
             (network_of (children networks.now) network.now)) }
     {
         let _count = atoms.len();
@@ -74,7 +73,7 @@ impl NeedsTable {
         if has_blocked_place(&places) {
             return Ok(None);
         }
-        let literals = needs.all_needed(alloc, &places, network.order(), &self.goal)?;
+        let literals = needs.all_needed(alloc, &places, network.order(), self.goal.as_slice())?;
         let compiled = CompiledLiterals::of(alloc, atoms, &literals)?;
         Ok(Some(compiled))
     }
@@ -107,7 +106,7 @@ impl NeedsTable {
     pub fn may_end(&self, number: u32, state: &BitState) -> bool
         requires { number < length self.now.needs.items }
         ensures { (problem : model.Problem) (o : Outlook) (atoms : Table) (networks : Networks) → IsTable atoms
-            → AreKept o atoms networks self.now → literals_of self.now.goal.items ≡ problem.goal
+            → AreKept o atoms networks self.now → self.now.goal ≡ problem.goal
             → result ≡ may_end problem o (config_at (state_of atoms state.now) (network_at networks number)) }
     {
         match &self.needs[number as usize] {

@@ -1,7 +1,6 @@
 -- What the machine's bound from below is by its tables.
 use Rattle.std.proofs.Common.{◌≡◌, ◌∙◌, ◌<◌, ℕ, Bool, true, false, not, cond, length, max, sym, ap, ap₂, subst, arith}
 use Rattle.htn_model.specs.Task.{Task}
-use Rattle.htn_state.specs.Views.{literals_of}
 use Rattle.needs_table.specs.Kept.{AreKept}
 use Rattle.needs_table.proofs.Kept.{keeps_later}
 use Rattle.network_needs.specs.Rows.{outlook_of}
@@ -32,4 +31,4 @@ pub kept_still : (needs : Needs) (old new : Tables) → AreLater old new → new
     → AreKept (outlook_of needs) new.atoms new.networks new.needs
 kept_still needs old new later same whole kept =
     subst (AreKept (outlook_of needs) new.atoms new.networks) (sym same)
-    (keeps_later (outlook_of needs) (literals_of old.needs.goal.items) old.atoms new.atoms old.networks new.networks old.needs.needs.items later.atoms whole later.networks kept)
+    (keeps_later (outlook_of needs) old.needs.goal old.atoms new.atoms old.networks new.networks old.needs.needs.items later.atoms whole later.networks kept)

@@ -2,7 +2,6 @@
 use Rattle.std.specs.Prelude.{◌≡◌}
 use Rattle.htn_model.specs.Grounding.{problem_of}
 use Rattle.htn_model.specs.Task.{Task}
-use Rattle.htn_state.specs.Views.{literals_of}
 use Rattle.needs_table.specs.Kept.{AreAllKept}
 use Rattle.network_needs.specs.Rows.{outlook_of}
 use Rattle.network_needs.specs.declared.needs.Needs.{Needs}
@@ -21,5 +20,5 @@ HasSizes sizes t = AreBounds (size_of sizes) t.children
 pub record AreOwned (t : Task) (sizes : TreeSizes) (needs : Needs) (found : Tables) : Type 0 where
   pub tables : AreTables t found
   pub sized : HasSizes sizes found.networks
-  pub goal : literals_of found.needs.goal.items ≡ (problem_of t).goal
+  pub goal : found.needs.goal ≡ (problem_of t).goal
   pub needed : AreAllKept (outlook_of needs) found.atoms found.networks found.needs

@@ -96,7 +96,8 @@ impl<'a> Machine for TaskMachine<'a> {
     ghost bounded = { λ m. bounded m.task.now (needs_bound (problem_of m.task.now) (size_of m.sizes) most_steps (outlook_of m.needs)) m.bounded };
 
     fn new_tables(&self) -> Result<Tables, AllocError> {
-        Tables::new(self.alloc, self.task)
+        let tables = Tables::new(self.alloc, self.task)?;
+        Ok(tables)
     }
 
     fn initials(&self, tables: &mut Tables) -> Result<Vec<Configuration>, AllocError> {

@@ -3,7 +3,6 @@ ghost use Rattle.std.specs.Prelude.{◌≡◌, ◌<◌, ℕ, [], All, IfOk, IfNo
 ghost use Rattle.std.specs.Option.{option_map};
 ghost use Rattle.htn_model.specs.Grounding.{problem_of};
 ghost use Rattle.htn_model.specs.Task as model;
-ghost use Rattle.htn_state.specs.Views.{literals_of};
 ghost use Rattle.needs_table.specs.Kept.{AreKept};
 ghost use Rattle.network_needs.specs.Rows.{outlook_of};
 ghost use Rattle.network_table.specs.Expansions.{first_free};
@@ -165,7 +164,7 @@ impl Tables {
         requires whole { IsWhole self.old.networks }
         requires kept { AreKept (outlook_of needs.now) self.old.atoms self.old.networks self.old.needs }
         ensures owned { OnOk result ((t : model.Task) (sizes : TreeSizes) → AreTables t self.old
-            → HasSizes sizes self.old.networks → literals_of self.old.needs.goal.items ≡ (problem_of t).goal
+            → HasSizes sizes self.old.networks → self.old.needs.goal ≡ (problem_of t).goal
             → AreOwned t sizes needs.now self.new) }
         ensures later { OnOk result ((t : model.Task) → AreTables t self.old → AreLater self.old self.new) }
         ensures networks { OnOk result (self.new.networks ≡ self.old.networks) }

@@ -4,7 +4,6 @@ ghost use Rattle.htn_model.specs.Grounding.{problem_of};
 ghost use Rattle.htn_model.specs.Levels.{is_done};
 ghost use Rattle.htn_model.specs.Task as model;
 ghost use Rattle.htn_model.specs.State.{State};
-ghost use Rattle.htn_state.specs.Views.{literals_of};
 ghost use Rattle.network_needs.specs.Rows.{outlook_of};
 ghost use Rattle.network_needs.specs.declared.needs.Needs.{Needs};
 ghost use Rattle.network_table.specs.Networks.{IsWhole, Knows, network_at};
@@ -53,7 +52,7 @@ impl Tables {
     pub(crate) fn new(alloc: Global, task: &Task) -> Result<Tables, AllocError>
         ensures own { IfOk result (AreTables task.now) }
         ensures sized { IfOk result (λ t. (sizes : TreeSizes) → HasSizes sizes t.networks) }
-        ensures goal { IfOk result (λ t. literals_of t.needs.goal.items ≡ (problem_of task.now).goal) }
+        ensures goal { IfOk result (λ t. t.needs.goal ≡ (problem_of task.now).goal) }
         ensures none { IfOk result (λ t. (t.needs.needs.items ≡ []) × (t.networks.networks.keys ≡ [])) }
     {
         let fluents = fluent_predicates(alloc, task)?;

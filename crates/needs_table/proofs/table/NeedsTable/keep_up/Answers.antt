@@ -1,5 +1,4 @@
 use Rattle.std.proofs.Common.{◌≡◌, ◌∙◌, length, ap, sym, subst, refl, arith}
-use Rattle.htn_state.specs.Views.{literals_of}
 use Rattle.htn_model.specs.Problem.{Network}
 use Rattle.network_needs.specs.Rows.{outlook_of}
 use Rattle.network_table.specs.Networks.{children, network_at}

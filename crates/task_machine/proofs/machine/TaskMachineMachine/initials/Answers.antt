@@ -1,8 +1,5 @@
 use Rattle.std.proofs.Common.{◌≡◌, ◌∙◌, ap, map}
-use Rattle.htn_state.specs.Views.{literals_of}
-
 use Rattle.task_machine.proofs.Estimates.{kept_still}
-
 use Rattle.network_table.proofs.Expanding.{all_more, map_all}
 use Rattle.task_machine.specs.Meaning.{knows, point}
 use Rattle.task_machine.proofs.Owned.{later_tables_then, meaning_grown}
@@ -20,7 +17,7 @@ pub returns-clause-owned : goal.returns-clause-owned
 returns-clause-owned c =
     let m = c.args.self.now in
     let did = c.in_ok-initials.ensures in
-    c.in_ok-prepare_needs.ensures.owned m.task.now m.sizes did.owned did.sized (ap (λ n. literals_of n.goal.items) did.needs ∙ c.requires.own.goal)
+    c.in_ok-prepare_needs.ensures.owned m.task.now m.sizes did.owned did.sized (ap (λ n. n.goal) did.needs ∙ c.requires.own.goal)
 
 pub returns-clause-grown : goal.returns-clause-grown
 returns-clause-grown c =

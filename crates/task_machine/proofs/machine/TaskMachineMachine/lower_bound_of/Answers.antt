@@ -3,7 +3,8 @@ use Rattle.htn_model.specs.Grounding.{problem_of}
 use Rattle.htn_answer.specs.Machine.{IsOwn}
 use Rattle.network_needs.specs.Rows.{outlook_of}
 use Rattle.tree_sizes.specs.Sizes.{size_of}
-use Rattle.task_machine.specs.Bounds.{bound_by, own_bound}
+use Rattle.network_needs.specs.Bounds.{needs_bound}
+use Rattle.task_machine.specs.Bounds.{bound_by, most_steps, own_bound}
 use Rattle.task_machine.specs.Meaning.{allows, config_in, point, point_of}
 use Rattle.task_machine.specs.declared.configuration.Reached.{Reached}
 use Rattle.task_machine.proofs.Estimates.{is_needed}
@@ -27,3 +28,15 @@ returns-in-Known c =
     ∙ ap (λ w. bound_by (problem_of t) size o (config_in tables w at.network)) words
     ∙ sym (own_bound (problem_of t) m.grounded size o (point tables at) belongs)
     ∙ ap (λ r. needs_bound (problem_of t) size most_steps o (point_of tables r)) (sym c.in-Known.is)
+
+pub returns-in-New : goal.returns-in-New
+returns-in-New c =
+    let m = c.args.self.now in
+    let t = m.task.now in
+    let tables = c.args.tables.now in
+    let o = outlook_of m.needs in
+    let size = size_of m.sizes in
+    let belongs = subst (λ (r : Reached). IsOwn (problem_of t) (point_of tables r)) c.in-New.is c.requires.belongs in
+    c.lower_bound-in-New.ensures t m.sizes m.needs c.requires.own
+    ∙ sym (own_bound (problem_of t) m.grounded size o (config_in tables c.in-New.state.now c.in-New.network) belongs)
+    ∙ ap (λ r. needs_bound (problem_of t) size most_steps o (point_of tables r)) (sym c.in-New.is)

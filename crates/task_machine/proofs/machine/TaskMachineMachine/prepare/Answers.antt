@@ -1,5 +1,4 @@
 use Rattle.std.proofs.Common.{◌∙◌, ap}
-use Rattle.htn_state.specs.Views.{literals_of}
 use Rattle.task_machine.proofs.Estimates.{kept_still}
 use Rattle.task_machine.proofs.Owned.{later_tables_then, meaning_grown}
 use Rattle.task_machine.proofs.machine.TaskMachineMachine.prepare.Goals as goal
@@ -15,7 +14,7 @@ pub returns-clause-owned : goal.returns-clause-owned
 returns-clause-owned c =
     let m = c.args.self.now in
     let did = c.in_ok-prepare.ensures in
-    c.in_ok-prepare_needs.ensures.owned m.task.now m.sizes did.owned did.sized (ap (λ n. literals_of n.goal.items) did.needs ∙ c.requires.own.goal)
+    c.in_ok-prepare_needs.ensures.owned m.task.now m.sizes did.owned did.sized (ap (λ n. n.goal) did.needs ∙ c.requires.own.goal)
 
 pub returns-clause-grown : goal.returns-clause-grown
 returns-clause-grown c =

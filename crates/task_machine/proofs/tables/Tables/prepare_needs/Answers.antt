@@ -1,5 +1,4 @@
-use Rattle.std.proofs.Common.{◌≡◌, ◌∙◌, ap}
-use Rattle.htn_state.specs.Views.{literals_of}
+use Rattle.std.proofs.Common.{◌∙◌}
 use Rattle.task_machine.proofs.Owned.{later_needs, with_atoms, with_needs}
 use Rattle.task_machine.specs.declared.tables.Tables.{Tables}
 use Rattle.task_machine.proofs.tables.Tables.prepare_needs.Goals as goal
@@ -12,7 +11,7 @@ returns-clause-owned c = λ t sizes own sized goals.
     record {
       tables = with_needs t more c.keep_up.new.self (with_atoms t s c.keep_up.new.atoms did.later own);
       sized = sized;
-      goal = ap (λ g. literals_of g.items) did.goal ∙ goals;
+      goal = did.goal ∙ goals;
       needed = did.kept;
     }
 
