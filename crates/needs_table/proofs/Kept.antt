@@ -1,11 +1,10 @@
 -- What is kept of networks stays right, and tells which configurations may end.
 use Rattle.std.proofs.Common.{◌≡◌, ℕ, suc, ◌+◌, ◌<◌, ◌≤◌, Bool, true, false, not, ◌&&◌, List, [], ◌∷◌, ◌++◌, ◌⊎◌, inl, inr, length, get_or, map, take, Option, None, Some, slice_get, refl, sym, ap, ap₂, ◌∙◌, subst, arith, length-append}
 use Rattle.std.specs.List.{list_all}
-use Rattle.std.proofs.lemmas.Bool.{both_ways}
 use Rattle.std.proofs.Math.Seq.{take-suc}
-use Rattle.std.proofs.lemmas.List.{map_push}
+use Rattle.std.proofs.lemmas.List.{get_or_read, map_push}
 use Rattle.std.proofs.lemmas.List.Folds.{list_all-append}
-use Rattle.std.proofs.lemmas.Option.{none-some, same_Some, slice_get-get_or, slice_get_within}
+use Rattle.std.proofs.lemmas.Option.{none-some, slice_get_read, slice_get_within}
 use Rattle.htn_model.specs.Literal.{Literal, holds, literal_holds}
 use Rattle.htn_model.specs.Problem.{Network, Problem}
 use Rattle.htn_model.specs.State.{State}
@@ -61,8 +60,7 @@ keeps_none o goal atoms networks needs none = record {
 -- the network of a number
 pub network_of_number : (t : NetworkTable) (n : ℕ) (x : Numbered) → n < length t.networks.keys → x ≡ get_or t.networks.keys n x → x ≡ numbered_at t n
 network_of_number t n x low is =
-    is ∙ same_Some (get_or t.networks.keys n x) (numbered_at t n)
-    (sym (slice_get-get_or t.networks.keys n x low) ∙ slice_get-get_or t.networks.keys n nothing low)
+    get_or_read t.networks.keys n x low is nothing
 
 -- what may end by what is needed
 pub needed_ends : (problem : Problem) (o : Outlook) (state : State) (n : Network) (b : Bool) → has_blocked o n ≡ false → b ≡ holds state (all_needed o problem.goal n) → b ≡ may_end problem o (config_at state n)
@@ -91,3 +89,9 @@ pub places_more : {P X Y : Type 0} (f : P → Y) (g : X → Y) (h : ℕ → X) (
     → f p ≡ g (h id) → map f old ≡ map g (map h (take k ids)) → map f new ≡ map g (map h (take (k + 1) ids))
 places_more f g h old new p ids k id low is pushed same before =
     ap (map f) pushed ∙ map_push f old p ∙ ap₂ (λ l x. l ++ x ∷ []) before same ∙ sym (mapped_more g h ids k id low is)
+
+-- what stands at a number is kept of its network
+pub kept_at : (o : Outlook) (goal : List Literal) (atoms : Table) (networks : NetworkTable) (needs : List (Option CompiledLiterals)) (n : ℕ) (found needed : Option CompiledLiterals)
+    → n < length needs → found ≡ get_or needs n found → found ≡ needed → Keeps o goal atoms networks needs → IsKept o goal atoms (network_at networks n) needed
+kept_at o goal atoms networks needs n found needed low read is keeps =
+    subst (IsKept o goal atoms (network_at networks n)) is (keeps.each n found (slice_get_read needs (length needs) n found refl low read))

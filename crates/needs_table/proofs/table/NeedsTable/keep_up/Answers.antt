@@ -1,4 +1,4 @@
-use Rattle.std.proofs.Common.{◌≡◌, ◌∙◌, length, ap, sym, subst, refl, arith}
+use Rattle.std.proofs.Common.{◌≡◌, ◌∙◌, ◌<◌, length, ap, sym, subst, refl, arith}
 use Rattle.htn_model.specs.Problem.{Network}
 use Rattle.network_needs.specs.Rows.{outlook_of}
 use Rattle.network_table.specs.Networks.{children, network_at}
@@ -15,4 +15,26 @@ loop-number-init c = record {
   kept = c.requires.kept;
   goal = refl;
   count = ?;
+}
+
+pub needed_by-requires : goal.needed_by-requires
+needed_by-requires c =
+    let t = c.args.networks.now in
+    ?
+
+pub loop-number-preserved : goal.loop-number-preserved
+loop-number-preserved c =
+    let i = c.loop-number.invariant in
+    let did = c.in_ok-needed.ensures in
+    record {
+      later = later_more c.args.atoms.now c.loop-number.atoms c.needed_by.new.atoms i.later did.later;
+      kept = ?;
+      goal = i.goal;
+      count = ?;
+    }
+
+pub returns-clause-kept : goal.returns-clause-kept
+returns-clause-kept c = record {
+  kept = c.loop-number.invariant.kept;
+  all = ?;
 }
