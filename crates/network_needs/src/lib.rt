@@ -20,4 +20,4 @@ mod rows;
 pub use laws::{needs_are_bounds, needs_stay};
 pub use needed::has_blocked_place;
 pub use needs::Needs;
-pub use places::{Place, Spot};
+pub use places::Place;

@@ -13,7 +13,7 @@ use htn_state::Literal;
 
 /// Where the row of a node stands, if it has one.
 #[derive(Clone, Copy, Drop)]
-pub enum Spot {
+pub(crate) enum Spot {
     Nowhere,
     /// That of the compound task of this number.
     Task(usize),

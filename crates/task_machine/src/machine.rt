@@ -29,7 +29,7 @@ pub struct TaskMachine<'a> {
     sizes: TreeSizes,
     needs: Needs,
     ghost grounded: { IsGrounded (problem_of task.now) } by { grounded-prop (problem_of task.now) },
-    ghost bounded: { IsEstimate (problem_of task.now) (needs_bound (problem_of task.now) (size_of sizes) most_steps (outlook_of needs)) } by { estimate-prop (problem_of task.now) (needs_bound (problem_of task.now) (size_of sizes) most_steps (outlook_of needs)) },
+    ghost estimated: { IsEstimate (problem_of task.now) (needs_bound (problem_of task.now) (size_of sizes) most_steps (outlook_of needs)) } by { estimate-prop (problem_of task.now) (needs_bound (problem_of task.now) (size_of sizes) most_steps (outlook_of needs)) },
 }
 
 impl<'a> TaskMachine<'a> {
@@ -93,7 +93,7 @@ impl<'a> Machine for TaskMachine<'a> {
 
     ghost lawful = { λ m. listing_lawful m.task.now m.grounded };
 
-    ghost bounded = { λ m. bounded m.task.now (needs_bound (problem_of m.task.now) (size_of m.sizes) most_steps (outlook_of m.needs)) m.bounded };
+    ghost bounded = { λ m. bounded m.task.now (needs_bound (problem_of m.task.now) (size_of m.sizes) most_steps (outlook_of m.needs)) m.estimated };
 
     fn new_tables(&self) -> Result<Tables, AllocError> {
         let tables = Tables::new(self.alloc, self.task)?;

@@ -13,5 +13,5 @@ invariant_of-result c =
     let listed = c.in_ok-found.ensures in
     record {
       grounded = grounded;
-      bounded = needs_are_bounds (problem_of t) (size_of c.in_ok-sizes.sizes) most_steps (outlook_of c.in_ok-needs.needs) grounded (c.in_ok-sizes.ensures t listed) (c.in_ok-needs.ensures listed);
+      estimated = needs_are_bounds (problem_of t) (size_of c.in_ok-sizes.sizes) most_steps (outlook_of c.in_ok-needs.needs) grounded (c.in_ok-sizes.ensures t listed) (c.in_ok-needs.ensures listed);
     }
