@@ -64,10 +64,10 @@ network_of_number t n x low is =
 
 -- what may end by what is needed
 pub needed_ends : (problem : Problem) (o : Outlook) (state : State) (n : Network) (b : Bool) → has_blocked o n ≡ false → b ≡ holds state (all_needed o problem.goal n) → b ≡ may_end problem o (config_at state n)
-needed_ends problem o state n b open is =
+needed_ends problem o state n b free is =
     is
     ∙ list_all-append (literal_holds state) (needed o n) (needed_goal o problem.goal n)
-    ∙ sym (ap (λ x. not x && (holds state (needed o n) && holds state (needed_goal o problem.goal n))) open)
+    ∙ sym (ap (λ x. not x && (holds state (needed o n) && holds state (needed_goal o problem.goal n))) free)
 
 -- and what never does
 pub blocked_ends : (problem : Problem) (o : Outlook) (state : State) (n : Network) → has_blocked o n ≡ true → false ≡ may_end problem o (config_at state n)

@@ -1,5 +1,5 @@
 -- What is kept of the networks that have numbers.
-use Rattle.std.specs.Prelude.{◌≡◌, ◌×◌, ℕ, ◌≤◌, List, true, false, length, Option, None, Some, slice_get}
+use Rattle.std.specs.Prelude.{◌≡◌, ℕ, ◌≤◌, List, true, false, length, Option, None, Some, slice_get}
 use Rattle.htn_model.specs.Literal.{Literal}
 use Rattle.htn_model.specs.Problem.{Network}
 use Rattle.network_needs.specs.Needs.{has_blocked, Outlook}

@@ -1,5 +1,5 @@
 -- Where rows stand, so that they needn't be sought again.
-use Rattle.std.specs.Prelude.{◌≡◌, ◌×◌, ◌++◌, ℕ, List, map, Option, None, slice_get}
+use Rattle.std.specs.Prelude.{◌≡◌, ◌++◌, ℕ, List, map, Option, None, slice_get}
 use Rattle.htn_model.specs.Literal.{Literal}
 use Rattle.htn_model.specs.Problem.{Network, Order}
 use Rattle.network_needs.specs.Needs.{needed, needed_goal, Outlook}

@@ -1,5 +1,5 @@
 //! What a search has numbered.
-ghost use Rattle.std.specs.Prelude.{◌≡◌, ◌<◌, ◌×◌, [], IfOk, length};
+ghost use Rattle.std.specs.Prelude.{◌≡◌, ◌<◌, [], IfOk, length};
 ghost use Rattle.htn_model.specs.Grounding.{problem_of};
 ghost use Rattle.htn_model.specs.Levels.{is_done};
 ghost use Rattle.htn_model.specs.Task as model;

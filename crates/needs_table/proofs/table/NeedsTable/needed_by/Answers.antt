@@ -1,7 +1,7 @@
-use Rattle.std.proofs.Common.{◌≡◌, ◌∙◌, List, ap, false, sym, subst, true}
+use Rattle.std.proofs.Common.{◌∙◌, List, ap, sym, subst}
 use Rattle.std.specs.List.{list_any}
 use Rattle.htn_model.specs.Literal.{Literal}
-use Rattle.network_needs.specs.Needs.{has_blocked}
+use Rattle.htn_state.specs.Views.{literals_of}
 use Rattle.network_needs.specs.Places.{all_needed, ArePlaces}
 use Rattle.network_needs.specs.Rows.{outlook_of}
 use Rattle.network_needs.specs.declared.places.Place.{Place}
@@ -29,15 +29,16 @@ returns-clause-kept c =
     let o = outlook_of needs in
     let network = network_of (children c.args.networks.now) c.args.network.now in
     let places = c.in_ok-places.ensures in
-    let open =
+    let ends =
     sym (blocked_there needs c.in_ok-places.places.items network places)
     ∙ ap (list_any (λ (p : Place). p.is_blocked)) (sym c.deref.ensures.value)
     ∙ sym c.has_blocked_place.ensures
     ∙ c.if-has_blocked_place.false in
     let given = subst (λ (ps : List Place). ArePlaces needs ps network) (sym c.deref-2.ensures.value) places in
     let literals =
-    c.in_ok-literals.ensures network given c.order.ensures.value
+    ap literals_of c.deref-3.ensures.value
+    ∙ c.in_ok-literals.ensures network given c.order.ensures.value
     ∙ ap (λ (g : List Literal). all_needed o g network) c.as_slice.ensures in (
-      open,
+      ends,
       subst (AreCompiled c.of.new.table c.in_ok-compiled.compiled) literals c.in_ok-compiled.ensures.compiled,
     )
