@@ -11,6 +11,20 @@ use Rattle.task_machine.proofs.Estimates.{is_needed}
 use Rattle.task_machine.proofs.Performing.{words_at}
 use Rattle.task_machine.proofs.machine.TaskMachineMachine.lower_bound_of.Goals as goal
 
+pub lower_bound-requires-clause-needed : goal.lower_bound-requires-clause-needed
+lower_bound-requires-clause-needed c =
+    let m = c.args.self.now in
+    let tables = c.args.tables.now in
+    let known = subst (allows tables) c.in-Known.is c.requires.allowed in
+    is_needed m.task.now m.sizes m.needs tables c.requires.own c.in-Known.at.network known.1
+
+pub lower_bound-requires-2-clause-needed : goal.lower_bound-requires-2-clause-needed
+lower_bound-requires-2-clause-needed c =
+    let m = c.args.self.now in
+    let tables = c.args.tables.now in
+    let allowed = subst (allows tables) c.in-New.is c.requires.allowed in
+    is_needed m.task.now m.sizes m.needs tables c.requires.own c.in-New.network allowed.1
+
 pub returns-in-Known : goal.returns-in-Known
 returns-in-Known c =
     let m = c.args.self.now in
@@ -37,6 +51,6 @@ returns-in-New c =
     let o = outlook_of m.needs in
     let size = size_of m.sizes in
     let belongs = subst (λ (r : Reached). IsOwn (problem_of t) (point_of tables r)) c.in-New.is c.requires.belongs in
-    c.lower_bound-in-New.ensures t m.sizes m.needs c.requires.own
+    c.lower_bound-2.ensures t m.sizes m.needs c.requires.own
     ∙ sym (own_bound (problem_of t) m.grounded size o (config_in tables c.in-New.state.now c.in-New.network) belongs)
     ∙ ap (λ r. needs_bound (problem_of t) size most_steps o (point_of tables r)) (sym c.in-New.is)
