@@ -5,7 +5,7 @@ use Rattle.htn_state.specs.Views.{literals_of}
 use Rattle.network_needs.specs.Places.{all_needed, ArePlaces}
 use Rattle.network_needs.specs.Rows.{outlook_of}
 use Rattle.network_needs.specs.declared.places.Place.{Place}
-use Rattle.network_needs.proofs.Places.{blocked_there}
+use Rattle.network_needs.proofs.RowsThere.{blocked_there}
 use Rattle.network_table.specs.Networks.{children}
 use Rattle.network_table.specs.Numbered.{network_of}
 use Rattle.state_table.specs.Compiled.{AreCompiled}

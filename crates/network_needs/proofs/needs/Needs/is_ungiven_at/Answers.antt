@@ -1,6 +1,6 @@
 use Rattle.std.proofs.Common.{◌∙◌, ◌<◌, length, sym, arith}
 use Rattle.network_needs.specs.Rows.{outlook_of}
-use Rattle.network_needs.proofs.Places.{as_many, given, not_given}
+use Rattle.network_needs.proofs.RowsThere.{as_many, given, not_given}
 use Rattle.network_needs.proofs.needs.Needs.is_ungiven_at.Goals as goal
 
 pub returns-then-may_give_at : goal.returns-then-may_give_at

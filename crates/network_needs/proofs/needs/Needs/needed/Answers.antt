@@ -4,7 +4,7 @@ use Rattle.htn_state.specs.Views.{literals_of}
 use Rattle.network_needs.specs.Needs.{needed_at}
 use Rattle.network_needs.specs.Rows.{outlook_of}
 use Rattle.network_needs.proofs.NeededLists.{joined_more}
-use Rattle.network_needs.proofs.Places.{as_many}
+use Rattle.network_needs.proofs.RowsThere.{as_many}
 use Rattle.network_needs.proofs.needs.Needs.needed.Goals as goal
 
 pub loop-at-init : goal.loop-at-init

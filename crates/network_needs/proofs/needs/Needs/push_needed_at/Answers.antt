@@ -5,7 +5,7 @@ use Rattle.htn_state.specs.declared.literal.Literal.{Literal}
 use Rattle.network_needs.specs.Needs.{is_ungiven}
 use Rattle.network_needs.specs.Rows.{outlook_of, wants_by}
 use Rattle.network_needs.proofs.NeededLists.{pushed}
-use Rattle.network_needs.proofs.Places.{row_there}
+use Rattle.network_needs.proofs.RowsThere.{row_there}
 use Rattle.network_needs.proofs.needs.Needs.push_needed_at.Goals as goal
 
 pub loop-literal-preserved : goal.loop-literal-preserved

@@ -8,7 +8,7 @@ use Rattle.htn_state.specs.declared.literal.Literal.{Literal as Written}
 use Rattle.network_needs.specs.Rows.{gives_by, outlook_of, row_of}
 use Rattle.network_needs.specs.declared.needs.Needs.{Needs}
 use Rattle.network_needs.proofs.NeededLists.{pushed}
-use Rattle.network_needs.proofs.Places.{given_there}
+use Rattle.network_needs.proofs.RowsThere.{given_there}
 use Rattle.network_needs.proofs.needs.Needs.push_needed_goal.Goals as goal
 
 -- whether no node gives a literal
