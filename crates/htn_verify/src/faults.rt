@@ -18,7 +18,7 @@ use plan_text::{PlanFile, Word};
 use std::alloc::{AllocError, Global};
 
 /// The task that the words of a line name, if they name one.
-fn task_at(named: &[Option<GroundTask>], line: usize) -> Option<&GroundTask>
+pub(crate) fn task_at(named: &[Option<GroundTask>], line: usize) -> Option<&GroundTask>
     ensures { option_map (λ r. r.now) result ≡ named_at named.now line }
 {
     match named.get(line) {

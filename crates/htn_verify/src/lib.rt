@@ -1,6 +1,7 @@
 //! The verifier of plan files.
 #![tactic(auto)]
 
+mod alike;
 mod arrangement;
 mod faults;
 mod laws;

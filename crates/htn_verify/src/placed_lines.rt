@@ -12,6 +12,7 @@ use plan_room::PlanLines;
 use plan_run::{EverTrue, Turns};
 use plan_text::PlanFile;
 use std::alloc::{AllocError, Global};
+use std::borrow::CowSlice;
 
 /// The tasks of lines, in turn.
 fn tasks_of<'a>(
@@ -68,14 +69,14 @@ impl PlanLines for PlacedLines<'_, '_> {
         self.forest.roots()
     }
 
-    fn instances(&self, line: usize) -> Result<Vec<Instance>, AllocError> {
+    fn instances(&self, line: usize) -> Result<CowSlice<'_, Instance>, AllocError> {
         let names = Names::new(self.task);
         let place = line - self.file.actions().len();
         let method = self.file.decompositions()[place].method();
         let children = tasks_of(self.alloc, self.tasks, self.forest.children(place))?;
         let goal = &self.tasks[line];
         let found = instances_to_fit(self.alloc, &names, self.ever, goal, method, &children)?;
-        Ok(found)
+        Ok(CowSlice::Owned(found))
     }
 
     fn initials(&self) -> Result<Vec<Instance>, AllocError> {

@@ -1,5 +1,7 @@
 -- The networks of a line, one after another.
 use Rattle.std.proofs.Common.{◌≡◌, ℕ, ◌+◌, ◌≤◌, ◌<◌, ◌⊎◌, inl, inr, List, length, Option, Some, None, slice_get, refl, subst, arith}
+use Rattle.std.specs.Cow.{cow_slice_items}
+use Rattle.std.specs.Global.{Box}
 use Rattle.std.proofs.lemmas.Bool.{cases_lt, cases_eq}
 use Rattle.std.proofs.lemmas.Option.{slice_get_within}
 use Rattle.htn_model.specs.Instance.{Instance}
@@ -10,10 +12,9 @@ use Rattle.plan_room.specs.Placing.{IsFinish, IsFirst}
 use Rattle.plan_room.specs.Matching.{IsBeaten, IsFound}
 use Rattle.plan_room.specs.Lines.{Lines, AreLines, AreCandidates, networks_of}
 use Rattle.plan_room.specs.Seats.{children_of, IsOneOf, LineFits}
-use Rattle.plan_room.specs.Frames.{IsLine, IsFrame, IsWork, NetworkHasRoom, SomeFits}
+use Rattle.plan_room.specs.Frames.{IsLine, IsFrame, IsWork, NetworkHasRoom, SomeFits, unboxed}
 use Rattle.plan_room.specs.Windows.{finish_of, IsLastBetter}
 use Rattle.plan_room.specs.declared.frames.Frame.{Frame}
-use Rattle.plan_room.specs.declared.frames.Work.{Work}
 use Rattle.plan_room.proofs.Reordered.{all_end}
 use Rattle.plan_room.proofs.Unrolled.{unrolled, rolled, is_network}
 use Rattle.plan_room.proofs.Windowed.{beaten_past}
@@ -121,9 +122,9 @@ module _ (l : Lines) (are : AreLines l) (i gap : ℕ) (line : IsLine l i) (insta
     least = λ k fits. (let (network, one, room) = unrolled l are i gap k line fits in let e = lower k (all_end l (children_of l i) network gap k room) in omega arith);
   }
 
--- a frame with its work gone on
-pub reworked : (l : Lines) (frame : Frame) → IsFrame l frame → (instance : Instance) → slice_get frame.networks.items frame.tried ≡ Some instance → (work : Option Work)
-    → IsWork l (children_of l frame.question.line) instance.network frame.question.gap work
+-- a frame with other work that is kept
+pub reworked : (l : Lines) (frame : Frame) → IsFrame l frame → (instance : Instance) → slice_get (cow_slice_items frame.networks) frame.tried ≡ Some instance → (work : Option (Box Work))
+    → IsWork l (children_of l frame.question.line) instance.network frame.question.gap (unboxed work)
     → IsFrame l (record { question = frame.question; networks = frame.networks; tried = frame.tried; best = frame.best; least = frame.least; work = work })
 reworked l frame is instance at work is_work = record {
   line = is.line;
@@ -133,5 +134,5 @@ reworked l frame is instance at work is_work = record {
   found = is.found;
   none_better = is.none_better;
   lower = is.lower;
-  work = λ other there. (let same : instance ≡ other = cc in subst (λ (x : Instance). IsWork l (children_of l frame.question.line) x.network frame.question.gap work) same is_work);
+  work = λ other there. (let same : instance ≡ other = cc in subst (λ (x : Instance). IsWork l (children_of l frame.question.line) x.network frame.question.gap (unboxed work)) same is_work);
 }

@@ -1,5 +1,7 @@
 -- Lines whose finish is asked: how far their networks are tried, and how they stand above one another.
 use Rattle.std.specs.Prelude.{◌≡◌, ℕ, zero, suc, ◌+◌, ◌≤◌, ◌<◌, Bool, true, false, ltb, List, [], ◌∷◌, length, Option, Some, None, slice_get, IsPermutation, ⊤}
+use Rattle.std.specs.Cow.{cow_slice_items}
+use Rattle.std.specs.Global.{Box}
 use Rattle.htn_model.specs.Instance.{Instance}
 use Rattle.htn_model.specs.Problem.{Network}
 use Rattle.htn_model.specs.Fits.{PlanTree, action_at, decomposition, PlanTrees, no_plans, plan, NetworkFits}
@@ -36,18 +38,23 @@ abbrev pub SomeFits : Lines → List ℕ → List Instance → ℕ → ℕ → �
 SomeFits l children instances number g h =
     (i : ℕ) × (i < number) × (instance : Instance) × (slice_get instances i ≡ Some instance) × NetworkHasRoom l children instance.network g h
 
+-- the work that is kept, if any is
+abbrev pub unboxed : Option (Box Work) → Option Work
+unboxed None = None
+unboxed (Some kept) = Some kept.value
+
 pub record IsFrame (l : Lines) (frame : Frame) : Type 0 where
   pub line : IsLine l frame.question.line
   pub within : frame.question.gap ≤ l.actions
-  pub candidates : AreCandidates l (IsOneOf l frame.question.line) (children_of l frame.question.line) (networks_of frame.networks.items)
-  pub low : frame.tried ≤ length frame.networks.items
+  pub candidates : AreCandidates l (IsOneOf l frame.question.line) (children_of l frame.question.line) (networks_of (cow_slice_items frame.networks))
+  pub low : frame.tried ≤ length (cow_slice_items frame.networks)
   -- the best is that of the networks that are done with
-  pub found : IsFound (SomeFits l (children_of l frame.question.line) frame.networks.items frame.tried frame.question.gap) l.actions frame.best
-  pub none_better : (h : ℕ) → h ≤ l.actions → SomeFits l (children_of l frame.question.line) frame.networks.items frame.tried frame.question.gap h → IsBeaten frame.best h
+  pub found : IsFound (SomeFits l (children_of l frame.question.line) (cow_slice_items frame.networks) frame.tried frame.question.gap) l.actions frame.best
+  pub none_better : (h : ℕ) → h ≤ l.actions → SomeFits l (children_of l frame.question.line) (cow_slice_items frame.networks) frame.tried frame.question.gap h → IsBeaten frame.best h
   -- and none is better than the least
   pub lower : IsLower l (children_of l frame.question.line) frame.question.gap frame.least
-  pub work : (instance : Instance) → slice_get frame.networks.items frame.tried ≡ Some instance
-      → IsWork l (children_of l frame.question.line) instance.network frame.question.gap frame.work
+  pub work : (instance : Instance) → slice_get (cow_slice_items frame.networks) frame.tried ≡ Some instance
+      → IsWork l (children_of l frame.question.line) instance.network frame.question.gap (unboxed frame.work)
 
 -- ## The lines on a way down
 

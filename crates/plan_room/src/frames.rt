@@ -1,8 +1,9 @@
 //! A line whose finish is asked, with how far its networks are tried.
-ghost use Rattle.std.specs.Prelude.{◌≡◌, ◌≤◌, ◌<◌, ◌+◌, ◌^◌, ℕ, Some, IfOk, IsPermutation, get_or, length};
+ghost use Rattle.std.specs.Prelude.{◌≡◌, ◌≤◌, ◌<◌, ◌+◌, ◌^◌, ℕ, None, Some, IfOk, IsPermutation, MatchOption, ⊤, get_or, length, slice_get};
+ghost use Rattle.std.specs.Cow.{cow_slice_items};
 ghost use Rattle.htn_model.specs.Problem.{IsClosed, IsSquare};
 ghost use Rattle.plan_room.specs.Bound.{IsLower};
-ghost use Rattle.plan_room.specs.Frames.{IsFrame, IsLine, IsWork, NetworkHasRoom};
+ghost use Rattle.plan_room.specs.Frames.{IsFrame, IsLine, IsWork, NetworkHasRoom, unboxed};
 ghost use Rattle.plan_room.specs.Lines.{AreLines};
 ghost use Rattle.plan_room.specs.Memo.{IsMemo, IsOpenBelow};
 ghost use Rattle.plan_room.specs.Placing.{IsFinish};
@@ -21,6 +22,7 @@ use crate::sequence::sequence;
 use crate::window::{Window, finish_of, last_better, least_end, may_fit, up_to};
 use htn_ground::Instance;
 use std::alloc::{AllocError, Global};
+use std::borrow::CowSlice;
 
 /// How far the matchings of one network are tried.
 #[derive(Drop)]
@@ -35,19 +37,23 @@ pub(crate) struct Work {
     is_settled: bool,
 }
 
+/// Work among no more children than these is begun anew rather than kept while a question is open: of the frames that
+/// wait there may be as many as lines.
+const FEW: usize = 4;
+
 /// A line whose finish is asked, with the networks that may fit it.
 #[derive(Drop)]
-pub(crate) struct Frame {
+pub(crate) struct Frame<'a> {
     pub question: Question,
-    networks: Vec<Instance>,
+    networks: CowSlice<'a, Instance>,
     /// So many of them are done with.
     tried: usize,
     /// The first gap by which one of these can have finished.
     best: Option<usize>,
     /// A gap before which none of all can have finished.
     least: usize,
-    /// How far the next one is tried.
-    work: Option<Work>,
+    /// How far the next one is tried, if that is kept.
+    work: Option<Box<Work>>,
 }
 
 /// The children of a line; those of the number past all lines are the roots.
@@ -63,11 +69,11 @@ pub(crate) fn children_of<L: PlanLines>(lines: &L, line: usize) -> &[usize]
 }
 
 /// The frame of a question before its first step.
-pub(crate) fn frame_of<L: PlanLines>(
+pub(crate) fn frame_of<'a, L: PlanLines>(
     alloc: Global,
-    lines: &L,
+    lines: &'a L,
     question: Question,
-) -> Result<Frame, AllocError>
+) -> Result<Frame<'a>, AllocError>
     requires lines { AreLines (L.lines lines.now) }
     requires line { IsLine (L.lines lines.now) question.line }
     requires within { question.gap ≤ (L.lines lines.now).actions }
@@ -78,7 +84,7 @@ pub(crate) fn frame_of<L: PlanLines>(
     let networks = if question.line < lines.count() {
         lines.instances(question.line)?
     } else {
-        lines.initials()?
+        CowSlice::Owned(lines.initials()?)
     };
     let children = children_of(lines, question.line);
     let least = least_end(lines, children, question.gap);
@@ -277,7 +283,41 @@ fn try_network<L: PlanLines>(
     Ok(up_to(finish, window.last))
 }
 
-impl Frame {
+/// The network with a number.
+fn network_of<'n>(networks: &'n CowSlice<'_, Instance>, number: usize) -> &'n Instance
+    requires { number < length (cow_slice_items networks.now) }
+    ensures { slice_get (cow_slice_items networks.now) number ≡ Some result.now }
+{
+    let networks = networks.as_slice();
+    &networks[number]
+}
+
+/// The work that is kept of a network, if any is.
+fn kept_work(work: &mut Option<Box<Work>>) -> Option<Work>
+    ensures work { result ≡ unboxed work.old }
+    ensures none { work.new ≡ None }
+{
+    match work.take() {
+        Some(work) => Some(Box::into_inner(work)),
+        None => None,
+    }
+}
+
+/// Work to be kept, unless it is begun anew as fast: that among few children, each of which has its place.
+fn work_to_keep(alloc: Global, work: Option<Work>) -> Result<Option<Box<Work>>, AllocError>
+    ensures { IfOk result (λ kept. MatchOption (unboxed kept) ⊤ (λ w. work ≡ Some w)) }
+{
+    let Some(work) = work else {
+        return Ok(None);
+    };
+    if work.children.len() <= FEW && work.links.fixed.iter().all(|fixed| *fixed) {
+        return Ok(None);
+    }
+    let kept = Box::new(alloc, work)?;
+    Ok(Some(kept))
+}
+
+impl<'a> Frame<'a> {
     /// Goes on trying the networks. It stops where the finish of a child has to be known first.
     pub(crate) fn go_on<L: PlanLines>(
         &mut self,
@@ -302,22 +342,18 @@ impl Frame {
                 first: self.question.gap,
                 last,
             };
-            let finish = try_network(
-                alloc,
-                lines,
-                memo,
-                children,
-                &self.networks[self.tried],
-                window,
-                &mut self.work,
-            )?;
+            let mut work = kept_work(&mut self.work);
+            let instance = network_of(&self.networks, self.tried);
+            let finish = try_network(alloc, lines, memo, children, instance, window, &mut work)?;
             match finish {
-                Finish::Unknown(question) => return Ok(Finish::Unknown(question)),
+                Finish::Unknown(question) => {
+                    self.work = work_to_keep(alloc, work)?;
+                    return Ok(Finish::Unknown(question));
+                }
                 Finish::Never => {}
                 Finish::At(end) => self.best = Some(end),
             }
             self.tried += 1;
-            self.work = None;
         }
         Ok(finish_of(self.best))
     }

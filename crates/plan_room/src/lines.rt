@@ -4,10 +4,12 @@ ghost use Rattle.std.specs.Prelude.{◌≡◌, ◌≤◌, ◌<◌, IfOk};
 use htn_ground::{GroundTask, Instance};
 use htn_state::LiteralList;
 use std::alloc::AllocError;
+use std::borrow::CowSlice;
 
 /// The lines of a plan file by their numbers: action lines in their order, and then the others; and
 /// the run of the action lines. Gap i is just before action line i.
 pub trait PlanLines {
+    ghost use Rattle.std.specs.Cow.{cow_slice_items};
     ghost use Rattle.plan_room.specs.Lines.{AreCandidates, IsDecompositionLine, IsInitial, IsNetworkOf, IsNextGap, Lines, networks_of, task_of};
 
     // What the lines are.
@@ -35,10 +37,10 @@ pub trait PlanLines {
     fn roots(&self) -> &[usize]
         ensures { result.now ≡ (lines self.now).roots };
 
-    /// The instances of a decomposition line that may fit. They are made at each call.
-    fn instances(&self, line: usize) -> Result<Vec<Instance>, AllocError>
+    /// The instances of a decomposition line that may fit: a list that is kept, or one that is made at each call.
+    fn instances(&self, line: usize) -> Result<CowSlice<'_, Instance>, AllocError>
         requires { IsDecompositionLine (lines self.now) line }
-        ensures { IfOk result (λ v. AreCandidates (lines self.now) (IsNetworkOf (lines self.now) line) ((lines self.now).children line) (networks_of v.items)) };
+        ensures { IfOk result (λ v. AreCandidates (lines self.now) (IsNetworkOf (lines self.now) line) ((lines self.now).children line) (networks_of (cow_slice_items v))) };
 
     /// The initial networks that may fit.
     fn initials(&self) -> Result<Vec<Instance>, AllocError>

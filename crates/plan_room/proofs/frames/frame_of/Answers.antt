@@ -1,11 +1,12 @@
 use Rattle.std.proofs.Common.{◌<◌, ℕ, length, get_or, sym, subst, arith}
+use Rattle.std.specs.Cow.{cow_slice_items}
 use Rattle.std.proofs.lemmas.Bool.{lt-ltb, le-ltb}
 use Rattle.plan_room.specs.Bound.{IsLower}
 use Rattle.plan_room.specs.Lines.{AreCandidates, networks_of}
 use Rattle.plan_room.specs.Seats.{children_at, children_of, IsOneAt, IsOneOf}
 use Rattle.plan_room.proofs.Unrolled.{child_low}
 use Rattle.plan_room.proofs.frames.frame_of.Goals as goal
-use Rattle.plan_room.proofs.frames.frame_of.Goals.{then-question-count+in_ok-networks, else-question-count+in_ok-networks-2}
+use Rattle.plan_room.proofs.frames.frame_of.Goals.{then-question-count+in_ok-networks, else-question-count+in_ok-initials}
 
 pub least_end-least-requires-clause-low : goal.least_end-least-requires-clause-low
 least_end-least-requires-clause-low g c =
@@ -21,12 +22,12 @@ returns-clause-frame g c =
       line = c.requires.line;
       within = c.requires.within;
       candidates = elim c.if-question-count.branch [
-        | then-question-count+in_ok-networks w ↦ subst (λ v. AreCandidates l (IsOneOf l i) (children_of l i) (networks_of v.items)) (sym w.networks-is)
-            (subst (λ b. AreCandidates l (IsOneAt b l i) (children_at b l i) (networks_of w.in_ok-networks.networks.items))
+        | then-question-count+in_ok-networks w ↦ subst (λ v. AreCandidates l (IsOneOf l i) (children_of l i) (networks_of (cow_slice_items v))) (sym w.networks-is)
+            (subst (λ b. AreCandidates l (IsOneAt b l i) (children_at b l i) (networks_of (cow_slice_items w.in_ok-networks.networks)))
             (sym (lt-ltb i l.count (let e = c.count.ensures in let f = w.if-question-count.true in omega arith))) w.in_ok-networks.ensures)
-        | else-question-count+in_ok-networks-2 w ↦ subst (λ v. AreCandidates l (IsOneOf l i) (children_of l i) (networks_of v.items)) (sym w.networks-is)
-            (subst (λ b. AreCandidates l (IsOneAt b l i) (children_at b l i) (networks_of w.in_ok-networks-2.networks.items))
-            (sym (le-ltb i l.count (let e = c.count.ensures in let f = w.if-question-count.false in omega arith))) w.in_ok-networks-2.ensures)
+        | else-question-count+in_ok-initials w ↦ subst (λ v. AreCandidates l (IsOneOf l i) (children_of l i) (networks_of (cow_slice_items v))) (sym w.networks-is)
+            (subst (λ b. AreCandidates l (IsOneAt b l i) (children_at b l i) (networks_of w.in_ok-initials.field-0.items))
+            (sym (le-ltb i l.count (let e = c.count.ensures in let f = w.if-question-count.false in omega arith))) w.in_ok-initials.ensures)
       ];
       low = omega arith;
       found = tt;

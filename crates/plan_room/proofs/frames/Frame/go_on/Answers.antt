@@ -1,9 +1,9 @@
 use Rattle.std.proofs.Common.{◌≡◌, ℕ, ◌+◌, ◌≤◌, length, Some, None, slice_get, sym, subst, refl, ap, ◌∙◌, arith}
-use Rattle.std.proofs.lemmas.Option.{slice_get_read}
+use Rattle.std.specs.Cow.{cow_slice_items}
 use Rattle.plan_room.specs.Placing.{IsFinish, IsFirst}
 use Rattle.plan_room.specs.Memo.{IsOpenBelow}
 use Rattle.plan_room.specs.Seats.{children_of, LineFits}
-use Rattle.plan_room.specs.Frames.{IsFrame, IsWork, NetworkHasRoom, SomeFits}
+use Rattle.plan_room.specs.Frames.{IsFrame, IsWork, NetworkHasRoom, SomeFits, unboxed}
 use Rattle.plan_room.specs.Trials.{IsAsked}
 use Rattle.plan_room.specs.Windows.{IsLastBetter}
 use Rattle.plan_room.proofs.Tried.{passed_found, late_none, better_found, better_none, network_at, line_done, line_least, reworked}
@@ -16,7 +16,7 @@ try_network-requires-clause-last g c =
     let l = g.L.PlanLines.lines c.args.lines.now in
     let f = c.loop-self.self in
     let inv = c.loop-self.invariant in
-    better_low (SomeFits l (children_of l f.question.line) f.networks.items f.tried f.question.gap) l.actions f.least c.in-Some.last f.best inv.frame.found
+    better_low (SomeFits l (children_of l f.question.line) (cow_slice_items f.networks) f.tried f.question.gap) l.actions f.least c.in-Some.last f.best inv.frame.found
     (subst (λ n. IsLastBetter f.best f.least n (Some c.in-Some.last)) c.actions.ensures c.in-Some.ensures)
 
 pub try_network-requires-clause-square : goal.try_network-requires-clause-square
@@ -24,29 +24,27 @@ try_network-requires-clause-square g c =
     let l = g.L.PlanLines.lines c.args.lines.now in
     let f = c.loop-self.self in
     let inv = c.loop-self.invariant in
-    let instance = c.index.result.now in
-    let is : slice_get f.networks.items f.tried ≡ Some instance =
-    slice_get_read f.networks.items (length f.networks.items) f.tried instance refl (let a = c.loop-self-test.true in let b = c.len.ensures in let o = f.networks.ok.0 in omega arith) c.index.ensures in
-    (network_at l c.requires.lines f.question.line f.question.gap inv.frame.line f.networks.items inv.frame.candidates f.tried instance is).square
+    let instance = c.network_of-instance.result.now in
+    let is : slice_get (cow_slice_items f.networks) f.tried ≡ Some instance = c.network_of-instance.ensures in
+    (network_at l c.requires.lines f.question.line f.question.gap inv.frame.line (cow_slice_items f.networks) inv.frame.candidates f.tried instance is).square
 
 pub try_network-requires-clause-work : goal.try_network-requires-clause-work
 try_network-requires-clause-work g c =
     let l = g.L.PlanLines.lines c.args.lines.now in
     let f = c.loop-self.self in
     let inv = c.loop-self.invariant in
-    let instance = c.index.result.now in
-    let is : slice_get f.networks.items f.tried ≡ Some instance =
-    slice_get_read f.networks.items (length f.networks.items) f.tried instance refl (let a = c.loop-self-test.true in let b = c.len.ensures in let o = f.networks.ok.0 in omega arith) c.index.ensures in
-    subst (λ cs. IsWork l cs instance.network f.question.gap f.work) (sym inv.children) (inv.frame.work instance is)
+    let instance = c.network_of-instance.result.now in
+    let is : slice_get (cow_slice_items f.networks) f.tried ≡ Some instance = c.network_of-instance.ensures in
+    subst (IsWork l c.loop-self.children.now instance.network f.question.gap) (sym c.kept_work-work.ensures.work)
+    (subst (λ cs. IsWork l cs instance.network f.question.gap (unboxed f.work)) (sym inv.children) (inv.frame.work instance is))
 
 pub returns-in_err-finish-clause-frame : goal.returns-in_err-finish-clause-frame
 returns-in_err-finish-clause-frame g c =
     let l = g.L.PlanLines.lines c.args.lines.now in
     let f = c.loop-self.self in
     let inv = c.loop-self.invariant in
-    let instance = c.index.result.now in
-    let is : slice_get f.networks.items f.tried ≡ Some instance =
-    slice_get_read f.networks.items (length f.networks.items) f.tried instance refl (let a = c.loop-self-test.true in let b = c.len.ensures in let o = f.networks.ok.0 in omega arith) c.index.ensures in
+    let instance = c.network_of-instance.result.now in
+    let is : slice_get (cow_slice_items f.networks) f.tried ≡ Some instance = c.network_of-instance.ensures in
     reworked l f inv.frame instance is c.try_network.new.work
     (subst (λ cs. IsWork l cs instance.network f.question.gap c.try_network.new.work) inv.children c.in_err-finish.ensures.work)
 
@@ -55,9 +53,8 @@ returns-in-Unknown-clause-frame g c =
     let l = g.L.PlanLines.lines c.args.lines.now in
     let f = c.loop-self.self in
     let inv = c.loop-self.invariant in
-    let instance = c.index.result.now in
-    let is : slice_get f.networks.items f.tried ≡ Some instance =
-    slice_get_read f.networks.items (length f.networks.items) f.tried instance refl (let a = c.loop-self-test.true in let b = c.len.ensures in let o = f.networks.ok.0 in omega arith) c.index.ensures in
+    let instance = c.network_of-instance.result.now in
+    let is : slice_get (cow_slice_items f.networks) f.tried ≡ Some instance = c.network_of-instance.ensures in
     reworked l f inv.frame instance is c.try_network.new.work
     (subst (λ cs. IsWork l cs instance.network f.question.gap c.try_network.new.work) inv.children c.in_ok-finish.ensures.work)
 
@@ -66,13 +63,12 @@ loop-self-preserved-after-finish g c =
     let l = g.L.PlanLines.lines c.args.lines.now in
     let f = c.loop-self.self in
     let inv = c.loop-self.invariant in
-    let instance = c.index.result.now in
+    let instance = c.network_of-instance.result.now in
     let last = c.in-Some.last in
     let children = children_of l f.question.line in
-    let is : slice_get f.networks.items f.tried ≡ Some instance =
-    slice_get_read f.networks.items (length f.networks.items) f.tried instance refl (let a = c.loop-self-test.true in let b = c.len.ensures in let o = f.networks.ok.0 in omega arith) c.index.ensures in
+    let is : slice_get (cow_slice_items f.networks) f.tried ≡ Some instance = c.network_of-instance.ensures in
     let better : IsLastBetter f.best f.least l.actions (Some last) = subst (λ n. IsLastBetter f.best f.least n (Some last)) c.actions.ensures c.in-Some.ensures in
-    let low = better_low (SomeFits l children f.networks.items f.tried f.question.gap) l.actions f.least last f.best inv.frame.found better in
+    let low = better_low (SomeFits l children (cow_slice_items f.networks) f.tried f.question.gap) l.actions f.least last f.best inv.frame.found better in
     let finish : IsFinish (NetworkHasRoom l children instance.network f.question.gap) last c.in_ok-finish.finish =
     subst (λ cs. IsFinish (NetworkHasRoom l cs instance.network f.question.gap) last c.in_ok-finish.finish) inv.children c.in_ok-finish.ensures.finish in
     elim c.match-finish.branch [
@@ -81,9 +77,9 @@ loop-self-preserved-after-finish g c =
           line = inv.frame.line;
           within = inv.frame.within;
           candidates = inv.frame.candidates;
-          low = (let a = c.loop-self-test.true in let b = c.len.ensures in let o = f.networks.ok.0 in omega arith);
-          found = passed_found l children f.networks.items f.question.gap f.tried f.best inv.frame.found inv.frame.none_better instance is;
-          none_better = late_none l children f.networks.items f.question.gap f.tried f.best inv.frame.found inv.frame.none_better instance is f.least last better
+          low = (let a = c.loop-self-test.true in let b = c.len.ensures in omega arith);
+          found = passed_found l children (cow_slice_items f.networks) f.question.gap f.tried f.best inv.frame.found inv.frame.none_better instance is;
+          none_better = late_none l children (cow_slice_items f.networks) f.question.gap f.tried f.best inv.frame.found inv.frame.none_better instance is f.least last better
               (subst (IsFinish (NetworkHasRoom l children instance.network f.question.gap) last) w.in-Never.is finish);
           lower = inv.frame.lower;
           work = λ other at. tt;
@@ -100,9 +96,9 @@ loop-self-preserved-after-finish g c =
               line = inv.frame.line;
               within = inv.frame.within;
               candidates = inv.frame.candidates;
-              low = (let a = c.loop-self-test.true in let b = c.len.ensures in let o = f.networks.ok.0 in omega arith);
-              found = better_found l children f.networks.items f.question.gap f.tried f.best inv.frame.found inv.frame.none_better instance is end wider fresh;
-              none_better = better_none l children f.networks.items f.question.gap f.tried f.best inv.frame.found inv.frame.none_better instance is end wider fresh;
+              low = (let a = c.loop-self-test.true in let b = c.len.ensures in omega arith);
+              found = better_found l children (cow_slice_items f.networks) f.question.gap f.tried f.best inv.frame.found inv.frame.none_better instance is end wider fresh;
+              none_better = better_none l children (cow_slice_items f.networks) f.question.gap f.tried f.best inv.frame.found inv.frame.none_better instance is end wider fresh;
               lower = inv.frame.lower;
               work = λ other at. tt;
             });
@@ -116,13 +112,12 @@ loop-self-preserved g c =
     let l = g.L.PlanLines.lines c.args.lines.now in
     let f = c.loop-self.self in
     let inv = c.loop-self.invariant in
-    let instance = c.index.result.now in
+    let instance = c.network_of-instance.result.now in
     let last = c.in-Some.last in
     let children = children_of l f.question.line in
-    let is : slice_get f.networks.items f.tried ≡ Some instance =
-    slice_get_read f.networks.items (length f.networks.items) f.tried instance refl (let a = c.loop-self-test.true in let b = c.len.ensures in let o = f.networks.ok.0 in omega arith) c.index.ensures in
+    let is : slice_get (cow_slice_items f.networks) f.tried ≡ Some instance = c.network_of-instance.ensures in
     let better : IsLastBetter f.best f.least l.actions (Some last) = subst (λ n. IsLastBetter f.best f.least n (Some last)) c.actions.ensures c.in-Some.ensures in
-    let low = better_low (SomeFits l children f.networks.items f.tried f.question.gap) l.actions f.least last f.best inv.frame.found better in
+    let low = better_low (SomeFits l children (cow_slice_items f.networks) f.tried f.question.gap) l.actions f.least last f.best inv.frame.found better in
     let finish : IsFinish (NetworkHasRoom l children instance.network f.question.gap) last c.in_ok-finish.finish =
     subst (λ cs. IsFinish (NetworkHasRoom l cs instance.network f.question.gap) last c.in_ok-finish.finish) inv.children c.in_ok-finish.ensures.finish in
     elim c.match-finish.branch [
@@ -131,9 +126,9 @@ loop-self-preserved g c =
           line = inv.frame.line;
           within = inv.frame.within;
           candidates = inv.frame.candidates;
-          low = (let a = c.loop-self-test.true in let b = c.len.ensures in let o = f.networks.ok.0 in omega arith);
-          found = passed_found l children f.networks.items f.question.gap f.tried f.best inv.frame.found inv.frame.none_better instance is;
-          none_better = late_none l children f.networks.items f.question.gap f.tried f.best inv.frame.found inv.frame.none_better instance is f.least last better
+          low = (let a = c.loop-self-test.true in let b = c.len.ensures in omega arith);
+          found = passed_found l children (cow_slice_items f.networks) f.question.gap f.tried f.best inv.frame.found inv.frame.none_better instance is;
+          none_better = late_none l children (cow_slice_items f.networks) f.question.gap f.tried f.best inv.frame.found inv.frame.none_better instance is f.least last better
               (subst (IsFinish (NetworkHasRoom l children instance.network f.question.gap) last) w.in-Never.is finish);
           lower = inv.frame.lower;
           work = λ other at. tt;
@@ -150,9 +145,9 @@ loop-self-preserved g c =
               line = inv.frame.line;
               within = inv.frame.within;
               candidates = inv.frame.candidates;
-              low = (let a = c.loop-self-test.true in let b = c.len.ensures in let o = f.networks.ok.0 in omega arith);
-              found = better_found l children f.networks.items f.question.gap f.tried f.best inv.frame.found inv.frame.none_better instance is end wider fresh;
-              none_better = better_none l children f.networks.items f.question.gap f.tried f.best inv.frame.found inv.frame.none_better instance is end wider fresh;
+              low = (let a = c.loop-self-test.true in let b = c.len.ensures in omega arith);
+              found = better_found l children (cow_slice_items f.networks) f.question.gap f.tried f.best inv.frame.found inv.frame.none_better instance is end wider fresh;
+              none_better = better_none l children (cow_slice_items f.networks) f.question.gap f.tried f.best inv.frame.found inv.frame.none_better instance is end wider fresh;
               lower = inv.frame.lower;
               work = λ other at. tt;
             });
@@ -168,7 +163,7 @@ returns-in_default-clause-finish g c =
     let inv = c.loop-self.invariant in
     subst (λ q. IsFinish (LineFits l q.line q.gap) l.actions c.finish_of.result) inv.question
     (subst (IsFinish (LineFits l f.question.line f.question.gap) l.actions) (sym c.finish_of.ensures)
-    (line_least l c.requires.lines f.question.line f.question.gap inv.frame.line f.networks.items inv.frame.candidates f.tried f.least f.best inv.frame.found inv.frame.lower
+    (line_least l c.requires.lines f.question.line f.question.gap inv.frame.line (cow_slice_items f.networks) inv.frame.candidates f.tried f.least f.best inv.frame.found inv.frame.lower
     (subst (λ n. IsLastBetter f.best f.least n None) c.actions.ensures c.in_default.ensures)))
 
 pub returns-in_default-clause-asked : goal.returns-in_default-clause-asked
@@ -184,8 +179,8 @@ returns-clause-finish g c =
     let inv = c.loop-self.invariant in
     subst (λ q. IsFinish (LineFits l q.line q.gap) l.actions c.finish_of-2.result) inv.question
     (subst (IsFinish (LineFits l f.question.line f.question.gap) l.actions) (sym c.finish_of-2.ensures)
-    (line_done l c.requires.lines f.question.line f.question.gap inv.frame.line f.networks.items inv.frame.candidates f.tried f.best
-    (let a = c.loop-self-test.false in let b = c.len.ensures in let o = f.networks.ok.0 in omega arith) inv.frame.low inv.frame.found inv.frame.none_better))
+    (line_done l c.requires.lines f.question.line f.question.gap inv.frame.line (cow_slice_items f.networks) inv.frame.candidates f.tried f.best
+    (let a = c.loop-self-test.false in let b = c.len.ensures in omega arith) inv.frame.low inv.frame.found inv.frame.none_better))
 
 pub returns-clause-asked : goal.returns-clause-asked
 returns-clause-asked g c =

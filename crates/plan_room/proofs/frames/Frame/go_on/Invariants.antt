@@ -1,4 +1,5 @@
 use Rattle.std.proofs.Common.{◌≡◌, ◌-◌, length}
+use Rattle.std.specs.Cow.{cow_slice_items}
 use Rattle.plan_room.specs.Frames.{IsFrame}
 use Rattle.plan_room.specs.Seats.{children_of}
 use Rattle.plan_room.proofs.frames.Frame.go_on.Given as goal
@@ -11,4 +12,4 @@ invariant-loop-self g l = record {
 }
 
 abbrev pub decreases-loop-self : goal.decreases-loop-self
-decreases-loop-self g l = length l.self.networks.items - l.self.tried
+decreases-loop-self g l = length (cow_slice_items l.self.networks) - l.self.tried
