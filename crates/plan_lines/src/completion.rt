@@ -155,8 +155,5 @@ pub(crate) fn instance_with(
     requires { length given.now ≡ length conditions.now.parameters }
     ensures { IfOk result (λ r. MatchOption r (HasInstanceWith task.now conditions.now given.now → ⊥) (IsInstanceWith task.now conditions.now given.now)) }
 {
-    if !meets_so_far(task, conditions, given) {
-        return Ok(None);
-    }
     instance_from(alloc, task, conditions, given, 0)
 }

@@ -132,6 +132,11 @@ fn shadows_of_solutions_are_valid(rt: HostRuntime) -> Result<(), Fail> {
             Verdict::Valid,
         ),
         (
+            ROAD,
+            "log\n==>\n0 (drive t1 a b)\n01 DRIVE T1 B C\n\n2 go t1 c -> m-step 3 0\n3 (go t1 c) -> m-step 1 4\n4 go t1 c -> m-stay\nroot 2\n<==\ndone\n",
+            Verdict::Valid,
+        ),
+        (
             ADDED_AND_DELETED,
             "==>\n18446744073709551615 a\nroot 018446744073709551615\n<==\n",
             Verdict::Valid,
@@ -199,15 +204,15 @@ fn nested(alloc: Global, count: u64, last: &str) -> Result<String, Fail> {
 
 #[test]
 fn deep_files_have_faults(rt: HostRuntime) -> Result<(), Fail> {
-    let text = nested(rt.alloc(), 2_000, "m")?;
+    let text = nested(rt.alloc(), 999, "m")?;
     let found = verdict_on(rt.alloc(), ENDING, text.as_str())?;
-    assert!(rt; found == Verdict::NoInstance(Some(2_000)));
+    assert!(rt; found == Verdict::NoInstance(Some(999)));
     Ok(())
 }
 
 #[test]
 fn deep_files_are_valid(rt: HostRuntime) -> Result<(), Fail> {
-    let text = nested(rt.alloc(), 2_000, "e")?;
+    let text = nested(rt.alloc(), 999, "e")?;
     let found = verdict_on(rt.alloc(), ENDING, text.as_str())?;
     assert!(rt; found == Verdict::Valid);
     Ok(())
