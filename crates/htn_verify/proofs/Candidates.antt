@@ -116,7 +116,7 @@ children_read file forest actions line same high =
     ∙ sym (ap (λ b. cond b [] (get_or forest.children (line - length file.actions) [])) (le-ltb line (length file.actions) high))
 
 -- a line's method at its place
-method_there : (lines : List DecompositionLine) (j : ℕ) (line : DecompositionLine) → slice_get lines j ≡ Some line → line.method ≡ get_or (map (λ l. l.method) lines) j []
+pub method_there : (lines : List DecompositionLine) (j : ℕ) (line : DecompositionLine) → slice_get lines j ≡ Some line → line.method ≡ get_or (map (λ l. l.method) lines) j []
 method_there [] j line at = absurd cc
 method_there (l ∷ lines) zero line at = let same : l ≡ line = cc in sym (ap (λ x. x.method) same)
 method_there (l ∷ lines) (suc j) line at = method_there lines j line at

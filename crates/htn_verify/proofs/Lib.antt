@@ -9,3 +9,4 @@ pub mod Fitting
 pub mod Candidates
 pub mod Arranging
 pub mod Same
+pub mod Sharing

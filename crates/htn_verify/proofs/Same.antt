@@ -1,5 +1,6 @@
 -- Lines that say the same: noted one by one, and what is so of one is so of the other.
 use Rattle.std.proofs.Common.{◌≡◌, ℕ, zero, suc, ◌+◌, ◌≤◌, ◌<◌, inl, inr, List, [], ◌∷◌, ◌++◌, length, map, take, get_or, Option, Some, slice_get, refl, sym, ap, ap₂, ◌∙◌, subst, arith}
+use Rattle.std.specs.List.{AllByRecursion}
 use Rattle.std.proofs.lemmas.Bool.{cases_lt, cases_eq}
 use Rattle.std.proofs.lemmas.List.{get_or_past, length-append, take_all}
 use Rattle.std.proofs.Math.ListN.{get_or-append}
@@ -34,6 +35,13 @@ mapped_more f a b i x y at there e same =
 -- all of both
 pub mapped_all : {X : Type 0} (f : ℕ → X) (a b : List ℕ) (i : ℕ) → length a ≤ i → length b ≤ i → map f (take i a) ≡ map f (take i b) → map f a ≡ map f b
 mapped_all f a b i past after same = ap (map f) (sym (take_all i a past)) ∙ same ∙ ap (map f) (take_all i b after)
+
+-- what holds of the first ones holds of each
+pub all_at : {X : Type 0} (P : X → Type 0) (xs : List X) (i j : ℕ) (x : X) → j < i → AllByRecursion P (take i xs) → slice_get xs j ≡ Some x → P x
+all_at P [] i j x less all at = absurd cc
+all_at P (y ∷ xs) zero j x less all at = absurd (omega arith)
+all_at P (y ∷ xs) (suc i) zero x less all at = let same : y ≡ x = cc in subst P same all.0
+all_at P (y ∷ xs) (suc i) (suc j) x less all at = all_at P xs i j x (omega arith) all.1 at
 
 -- ## The lines that are noted
 

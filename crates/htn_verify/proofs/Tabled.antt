@@ -97,7 +97,7 @@ module _ (naming : Naming) (file : PlanFile) (tasks : List GroundTask) (is : map
       ∙ ap₂ ◌+◌ (length-map file.actions (action_task naming)) (length-map file.decompositions (decomposition_task naming))
 
   -- what stands at a place of the table is that task
-  one_named : (i : ℕ) → i < length tasks → named_at (named_tasks naming file) i ≡ Some (task_at tasks i)
+  pub one_named : (i : ℕ) → i < length tasks → named_at (named_tasks naming file) i ≡ Some (task_at tasks i)
   one_named i low = ap (λ ts. get_or ts i None) (sym is) ∙ get_or-map Some tasks i (record { name = 0; arguments = [] }) None low
 
   -- the lines have these tasks

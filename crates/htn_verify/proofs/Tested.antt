@@ -1,7 +1,8 @@
 -- What the code tests of lines and of their run, for the lines of a file.
 use Rattle.std.proofs.Common.{◌≡◌, ℕ, ◌+◌, ◌<◌, ◌↔◌, List, [], length, map, take, get_or, Option, Some, slice_get, Bool, IsTrue, refl, sym, ap, ap₂, ◌∙◌, subst, arith}
 use Rattle.std.proofs.lemmas.List.{length-take}
-use Rattle.std.proofs.lemmas.Option.{slice_get_read, slice_get_within}
+use Rattle.std.specs.List.{AllByRecursion}
+use Rattle.std.proofs.lemmas.Option.{slice_get-get_or, slice_get_read, slice_get_within}
 use Rattle.htn_model.specs.Literal.{Literal}
 use Rattle.htn_model.specs.Problem.{GroundTask, Problem}
 use Rattle.htn_model.specs.PlanFile.{Word, ActionLine, DecompositionLine, PlanFile, Naming}
@@ -12,9 +13,13 @@ use Rattle.plan_run.specs.Turns.{History, literals_truth}
 use Rattle.htn_verify.specs.Faults.{NamesAction, NamesInitial, NamesInstance}
 use Rattle.htn_verify.specs.Named.{named_tasks, named_at}
 use Rattle.htn_verify.specs.Tasks.{AreNamedAs}
-use Rattle.htn_verify.proofs.Faulted.{action_line_at, decomposition_line_at}
+use Rattle.htn_verify.specs.Alike.{AreFirsts, first_at}
+use Rattle.htn_verify.specs.Instances.{IsInstanceOf, ShowsOne}
+use Rattle.htn_verify.proofs.Candidates.{method_there}
+use Rattle.htn_verify.proofs.Faulted.{action_line_at, decomposition_line_at, fine_on}
 use Rattle.htn_verify.proofs.Instanced.{instance_moved}
 use Rattle.htn_verify.proofs.Running.{runs_are_of_lines}
+use Rattle.htn_verify.proofs.Same.{all_at}
 use Rattle.htn_verify.proofs.Showing.{instances_by_tasks}
 use Rattle.htn_verify.proofs.Tabled.{are_named, action_tasks}
 
@@ -53,6 +58,26 @@ module _ (naming : Naming) (problem : Problem) (file : PlanFile) (table : List (
       let here = instance_moved naming problem (named_at table) (length actions + j) (length file.actions + j) method line.method children (get_or forest.children j []) passed
       (ap (λ ls. length ls + j) first) named below names in
       record { stands = decomposition_line_at file.decompositions j line at; has = ((λ h. here.1 (law.0 h)), (λ h. law.1 (here.0 h))) }
+
+  -- a decomposition line that says what an earlier one says has an instance where all earlier ones have
+  pub again_tested : (forest : Forest) → IsForestOf file forest → (lines : List DecompositionLine) → lines ≡ file.decompositions → (j : ℕ) → j < length lines
+      → (line : DecompositionLine) → line ≡ get_or lines j line → (firsts : List ℕ) → AreFirsts file forest (named_at table) firsts → first_at firsts j < j
+      → AllByRecursion (HasInstance naming problem file) (take j (decomposition_lines file.decompositions))
+      → AllByRecursion (HasInstance naming problem file) (take (j + 1) (decomposition_lines file.decompositions))
+  again_tested forest of lines same j low line read firsts are before fine =
+      let first = first_at firsts j in
+      let alike = (are j).1 in
+      let long = ap length same in
+      let at = read_at lines file.decompositions same j low line read in
+      let other = get_or file.decompositions first line in
+      let there : slice_get file.decompositions first ≡ Some other = slice_get-get_or file.decompositions first line (omega arith) in
+      let has = all_at (HasInstance naming problem file) (decomposition_lines file.decompositions) j first (decomposition_line other) before fine
+      (decomposition_line_at file.decompositions first other there) in
+      let (t, names, tasks, have, shows) = ((instances_by_tasks naming problem).decomposition file forest (named_at table) of named_so first other there).0 has in
+      let method : other.method ≡ line.method = method_there file.decompositions first other there ∙ alike.method ∙ sym (method_there file.decompositions j line at) in
+      fine_on naming problem file (decomposition_lines file.decompositions) j (decomposition_line line) (decomposition_line_at file.decompositions j line at) fine
+      (((instances_by_tasks naming problem).decomposition file forest (named_at table) of named_so j line at).1
+      (t, sym alike.task ∙ names, tasks, sym alike.children ∙ have, subst (λ m. ShowsOne (IsInstanceOf naming problem t m) tasks) method shows))
 
   -- and the root line is
   pub root_tested : (forest : Forest) → IsForestOf file forest → (roots : List ℕ) → roots ≡ forest.roots → (passed : Bool) → IsTrue passed ↔ NamesInitial problem (named_at table) roots

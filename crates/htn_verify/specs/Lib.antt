@@ -6,3 +6,4 @@ pub mod Runs
 pub mod Verdicts
 pub mod Placed
 pub mod Alike
+pub mod Shared

@@ -26,7 +26,7 @@ fn task_numbers(alloc: Global, named: &[Option<GroundTask>]) -> Result<Vec<usize
 }
 
 /// The number at a place, 0 past all.
-fn number_at(numbers: &[usize], place: usize) -> usize {
+pub(crate) fn number_at(numbers: &[usize], place: usize) -> usize {
     match numbers.get(place) {
         Some(number) => *number,
         None => 0,

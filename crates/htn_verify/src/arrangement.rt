@@ -1,15 +1,18 @@
 //! Whether the lines of a plan file can be arranged as a solution wants them.
-ghost use Rattle.std.specs.Prelude.{◌≡◌, ◌+◌, ◌↔◌, IfOk, IsTrue, length, take, true};
+ghost use Rattle.std.specs.Prelude.{◌≡◌, ◌+◌, ◌↔◌, IfOk, IsTrue, Some, length, map, take, true};
 ghost use Rattle.htn_ground.specs.Naming.{naming_of};
 ghost use Rattle.htn_model.specs.Grounding.{problem_of};
 ghost use Rattle.htn_model.specs.Shadow.{IsAccepted};
 ghost use Rattle.htn_model.specs.Verdict.{AllHave, Ends};
+ghost use Rattle.htn_verify.specs.Alike.{AreFirsts};
+ghost use Rattle.htn_verify.specs.Named.{named_at, named_tasks};
 ghost use Rattle.htn_verify.specs.Tasks.{task_at};
 ghost use Rattle.plan_forest.specs.Forest.{IsForestOf};
 ghost use Rattle.plan_forest.specs.Plans.{AreTasks};
 ghost use Rattle.plan_run.specs.Run.{IsHistoryOf};
 
 use crate::placed_lines::PlacedLines;
+use crate::shared_lines::{SharedLines, list_numbers, lists_of};
 use htn_ground::GroundTask;
 use htn_task::Task;
 use plan_forest::Forest;
@@ -25,10 +28,13 @@ pub(crate) fn is_arranged(
     file: &PlanFile,
     forest: &Forest,
     tasks: &[GroundTask],
+    firsts: &[usize],
     turns: &Turns<'_>,
 ) -> Result<bool, AllocError>
     requires forest { IsForestOf file.now forest.now }
     requires tasks { AreTasks (naming_of task.now) file.now (task_at tasks.now) }
+    requires named { map Some tasks.now ≡ named_tasks (naming_of task.now) file.now }
+    requires firsts { AreFirsts file.now forest.now (named_at (named_tasks (naming_of task.now) file.now)) firsts.now }
     requires count { length tasks.now ≡ length file.now.actions + length file.now.decompositions }
     requires have { AllHave (naming_of task.now) (problem_of task.now) file.now }
     requires ends { Ends (naming_of task.now) (problem_of task.now) file.now true }
@@ -46,6 +52,14 @@ pub(crate) fn is_arranged(
         turns,
         ever: &ever,
     };
-    let fits = forest_fits(alloc, &lines)?;
+    let lists = lists_of(alloc, &lines, firsts)?;
+    let numbers = list_numbers(alloc, firsts.len(), &lists)?;
+    let shared = SharedLines {
+        lines: &lines,
+        firsts,
+        numbers,
+        lists,
+    };
+    let fits = forest_fits(alloc, &shared)?;
     Ok(fits)
 }

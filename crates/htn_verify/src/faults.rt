@@ -4,12 +4,14 @@ ghost use Rattle.htn_ground.specs.Naming.{naming_of};
 ghost use Rattle.htn_model.specs.Grounding.{problem_of};
 ghost use Rattle.htn_model.specs.Problem as model;
 ghost use Rattle.htn_model.specs.Verdict.{AllHave, IsVerdict, action_lines, decomposition_lines};
+ghost use Rattle.htn_verify.specs.Alike.{AreFirsts};
 ghost use Rattle.htn_verify.specs.Faults.{IsFaultIn, NamesAction, NamesInitial, NamesInstance};
 ghost use Rattle.htn_verify.specs.Named.{named_at, named_tasks};
 ghost use Rattle.htn_verify.specs.Tasks.{HaveTasks};
 ghost use Rattle.htn_verify.specs.Verdicts.{verdict_of};
 ghost use Rattle.plan_forest.specs.Forest.{IsForestOf};
 
+use crate::alike::first_at;
 use crate::verdict::Verdict;
 use htn_ground::{GroundTask, action_of};
 use plan_forest::Forest;
@@ -119,21 +121,26 @@ fn faulty_action(
     Ok(None)
 }
 
-/// The first decomposition line that has no instance.
+/// The first decomposition line that has no instance. One that says what an earlier one says isn't looked at again.
 fn faulty_decomposition(
     alloc: Global,
     names: &Names<'_>,
     file: &PlanFile,
     forest: &Forest,
     named: &[Option<GroundTask>],
+    firsts: &[usize],
 ) -> Result<Option<u64>, AllocError>
     requires forest { IsForestOf file.now forest.now }
     requires named { named.now ≡ named_tasks (naming_of names.now) file.now }
+    requires firsts { AreFirsts file.now forest.now (named_at named.now) firsts.now }
     ensures { IfOk result (IsFaultIn (naming_of names.now) (problem_of names.now) file.now (decomposition_lines file.now.decompositions)) }
 {
     let actions = file.actions().len();
     let lines = file.decompositions();
     for (place, line) in lines.iter().enumerate() {
+        if first_at(firsts, place) < place {
+            continue;
+        }
         let children = forest.children(place);
         if !names_instance(
             alloc,
@@ -156,9 +163,11 @@ pub(crate) fn fault_of(
     file: &PlanFile,
     forest: &Forest,
     named: &[Option<GroundTask>],
+    firsts: &[usize],
 ) -> Result<Option<Verdict>, AllocError>
     requires forest { IsForestOf file.now forest.now }
     requires named { named.now ≡ named_tasks (naming_of names.now) file.now }
+    requires firsts { AreFirsts file.now forest.now (named_at named.now) firsts.now }
     ensures { IfOk result (λ r. MatchOption r
         (AllHave (naming_of names.now) (problem_of names.now) file.now)
         (λ v. IsVerdict (naming_of names.now) (problem_of names.now) file.now (verdict_of v))) }
@@ -166,7 +175,7 @@ pub(crate) fn fault_of(
     if let Some(id) = faulty_action(alloc, names, file, named)? {
         return Ok(Some(Verdict::NoInstance(Some(id))));
     }
-    if let Some(id) = faulty_decomposition(alloc, names, file, forest, named)? {
+    if let Some(id) = faulty_decomposition(alloc, names, file, forest, named, firsts)? {
         return Ok(Some(Verdict::NoInstance(Some(id))));
     }
     if !names_initial(alloc, names, named, forest.roots())? {

@@ -7,6 +7,7 @@ mod faults;
 mod laws;
 mod named;
 mod placed_lines;
+mod shared_lines;
 mod verdict;
 mod verifier;
 

@@ -1,6 +1,7 @@
 //! The lines of a plan file with their tasks and the run, as the search for room takes them.
-ghost use Rattle.std.specs.Prelude.{◌≡◌, ◌<◌, All, IfOk, length, map};
+ghost use Rattle.std.specs.Prelude.{◌≡◌, ◌≤◌, ◌<◌, All, IfOk, length, map};
 ghost use Rattle.htn_verify.specs.Placed.{ArePlaced};
+ghost use Rattle.htn_verify.specs.Shared.{IsListFor};
 ghost use Rattle.htn_verify.specs.Tasks.{task_at};
 
 use htn_ground::{GroundTask, Instance};
@@ -44,6 +45,22 @@ pub(crate) struct PlacedLines<'a, 't> {
     ghost same: { ever.now ≡ turns.now },
 }
 
+impl PlacedLines<'_, '_> {
+    /// The instances of a decomposition line that may fit into the run.
+    pub(crate) fn listed(&self, line: usize) -> Result<Vec<Instance>, AllocError>
+        requires { (length self.now.file.now.actions ≤ line) × (line < length self.now.tasks.now) }
+        ensures { IfOk result (λ v. IsListFor self.now.task.now self.now.file.now self.now.forest.now self.now.tasks.now self.now.turns.now line v.items) }
+    {
+        let names = Names::new(self.task);
+        let place = line - self.file.actions().len();
+        let method = self.file.decompositions()[place].method();
+        let children = tasks_of(self.alloc, self.tasks, self.forest.children(place))?;
+        let goal = &self.tasks[line];
+        let found = instances_to_fit(self.alloc, &names, self.ever, goal, method, &children)?;
+        Ok(found)
+    }
+}
+
 impl PlanLines for PlacedLines<'_, '_> {
     ghost use Rattle.htn_verify.specs.Placed.{placed_lines};
 
@@ -70,12 +87,7 @@ impl PlanLines for PlacedLines<'_, '_> {
     }
 
     fn instances(&self, line: usize) -> Result<CowSlice<'_, Instance>, AllocError> {
-        let names = Names::new(self.task);
-        let place = line - self.file.actions().len();
-        let method = self.file.decompositions()[place].method();
-        let children = tasks_of(self.alloc, self.tasks, self.forest.children(place))?;
-        let goal = &self.tasks[line];
-        let found = instances_to_fit(self.alloc, &names, self.ever, goal, method, &children)?;
+        let found = self.listed(line)?;
         Ok(CowSlice::Owned(found))
     }
 

@@ -3,10 +3,12 @@ ghost use Rattle.std.specs.Prelude.{◌≡◌, Some, map, IfOk};
 ghost use Rattle.htn_ground.specs.Naming.{naming_of};
 ghost use Rattle.htn_model.specs.Grounding.{problem_of};
 ghost use Rattle.htn_model.specs.Verdict.{AllHave, IsVerdict};
+ghost use Rattle.htn_verify.specs.Alike.{AreFirsts};
 ghost use Rattle.htn_verify.specs.Named as spec;
 ghost use Rattle.htn_verify.specs.Verdicts.{verdict_of};
 ghost use Rattle.plan_forest.specs.Forest.{IsForestOf};
 
+use crate::alike::first_places;
 use crate::arrangement::is_arranged;
 use crate::faults::fault_of;
 use crate::named::{named_tasks, tasks_alone};
@@ -26,9 +28,11 @@ fn run_verdict(
     file: &PlanFile,
     forest: &Forest,
     tasks: &[GroundTask],
+    firsts: &[usize],
 ) -> Result<Verdict, AllocError>
     requires forest { IsForestOf file.now forest.now }
     requires tasks { map Some tasks.now ≡ spec.named_tasks (naming_of task.now) file.now }
+    requires firsts { AreFirsts file.now forest.now (spec.named_at (spec.named_tasks (naming_of task.now) file.now)) firsts.now }
     requires have { AllHave (naming_of task.now) (problem_of task.now) file.now }
     ensures { IfOk result (λ verdict. IsVerdict (naming_of task.now) (problem_of task.now) file.now (verdict_of verdict)) }
 {
@@ -42,7 +46,7 @@ fn run_verdict(
     if !turns.holds(goal.as_slice(), last) {
         return Ok(Verdict::GoalFails);
     }
-    if !is_arranged(alloc, task, file, forest, tasks, &turns)? {
+    if !is_arranged(alloc, task, file, forest, tasks, firsts, &turns)? {
         return Ok(Verdict::NoArrangement);
     }
     Ok(Verdict::Valid)
@@ -57,10 +61,11 @@ pub fn verify(alloc: Global, task: &Task, file: &PlanFile) -> Result<Verdict, Al
     };
     let names = Names::new(task);
     let named = named_tasks(alloc, &names, file)?;
-    if let Some(fault) = fault_of(alloc, &names, file, &forest, &named)? {
+    let firsts = first_places(alloc, file, &forest, &named)?;
+    if let Some(fault) = fault_of(alloc, &names, file, &forest, &named, &firsts)? {
         return Ok(fault);
     }
     let tasks = tasks_alone(alloc, named)?;
-    let verdict = run_verdict(alloc, task, file, &forest, &tasks)?;
+    let verdict = run_verdict(alloc, task, file, &forest, &tasks, &firsts)?;
     Ok(verdict)
 }

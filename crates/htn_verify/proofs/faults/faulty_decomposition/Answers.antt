@@ -4,7 +4,7 @@ use Rattle.htn_ground.specs.Naming.{naming_of}
 use Rattle.htn_model.specs.Grounding.{problem_of}
 use Rattle.htn_model.specs.Verdict.{decomposition_line, decomposition_lines}
 use Rattle.htn_verify.proofs.Faulted.{decomposition_line_count, fault_at, fine_all, fine_on}
-use Rattle.htn_verify.proofs.Tested.{decomposition_tested}
+use Rattle.htn_verify.proofs.Tested.{again_tested, decomposition_tested}
 use Rattle.htn_verify.proofs.faults.faulty_decomposition.Goals as goal
 
 pub returns-then-not-branch : goal.returns-then-not-branch
@@ -19,6 +19,16 @@ returns-then-not-branch c =
     c.method.result.now c.method.ensures c.children-children.result.now c.children-children.ensures c.in_ok-names_instance.field-0 c.in_ok-names_instance.ensures in
     fault_at naming problem file (decomposition_lines file.decompositions) j (decomposition_line line) tested.stands c.loop-place.invariant
     (λ has. both_ways _ c.if-not-branch.true (tested.has.0 has)) (Some c.id.result) (ap Some c.id.ensures)
+
+pub loop-place-preserved-then-lt : goal.loop-place-preserved-then-lt
+loop-place-preserved-then-lt c =
+    let naming = naming_of c.args.names.now in
+    let problem = problem_of c.args.names.now in
+    let file = c.args.file.now in
+    let j = c.loop-place.place in
+    again_tested naming problem file c.args.named.now c.requires.named c.args.forest.now c.requires.forest
+    c.decompositions-lines.result.now c.decompositions-lines.ensures.value j c.loop-place-test.true c.index-lines-place.result c.index-lines-place.is
+    c.args.firsts.now c.requires.firsts (let e = c.first_at.ensures in let l = c.if-lt.true in omega arith) c.loop-place.invariant
 
 pub loop-place-preserved : goal.loop-place-preserved
 loop-place-preserved c =
