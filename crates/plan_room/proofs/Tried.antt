@@ -1,11 +1,12 @@
 -- The networks of a line, one after another.
 use Rattle.std.proofs.Common.{◌≡◌, ℕ, ◌+◌, ◌≤◌, ◌<◌, ◌⊎◌, inl, inr, List, length, Option, Some, None, slice_get, refl, subst, arith}
+use Rattle.std.specs.Prelude.{MatchOption, ⊤}
 use Rattle.std.specs.Cow.{cow_slice_items}
 use Rattle.std.specs.Global.{Box}
 use Rattle.std.proofs.lemmas.Bool.{cases_lt, cases_eq}
 use Rattle.std.proofs.lemmas.Option.{slice_get_within}
 use Rattle.htn_model.specs.Instance.{Instance}
-use Rattle.htn_model.specs.Problem.{IsNetwork}
+use Rattle.htn_model.specs.Problem.{IsNetwork, Network}
 use Rattle.htn_model.proofs.Ascending.{in_at, at_in, in_map, in_mapped}
 use Rattle.plan_room.specs.Bound.{IsLower}
 use Rattle.plan_room.specs.Placing.{IsFinish, IsFirst}
@@ -15,6 +16,7 @@ use Rattle.plan_room.specs.Seats.{children_of, IsOneOf, LineFits}
 use Rattle.plan_room.specs.Frames.{IsLine, IsFrame, IsWork, NetworkHasRoom, SomeFits, unboxed}
 use Rattle.plan_room.specs.Windows.{finish_of, IsLastBetter}
 use Rattle.plan_room.specs.declared.frames.Frame.{Frame}
+use Rattle.plan_room.specs.declared.frames.Work.{Work}
 use Rattle.plan_room.proofs.Reordered.{all_end}
 use Rattle.plan_room.proofs.Unrolled.{unrolled, rolled, is_network}
 use Rattle.plan_room.proofs.Windowed.{beaten_past}
@@ -121,6 +123,12 @@ module _ (l : Lines) (are : AreLines l) (i gap : ℕ) (line : IsLine l i) (insta
     fits = some_rolled tried end some;
     least = λ k fits. (let (network, one, room) = unrolled l are i gap k line fits in let e = lower k (all_end l (children_of l i) network gap k room) in omega arith);
   }
+
+-- work that is kept of some, or none
+pub kept_so : (l : Lines) (children : List ℕ) (network : Network) (gap : ℕ) (work kept : Option Work) → MatchOption kept ⊤ (λ w. work ≡ Some w) → IsWork l children network gap work
+    → IsWork l children network gap kept
+kept_so l children network gap work None kept_is is = tt
+kept_so l children network gap work (Some w) kept_is is = subst (IsWork l children network gap) kept_is is
 
 -- a frame with other work that is kept
 pub reworked : (l : Lines) (frame : Frame) → IsFrame l frame → (instance : Instance) → slice_get (cow_slice_items frame.networks) frame.tried ≡ Some instance → (work : Option (Box Work))

@@ -1,4 +1,4 @@
-use Rattle.std.proofs.Common.{◌≡◌, ℕ, ◌+◌, ◌≤◌, length, Some, None, slice_get, sym, subst, refl, ap, ◌∙◌, arith}
+use Rattle.std.proofs.Common.{◌≡◌, ◌+◌, Some, None, slice_get, sym, subst, ap, ◌∙◌, arith}
 use Rattle.std.specs.Cow.{cow_slice_items}
 use Rattle.plan_room.specs.Placing.{IsFinish, IsFirst}
 use Rattle.plan_room.specs.Memo.{IsOpenBelow}
@@ -6,7 +6,7 @@ use Rattle.plan_room.specs.Seats.{children_of, LineFits}
 use Rattle.plan_room.specs.Frames.{IsFrame, IsWork, NetworkHasRoom, SomeFits, unboxed}
 use Rattle.plan_room.specs.Trials.{IsAsked}
 use Rattle.plan_room.specs.Windows.{IsLastBetter}
-use Rattle.plan_room.proofs.Tried.{passed_found, late_none, better_found, better_none, network_at, line_done, line_least, reworked}
+use Rattle.plan_room.proofs.Tried.{kept_so, passed_found, late_none, better_found, better_none, network_at, line_done, line_least, reworked}
 use Rattle.plan_room.proofs.Windowed.{asked_best, better_low, first_wider, not_beaten}
 use Rattle.plan_room.proofs.frames.Frame.go_on.Goals as goal
 use Rattle.plan_room.proofs.frames.Frame.go_on.Goals.{in-Never, in-At}
@@ -35,7 +35,7 @@ try_network-requires-clause-work g c =
     let inv = c.loop-self.invariant in
     let instance = c.network_of-instance.result.now in
     let is : slice_get (cow_slice_items f.networks) f.tried ≡ Some instance = c.network_of-instance.ensures in
-    subst (IsWork l c.loop-self.children.now instance.network f.question.gap) (sym c.kept_work-work.ensures.work)
+    subst (IsWork l c.children_of-children.result.now instance.network f.question.gap) (sym c.kept_work-work.ensures.work)
     (subst (λ cs. IsWork l cs instance.network f.question.gap (unboxed f.work)) (sym inv.children) (inv.frame.work instance is))
 
 pub returns-in_err-finish-clause-frame : goal.returns-in_err-finish-clause-frame
@@ -45,8 +45,18 @@ returns-in_err-finish-clause-frame g c =
     let inv = c.loop-self.invariant in
     let instance = c.network_of-instance.result.now in
     let is : slice_get (cow_slice_items f.networks) f.tried ≡ Some instance = c.network_of-instance.ensures in
-    reworked l f inv.frame instance is c.try_network.new.work
-    (subst (λ cs. IsWork l cs instance.network f.question.gap c.try_network.new.work) inv.children c.in_err-finish.ensures.work)
+    reworked l f inv.frame instance is _
+    (subst (λ k. IsWork l (children_of l f.question.line) instance.network f.question.gap (unboxed k)) (sym c.kept_work-work.ensures.none) tt)
+
+pub returns-in_err-self-in-Unknown-clause-frame : goal.returns-in_err-self-in-Unknown-clause-frame
+returns-in_err-self-in-Unknown-clause-frame g c =
+    let l = g.L.PlanLines.lines c.args.lines.now in
+    let f = c.loop-self.self in
+    let inv = c.loop-self.invariant in
+    let instance = c.network_of-instance.result.now in
+    let is : slice_get (cow_slice_items f.networks) f.tried ≡ Some instance = c.network_of-instance.ensures in
+    reworked l f inv.frame instance is _
+    (subst (λ k. IsWork l (children_of l f.question.line) instance.network f.question.gap (unboxed k)) (sym c.kept_work-work.ensures.none) tt)
 
 pub returns-in-Unknown-clause-frame : goal.returns-in-Unknown-clause-frame
 returns-in-Unknown-clause-frame g c =
@@ -55,8 +65,9 @@ returns-in-Unknown-clause-frame g c =
     let inv = c.loop-self.invariant in
     let instance = c.network_of-instance.result.now in
     let is : slice_get (cow_slice_items f.networks) f.tried ≡ Some instance = c.network_of-instance.ensures in
-    reworked l f inv.frame instance is c.try_network.new.work
-    (subst (λ cs. IsWork l cs instance.network f.question.gap c.try_network.new.work) inv.children c.in_ok-finish.ensures.work)
+    reworked l f inv.frame instance is _
+    (kept_so l (children_of l f.question.line) instance.network f.question.gap c.try_network.new.work _ c.in_ok-self-in-Unknown.ensures
+    (subst (λ cs. IsWork l cs instance.network f.question.gap c.try_network.new.work) inv.children c.in_ok-finish.ensures.work))
 
 pub loop-self-preserved-after-finish : goal.loop-self-preserved-after-finish
 loop-self-preserved-after-finish g c =
@@ -73,7 +84,7 @@ loop-self-preserved-after-finish g c =
     subst (λ cs. IsFinish (NetworkHasRoom l cs instance.network f.question.gap) last c.in_ok-finish.finish) inv.children c.in_ok-finish.ensures.finish in
     elim c.match-finish.branch [
       | in-Never w ↦ record {
-        frame = subst (λ s. IsFrame l (record { question = s.question; networks = s.networks; tried = s.tried + 1; best = s.best; least = s.least; work = None })) (sym w.self-is) (record {
+        frame = subst (λ s. IsFrame l (record { question = s.question; networks = s.networks; tried = s.tried + 1; best = s.best; least = s.least; work = s.work })) (sym w.self-is) (record {
           line = inv.frame.line;
           within = inv.frame.within;
           candidates = inv.frame.candidates;
@@ -82,7 +93,7 @@ loop-self-preserved-after-finish g c =
           none_better = late_none l children (cow_slice_items f.networks) f.question.gap f.tried f.best inv.frame.found inv.frame.none_better instance is f.least last better
               (subst (IsFinish (NetworkHasRoom l children instance.network f.question.gap) last) w.in-Never.is finish);
           lower = inv.frame.lower;
-          work = λ other at. tt;
+          work = λ other at. subst (λ k. IsWork l (children_of l f.question.line) other.network f.question.gap (unboxed k)) (sym c.kept_work-work.ensures.none) tt;
         });
         question = ap (λ s. s.question) w.self-is ∙ inv.question;
         children = inv.children ∙ ap (λ s. children_of l s.question.line) (sym w.self-is);
@@ -92,7 +103,7 @@ loop-self-preserved-after-finish g c =
           let wider = first_wider (NetworkHasRoom l children instance.network f.question.gap) l.actions last end low first in
           let fresh = not_beaten l.actions f.least last end f.best better first.within in
           record {
-            frame = subst (λ s. IsFrame l (record { question = s.question; networks = s.networks; tried = s.tried + 1; best = s.best; least = s.least; work = None })) (sym w.self-is) (record {
+            frame = subst (λ s. IsFrame l (record { question = s.question; networks = s.networks; tried = s.tried + 1; best = s.best; least = s.least; work = s.work })) (sym w.self-is) (record {
               line = inv.frame.line;
               within = inv.frame.within;
               candidates = inv.frame.candidates;
@@ -100,7 +111,7 @@ loop-self-preserved-after-finish g c =
               found = better_found l children (cow_slice_items f.networks) f.question.gap f.tried f.best inv.frame.found inv.frame.none_better instance is end wider fresh;
               none_better = better_none l children (cow_slice_items f.networks) f.question.gap f.tried f.best inv.frame.found inv.frame.none_better instance is end wider fresh;
               lower = inv.frame.lower;
-              work = λ other at. tt;
+              work = λ other at. subst (λ k. IsWork l (children_of l f.question.line) other.network f.question.gap (unboxed k)) (sym c.kept_work-work.ensures.none) tt;
             });
             question = ap (λ s. s.question) w.self-is ∙ inv.question;
             children = inv.children ∙ ap (λ s. children_of l s.question.line) (sym w.self-is);
@@ -122,7 +133,7 @@ loop-self-preserved g c =
     subst (λ cs. IsFinish (NetworkHasRoom l cs instance.network f.question.gap) last c.in_ok-finish.finish) inv.children c.in_ok-finish.ensures.finish in
     elim c.match-finish.branch [
       | in-Never w ↦ record {
-        frame = subst (λ s. IsFrame l (record { question = s.question; networks = s.networks; tried = s.tried + 1; best = s.best; least = s.least; work = None })) (sym w.self-is) (record {
+        frame = subst (λ s. IsFrame l (record { question = s.question; networks = s.networks; tried = s.tried + 1; best = s.best; least = s.least; work = s.work })) (sym w.self-is) (record {
           line = inv.frame.line;
           within = inv.frame.within;
           candidates = inv.frame.candidates;
@@ -131,7 +142,7 @@ loop-self-preserved g c =
           none_better = late_none l children (cow_slice_items f.networks) f.question.gap f.tried f.best inv.frame.found inv.frame.none_better instance is f.least last better
               (subst (IsFinish (NetworkHasRoom l children instance.network f.question.gap) last) w.in-Never.is finish);
           lower = inv.frame.lower;
-          work = λ other at. tt;
+          work = λ other at. subst (λ k. IsWork l (children_of l f.question.line) other.network f.question.gap (unboxed k)) (sym c.kept_work-work.ensures.none) tt;
         });
         question = ap (λ s. s.question) w.self-is ∙ inv.question;
         children = inv.children ∙ ap (λ s. children_of l s.question.line) (sym w.self-is);
@@ -141,7 +152,7 @@ loop-self-preserved g c =
           let wider = first_wider (NetworkHasRoom l children instance.network f.question.gap) l.actions last end low first in
           let fresh = not_beaten l.actions f.least last end f.best better first.within in
           record {
-            frame = subst (λ s. IsFrame l (record { question = s.question; networks = s.networks; tried = s.tried + 1; best = s.best; least = s.least; work = None })) (sym w.self-is) (record {
+            frame = subst (λ s. IsFrame l (record { question = s.question; networks = s.networks; tried = s.tried + 1; best = s.best; least = s.least; work = s.work })) (sym w.self-is) (record {
               line = inv.frame.line;
               within = inv.frame.within;
               candidates = inv.frame.candidates;
@@ -149,7 +160,7 @@ loop-self-preserved g c =
               found = better_found l children (cow_slice_items f.networks) f.question.gap f.tried f.best inv.frame.found inv.frame.none_better instance is end wider fresh;
               none_better = better_none l children (cow_slice_items f.networks) f.question.gap f.tried f.best inv.frame.found inv.frame.none_better instance is end wider fresh;
               lower = inv.frame.lower;
-              work = λ other at. tt;
+              work = λ other at. subst (λ k. IsWork l (children_of l f.question.line) other.network f.question.gap (unboxed k)) (sym c.kept_work-work.ensures.none) tt;
             });
             question = ap (λ s. s.question) w.self-is ∙ inv.question;
             children = inv.children ∙ ap (λ s. children_of l s.question.line) (sym w.self-is);
