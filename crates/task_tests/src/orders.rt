@@ -122,6 +122,135 @@ fn children_inherit(rt: HostRuntime) -> Result<(), Fail> {
     Ok(())
 }
 
+/// Where a position stood before the node at `at` was replaced by `count` others.
+fn stood_at(at: usize, count: usize, position: usize) -> usize {
+    if position < at {
+        position
+    } else if position - at < count {
+        at
+    } else {
+        (position - count).saturating_add(1)
+    }
+}
+
+/// Whether an order with a node replaced is what is said of it: the new nodes have their own order
+/// among themselves, and towards all others that of the node replaced.
+fn replaces(
+    alloc: Global,
+    order: &Order,
+    at: usize,
+    inner: &Order,
+) -> Result<bool, AllocError> {
+    if at >= order.size() {
+        return Ok(false);
+    }
+    let after = order.replaced(alloc, at, inner)?;
+    let count = inner.size();
+    for a in 0..after.size() {
+        for b in 0..after.size() {
+            let from_a = stood_at(at, count, a);
+            let from_b = stood_at(at, count, b);
+            let is_before = if from_a == at && from_b == at {
+                inner.is_before(a.saturating_sub(at), b.saturating_sub(at))
+            } else {
+                order.is_before(from_a, from_b)
+            };
+            if after.is_before(a, b) != is_before {
+                return Ok(false);
+            }
+        }
+    }
+    Ok(after.size().checked_add(1) == order.size().checked_add(count))
+}
+
+/// All orders of so many positions; `tables` is how many tables of bits there are.
+fn all_orders(alloc: Global, size: usize, tables: usize) -> Result<Vec<Order>, AllocError> {
+    let mut orders = Vec::new(alloc);
+    for table in 0..tables {
+        let mut left = table;
+        let mut pairs = Vec::new(alloc);
+        for a in 0..size {
+            for b in 0..size {
+                if left % 2 == 1 {
+                    pairs.push((a, b))?;
+                }
+                left /= 2;
+            }
+        }
+        if let Ok(order) = closed(alloc, size, &pairs) {
+            orders.push(order)?;
+        }
+    }
+    Ok(orders)
+}
+
+#[test]
+fn replaces_in_all_small_orders(rt: HostRuntime) -> Result<(), Fail> {
+    let alloc = rt.alloc();
+    for (size, tables) in [(1, 2), (2, 16), (3, 512)] {
+        for order in &all_orders(alloc, size, tables)? {
+            for (count, inner_tables) in [(0, 1), (1, 2), (2, 16), (3, 512)] {
+                for inner in &all_orders(alloc, count, inner_tables)? {
+                    for at in 0..size {
+                        assert!(rt; replaces(alloc, order, at, inner)?);
+                    }
+                }
+            }
+        }
+    }
+    Ok(())
+}
+
+/// Orders of so many positions: in sequence, backwards, in two lines, in one line beside single
+/// positions, and none at all.
+fn wide_orders(alloc: Global, size: usize) -> Result<[Order; 5], Fail> {
+    let mut backwards = Vec::new(alloc);
+    let mut lines = Vec::new(alloc);
+    let mut tail = Vec::new(alloc);
+    for b in 2..size {
+        backwards.push((b, b - 1))?;
+        lines.push((b - 2, b))?;
+        if b > 4 {
+            tail.push((b - 1, b))?;
+        }
+    }
+    Ok([
+        Order::chain(size),
+        closed(alloc, size, &backwards)?,
+        closed(alloc, size, &lines)?,
+        closed(alloc, size, &tail)?,
+        Order::unordered(alloc, size)?,
+    ])
+}
+
+#[test]
+fn replaces_where_rows_fill_words(rt: HostRuntime) -> Result<(), Fail> {
+    let alloc = rt.alloc();
+    for size in [60, 61, 62, 63, 64, 65, 66, 128] {
+        for order in &wide_orders(alloc, size)? {
+            for count in [0, 1, 2, 3, 5, 63, 64, 65] {
+                for inner in &wide_orders(alloc, count)? {
+                    for at in [0, 1, 31, size / 2, size.saturating_sub(1)] {
+                        assert!(rt; replaces(alloc, order, at, inner)?);
+                    }
+                }
+            }
+        }
+    }
+    for size in [1, 2, 3] {
+        for order in &wide_orders(alloc, size)? {
+            for count in [60, 61, 62, 63, 64, 65] {
+                for inner in &wide_orders(alloc, count)? {
+                    for at in 0..size {
+                        assert!(rt; replaces(alloc, order, at, inner)?);
+                    }
+                }
+            }
+        }
+    }
+    Ok(())
+}
+
 #[test]
 fn free_positions_ascend(rt: HostRuntime) -> Result<(), Fail> {
     let alloc = rt.alloc();
