@@ -1,5 +1,5 @@
-use Rattle.std.proofs.Common.{◌≡◌, ℕ, ◌+◌, ◌<◌, ◌∙◌, ap, ap₂, sym, length, ltb, ◌&&◌, arith}
-use Rattle.htn_model.specs.Machine.{origin, replaced_order}
+use Rattle.std.proofs.Common.{◌≡◌, ℕ, ◌∙◌, ap, length}
+use Rattle.htn_model.specs.Machine.{origin}
 use Rattle.htn_model.specs.Problem.{is_before}
 use Rattle.htn_order.specs.BitRows.{is_set}
 use Rattle.htn_order.specs.Words.{is_set_spliced}

@@ -1,4 +1,4 @@
-use Rattle.std.proofs.Common.{◌≡◌, ◌<◌, ◌∙◌, ap, sym, length, arith}
+use Rattle.std.proofs.Common.{◌<◌, ◌∙◌, ap, length, arith}
 use Rattle.std.proofs.lemmas.List.{get_or_read}
 use Rattle.htn_model.specs.Problem.{is_before}
 use Rattle.htn_order.specs.BitRows.{bit, is_set, words_per_row}

@@ -1,4 +1,4 @@
-use Rattle.std.proofs.Common.{◌<◌, ◌∙◌, ap, sym, eqb, length, arith}
+use Rattle.std.proofs.Common.{◌∙◌, ap, sym, eqb}
 use Rattle.std.proofs.lemmas.Nat.Bits.{shr_and_one}
 use Rattle.htn_order.specs.Words.{AreEnteredIn}
 use Rattle.htn_order.proofs.order.Order.is_free_by.Goals as goal

@@ -1,6 +1,6 @@
 use Rattle.std.proofs.Common.{◌≡◌, ◌+◌, ◌-◌, ◌<◌, ◌≤◌, ◌^◌, ◌∙◌, ap, ap₂, sym, length, arith}
 use Rattle.std.proofs.Math.Nat.{pow-le-pow_right}
-use Rattle.htn_model.specs.Problem.{Order, is_before}
+use Rattle.htn_model.specs.Problem.{is_before}
 use Rattle.htn_order.specs.BitRows.{is_set}
 use Rattle.htn_order.specs.Forms.{order_of}
 use Rattle.htn_order.specs.Shapes as shapes
