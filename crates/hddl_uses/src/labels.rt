@@ -7,7 +7,7 @@ ghost use Rattle.hddl_meaning.specs.Networks.{is_text};
 ghost use Rattle.hddl_uses.specs.Labels.{pairs_of};
 ghost use Rattle.hddl_scope.specs.Numbers.{number_at};
 
-use hddl_names::fold;
+use hddl_names::{fold, fold_to_vec};
 use hddl_scope::{Mention, Numbers};
 use hddl_tree::{Name, OrderingText, SubtaskText};
 use std::alloc::{AllocError, Global};
@@ -46,7 +46,7 @@ fn number_label(
     ensures { OnOk result ((t : Text) → number_at numbers.new t ≡ cond (is_some (number_at numbers.old t)) (number_at numbers.old t) (cond (is_text t label.now) (Some number) None)) }
 {
     if let Some(name) = label {
-        let text = fold(alloc, name.text())?;
+        let text = fold_to_vec(alloc, name.text())?;
         if numbers.get(&text).is_none() {
             numbers.add(text, number)?;
         }
@@ -76,7 +76,7 @@ fn push_pair(
 {
     let before = fold(alloc, ordering.before.text())?;
     let after = fold(alloc, ordering.after.text())?;
-    if let (Some(first), Some(second)) = (numbers.get(&before), numbers.get(&after)) {
+    if let (Some(first), Some(second)) = (numbers.get(before.as_slice()), numbers.get(after.as_slice())) {
         pairs.push((first, second))?;
     }
     Ok(())
