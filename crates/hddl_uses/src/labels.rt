@@ -7,7 +7,7 @@ ghost use Rattle.hddl_meaning.specs.Networks.{is_text};
 ghost use Rattle.hddl_uses.specs.Labels.{pairs_of};
 ghost use Rattle.hddl_scope.specs.Numbers.{number_at};
 
-use hddl_names::{fold, fold_to_vec};
+use hddl_names::fold;
 use hddl_scope::{Mention, Numbers};
 use hddl_tree::{Name, OrderingText, SubtaskText};
 use std::alloc::{AllocError, Global};
@@ -46,9 +46,9 @@ fn number_label(
     ensures { OnOk result ((t : Text) → number_at numbers.new t ≡ cond (is_some (number_at numbers.old t)) (number_at numbers.old t) (cond (is_text t label.now) (Some number) None)) }
 {
     if let Some(name) = label {
-        let text = fold_to_vec(alloc, name.text())?;
-        if numbers.get(&text).is_none() {
-            numbers.add(text, number)?;
+        let text = fold(alloc, name.text())?;
+        if numbers.get(text.as_slice()).is_none() {
+            numbers.add(alloc, text.as_slice(), number)?;
         }
     }
     Ok(())

@@ -3,7 +3,7 @@ ghost use Rattle.std.specs.Prelude.{◌≡◌, [], ◌∷◌, ◌++◌, List, Ma
 ghost use Rattle.hddl_meaning.specs.Items.{Signature, signature};
 ghost use Rattle.hddl_uses.specs.Tables.{HasPlaces, IsAmong, IsTableOf};
 
-use hddl_names::fold_to_vec;
+use hddl_names::fold;
 use hddl_scope::{Declared, Numbers, parameters};
 use hddl_tree::{ActionText, Name, PredicateText, TaskText, VariableGroup};
 use std::alloc::{AllocError, Global};
@@ -41,10 +41,10 @@ impl Signatures {
     ) -> Result<(), AllocError>
         ensures { OnOk result ((signatures : List Signature) → IsTableOf signatures self.old → IsTableOf (signatures ++ signature name.now groups.now ∷ []) self.new) }
     {
-        let text = fold_to_vec(alloc, name.text())?;
+        let text = fold(alloc, name.text())?;
         let places = parameters(alloc, groups)?;
-        if self.numbers.get(&text).is_none() {
-            self.numbers.add(text, self.places.len())?;
+        if self.numbers.get(text.as_slice()).is_none() {
+            self.numbers.add(alloc, text.as_slice(), self.places.len())?;
         }
         self.places.push(places)?;
         Ok(())
