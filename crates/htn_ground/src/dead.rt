@@ -44,11 +44,13 @@ fn is_changed(task: &Task, predicate: u16) -> bool
 fn is_dead_literal(task: &Task, literal: &Literal) -> bool
     ensures { result ≡ model.is_dead_literal (problem_of task.now) (literal_of literal.now) }
 {
-    let holds = task.initial_atoms().literal_holds(literal);
+    // The effects of all actions are looked at for literals that don't hold alone.
+    if task.initial_atoms().literal_holds(literal) {
+        return false;
+    }
     match literal {
-        Literal::Positive(atom) => !is_changed(task, atom.predicate()) && !holds,
-        Literal::Negative(atom) => !is_changed(task, atom.predicate()) && !holds,
-        Literal::Same(_, _) | Literal::Different(_, _) => !holds,
+        Literal::Positive(atom) | Literal::Negative(atom) => !is_changed(task, atom.predicate()),
+        Literal::Same(_, _) | Literal::Different(_, _) => true,
     }
 }
 
