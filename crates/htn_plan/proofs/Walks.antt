@@ -18,15 +18,18 @@ module _ (numbers : Numbering) where
   numbered_join : (old : List Item) (item : Item) → numbered_items numbers (old ++ item ∷ []) ≡ numbered_items numbers old ++ numbered_item numbers (item_of item) ∷ []
   numbered_join old item = ap (map (numbered_item numbers)) (map_join item_of old (item ∷ [])) ∙ map_join (numbered_item numbers) (items_of old) (item_of item ∷ [])
 
+  -- one frame more is one level more
   pub levels_push : (frames : List Frame) (f : Frame) → levels_of numbers (frames ++ f ∷ []) ≡ level_of numbers f ∷ levels_of numbers frames
   levels_push frames f = ap (map (level_of numbers)) (reverse_last frames f)
 
   -- ## The place that was taken last
 
+  -- the place of one level more
   place_of_last : (ls : List Level) (l : Level) → place_of (ls ++ l ∷ []) ≡ (l.taken - 1) ∷ place_of ls
   place_of_last [] l = refl
   place_of_last (x ∷ ls) l = ap (λ p. p ++ (x.taken - 1) ∷ []) (place_of_last ls l)
 
+  -- the place at which the frames stand
   pub place_by_frames : (frames : List Frame) → map (λ f. f.taken - 1) frames ≡ place_of (levels_of numbers frames)
   place_by_frames [] = refl
   place_by_frames (f ∷ frames) =
@@ -36,6 +39,7 @@ module _ (numbers : Numbering) where
 
   -- ## A node without children
 
+  -- an action or a step is visited by one item
   pub simple_visited : (id_at : Place → Option ℕ) (frames : List Frame) (old new : List Item) (item : Item) (n : Node) → new ≡ old ++ item ∷ []
       → items id_at (place_of (levels_of numbers frames)) n ≡ numbered_item numbers (item_of item) ∷ []
       → numbered_items numbers new ++ pending id_at (levels_of numbers frames)

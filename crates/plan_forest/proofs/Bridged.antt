@@ -1,4 +1,5 @@
--- A file's lines are a forest where no id stands twice, each listed one is defined, and each line is reached by its number.
+-- A file's lines are a forest where no id stands twice, each listed one is defined, and each line is reached by its
+-- number.
 use Rattle.std.proofs.Common.{◌≡◌, ℕ, zero, suc, ◌+◌, ◌-◌, ◌<◌, ◌≤◌, cond, List, [], ◌∷◌, length, get_or, Option, Some, slice_get, ◌⊎◌, inl, inr, sym, refl, ap, ◌∙◌, subst, arith}
 use Rattle.std.proofs.lemmas.Bool.{cases_lt, lt-ltb, le-ltb}
 use Rattle.std.proofs.lemmas.List.{length-append}
@@ -51,9 +52,11 @@ line_count file =
 
 module _ (file : PlanFile) (once : IsWithoutRepeats (defined_ids file)) (roots : List ℕ) (children : List (List ℕ)) (are_roots : AreNumbersOf (defined_ids file) roots file.roots)
     (are_children : AreNumbersOfChildren (defined_ids file) children file.decompositions) where
+  -- the ids of the lines, by their numbers
   abbrev ids : List ℕ
   ids = defined_ids file
 
+  -- how many action lines there are
   abbrev actions : ℕ
   actions = length file.actions
 
@@ -107,6 +110,7 @@ module _ (file : PlanFile) (once : IsWithoutRepeats (defined_ids file)) (roots :
           (children_numbers ids children file.decompositions are_children (parent - actions) line at) l inside in
           record { id = id; is = is; reached = from_parent id line (at_in line file.decompositions (parent - actions) at) (subst (IsReached file) same has.reached) there }
 
+  -- each line is reached
   abbrev pub AllReached : Type 0
   AllReached = (l : ℕ) → l < length (defined_ids file) → IsReachedFrom (length file.actions) roots children l
 

@@ -8,6 +8,7 @@ use Rattle.plan_forest.specs.Reached.{children_at, IsReachedFrom, a_root, a_chil
 use Rattle.plan_forest.proofs.Walked.{at_most, at_least, all_there}
 
 module _ (actions : ℕ) (roots : List ℕ) (children : List (List ℕ)) where
+  -- the line is reached
   abbrev Reached : ℕ → Type 0
   Reached = IsReachedFrom actions roots children
 

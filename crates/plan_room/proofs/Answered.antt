@@ -18,9 +18,11 @@ use Rattle.plan_room.proofs.Stacked.{last_pushed, last_lower, pushed, popped, st
 
 module _ (l : Lines) (are : AreLines l) (memo : Memo) (top : ℕ) (rest : List Frame) (frame after : Frame) (same : after.question ≡ frame.question)
     (stacked : AreStacked l memo top (rest ++ frame ∷ [])) (is_after : IsFrame l after) where
+  -- the lines above, and what the last one is
   parts : AreStacked l memo top rest × (line_size l frame.question.line < last_size l top rest) × IsFrame l frame × (known memo frame.question ≡ None)
   parts = popped l memo top rest frame stacked
 
+  -- a frame that goes on is of the same line
   same_size : line_size l after.question.line ≡ line_size l frame.question.line
   same_size = ap (λ (q : Question). line_size l q.line) same
 

@@ -8,30 +8,38 @@ use Rattle.plan_room.specs.Matching.{Seating, IsSeating, IsSeated, HasRoomWith, 
 use Rattle.plan_room.proofs.Placed.{never, one_more, all_placed, no_earlier, kept}
 use Rattle.plan_room.proofs.Twins.{changed, changed_seated, changed_room, changed_first, changed_other}
 
+-- a later gap is beaten too
 pub beaten_later : (b : Option ℕ) {x h : ℕ} → IsBeaten b x → x ≤ h → IsBeaten b h
 beaten_later None none least = none
 beaten_later (Some k) late least = omega arith
 
 module _ (w : Seating) (is_seating : IsSeating w) (chosen finishes : List ℕ) (depth next : ℕ) (best : Option ℕ)
     (searched : IsSearched w chosen finishes depth next best) where
+  -- what was searched so far
   abbrev Searched : List ℕ → List ℕ → ℕ → ℕ → Option ℕ → Type 0
   Searched = IsSearched w
 
+  -- which choices suit which positions
   abbrev suits : ℕ → ℕ → Bool
   suits = w.suits
 
+  -- when a choice has room
   abbrev room : Room
   room = w.room
 
+  -- the positions in the sequence that is searched
   abbrev sequence : List ℕ
   sequence = w.sequence
 
+  -- the sequence keeps the order
   is_sequence : IsSequence w.order w.sequence
   is_sequence = is_seating.sequence
 
+  -- what has room from a gap on has it from an earlier one on
   sooner : (c x y x' : ℕ) → x' ≤ x → w.room c x y → w.room c x' y
   sooner = is_seating.sooner
 
+  -- the position that is next
   abbrev here : ℕ
   here = get_or sequence depth 0
 
@@ -45,6 +53,7 @@ module _ (w : Seating) (is_seating : IsSeating w) (chosen finishes : List ℕ) (
   DismissedTo end = (m : ℕ → ℕ) → IsSeated w m → (h : ℕ) → h ≤ w.last → HasRoomWith w m h
       → AgreeBelow sequence chosen depth m → next ≤ m here → m here < end → IsBeaten best h
 
+  -- a matching that is to come has the next choice or one up to the end, or a later one
   passed_over : (end : ℕ) (m : ℕ → ℕ) → IsToCome sequence chosen depth next m
       → ((AgreeBelow sequence chosen depth m) × (next ≤ m here) × (m here < end)) ⊎ IsToCome sequence chosen depth end m
   passed_over end m come = by (cases_eq come.place depth)
@@ -80,6 +89,7 @@ module _ (w : Seating) (is_seating : IsSeating w) (chosen finishes : List ℕ) (
     ];
   }
 
+  -- a choice that is dismissed may be skipped
   pub skipped_one : next < w.count → Dismissed → Searched chosen finishes depth (next + 1) best
   skipped_one less dismissed = skipped (next + 1) (omega arith) (λ m assigned h low have agree from to. dismissed m assigned h low have agree (omega arith))
 
@@ -165,6 +175,7 @@ module _ (w : Seating) (is_seating : IsSeating w) (chosen finishes : List ℕ) (
   unsuited low not_suited m assigned h small have agree is =
       absurd (both_ways (suits here next) not_suited (subst (λ c. suits here c ≡ true) is (assigned.suited here (is_sequence.within depth low))))
 
+  -- a choice that is taken is dismissed
   pub taken : (i : ℕ) → i < depth → depth < length sequence → get_or chosen i 0 ≡ next → Dismissed
   taken i before low same m assigned h small have agree is =
       let alike : m (get_or sequence i 0) ≡ m here = agree i before ∙ same ∙ sym is in
@@ -178,6 +189,7 @@ module _ (w : Seating) (is_seating : IsSeating w) (chosen finishes : List ℕ) (
       absurd (never (λ a. room (m a)) w.order w.sequence w.last w.gap finishes depth (λ a. sooner (m a)) is_sequence placing low start is_start
       (subst (λ c. (k : ℕ) → k ≤ w.last → room c start k → ⊥) (sym is) none) h small have)
 
+  -- and so is one that finishes no earlier than the best
   pub too_late : depth < length sequence → (start finish : ℕ) → IsStart w.order finishes w.gap here start → IsFirst (room next start) w.last finish → IsBeaten best finish → Dismissed
   too_late low start finish is_start first late m assigned h small have agree is =
       let placing = searched.placed depth (let e : depth ≤ depth = omega arith in e) m agree in
@@ -185,6 +197,7 @@ module _ (w : Seating) (is_seating : IsSeating w) (chosen finishes : List ℕ) (
       finish (subst (λ c. IsFirst (room c start) w.last finish) (sym is) first) h have in
       beaten_later best late least
 
+  -- as many finishes as positions
   pub size_is : length finishes ≡ length w.order
   size_is = (searched.placed 0 (omega arith) (λ a. 0) (λ i l. absurd (omega arith))).size
 
@@ -195,6 +208,7 @@ module _ (w : Seating) (is_seating : IsSeating w) (chosen finishes : List ℕ) (
       (λ j low. let placing = searched.placed depth (let e : depth ≤ depth = omega arith in e) m agree in
       let least = (placing.each j low).least h start finish have in let to = have.spans.to (get_or sequence j 0) in omega arith)
 
+  -- where the first positions finish no earlier than the best, all that follows is dismissed
   pub top_dismissed : (top : ℕ) → IsTop sequence finishes w.gap depth top → IsBeaten best top
       → (m : ℕ → ℕ) → (h : ℕ) → HasRoomWith w m h → AgreeBelow sequence chosen depth m → IsBeaten best h
   top_dismissed top is_top beaten m h have agree = beaten_later best beaten (top_least top is_top m agree h have)
@@ -332,9 +346,11 @@ module _ (w : Seating) (is_seating : IsSeating w) (chosen finishes : List ℕ) (
   chosen_at a (inl low) = get_or chosen (is_sequence.listed a low).0 0
   chosen_at a (inr past) = 0
 
+  -- the choices, position by position
   matching : ℕ → ℕ
   matching a = chosen_at a (cases_lt a (length w.order))
 
+  -- each position has the choice at its place in the sequence
   at : (a : ℕ) → a < length w.order → (i : ℕ) × (i < length sequence) × (get_or sequence i 0 ≡ a) × (matching a ≡ get_or chosen i 0)
   unfolding matching
   at a low = by (cases_lt a (length w.order))
@@ -343,6 +359,7 @@ module _ (w : Seating) (is_seating : IsSeating w) (chosen finishes : List ℕ) (
       by (inl inside) = let (i, l, same) = is_sequence.listed a inside in (i, l, same, refl)
       by (inr past) = absurd (omega arith)
 
+  -- so the matching agrees with the choices
   agrees : AgreeBelow sequence chosen depth matching
   agrees i l =
       let low : i < length sequence = (let w = searched.within in omega arith) in
@@ -413,6 +430,7 @@ module _ (w : Seating) (is_seating : IsSeating w) (chosen finishes : List ℕ) (
 -- once all are tried, the best is the first gap by which the network has room in some matching
 module _ (w : Seating) (best : Option ℕ) (found : IsFound (HasMatchedRoom w) w.last best)
     (none_better : (m : ℕ → ℕ) → IsSeated w m → (h : ℕ) → h ≤ w.last → HasRoomWith w m h → IsBeaten best h) where
+  -- once all is searched, the best is the first
   pub best_first : (end : ℕ) → best ≡ Some end → IsFirst (HasMatchedRoom w) w.last end
   best_first end is =
       let (small, there) = subst (IsFound (HasMatchedRoom w) w.last) is found in
@@ -425,6 +443,7 @@ module _ (w : Seating) (best : Option ℕ) (found : IsFound (HasMatchedRoom w) w
         ];
       }
 
+  -- and where there is none, nothing has room
   pub best_never : best ≡ None → (k : ℕ) → k ≤ w.last → HasMatchedRoom w k → ⊥
   best_never is k low (m, assigned, have) = subst (λ b. IsBeaten b k) is (none_better m assigned k low have)
 

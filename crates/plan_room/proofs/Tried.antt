@@ -19,12 +19,15 @@ use Rattle.plan_room.proofs.Unrolled.{unrolled, rolled, is_network}
 use Rattle.plan_room.proofs.Windowed.{beaten_past}
 
 module _ (l : Lines) (children : List ℕ) (instances : List Instance) (gap : ℕ) where
+  -- one of the first networks has room up to a gap
   abbrev Some_of : ℕ → ℕ → Type 0
   Some_of number h = SomeFits l children instances number gap h
 
+  -- none of the first networks finishes earlier than the best
   abbrev NoneBetter : ℕ → Option ℕ → Type 0
   NoneBetter number best = (h : ℕ) → h ≤ l.actions → Some_of number h → IsBeaten best h
 
+  -- what was found of the first is found of one more
   wider : (number : ℕ) (best : Option ℕ) → IsFound (Some_of number) l.actions best → IsFound (Some_of (number + 1)) l.actions best
   wider number None found = tt
   wider number (Some end) (low, (i, inside, instance, is, room)) = (low, (i, (let l = inside in omega arith), instance, is, room))
@@ -72,10 +75,12 @@ module _ (l : Lines) (children : List ℕ) (instances : List Instance) (gap : �
 -- all networks are done with
 module _ (l : Lines) (are : AreLines l) (i gap : ℕ) (line : IsLine l i) (instances : List Instance)
     (candidates : AreCandidates l (IsOneOf l i) (children_of l i) (networks_of instances)) where
+  -- where a network has room the line has
   pub some_rolled : (number h : ℕ) → SomeFits l (children_of l i) instances number gap h → LineFits l i gap h
   some_rolled number h (j, low, instance, there, room) =
       rolled l are i gap h line instance.network (candidates.each instance.network (in_mapped (λ (x : Instance). x.network) instance instances (at_in instance instances j there))) room
 
+  -- where the line has room one of its networks has
   pub some_unrolled : (h : ℕ) → h ≤ l.actions → LineFits l i gap h → SomeFits l (children_of l i) instances (length instances) gap h
   some_unrolled h low fits =
       let (network, one, room) = unrolled l are i gap h line fits in
@@ -83,6 +88,7 @@ module _ (l : Lines) (are : AreLines l) (i gap : ℕ) (line : IsLine l i) (insta
       let (j, is) = in_at instance instances there in
       (j, slice_get_within instances j instance is, instance, is, subst (λ n. NetworkHasRoom l (children_of l i) n gap h) same room)
 
+  -- each of the networks is one of the problem's
   pub network_at : (j : ℕ) (instance : Instance) → slice_get instances j ≡ Some instance → IsNetwork instance.network
   network_at j instance is = is_network l are i instance.network (candidates.each instance.network (in_mapped (λ (x : Instance). x.network) instance instances (at_in instance instances j is)))
 

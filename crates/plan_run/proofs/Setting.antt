@@ -39,6 +39,7 @@ pub record IsTouched (old mid : History) (a : Atom) : Type 0 where
   pub within : position_or_len (atom_eq a) mid.atoms < length mid.turns
 
 module _ (old mid : History) (a : Atom) (value : Bool) (touched : IsTouched old mid a) where
+  -- the atom's place in the history
   abbrev place : ℕ
   place = position_or_len (atom_eq a) mid.atoms
 
