@@ -170,9 +170,11 @@ module _ (relations : List Relation) (values : List ℕ) (place : ℕ) where
   allows_first n = relation_singles (take n relations) values place
 
   module _ (i : ℕ) (d : Relation) (below : i < length relations) where
+    -- the next relation
     abbrev here : Relation
     here = get_or relations i d
 
+    -- an object is allowed by one relation more
     allows_more : (o : ℕ) → allows_first (i + 1) o ≡ (allows_first i o && relation_single values here place o)
     allows_more o =
         ap (λ (rs : List Relation). relation_singles rs values place o) (take_more relations i d below)

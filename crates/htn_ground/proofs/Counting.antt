@@ -109,6 +109,7 @@ module _ (state : State) where
       ap (λ l. (n, x) ∷ l) (enumerate_append (n + 1) xs ys ∙ ap (λ m. enumerate_from (n + 1) xs ++ enumerate_from m ys) e)
 
   module _ (literals : List FixedLiteral) where
+    -- the live ones of two lists, with their numbers
     pub live_from-append : (n : ℕ) (xs ys : List (List ℕ)) → live_from state literals n (xs ++ ys) ≡ live_from state literals n xs ++ live_from state literals (n + length xs) ys
     live_from-append n xs ys =
         ap (filter (λ p. not (is_ruled_out state literals p.1))) (enumerate_append n xs ys)
@@ -127,6 +128,7 @@ module _ (state : State) where
           | false ↦ live_none n relations values dead rests
         ]
 
+    -- values that are not ruled out are live
     pub live_leaf : (n : ℕ) (values : List ℕ) → AreLiteralsOf literals (length values) → is_ruled_out_so_far state literals values ≡ false
         → live_from state literals n (values ∷ []) ≡ (n, values) ∷ []
     live_leaf n values of live = ap (λ b. cond (not b) ((n, values) ∷ []) []) (sym (dead_whole literals values of) ∙ live)

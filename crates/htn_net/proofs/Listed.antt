@@ -167,6 +167,7 @@ module _ (t : Task) (c : Config) where
   free_listed none rank = ap (λ o. option_and_then (choose (problem_of t) c) (number_by t c rank o)) none
 
   module _ (i : ℕ) (g : GroundTask) (first : first_free_compound c.open_nodes (is_before c.order) ≡ Some i) (stands : child_of c.open_nodes i ≡ task g) where
+    -- the number of a rank is that of what is listed there
     pub at_task : (rank : ℕ) → number_at t c rank ≡ option_map (λ p. p.0) (slice_get (listed_methods t g) rank)
     at_task rank = ap (number_by t c rank) first ∙ ap (λ x. option_map (λ (p : ℕ × Instance). p.0) (slice_get (listed_for t x) rank)) stands
 
@@ -174,6 +175,7 @@ module _ (t : Task) (c : Config) where
     pub number_listed : (rank : ℕ) (p : ℕ × Instance) → slice_get (listed_methods t g) rank ≡ Some p → number_at t c rank ≡ Some p.0
     number_listed rank p at = at_task rank ∙ ap (option_map (λ (q : ℕ × Instance). q.0)) at
 
+    -- a rank chooses the instance that is listed there
     pub instance_listed : (rank : ℕ) (p : ℕ × Instance) → slice_get (listed_methods t g) rank ≡ Some p
         → choose_listed t c rank ≡ Some (record { position = i; network = p.1.network; state = c.state })
     instance_listed rank p at =

@@ -184,13 +184,16 @@ module _ (problem : Problem) (c : Config) (none : first_free_compound c.open_nod
     choose_at : choose problem c n ≡ option_map (λ state. record { position = get_or items n 0; network = no_network; state = state }) (perform problem c.state (child_of c.open_nodes (get_or items n 0)))
     choose_at = choose_free n (get_or items n 0) (ap (λ l. slice_get l n) (sym is) ∙ slice_get-get_or items n 0 inside)
 
+    -- a node that can be carried out is chosen by its number
     pub picks : (s : State) → perform problem c.state (child_of c.open_nodes (get_or items n 0)) ≡ Some s
         → choose problem c n ≡ Some (record { position = get_or items n 0; network = no_network; state = s })
     picks s h = choose_at ∙ ap (option_map (λ state. record { position = get_or items n 0; network = no_network; state = state })) h
 
+    -- and its number is live
     pub picks_live : (s : State) → perform problem c.state (child_of c.open_nodes (get_or items n 0)) ≡ Some s → is_live_at problem c n ≡ true
     picks_live s h = ap (is_live_choice problem) (picks s h)
 
+    -- the number of one that can't isn't
     pub skips : perform problem c.state (child_of c.open_nodes (get_or items n 0)) ≡ None → is_live_at problem c n ≡ false
     skips h = ap (is_live_choice problem) (choose_at ∙ ap (option_map (λ state. record { position = get_or items n 0; network = no_network; state = state })) h)
 

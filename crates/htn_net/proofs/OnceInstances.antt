@@ -84,11 +84,13 @@ module _ (t : Task) (typed : IsWellTyped t) where
   initials_once = Once-map (initial_instance t) (λ v w e. ap (λ (i : Instance). i.values) e) (instances t (initial_conditions t t.initial_network)) (instances_once (initial_conditions t t.initial_network))
 
   module _ (g : GroundTask) where
+    -- no instance stands twice among a method's
     method_once : (p : ℕ × MethodSchema) → Once (instances_of_method t g p.0 p.1)
     method_once p =
         Once-map (method_instance t p.0 p.1) (λ v w e. ap (λ (i : Instance). i.values) e) (filter (λ values. ground_task_eq (ground_task values p.1.task) g) (instances t (method_conditions t p.1)))
         (Once-filter (λ values. ground_task_eq (ground_task values p.1.task) g) (instances t (method_conditions t p.1)) (instances_once (method_conditions t p.1)))
 
+    -- nor among those of all methods
     pub methods_once : Once (methods_of t g)
     methods_once =
         Once-numbered (λ p. instances_of_method t g p.0 p.1) (λ n i. i.method ≡ Some n) method_once

@@ -51,12 +51,15 @@ module _ (numbers : Numbering) where
 
   module _ (frames after : List Frame) (f : Frame) (g : GroundTask) (number : ℕ) (children : List RustNode)
       (pushed : after ≡ frames ++ f ∷ []) (level : level_of numbers f ≡ record { taken = 0; rest = nodes_of (nodes_view numbers children) }) where
+    -- the levels after a node is entered
     levels : levels_of numbers after ≡ record { taken = 0; rest = nodes_of (nodes_view numbers children) } ∷ levels_of numbers frames
     levels = ap (levels_of numbers) pushed ∙ levels_push frames f ∙ ap (λ l. l ∷ levels_of numbers frames) level
 
+    -- the items of what is left behind it
     abbrev behind : (Place → Option ℕ) → List (spec.Item ℕ)
     behind id_at = items_from id_at (place_of (levels_of numbers frames)) 0 (nodes_of (nodes_view numbers children)) ++ pending id_at (levels_of numbers frames)
 
+    -- a compound node is visited by its item, and then its children are
     pub compound_visited : (id_at : Place → Option ℕ) (old new : List Item) (item : Item) → new ≡ old ++ item ∷ [] → numbered_item numbers (item_of item) ≡ task g number (length children)
         → numbered_items numbers new ++ pending id_at (levels_of numbers after)
         ≡ numbered_items numbers old ++ items id_at (place_of (levels_of numbers frames)) (compound g number (nodes_of (nodes_view numbers children))) ++ pending id_at (levels_of numbers frames)
@@ -67,12 +70,14 @@ module _ (numbers : Numbering) where
         ∙ ap (λ x. numbered_items numbers old ++ (x ∷ behind id_at)) (is ∙ ap (task g number) (sym (as_many numbers children)))
         ∙ sym (append_assoc (numbered_items numbers old) (items id_at (place_of (levels_of numbers frames)) (compound g number (nodes_of (nodes_view numbers children)))) (pending id_at (levels_of numbers frames)))
 
+    -- fewer steps are left
     pub compound_fewer : steps_left (levels_of numbers after) < suc (total_size (nodes_of (nodes_view numbers children))) + suc (total_size (nodes_of (nodes_view numbers children))) + steps_left (levels_of numbers frames)
     compound_fewer = let e = ap steps_left levels in omega (arith, e)
 
   -- ## A child
 
   module _ (old left : List Frame) (f : Frame) (popped : old ≡ left ++ f ∷ []) where
+    -- the last frame is the top level
     top : levels_of numbers old ≡ level_of numbers f ∷ levels_of numbers left
     top = ap (levels_of numbers) popped ∙ levels_push left f
 

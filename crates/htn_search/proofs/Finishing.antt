@@ -33,8 +33,10 @@ module _ (t : Task) (place : ℕ) (items : List Instance) (x : Instance) (all : 
   is_initial = subst (λ l. Contains l x) all (place, inside, sym is)
 
   module _ (numbers : List ℕ) where
+    -- what finishes from the initial network finishes as a word
     pub finishes_back : FinishesFrom (problem_of t) numbers (start (problem_of t) x.network) → Finishes (problem_of t) (place ∷ numbers)
     finishes_back h = (x.network, stands_there, h)
 
+    -- and the other way round
     pub finishes_onward : Finishes (problem_of t) (place ∷ numbers) → FinishesFrom (problem_of t) numbers (start (problem_of t) x.network)
     finishes_onward h = subst (λ n. FinishesFrom (problem_of t) numbers (start (problem_of t) n)) (same_Some h.0 x.network (sym h.1 ∙ stands_there)) h.2

@@ -51,6 +51,7 @@ module _ (Alike : List ℕ → List ℕ → Type 0) (A W : List ℕ → Type 0) 
   }
 
   module _ (At : List ℕ → ℕ → Type 0) where
+    -- with nothing tried nothing is to be found
     pub tried_none : (old : List (List ℕ)) → AreFound Alike A (Tried W At 0) old old
     tried_none old = record { kept = λ values i. i; each = λ values i. inl i; all = λ values w. absurd (let below : w.1.0 < 0 = w.1.1 in omega (arith, below)) }
 

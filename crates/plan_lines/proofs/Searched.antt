@@ -188,11 +188,13 @@ module _ (t : Task) (c : Conditions) (tasks : List GroundTask) (given : List (Op
         (values : List ℕ) → Extends values given → is_instance t c values ≡ true → Fill tasks left (first ∷ rest) values
         → (j : ℕ) → j < n → slice_get tasks j ≡ Some (ground_task values first) → ⊥
 
+    -- where each task was tried in vain there is no instance
     pub none_shows : length left ≡ length tasks → NoneTried (length tasks) → ShowsWith t c tasks left (first ∷ rest) given → ⊥
     none_shows long tried h =
         let there = first_there tasks left first rest h.0 long h.3 in
         tried h.0 h.1 h.2 h.3 there.0 there.1 there.2
 
+    -- one task more that was tried in vain
     pub tried_more : (n : ℕ) → NoneTried n → ((values : List ℕ) → Extends values given → is_instance t c values ≡ true → Fill tasks left (first ∷ rest) values → slice_get tasks n ≡ Some (ground_task values first) → ⊥)
         → NoneTried (n + 1)
     tried_more n before here values h is fill j below at = by (nat_eq j n) refl

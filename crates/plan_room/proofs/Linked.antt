@@ -42,6 +42,7 @@ module _ (task_of_place : ℕ → GroundTask) (place from n : ℕ) (e : from ≡
       by false is = kept t (find t) is (first t)
 
   module _ (after : List ℕ) (are : AreNext task_of_place from n after) where
+    -- a place with no later one of its task
     pub none_next : (o : Option ℕ) → o ≡ None → IsFirstPlace task_of_place from n (task_of_place place) o → AreNext task_of_place place n after
     none_next o is none = record {
       size = are.size;
@@ -54,6 +55,7 @@ module _ (task_of_place : ℕ → GroundTask) (place from n : ℕ) (e : from ≡
       ];
     }
 
+    -- a place with a next one of its task
     pub some_next : (o : Option ℕ) (next : ℕ) → o ≡ Some next → IsFirstPlace task_of_place from n (task_of_place place) o → AreNext task_of_place place n (set after place next)
     some_next o next is first =
         let (past, below, alike, least) = subst (IsFirstPlace task_of_place from n (task_of_place place)) is first in
@@ -158,9 +160,11 @@ module _ (order : Order) (sequence : List ℕ) (first : ℕ → ℕ) (rising : L
   together_through closed a b c same (inr (before, rises)) (inr (before_too, rises_too)) = inr (closed.transitive a b c before before_too, rises)
 
   module _ (is_sequence : IsSequence order sequence) (place from : ℕ) (e : from ≡ suc place) (low : place < length sequence) where
+    -- the position at the place
     abbrev here : ℕ
     here = get_or sequence place 0
 
+    -- the flags tell which positions are fixed, with one place more in front
     pub flagged_on : IsClosed order → (fixed : List Bool) → AreFlagged order sequence first rising from (Flagged fixed) → (v : ℕ) → IsSeen from (first here) v → (b : Bool)
         → (b ≡ true → (v ≡ length order) ⊎ (Flagged fixed v × Together here v)) → length fixed ≡ length order → AreFlagged order sequence first rising place (Flagged (set fixed here b))
     flagged_on closed fixed flagged v seen b so size i j more less small flag same = elim (cases_eq i place) [
@@ -187,6 +191,7 @@ module _ (order : Order) (sequence : List ℕ) (first : ℕ → ℕ) (rising : L
                   (flagged k j k_from (omega arith) small (subst (λ a. Flagged fixed a) (sym at_k) flag_there) (ap first at_k ∙ k_first ∙ sym f)))
             ]
 
+    -- the last positions that were seen, with one place more in front
     pub seen_on : (seen : List ℕ) (n : ℕ) → n < length seen → first here ≤ n → ((f : ℕ) → f ≤ n → IsSeen from f (get_or seen f 0))
         → (f : ℕ) → f ≤ n → IsSeen place f (get_or (set seen (first here) here) f 0)
     seen_on seen n wide within all f small = elim (cases_eq f (first here)) [

@@ -138,6 +138,7 @@ module _ (w : Seating) (is_seating : IsSeating w) (chosen finishes : List ℕ) (
           by come (inl e) = absurd (let f = come.here e in let g : so (get_or sequence come.place 0) ≡ so here = ap (λ k. so (get_or sequence k 0)) e in let k = first in omega arith)
           by come (inr o) = absurd (let l = come.low in let f = come.later (omega arith) in let g = still come.place (omega arith) in omega arith)
 
+    -- at a fixed position a later choice finishes no earlier than the best
     pub fixed_beaten : IsFixed w here → (m : ℕ → ℕ) → IsSeated w m → (h : ℕ) → h ≤ w.last → HasRoomWith w m h → AgreeBelow sequence chosen depth m
         → choice < m here → IsBeaten best h
     fixed_beaten fixed m assigned h low have agree beyond =
@@ -227,6 +228,7 @@ module _ (w : Seating) (is_seating : IsSeating w) (chosen finishes : List ℕ) (
   module _ (before : ℕ) (deep : depth ≡ suc before)
       (dismissed : (m : ℕ → ℕ) → IsSeated w m → (h : ℕ) → h ≤ w.last → HasRoomWith w m h
       → AgreeBelow sequence chosen depth m → next ≤ m here → IsBeaten best h) where
+    -- a position was given up, and the search stands at the next choice of the one before
     pub gone_back : Searched chosen finishes before (suc (get_or chosen before 0)) best
     gone_back = record {
       size = searched.size;
@@ -259,15 +261,19 @@ module _ (w : Seating) (is_seating : IsSeating w) (chosen finishes : List ℕ) (
   -- the next choice is taken
   module _ (low : depth < length sequence) (less : next < w.count) (suitable : suits here next ≡ true) (free : (i : ℕ) → i < depth → get_or chosen i 0 ≡ next → ⊥)
       (start finish : ℕ) (is_start : IsStart w.order finishes w.gap here start) (first : IsFirst (room next start) w.last finish) where
+    -- the choices with the next one
     abbrev more : List ℕ
     more = set chosen depth next
 
+    -- those before are as they were
     as_was : (i : ℕ) → i < depth → get_or more i 0 ≡ get_or chosen i 0
     as_was i l = get_or-set_other chosen depth i next 0 (let e : i ≡ depth → ⊥ = omega arith in e)
 
+    -- the new choice stands at the depth
     at_depth : get_or more depth 0 ≡ next
     at_depth = get_or-set_same chosen depth next 0 (let e = searched.size in omega arith)
 
+    -- each choice is one that suits its position
     each_low : (i : ℕ) → i < suc depth → (i ≡ depth) ⊎ (i ≡ depth → ⊥) → (get_or more i 0 < w.count) × (suits (get_or sequence i 0) (get_or more i 0) ≡ true)
     each_low i l (inl e) = subst (λ j. (get_or more j 0 < w.count) × (suits (get_or sequence j 0) (get_or more j 0) ≡ true)) (sym e)
         ((let f = at_depth in omega arith), subst (λ c. suits here c ≡ true) (sym at_depth) suitable)
@@ -276,12 +282,14 @@ module _ (w : Seating) (is_seating : IsSeating w) (chosen finishes : List ℕ) (
       subst (λ c. suits (get_or sequence i 0) c ≡ true) (sym (as_was i (omega arith))) (searched.suited i (omega arith)),
     )
 
+    -- no choice is taken twice
     each_apart : (i j : ℕ) → i < suc depth → j < suc depth → get_or more i 0 ≡ get_or more j 0 → (i ≡ depth) ⊎ (i ≡ depth → ⊥) → (j ≡ depth) ⊎ (j ≡ depth → ⊥) → i ≡ j
     each_apart i j li lj same (inl e) (inl f) = e ∙ sym f
     each_apart i j li lj same (inl e) (inr f) = absurd (free j (omega arith) (sym (as_was j (omega arith)) ∙ sym same ∙ ap (λ k. get_or more k 0) e ∙ at_depth))
     each_apart i j li lj same (inr e) (inl f) = absurd (free i (omega arith) (sym (as_was i (omega arith)) ∙ same ∙ ap (λ k. get_or more k 0) f ∙ at_depth))
     each_apart i j li lj same (inr e) (inr f) = searched.apart i j (omega arith) (omega arith) (sym (as_was i (omega arith)) ∙ same ∙ as_was j (omega arith))
 
+    -- each position is placed as early as can be
     each_placed : (i : ℕ) → i ≤ suc depth → (m : ℕ → ℕ) → AgreeBelow sequence more i m → (i ≡ suc depth) ⊎ (i ≡ suc depth → ⊥)
         → ArePlaced (λ a. room (m a)) w.order w.sequence w.last w.gap (set finishes here finish) i
     each_placed i l m agree (inl e) =
@@ -294,6 +302,7 @@ module _ (w : Seating) (is_seating : IsSeating w) (chosen finishes : List ℕ) (
         kept (λ a. room (m a)) w.order w.sequence w.last w.gap finishes i depth finish is_sequence
         (searched.placed i (omega arith) m (λ j k. agree j k ∙ as_was j (omega arith))) (omega arith) low
 
+    -- a matching that is to come is still to come
     come_on : (m : ℕ → ℕ) → (come : IsToCome sequence chosen depth next m) → (come.place ≡ depth) ⊎ (come.place ≡ depth → ⊥) → (m here ≡ next) ⊎ (m here ≡ next → ⊥)
         → IsToCome sequence more (suc depth) 0 m
     come_on m come (inl e) (inl is) = record {
@@ -322,6 +331,7 @@ module _ (w : Seating) (is_seating : IsSeating w) (chosen finishes : List ℕ) (
       here = λ f. absurd (let k = come.low in omega arith);
     }
 
+    -- a choice was taken, and the search stands at the next position
     pub gone_on : Searched more (set finishes here finish) (suc depth) 0 best
     gone_on = record {
       size = length-set chosen depth next ∙ searched.size;
@@ -338,6 +348,7 @@ module _ (w : Seating) (is_seating : IsSeating w) (chosen finishes : List ℕ) (
       ];
     }
 
+    -- the same, one position further
     pub gone_on_one : Searched more (set finishes here finish) (depth + 1) 0 best
     gone_on_one = subst (λ d. Searched more (set finishes here finish) d 0 best) (let e : suc depth ≡ depth + 1 = omega arith in e) gone_on
 
@@ -379,6 +390,7 @@ module _ (w : Seating) (is_seating : IsSeating w) (chosen finishes : List ℕ) (
 
   -- all positions have their choices
   module _ (all : length sequence ≤ depth) (end : ℕ) (top : IsTop sequence finishes w.gap depth end) where
+    -- the end is the greatest of the finishes
     greatest : IsGreatest finishes w.gap end
     greatest = record {
       from = top.from;
@@ -389,14 +401,17 @@ module _ (w : Seating) (is_seating : IsSeating w) (chosen finishes : List ℕ) (
       soonest = λ k low every. top.soonest k low (λ j l. every (get_or sequence j 0) (let i = is_sequence.within j (let x = searched.within in omega arith) in let e = size_is in omega arith));
     }
 
+    -- a matching with these choices has room up to it, and no earlier
     first_of : (m : ℕ → ℕ) → AgreeBelow sequence chosen depth m → IsFirst (HasRoomWith w m) w.last end
     first_of m agree =
         all_placed (λ a. room (m a)) w.order w.sequence w.last w.gap finishes depth (λ a. sooner (m a)) is_sequence
         (searched.placed depth (let e : depth ≤ depth = omega arith in e) m agree) (λ a. is_seating.forward (m a)) is_seating.square is_seating.within all end greatest
 
+    -- so no such matching finishes earlier
     pub first_least : (m : ℕ → ℕ) → (h : ℕ) → HasRoomWith w m h → AgreeBelow sequence chosen depth m → end ≤ h
     first_least m h have agree = (first_of m agree).least h have
 
+    -- the choices are a matching
     assigned_so : IsSeated w matching
     assigned_so = record {
       low = λ a l. (let (i, inside, same, is) = at a l in let low = searched.low i (omega arith) in omega arith);

@@ -58,6 +58,7 @@ module _ (l : Lines) where
   -- ## An answer
 
   module _ (old new : Memo) (question : Question) (end : Option ℕ) (noted : (q : Question) → known new q ≡ cond (question_eq question q) (Some end) (known old q)) where
+    -- other questions are known as they were
     other_known : (q : Question) → (question ≡ q → ⊥) → known new q ≡ known old q
     other_known q other = noted q ∙ by (question_eq question q) refl
       where
@@ -76,6 +77,7 @@ module _ (l : Lines) where
           still_stacked (line_size l f.question.line) frames less stacked.3,
         )
 
+    -- what is known stays right with one answer more
     pub memo_noted : IsFinish (LineFits l question.line question.gap) l.actions (answer question (Some end)) → IsMemo l old → IsMemo l new
     memo_noted is memo q = by (question_eq question q) refl
       where

@@ -34,12 +34,14 @@ module _ (l : Lines) (children : List ℕ) (instances : List Instance) (gap : �
 
   module _ (tried : ℕ) (best : Option ℕ) (found : IsFound (Some_of tried) l.actions best) (none_better : NoneBetter tried best)
       (instance : Instance) (is : slice_get instances tried ≡ Some instance) where
+    -- a network of those tried is one before or this one
     at_tried : (i : ℕ) → i < tried + 1 → (other : Instance) → slice_get instances i ≡ Some other → (i < tried) ⊎ (other ≡ instance)
     at_tried i low other there = elim (cases_eq i tried) [
       | inl same ↦ inr (let e : slice_get instances tried ≡ Some other = subst (λ j. slice_get instances j ≡ Some other) same there in let f : other ≡ instance = cc in f)
       | inr before ↦ inl (omega arith)
     ]
 
+    -- where one of those has room, one before or this one has
     one_of : (h : ℕ) → Some_of (tried + 1) h → Some_of tried h ⊎ NetworkHasRoom l children instance.network gap h
     one_of h (i, low, other, there, room) = elim (at_tried i low other there) [
       | inl before ↦ inl (i, before, other, there, room)
@@ -95,10 +97,12 @@ module _ (l : Lines) (are : AreLines l) (i gap : ℕ) (line : IsLine l i) (insta
   module _ (tried : ℕ) (best : Option ℕ) (all : length instances ≤ tried) (low : tried ≤ length instances)
       (found : IsFound (SomeFits l (children_of l i) instances tried gap) l.actions best)
       (none_better : (h : ℕ) → h ≤ l.actions → SomeFits l (children_of l i) instances tried gap h → IsBeaten best h) where
+    -- the line has room up to no gap before the best
     none_earlier : (h : ℕ) → h ≤ l.actions → LineFits l i gap h → IsBeaten best h
     none_earlier h small fits = none_better h small
         (subst (λ n. SomeFits l (children_of l i) instances n gap h) (let e : length instances ≡ tried = omega arith in e) (some_unrolled h small fits))
 
+    -- so the best is the first
     pub line_first : (end : ℕ) → best ≡ Some end → IsFirst (LineFits l i gap) l.actions end
     line_first end is =
         let (small, some) = subst (IsFound (SomeFits l (children_of l i) instances tried gap) l.actions) is found in
@@ -108,6 +112,7 @@ module _ (l : Lines) (are : AreLines l) (i gap : ℕ) (line : IsLine l i) (insta
           least = λ k fits. elim (cases_lt l.actions k) [ inl past ↦ omega arith | inr inside ↦ subst (λ b. IsBeaten b k) is (none_earlier k inside fits) ];
         }
 
+    -- and where there is none the line never has room
     pub line_never : best ≡ None → (k : ℕ) → k ≤ l.actions → LineFits l i gap k → ⊥
     line_never is k small fits = subst (λ b. IsBeaten b k) is (none_earlier k small fits)
 

@@ -45,10 +45,12 @@ module _ (p b : ℕ) where
       back e (inr other) = swap_second b other refl ∙ sym e
 
   module _ (order : Order) (twins : AreTwins order p b) where
+    -- what is before another is before it, exchanged
     before_left : (x y : ℕ) → is_before order (swap x) y ≡ is_before order x y
     before_left x y = by_swap x (λ z. is_before order z y ≡ is_before order x y)
         (λ e. sym (twins.1 y) ∙ ap (λ z. is_before order z y) (sym e)) (λ e. twins.1 y ∙ ap (λ z. is_before order z y) (sym e)) (λ o n. refl)
 
+    -- and what is behind it is behind it
     before_right : (x y : ℕ) → is_before order x (swap y) ≡ is_before order x y
     before_right x y = by_swap y (λ z. is_before order x z ≡ is_before order x y)
         (λ e. sym (twins.0 x) ∙ ap (λ z. is_before order x z) (sym e)) (λ e. twins.0 x ∙ ap (λ z. is_before order x z) (sym e)) (λ o n. refl)
