@@ -1,6 +1,8 @@
 pub mod Tables
 pub mod Bits
+pub mod WordBits
 pub mod Packed
+pub mod RowWords
 pub mod Uniting
 pub mod Chains
 pub mod Free

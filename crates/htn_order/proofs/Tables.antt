@@ -10,7 +10,7 @@ pub table_size : (n : ℕ) (f : ℕ → ℕ → Bool) → length (table n f) ≡
 table_size n f = (table_square n f).0
 
 -- together with what fails, nothing holds
-and_false : (p : Bool) → (p && false) ≡ false
+pub and_false : (p : Bool) → (p && false) ≡ false
 and_false true = refl
 and_false false = refl
 
@@ -41,7 +41,7 @@ same_tables n f g alike = same_order n (table n f) (table n g) (table_square n f
 ])
 
 -- with what fails, either is the other
-or_false : (p : Bool) → (p || false) ≡ p
+pub or_false : (p : Bool) → (p || false) ≡ p
 or_false true = refl
 or_false false = refl
 

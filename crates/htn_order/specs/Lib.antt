@@ -1,6 +1,7 @@
 pub mod Shapes
 pub mod Free
 pub mod BitRows
+pub mod Words
 pub mod OrderHash
 pub mod Forms
 pub mod Closure

@@ -1,10 +1,12 @@
 //! Tables of bits, by which a position is before another.
-ghost use Rattle.std.specs.Prelude.{◌+◌, ◌*◌, ◌<◌, ◌^◌, ◌/◌, ◌≡◌, ◌≢◌, ◌&&◌, ◌||◌, ◌↔◌, Bool, IfOk, IsTrue, List, eqb, fold, length, ℕ};
+ghost use Rattle.std.specs.Prelude.{◌+◌, ◌*◌, ◌<◌, ◌^◌, ◌/◌, ◌≡◌, ◌≢◌, ◌&&◌, ◌||◌, ◌↔◌, Bool, IfOk, IsTrue, List, eqb, fold, length, ltb, ℕ};
 ghost use Rattle.htn_model.specs.Choice.{is_free};
 ghost use Rattle.htn_model.specs.Problem.{IsClosed, IsSquare, is_before};
 ghost use Rattle.htn_order.specs.Shapes.{chain, unordered};
-ghost use Rattle.htn_order.specs.BitRows.{IsPacked, rows_of, rows_hash, united, with_bit, word_at, words_per_row};
+ghost use Rattle.htn_order.specs.BitRows.{IsPacked, is_set, rows_of, rows_hash, united, with_bit, word_at, words_per_row};
+ghost use Rattle.htn_order.specs.Words.{AreEntered};
 
+use crate::words::{add_bits, ones};
 use std::alloc::{AllocError, Global};
 use std::hash::{Hash, Hasher};
 use std::marker::Model;
@@ -89,6 +91,26 @@ impl BitRows {
         (word >> (b % 64)) & 1 == 1
     }
 
+    /// The row of a position in one word.
+    pub fn row_word(&self, a: usize) -> u64
+        requires few { length self.now < 64 }
+        requires row { a < length self.now }
+        ensures { (b : ℕ) → is_set result b ≡ is_before self.now a b }
+    {
+        self.words[a]
+    }
+
+    /// Puts position `a` before the positions whose bits a word has.
+    pub fn put_row_word(&mut self, a: usize, word: u64)
+        requires few { length self.old < 64 }
+        requires row { a < length self.old }
+        ensures square { IsSquare (length self.old) self.new }
+        ensures entries { (x y : ℕ) → is_before self.new x y ≡ (is_before self.old x y || (eqb x a && (ltb y (length self.old) && is_set word y))) }
+    {
+        let more = word & ones(self.size);
+        add_bits(&mut self.words, a, more);
+    }
+
     /// Puts position `a` before position `b`.
     pub fn put_before(&mut self, a: usize, b: usize)
         requires first { a < length self.old }
@@ -135,6 +157,18 @@ impl BitRows {
             }
         }
         true
+    }
+
+    /// The positions that some position is before, in one word.
+    pub fn entered(&self) -> u64
+        requires { length self.now < 64 }
+        ensures { AreEntered self.now result }
+    {
+        let mut word = 0;
+        for a in 0..self.size() {
+            word |= self.row_word(a);
+        }
+        word
     }
 
     /// Whether two tables are the same.

@@ -11,6 +11,7 @@ mod bit_rows;
 mod closure;
 mod order;
 mod sequence;
+mod words;
 
 pub use closure::{OrderFault, close, close_chain};
 pub use order::Order;

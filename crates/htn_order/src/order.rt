@@ -1,9 +1,11 @@
 //! The closed order of a network's nodes.
-ghost use Rattle.std.specs.Prelude.{◌+◌, ◌-◌, ◌<◌, ◌^◌, ◌≤◌, ◌≡◌, [], IfOk, Result, length};
+ghost use Rattle.std.specs.Prelude.{◌+◌, ◌-◌, ◌<◌, ◌^◌, ◌≤◌, ◌≡◌, ◌&&◌, [], IfOk, IfSome, Result, length, ltb, ℕ};
 ghost use Rattle.htn_model.specs.Choice as choice;
 ghost use Rattle.htn_model.specs.Machine as machine;
 ghost use Rattle.htn_model.specs.Problem.{IsClosed, IsSquare, order_eq};
 ghost use Rattle.htn_model.specs.Problem as problem;
+ghost use Rattle.htn_order.specs.BitRows.{is_set};
+ghost use Rattle.htn_order.specs.Words.{AreEnteredIn};
 ghost use Rattle.htn_order.specs.Free.{HasNoneFree, IsNextFree};
 ghost use Rattle.htn_order.specs.Shapes as shapes;
 ghost use Rattle.htn_order.specs.Shapes.{IsRowAdded};
@@ -11,6 +13,7 @@ ghost use Rattle.htn_model.specs.Equality.{order_eq-laws, order_eq-partial};
 ghost use Rattle.htn_order.specs.OrderHash.{order_alike, order_hash};
 
 use crate::bit_rows::BitRows;
+use crate::words::{ones, spliced};
 use std::alloc::{AllocError, Global};
 use std::hash::{Hash, Hasher};
 use std::marker::Model;
@@ -110,6 +113,18 @@ impl Order {
         }
     }
 
+    /// The row of a position in one word.
+    fn row_word(&self, a: usize) -> u64
+        requires few { length self.now < 64 }
+        requires row { a < length self.now }
+        ensures { (b : ℕ) → is_set result b ≡ problem.is_before self.now a b }
+    {
+        match &self.form {
+            Form::Chain(size) => ones(*size) - ones(a + 1),
+            Form::Rows(rows) => rows.row_word(a),
+        }
+    }
+
     /// A position from which on none is free.
     fn free_end(&self) -> usize
         ensures within { result ≤ length self.now }
@@ -121,14 +136,38 @@ impl Order {
         }
     }
 
+    /// The positions that some position is before, where that is more than a comparison and they
+    /// fit one word.
+    fn entered(&self) -> Option<u64>
+        ensures { IfSome result (AreEnteredIn self.now) }
+    {
+        match &self.form {
+            Form::Rows(rows) if rows.size() < 64 => Some(rows.entered()),
+            _ => None,
+        }
+    }
+
+    /// Whether no position is before this one, by those that some position is before, if they are known.
+    fn is_free_by(&self, entered: Option<u64>, position: usize) -> bool
+        requires known { IfSome entered (AreEnteredIn self.now) }
+        requires placed { position < length self.now }
+        ensures { result ≡ choice.is_free (length self.now) (problem.is_before self.now) position }
+    {
+        match entered {
+            Some(word) => (word >> position) & 1 == 0,
+            None => self.is_free(position),
+        }
+    }
+
     /// The free positions, ascending.
     pub fn free_positions(&self, alloc: Global) -> Result<Vec<usize>, AllocError>
         ensures { IfOk result (λ free. free.items
             ≡ choice.passing (choice.is_free (length self.now) (problem.is_before self.now)) (length self.now)) }
     {
+        let entered = self.entered();
         let mut free = Vec::new(alloc);
         for position in 0..self.free_end() {
-            if self.is_free(position) {
+            if self.is_free_by(entered, position) {
                 free.push(position)?;
             }
         }
@@ -139,8 +178,9 @@ impl Order {
     pub fn next_free(&self, from: usize) -> Option<usize>
         ensures { IsNextFree self.now from result }
     {
+        let entered = self.entered();
         for position in from..self.free_end() {
-            if self.is_free(position) {
+            if self.is_free_by(entered, position) {
                 return Some(position);
             }
         }
@@ -151,9 +191,10 @@ impl Order {
     pub fn nth_free(&self, number: usize) -> Option<usize>
         ensures { result ≡ choice.nth_free (length self.now) (problem.is_before self.now) number }
     {
+        let entered = self.entered();
         let mut left = number;
         for position in 0..self.free_end() {
-            if self.is_free(position) {
+            if self.is_free_by(entered, position) {
                 if left == 0 {
                     return Some(position);
                 }
@@ -222,8 +263,55 @@ fn is_before_replaced(order: &Order, at: usize, inner: &Order, a: usize, b: usiz
     }
 }
 
+/// What position `a`, which stood at `from`, is before among the nodes that replace the one at `at`,
+/// in one word, whose first bit is for the first of them.
+fn word_inside(order: &Order, at: usize, inner: &Order, a: usize, from: usize) -> u64
+    requires few { length inner.now < 64 }
+    requires stood { from ≡ machine.origin at (length inner.now) a }
+    ensures { (b : ℕ) → is_set result b ≡ (ltb b (length inner.now) && machine.replaced_order order.now at (length inner.now) inner.now a (at + b)) }
+{
+    let count = inner.size();
+    if from == at {
+        return inner.row_word(a - at);
+    }
+    if order.is_before(from, at) {
+        return ones(count);
+    }
+    0
+}
+
+/// The row of position `a` in one word, once the node at `at` is replaced.
+fn replaced_word(order: &Order, at: usize, inner: &Order, a: usize) -> u64
+    requires place { at < length order.now }
+    requires few { length order.now < 64 }
+    requires fits { length order.now - 1 + length inner.now < 64 }
+    requires row { a < length order.now - 1 + length inner.now }
+    ensures { (b : ℕ) → b < 64 → is_set result b ≡ machine.replaced_order order.now at (length inner.now) inner.now a b }
+{
+    let count = inner.size();
+    let from = origin(at, count, a);
+    let middle = word_inside(order, at, inner, a, from);
+    spliced(order.row_word(from), at, count, middle)
+}
+
 /// Puts position `a` before all that it is before once the node at `at` is replaced.
 fn put_replaced_row(rows: &mut BitRows, order: &Order, at: usize, inner: &Order, a: usize)
+    requires fits { at + length inner.now < 2 ^ 64 }
+    requires place { at < length order.now }
+    requires whole { length rows.old ≡ length order.now - 1 + length inner.now }
+    requires row { a < length rows.old }
+    ensures square { IsSquare (length rows.old) rows.new }
+    ensures entries { IsRowAdded (machine.replaced_order order.now at (length inner.now) inner.now) a (length rows.old) rows.old rows.new }
+{
+    if order.size() < 64 && rows.size() < 64 {
+        rows.put_row_word(a, replaced_word(order, at, inner, a));
+    } else {
+        put_replaced_bits(rows, order, at, inner, a);
+    }
+}
+
+/// Puts position `a` before all that it is before once the node at `at` is replaced, one by one.
+fn put_replaced_bits(rows: &mut BitRows, order: &Order, at: usize, inner: &Order, a: usize)
     requires fits { at + length inner.now < 2 ^ 64 }
     requires row { a < length rows.old }
     ensures square { IsSquare (length rows.old) rows.new }
@@ -245,6 +333,8 @@ fn replaced_rows(
     size: usize,
 ) -> Result<BitRows, AllocError>
     requires fits { at + length inner.now < 2 ^ 64 }
+    requires place { at < length order.now }
+    requires whole { size ≡ length order.now - 1 + length inner.now }
     ensures { IfOk result (λ rows. rows ≡ machine.table size (machine.replaced_order order.now at (length inner.now) inner.now)) }
 {
     let mut rows = BitRows::unordered(alloc, size)?;

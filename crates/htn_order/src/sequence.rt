@@ -3,6 +3,8 @@
 //! Where the pairs have no cycle, a pair comes after all pairs that its second position leads to, so
 //! that this position's row is whole by then. Where they have one, pairs along a cycle come last.
 //! A closure is the same in any sequence, so no promise rests on this but that of speed.
+//!
+//! In the words of graphs: the pairs by a topological order of their second positions, by Kahn's algorithm.
 use std::alloc::{AllocError, Global};
 
 /// For each position, the indices of the pairs that lead to it.

@@ -3,8 +3,8 @@ use Rattle.htn_model.specs.Machine.{replaced_order}
 use Rattle.htn_model.specs.Problem.{IsSquare}
 use Rattle.htn_order.specs.Shapes.{IsRowAdded}
 use Rattle.htn_order.proofs.TableRows.{row_put, row_skip, row_start}
-use Rattle.htn_order.proofs.order.put_replaced_row.Goals as goal
-use Rattle.htn_order.proofs.order.put_replaced_row.Goals.{then-is_before_replaced, else-is_before_replaced}
+use Rattle.htn_order.proofs.order.put_replaced_bits.Goals as goal
+use Rattle.htn_order.proofs.order.put_replaced_bits.Goals.{then-is_before_replaced, else-is_before_replaced}
 
 pub loop-b-init : goal.loop-b-init
 loop-b-init c = (

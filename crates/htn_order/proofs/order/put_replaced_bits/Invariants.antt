@@ -2,7 +2,7 @@ use Rattle.std.proofs.Common.{length}
 use Rattle.htn_model.specs.Machine.{replaced_order}
 use Rattle.htn_model.specs.Problem.{IsSquare}
 use Rattle.htn_order.specs.Shapes.{IsRowAdded}
-use Rattle.htn_order.proofs.order.put_replaced_row.Given as goal
+use Rattle.htn_order.proofs.order.put_replaced_bits.Given as goal
 
 abbrev pub invariant-loop-b : goal.invariant-loop-b
 invariant-loop-b l =
