@@ -6,7 +6,7 @@ ghost use Rattle.htn_model.specs.Problem as model;
 ghost use Rattle.htn_model.specs.Problem.{is_before, task};
 ghost use Rattle.htn_model.specs.Choice.{child_of, first_free_compound};
 ghost use Rattle.htn_ground.specs.Views.{child_view, children_of};
-ghost use Rattle.network_table.specs.Children.{AreBounds, AreNumbers, IsNumber};
+ghost use Rattle.network_table.specs.Children.{AreBounds, AreNumbers, AreWhole, IsNumber, numbered_children};
 ghost use Rattle.network_table.specs.Numbered.{IsWithin};
 ghost use Rattle.network_table.specs.Networks.{bound_of, children, expansion_at, IsGrown, IsMore, IsNumberOf, IsWhole, Knows, network_at, numbered_at};
 ghost use Rattle.network_table.specs.Expansions.{IsSound, Live};
@@ -27,6 +27,19 @@ pub struct NetworkTable {
     open_lens: Vec<u64>,
     bounds: Vec<u64>,
     expansions: Vec<Option<Expansion>>,
+}
+
+/// The sum of the bounds of a network's nodes.
+fn sum_bounds(children: &ChildTable, network: &Network) -> u64
+    requires whole { AreWhole children.now }
+    requires within { IsWithin (numbered_children children.now) network.now }
+    ensures { result ≡ bound_of children.now network.now }
+{
+    let mut sum = 0u64;
+    for id in network.nodes() {
+        sum = sum.saturating_add(u64::from(children.bound(*id)));
+    }
+    sum
 }
 
 impl NetworkTable {
@@ -92,19 +105,6 @@ impl NetworkTable {
         self.expansions[number as usize].as_ref()
     }
 
-    /// The sum of the bounds of a network's nodes.
-    fn sum_bounds(&self, network: &Network) -> u64
-        requires whole { IsWhole self.now }
-        requires within { IsWithin (children self.now) network.now }
-        ensures { result ≡ bound_of self.now.children network.now }
-    {
-        let mut sum = 0u64;
-        for id in network.nodes() {
-            sum = sum.saturating_add(u64::from(self.children.bound(*id)));
-        }
-        sum
-    }
-
     /// The number of a network, which it may get only now.
     pub fn keep(&mut self, network: Network) -> Result<u32, AllocError>
         requires whole { IsWhole self.old }
@@ -114,8 +114,6 @@ impl NetworkTable {
         ensures number { IfOk result (λ n. IsNumberOf self.new n network) }
         ensures sound { OnOk result ((live : Live) → IsSound live self.old → IsSound live self.new) }
     {
-        let open_len = network.nodes().len() as u64;
-        let bound = self.sum_bounds(&network);
         let (place, is_new) = self.networks.insert_full(network)?;
         let Ok(number) = u32::try_from(place) else {
             return Err(AllocError);
@@ -123,6 +121,9 @@ impl NetworkTable {
         if !is_new {
             return Ok(number);
         }
+        let kept = &self.networks.as_slice()[place];
+        let open_len = kept.nodes().len() as u64;
+        let bound = sum_bounds(&self.children, kept);
         self.open_lens.push(open_len)?;
         self.bounds.push(bound)?;
         self.expansions.push(None)?;
