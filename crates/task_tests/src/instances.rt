@@ -1,6 +1,7 @@
 //! Instances: which there are, with their numbers, children and orders.
 
-use crate::pairs::{DEAD, EQUALITIES, NEED, Pair, ROAD, SPARE, TOUCH, TOUCH_NONE, task_of};
+use crate::pairs::{DEAD, EQUALITIES, NEED, Pair, ROAD, SPARE, TOUCH, TOUCH_NONE};
+use crate::questions::{Question, answer_of};
 use htn_ground::{
     Child, GroundTask, Instance, ObjectList, action_of, distinct_initials,
     distinct_live_methods_of, initials, live_methods_of, methods_of,
@@ -90,8 +91,13 @@ fn live_lines(alloc: Global, instances: &[(u64, Instance)]) -> Result<String, Fa
     Ok(text)
 }
 
-// A line for each instance of a compound task, and then one for each that is not dead.
-fn instances_text(alloc: Global, task: &Task, name: u32, objects: &[u16]) -> Result<String, Fail> {
+/// A line for each instance of a compound task, and then one for each that is not dead.
+pub fn instances_text(
+    alloc: Global,
+    task: &Task,
+    name: u32,
+    objects: &[u16],
+) -> Result<String, Fail> {
     let goal = GroundTask::new(name, ObjectList::of(alloc, objects)?);
     let mut text = lines(alloc, &methods_of(alloc, task, &goal)?)?;
     text.push_str("live\n")?;
@@ -99,7 +105,8 @@ fn instances_text(alloc: Global, task: &Task, name: u32, objects: &[u16]) -> Res
     Ok(text)
 }
 
-fn initials_text(alloc: Global, task: &Task) -> Result<String, Fail> {
+/// A line for each instance of the initial network.
+pub fn initials_text(alloc: Global, task: &Task) -> Result<String, Fail> {
     lines(alloc, &initials(alloc, task)?)
 }
 
@@ -143,12 +150,6 @@ live
 1: Some(0)[1] step: 0[1]
 ";
 
-// The lines of the first compound task of a pair.
-fn lines_of(alloc: Global, pair: Pair, objects: &[u16]) -> Result<String, Fail> {
-    let task = task_of(alloc, pair)?;
-    instances_text(alloc, &task, 0, objects)
-}
-
 #[test]
 fn methods_have_instances(rt: HostRuntime) -> Result<(), Fail> {
     let rows: [(Pair, &[u16], &str); 5] = [
@@ -159,15 +160,10 @@ fn methods_have_instances(rt: HostRuntime) -> Result<(), Fail> {
         (NEED, &[], NEED_LINES),
     ];
     for (pair, objects, text) in rows {
-        let lines = lines_of(rt.alloc(), pair, objects)?;
+        let lines = answer_of(&rt, rt.alloc(), pair, Question::Instances(objects))?;
         assert_eq!(rt; lines.as_str(), text);
     }
     Ok(())
-}
-
-fn initials_of(alloc: Global, pair: Pair) -> Result<String, Fail> {
-    let task = task_of(alloc, pair)?;
-    initials_text(alloc, &task)
 }
 
 #[test]
@@ -178,7 +174,7 @@ fn initial_networks_have_instances(rt: HostRuntime) -> Result<(), Fail> {
         (TOUCH_NONE, ""),
     ];
     for (pair, text) in rows {
-        let lines = initials_of(rt.alloc(), pair)?;
+        let lines = answer_of(&rt, rt.alloc(), pair, Question::Initials)?;
         assert_eq!(rt; lines.as_str(), text);
     }
     Ok(())
@@ -200,8 +196,8 @@ fn action_text(alloc: Global, action: &Action) -> Result<String, Fail> {
     Ok(format!(in alloc; "needs{literals} deletes{deletes} adds{adds}")?)
 }
 
-// The literals, deletes and adds of a ground task, if it is an action instance.
-fn ground_action_text(
+/// The literals, deletes and adds of a ground task, if it is an action instance.
+pub fn ground_action_text(
     alloc: Global,
     task: &Task,
     name: u32,
@@ -214,11 +210,6 @@ fn ground_action_text(
     }
 }
 
-fn action_of_road(alloc: Global, name: u32, objects: &[u16]) -> Result<String, Fail> {
-    let task = task_of(alloc, ROAD)?;
-    ground_action_text(alloc, &task, name, objects)
-}
-
 // The truck drives from a to b. A place can't drive, and a compound task is no action.
 #[test]
 fn actions_have_instances(rt: HostRuntime) -> Result<(), Fail> {
@@ -229,7 +220,7 @@ fn actions_have_instances(rt: HostRuntime) -> Result<(), Fail> {
         (0, &[3, 2], "none"),
     ];
     for (name, objects, text) in rows {
-        let action = action_of_road(rt.alloc(), name, objects)?;
+        let action = answer_of(&rt, rt.alloc(), ROAD, Question::Action(name, objects))?;
         assert_eq!(rt; action.as_str(), text);
     }
     Ok(())
@@ -240,36 +231,27 @@ const SPARE_LINES: &str = "0: Some(0)[0, 1]
 2: Some(1)[0, 1] action 1[1]
 ";
 
-// A line for each instance of the first compound task whose network no earlier one has.
-fn distinct_text(alloc: Global, task: &Task) -> Result<String, Fail> {
+/// A line for each instance of the first compound task whose network no earlier one has.
+pub fn distinct_text(alloc: Global, task: &Task) -> Result<String, Fail> {
     let goal = GroundTask::new(0, ObjectList::of(alloc, &[])?);
     lines(alloc, &distinct_live_methods_of(alloc, task, &goal)?)
 }
 
-fn distinct_text_of(alloc: Global, pair: Pair) -> Result<String, Fail> {
-    let task = task_of(alloc, pair)?;
-    distinct_text(alloc, &task)
-}
-
 #[test]
 fn equal_networks_are_listed_once(rt: HostRuntime) -> Result<(), Fail> {
-    let found = distinct_text_of(rt.alloc(), SPARE)?;
+    let found = answer_of(&rt, rt.alloc(), SPARE, Question::DistinctInstances)?;
     assert_eq!(rt; found.as_str(), SPARE_LINES);
     Ok(())
 }
 
-fn distinct_initials_text(alloc: Global, task: &Task) -> Result<String, Fail> {
+/// The same of the initial network.
+pub fn distinct_initials_text(alloc: Global, task: &Task) -> Result<String, Fail> {
     lines(alloc, &distinct_initials(alloc, task)?)
-}
-
-fn distinct_initials_of(alloc: Global, pair: Pair) -> Result<String, Fail> {
-    let task = task_of(alloc, pair)?;
-    distinct_initials_text(alloc, &task)
 }
 
 #[test]
 fn initial_networks_that_differ_are_listed(rt: HostRuntime) -> Result<(), Fail> {
-    let found = distinct_initials_of(rt.alloc(), TOUCH)?;
+    let found = answer_of(&rt, rt.alloc(), TOUCH, Question::DistinctInitials)?;
     assert_eq!(rt;
         found.as_str(),
         "0: None[1] action 0[1]\n1: None[2] action 0[2]\n"

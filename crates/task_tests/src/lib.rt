@@ -14,6 +14,8 @@ mod pairs;
 #[cfg(test)]
 mod plans;
 #[cfg(test)]
+mod questions;
+#[cfg(test)]
 mod searches;
 #[cfg(test)]
 mod steps;

@@ -1,8 +1,6 @@
 //! Tasks whose methods have very many instances, most of which a search passes over.
 
-use crate::pairs::task_between;
-use crate::plans::answer_within;
-use htn_task::Task;
+use crate::questions::{Question, answer_between};
 use std::alloc::Global;
 use std::sync::Wait;
 use std::test::Fail;
@@ -18,21 +16,16 @@ fn problem_text(alloc: Global, things: u64, atoms: &str) -> Result<String, Fail>
     Ok(text)
 }
 
-fn task_with(alloc: Global, domain: &str, things: u64, atoms: &str) -> Result<Task, Fail> {
-    let problem = problem_text(alloc, things, atoms)?;
-    task_between(alloc, domain, problem.as_str())
-}
-
 // The text of the plan that is found within so many nodes, or why there is none.
 fn found_with<R: Threads + Wait + Sync>(
     rt: &R,
     alloc: Global,
     case: (&str, u64, &str),
     nodes: u64,
-) -> Result<Vec<u8>, Fail> {
+) -> Result<String, Fail> {
     let (domain, things, atoms) = case;
-    let task = task_with(alloc, domain, things, atoms)?;
-    answer_within(rt, alloc, &task, nodes)
+    let problem = problem_text(alloc, things, atoms)?;
+    answer_between(rt, alloc, domain, problem.as_str(), Question::Within(nodes))
 }
 
 const NEVER: &str = "(define (domain d) (:types thing) (:predicates (p ?x - thing)) (:task t)
@@ -43,7 +36,7 @@ const NEVER: &str = "(define (domain d) (:types thing) (:predicates (p ?x - thin
 fn dead_instances_are_passed_over(rt: HostRuntime) -> Result<(), Fail> {
     for nodes in [1, 10] {
         let found = found_with(&rt, rt.alloc(), (NEVER, 256, ""), nodes)?;
-        assert!(rt; found.as_slice() == "unsolvable".as_bytes());
+        assert_eq!(rt; found.as_str(), "unsolvable");
     }
     Ok(())
 }
@@ -74,7 +67,7 @@ fn equal_networks_are_passed_over(rt: HostRuntime) -> Result<(), Fail> {
     ];
     for (case, nodes) in rows {
         let found = found_with(&rt, rt.alloc(), case, nodes)?;
-        assert!(rt; found.as_slice() == PLAN.as_bytes());
+        assert_eq!(rt; found.as_str(), PLAN);
     }
     Ok(())
 }

@@ -1,6 +1,7 @@
 //! Plan files of solutions, as they are written.
 
 use crate::pairs::{LATE, NOTHING, Pair, ROAD, SET_AND_CLEAR, task_of};
+use crate::questions::{Question, answer_of};
 use crate::searches::solution_of;
 use htn_plan::{PlanFile, Sink, WriteFault, file_of, write_plan};
 use htn_search::{Answer, Bounds, NoGate, search};
@@ -34,11 +35,12 @@ impl Write for Narrow {
 }
 
 /// The text of a solution's plan.
-pub fn text_of(alloc: Global, task: &Task, solution: &Solution) -> Result<Vec<u8>, Fail> {
+pub fn text_of(alloc: Global, task: &Task, solution: &Solution) -> Result<String, Fail> {
     let file = file_of(alloc, task, solution)?;
     let mut out = Sink::new(Vec::new(alloc));
     write_plan(&file, &mut out)?;
-    Ok(out.into_inner())
+    let text = String::from_utf8(out.into_inner()).ok();
+    Ok(text.ok_or("is text")?)
 }
 
 /// The text of the plan that is found, or why there is none.
@@ -47,14 +49,12 @@ pub fn answer_text<R: Threads + Wait + Sync>(
     alloc: Global,
     task: &Task,
     bounds: Bounds,
-) -> Result<Vec<u8>, Fail> {
-    let mut text = Vec::new(alloc);
+) -> Result<String, Fail> {
     match search(rt, alloc, task, bounds, &NoGate)? {
-        Answer::Plan(solution) => return text_of(alloc, task, &solution),
-        Answer::None => text.extend_from_slice(b"none")?,
-        Answer::Unsolvable => text.extend_from_slice(b"unsolvable")?,
+        Answer::Plan(solution) => text_of(alloc, task, &solution),
+        Answer::None => Ok(String::from_str(alloc, "none")?),
+        Answer::Unsolvable => Ok(String::from_str(alloc, "unsolvable")?),
     }
-    Ok(text)
 }
 
 /// The same of a search by one worker for plans of at most so many nodes.
@@ -63,7 +63,7 @@ pub fn answer_within<R: Threads + Wait + Sync>(
     alloc: Global,
     task: &Task,
     nodes: u64,
-) -> Result<Vec<u8>, Fail> {
+) -> Result<String, Fail> {
     let bounds = Bounds::new(nodes, 1, 64).ok_or("in range")?;
     answer_text(rt, alloc, task, bounds)
 }
@@ -123,9 +123,8 @@ fn solutions_have_plan_texts(rt: HostRuntime) -> Result<(), Fail> {
         ),
     ];
     for (pair, word, text) in rows {
-        let (taken, written) = write_word(rt.alloc(), pair, word, 1_000)?;
-        assert!(rt; written == Ok(()));
-        assert!(rt; taken.as_slice() == text.as_bytes());
+        let plan = answer_of(&rt, rt.alloc(), pair, Question::WordPlan(word))?;
+        assert_eq!(rt; plan.as_str(), text);
     }
     Ok(())
 }

@@ -2,9 +2,10 @@
 
 use crate::pairs::{
     AGAINST, DEAD, DOUBLING, ENDING, ENDLESS, LATE, NEED, NOTHING, Pair, ROAD, SET_AND_CLEAR,
-    THROUGH, TOUCH, TOUCH_NONE, TWO_ACTIONS, TWO_METHODS, task_of,
+    THROUGH, TOUCH, TOUCH_NONE, TWO_ACTIONS, TWO_METHODS,
 };
-use crate::plans::{answer_within, text_of};
+use crate::plans::text_of;
+use crate::questions::{Question, answer_of};
 use htn_search::{Answer, Bounds, Found, NoGate, find_word, finishes, rebuild, search};
 use htn_task::Task;
 use htn_tree::{Node, Solution};
@@ -13,10 +14,10 @@ use std::sync::Wait;
 use std::test::Fail;
 use std::thread::Threads;
 
-// Whether a word of the pair finishes.
-fn is_finishing(alloc: Global, pair: Pair, word: &[u64]) -> Result<bool, Fail> {
-    let task = task_of(alloc, pair)?;
-    Ok(finishes(alloc, &task, word)?)
+/// Whether a word finishes, in text.
+pub fn finishes_text(alloc: Global, task: &Task, word: &[u64]) -> Result<String, Fail> {
+    let is_finishing = finishes(alloc, task, word)?;
+    Ok(format!(in alloc; "{is_finishing}")?)
 }
 
 #[test]
@@ -33,7 +34,8 @@ fn words_finish(rt: HostRuntime) -> Result<(), Fail> {
         (SET_AND_CLEAR, &[0, 0, 1, 0, 0, 1, 0]),
     ];
     for (pair, word) in rows {
-        assert!(rt; is_finishing(rt.alloc(), pair, word)?, "{word:?}");
+        let found = answer_of(&rt, rt.alloc(), pair, Question::Finishes(word))?;
+        assert!(rt; found.as_str() == "true", "{word:?}");
     }
     Ok(())
 }
@@ -52,32 +54,16 @@ fn other_words_do_not_finish(rt: HostRuntime) -> Result<(), Fail> {
         (SET_AND_CLEAR, &[0, 0, 1, 0, 0, 0, 0]),
     ];
     for (pair, word) in rows {
-        assert!(rt; !is_finishing(rt.alloc(), pair, word)?, "{word:?}");
+        let found = answer_of(&rt, rt.alloc(), pair, Question::Finishes(word))?;
+        assert!(rt; found.as_str() == "false", "{word:?}");
     }
     Ok(())
 }
 
-// The text of the plan that is found for a pair, or why there is none.
-fn found_text<R: Threads + Wait + Sync>(
-    rt: &R,
-    alloc: Global,
-    pair: Pair,
-    nodes: u64,
-) -> Result<Vec<u8>, Fail> {
-    let task = task_of(alloc, pair)?;
-    answer_within(rt, alloc, &task, nodes)
-}
-
-// The text of the plan of a word.
-fn word_text(alloc: Global, task: &Task, word: &[u64]) -> Result<Vec<u8>, Fail> {
+/// The text of the plan of a word.
+pub fn word_text(alloc: Global, task: &Task, word: &[u64]) -> Result<String, Fail> {
     let solution = solution_of(alloc, task, word)?.ok_or("finishes")?;
     text_of(alloc, task, &solution)
-}
-
-// The same for a pair.
-fn word_text_of(alloc: Global, pair: Pair, word: &[u64]) -> Result<Vec<u8>, Fail> {
-    let task = task_of(alloc, pair)?;
-    word_text(alloc, &task, word)
 }
 
 // Each plan is that of its least word.
@@ -95,15 +81,15 @@ fn least_plans_are_found(rt: HostRuntime) -> Result<(), Fail> {
         (SET_AND_CLEAR, 6, &[0, 0, 1, 0, 0, 1, 0]),
     ];
     for (pair, nodes, word) in rows {
-        let found = found_text(&rt, rt.alloc(), pair, nodes)?;
-        let text = word_text_of(rt.alloc(), pair, word)?;
-        assert!(rt; found == text, "{word:?}");
+        let found = answer_of(&rt, rt.alloc(), pair, Question::Within(nodes))?;
+        let plan = answer_of(&rt, rt.alloc(), pair, Question::WordPlan(word))?;
+        assert_eq!(rt; found.as_str(), plan.as_str());
     }
     Ok(())
 }
 
-// The least word, or why there is none.
-fn least_word<R: Threads + Wait + Sync>(
+/// The least word, or why there is none.
+pub fn least_word<R: Threads + Wait + Sync>(
     rt: &R,
     alloc: Global,
     task: &Task,
@@ -114,17 +100,6 @@ fn least_word<R: Threads + Wait + Sync>(
         Found::None => Ok(String::from_str(alloc, "none")?),
         Found::Unsolvable => Ok(String::from_str(alloc, "unsolvable")?),
     }
-}
-
-// The same for a pair.
-fn least_word_of<R: Threads + Wait + Sync>(
-    rt: &R,
-    alloc: Global,
-    pair: Pair,
-    bounds: Bounds,
-) -> Result<String, Fail> {
-    let task = task_of(alloc, pair)?;
-    least_word(rt, alloc, &task, bounds)
 }
 
 // Its numbers are those of all instances, of those also that a search passes over.
@@ -148,7 +123,7 @@ fn least_words_are_found(rt: HostRuntime) -> Result<(), Fail> {
     ];
     for (pair, nodes, text) in rows {
         let bounds = Bounds::new(nodes, 1, 64).ok_or("in range")?;
-        let word = least_word_of(&rt, rt.alloc(), pair, bounds)?;
+        let word = answer_of(&rt, rt.alloc(), pair, Question::LeastWord(bounds))?;
         assert_eq!(rt; word.as_str(), text);
     }
     Ok(())
@@ -188,8 +163,8 @@ fn sizes_change_no_answer(rt: HostRuntime) -> Result<(), Fail> {
         (STUCK, 10_000, "unsolvable"),
     ];
     for (pair, nodes, text) in rows {
-        let found = found_text(&rt, rt.alloc(), pair, nodes)?;
-        assert!(rt; found.as_slice() == text.as_bytes());
+        let found = answer_of(&rt, rt.alloc(), pair, Question::Within(nodes))?;
+        assert_eq!(rt; found.as_str(), text);
     }
     Ok(())
 }
@@ -209,14 +184,14 @@ fn there_is_no_plan(rt: HostRuntime) -> Result<(), Fail> {
         (SET_AND_CLEAR, 5, "none"),
     ];
     for (pair, nodes, text) in rows {
-        let found = found_text(&rt, rt.alloc(), pair, nodes)?;
-        assert!(rt; found.as_slice() == text.as_bytes());
+        let found = answer_of(&rt, rt.alloc(), pair, Question::Within(nodes))?;
+        assert_eq!(rt; found.as_str(), text);
     }
     Ok(())
 }
 
-// The plan that is found, by the order of its actions and steps, in text.
-fn plan_text<R: Threads + Wait + Sync>(
+/// The plan that is found, by the order of its actions and steps, in text.
+pub fn plan_text<R: Threads + Wait + Sync>(
     rt: &R,
     alloc: Global,
     task: &Task,
@@ -239,17 +214,6 @@ fn solution_text(alloc: Global, solution: &Solution) -> Result<String, Fail> {
     )?)
 }
 
-// The same for a pair.
-fn plan_of<R: Threads + Wait + Sync>(
-    rt: &R,
-    alloc: Global,
-    pair: Pair,
-    bounds: Bounds,
-) -> Result<String, Fail> {
-    let task = task_of(alloc, pair)?;
-    plan_text(rt, alloc, &task, bounds)
-}
-
 // The set action, the step of the first task, the clearing action, and the step of the first task's subtask.
 #[test]
 fn workers_and_pieces_change_nothing(rt: HostRuntime) -> Result<(), Fail> {
@@ -257,7 +221,7 @@ fn workers_and_pieces_change_nothing(rt: HostRuntime) -> Result<(), Fail> {
     for workers in [1, 2, 4, 64] {
         for piece in [1, 1_000_000] {
             let bounds = Bounds::new(6, workers, piece).ok_or("in range")?;
-            let found = plan_of(&rt, rt.alloc(), SET_AND_CLEAR, bounds)?;
+            let found = answer_of(&rt, rt.alloc(), SET_AND_CLEAR, Question::Plan(bounds))?;
             assert_eq!(rt; found.as_str(), plan);
         }
     }
@@ -277,16 +241,10 @@ pub fn solution_of(
     Ok(None)
 }
 
-// The solution of a word in text.
-fn rebuilt_text(alloc: Global, task: &Task, word: &[u64]) -> Result<String, Fail> {
+/// The solution of a word in text.
+pub fn rebuilt_text(alloc: Global, task: &Task, word: &[u64]) -> Result<String, Fail> {
     let solution = solution_of(alloc, task, word)?.ok_or("finishes")?;
     solution_text(alloc, &solution)
-}
-
-// The same for a pair.
-fn rebuilt_text_of(alloc: Global, pair: Pair, word: &[u64]) -> Result<String, Fail> {
-    let task = task_of(alloc, pair)?;
-    rebuilt_text(alloc, &task, word)
 }
 
 #[test]
@@ -302,7 +260,7 @@ fn words_have_solutions(rt: HostRuntime) -> Result<(), Fail> {
         (TOUCH, &[1, 0], "[2] 1 [[0]]"),
     ];
     for (pair, word, text) in rows {
-        let solution = rebuilt_text_of(rt.alloc(), pair, word)?;
+        let solution = answer_of(&rt, rt.alloc(), pair, Question::Rebuilt(word))?;
         assert_eq!(rt; solution.as_str(), text);
     }
     Ok(())
@@ -331,23 +289,17 @@ fn depth(trees: &[Node]) -> u64 {
     0
 }
 
-// The depth of the solution of a word.
-fn rebuilt_depth(alloc: Global, task: &Task, word: &[u64]) -> Result<u64, Fail> {
+/// The depth of the solution of a word, in text.
+pub fn depth_text(alloc: Global, task: &Task, word: &[u64]) -> Result<String, Fail> {
     let solution = solution_of(alloc, task, word)?.ok_or("finishes")?;
-    Ok(depth(&solution.trees))
-}
-
-// The same for a pair.
-fn rebuilt_depth_of(alloc: Global, pair: Pair, word: &[u64]) -> Result<u64, Fail> {
-    let task = task_of(alloc, pair)?;
-    rebuilt_depth(alloc, &task, word)
+    Ok(format!(in alloc; "{}", depth(&solution.trees))?)
 }
 
 // The tree is let go, too.
 #[test]
 fn a_deep_tree_is_rebuilt(rt: HostRuntime) -> Result<(), Fail> {
     let word = ending_word(rt.alloc(), 10_000)?;
-    let depth = rebuilt_depth_of(rt.alloc(), ENDING, &word)?;
-    assert_eq!(rt; depth, 10_000);
+    let depth = answer_of(&rt, rt.alloc(), ENDING, Question::Depth(&word))?;
+    assert_eq!(rt; depth.as_str(), "10000");
     Ok(())
 }

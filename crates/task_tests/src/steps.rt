@@ -1,6 +1,7 @@
 //! Configurations and their steps, one number of a word after the other.
 
-use crate::pairs::{ENDLESS, LATE, Pair, ROAD, SET_AND_CLEAR, task_of};
+use crate::pairs::{ENDLESS, LATE, Pair, ROAD, SET_AND_CLEAR};
+use crate::questions::{Question, answer_of};
 use htn_ground::{goal_literals, initials};
 use htn_net::{Change, Choice, Config};
 use htn_task::Task;
@@ -63,8 +64,8 @@ fn configurations(alloc: Global, task: &Task, word: &[u64]) -> Result<Vec<Config
     Ok(passed)
 }
 
-// A line for each configuration along a word.
-fn walk(alloc: Global, task: &Task, word: &[u64]) -> Result<String, Fail> {
+/// A line for each configuration along a word.
+pub fn walk(alloc: Global, task: &Task, word: &[u64]) -> Result<String, Fail> {
     let mut text = String::new(alloc);
     let passed = configurations(alloc, task, word)?;
     for config in &passed {
@@ -74,11 +75,6 @@ fn walk(alloc: Global, task: &Task, word: &[u64]) -> Result<String, Fail> {
         text.push_str("refused\n")?;
     }
     Ok(text)
-}
-
-fn walk_of(alloc: Global, pair: Pair, word: &[u64]) -> Result<String, Fail> {
-    let task = task_of(alloc, pair)?;
-    walk(alloc, &task, word)
 }
 
 const ROAD_LINES: &str = "1 [0, 1, 2, 3, 4, 5, 6, 7, 8, 9] [0, 2, 6]
@@ -139,7 +135,7 @@ fn words_go_step_by_step(rt: HostRuntime) -> Result<(), Fail> {
         (LATE, &[0, 0], LATE_REFUSED),
     ];
     for (pair, word, text) in rows {
-        let lines = walk_of(rt.alloc(), pair, word)?;
+        let lines = answer_of(&rt, rt.alloc(), pair, Question::Walk(word))?;
         assert_eq!(rt; lines.as_str(), text);
     }
     Ok(())
@@ -154,17 +150,23 @@ fn count_different(alloc: Global, task: &Task, word: &[u64]) -> Result<usize, Al
     Ok(seen.len())
 }
 
-fn different_of(alloc: Global, pair: Pair, word: &[u64]) -> Result<usize, Fail> {
-    let task = task_of(alloc, pair)?;
-    Ok(count_different(alloc, &task, word)?)
+/// The same in text.
+pub fn different_text(alloc: Global, task: &Task, word: &[u64]) -> Result<String, Fail> {
+    let count = count_different(alloc, task, word)?;
+    Ok(format!(in alloc; "{count}")?)
 }
 
 // The endless task leads to itself. The truck ends elsewhere than where it was, so all its configurations differ.
 #[test]
 fn equal_configurations_stand_once_in_a_set(rt: HostRuntime) -> Result<(), Fail> {
-    let alloc = rt.alloc();
-    assert_eq!(rt; different_of(alloc, ENDLESS, &[0, 0, 0])?, 1);
-    assert_eq!(rt; different_of(alloc, ROAD, &[2, 0, 0, 6, 0, 0, 0, 0])?, 9);
+    let rows: [(Pair, &[u64], &str); 2] = [
+        (ENDLESS, &[0, 0, 0], "1"),
+        (ROAD, &[2, 0, 0, 6, 0, 0, 0, 0], "9"),
+    ];
+    for (pair, word, count) in rows {
+        let different = answer_of(&rt, rt.alloc(), pair, Question::Different(word))?;
+        assert_eq!(rt; different.as_str(), count);
+    }
     Ok(())
 }
 
@@ -179,24 +181,16 @@ fn chosen_text(alloc: Global, chosen: Option<(usize, Change)>) -> Result<String,
     }
 }
 
-// What a rank chooses at the start.
-fn listed_text(alloc: Global, task: &Task, rank: u64) -> Result<String, Fail> {
+/// What a rank chooses at the start.
+pub fn listed_text(alloc: Global, task: &Task, rank: u64) -> Result<String, Fail> {
     let config = started(alloc, task, 0)?.ok_or("starts")?;
     chosen_text(alloc, config.choose_listed(alloc, task, rank)?)
 }
 
-// What a number chooses at the start.
-fn numbered_text(alloc: Global, task: &Task, number: u64) -> Result<String, Fail> {
+/// What a number chooses at the start.
+pub fn numbered_text(alloc: Global, task: &Task, number: u64) -> Result<String, Fail> {
     let config = started(alloc, task, 0)?.ok_or("starts")?;
     chosen_text(alloc, config.choose(alloc, task, number)?)
-}
-
-// Both for the truck.
-fn chosen_texts(alloc: Global, rank: u64, number: u64) -> Result<(String, String), Fail> {
-    let task = task_of(alloc, ROAD)?;
-    let listed = listed_text(alloc, &task, rank)?;
-    let numbered = numbered_text(alloc, &task, number)?;
-    Ok((listed, numbered))
 }
 
 // Of ten instances three are not dead.
@@ -209,9 +203,13 @@ fn ranks_choose_what_their_numbers_do(rt: HostRuntime) -> Result<(), Fail> {
         (3, 10, "none"),
     ];
     for (rank, number, text) in rows {
-        let (listed, numbered) = chosen_texts(rt.alloc(), rank, number)?;
-        assert_eq!(rt; listed.as_str(), text);
-        assert_eq!(rt; numbered.as_str(), text);
+        for question in [
+            Question::ChosenByRank(rank),
+            Question::ChosenByNumber(number),
+        ] {
+            let chosen = answer_of(&rt, rt.alloc(), ROAD, question)?;
+            assert_eq!(rt; chosen.as_str(), text);
+        }
     }
     Ok(())
 }

@@ -1,5 +1,6 @@
 use htn_command::{Refusal, Request, parse};
 use std::alloc::{AllocError, Global};
+use std::process::Abort;
 use std::test::Fail;
 
 fn words_of(alloc: Global, line: &str) -> Result<Vec<String>, AllocError> {
@@ -45,23 +46,30 @@ fn status_of(alloc: Global, line: &str) -> Result<i32, AllocError> {
     })
 }
 
+// The status of each line is the one beside it; one below 0 is that of a request.
+fn expect_statuses<R: Abort>(rt: &R, alloc: Global, rows: &[(&str, i32)]) -> Result<(), Fail> {
+    for (line, status) in rows {
+        let found = status_of(alloc, line)?;
+        assert!(rt; found == *status, "{line}");
+    }
+    Ok(())
+}
+
 #[test]
 fn refuses_numbers_out_of_range(rt: HostRuntime) -> Result<(), Fail> {
-    let alloc = rt.alloc();
-    assert_eq!(rt;
-        status_of(
-            alloc,
-            "htnplan plan d p --nodes 10000 --workers 64 --piece 1000000"
-        )?,
-        -1
-    );
-    assert_eq!(rt; status_of(alloc, "htnplan plan d p --nodes 10001")?, 2);
-    assert_eq!(rt; status_of(alloc, "htnplan plan d p --workers 0")?, 2);
-    assert_eq!(rt; status_of(alloc, "htnplan plan d p --workers 65")?, 2);
-    assert_eq!(rt; status_of(alloc, "htnplan plan d p --piece 0")?, 2);
-    assert_eq!(rt; status_of(alloc, "htnplan plan d")?, 2);
-    assert_eq!(rt; status_of(alloc, "htnplan")?, 2);
-    Ok(())
+    let rows = [
+        (
+            "htnplan plan d p --nodes 10000 --workers 64 --piece 1000000",
+            -1,
+        ),
+        ("htnplan plan d p --nodes 10001", 2),
+        ("htnplan plan d p --workers 0", 2),
+        ("htnplan plan d p --workers 65", 2),
+        ("htnplan plan d p --piece 0", 2),
+        ("htnplan plan d", 2),
+        ("htnplan", 2),
+    ];
+    expect_statuses(&rt, rt.alloc(), &rows)
 }
 
 #[test]
@@ -81,33 +89,35 @@ fn reads_three_files(rt: HostRuntime) -> Result<(), Fail> {
 
 #[test]
 fn refuses_fewer_files_and_more(rt: HostRuntime) -> Result<(), Fail> {
-    let alloc = rt.alloc();
-    assert_eq!(rt; status_of(alloc, "htnplan verify d p f")?, -1);
-    assert_eq!(rt; status_of(alloc, "htnplan verify -- d p f")?, -1);
-    assert_eq!(rt; status_of(alloc, "htnplan verify")?, 2);
-    assert_eq!(rt; status_of(alloc, "htnplan verify d")?, 2);
-    assert_eq!(rt; status_of(alloc, "htnplan verify d p")?, 2);
-    assert_eq!(rt; status_of(alloc, "htnplan verify d p f g")?, 2);
-    assert_eq!(rt; status_of(alloc, "htnplan verify d p f --nodes 5")?, 2);
-    assert_eq!(rt; status_of(alloc, "htnplan plan d p f")?, 2);
-    Ok(())
+    let rows = [
+        ("htnplan verify d p f", -1),
+        ("htnplan verify -- d p f", -1),
+        ("htnplan verify", 2),
+        ("htnplan verify d", 2),
+        ("htnplan verify d p", 2),
+        ("htnplan verify d p f g", 2),
+        ("htnplan verify d p f --nodes 5", 2),
+        ("htnplan plan d p f", 2),
+    ];
+    expect_statuses(&rt, rt.alloc(), &rows)
 }
 
 #[test]
 fn shows_help_and_the_version(rt: HostRuntime) -> Result<(), Fail> {
-    let alloc = rt.alloc();
-    assert_eq!(rt; status_of(alloc, "htnplan --help")?, 0);
-    assert_eq!(rt; status_of(alloc, "htnplan plan --help")?, 0);
-    assert_eq!(rt; status_of(alloc, "htnplan plan -h")?, 0);
-    assert_eq!(rt; status_of(alloc, "htnplan help plan")?, 0);
-    assert_eq!(rt; status_of(alloc, "htnplan verify --help")?, 0);
-    assert_eq!(rt; status_of(alloc, "htnplan verify d -h")?, 0);
-    assert_eq!(rt; status_of(alloc, "htnplan help verify")?, 0);
-    assert_eq!(rt; status_of(alloc, "htnplan --version")?, 0);
-    assert_eq!(rt; status_of(alloc, "htnplan -V")?, 0);
-    assert_eq!(rt; status_of(alloc, "htnplan verify --version")?, 2);
-    assert_eq!(rt; status_of(alloc, "htnplan paint --version")?, 2);
-    Ok(())
+    let rows = [
+        ("htnplan --help", 0),
+        ("htnplan plan --help", 0),
+        ("htnplan plan -h", 0),
+        ("htnplan help plan", 0),
+        ("htnplan verify --help", 0),
+        ("htnplan verify d -h", 0),
+        ("htnplan help verify", 0),
+        ("htnplan --version", 0),
+        ("htnplan -V", 0),
+        ("htnplan verify --version", 2),
+        ("htnplan paint --version", 2),
+    ];
+    expect_statuses(&rt, rt.alloc(), &rows)
 }
 
 // The text that is shown for a line, or the text of its refusal.

@@ -1,6 +1,6 @@
 use hddl_words::{
-    Class, Cursor, Items, Keyword, Kind, Name, Stop, TextFault, Variable, check_brackets, class_of,
-    is_same, lex,
+    Class, Cursor, Items, Keyword, Kind, Name, Stop, TextFault, Token, Variable, check_brackets,
+    class_of, is_same, lex,
 };
 use std::alloc::{AllocError, Global};
 use std::test::Fail;
@@ -142,23 +142,42 @@ fn classes(rt: HostRuntime) -> Result<(), Fail> {
 fn cursor(rt: HostRuntime) -> Result<(), Fail> {
     let tokens = lex(rt.alloc(), b"Road ?x")?;
     let mut cursor = Cursor::new(tokens.as_slice());
-    let word = cursor.next().ok().ok_or("no word")?;
-    assert!(rt; matches!(class_of(&word), Class::Name));
-    if let Class::Name = class_of(&word) {
-        let name = Name::new(rt.alloc(), &word)?;
-        assert_eq!(rt; name.place(), 0);
-        assert!(rt; name.text() == b"Road".as_slice());
-    }
+    assert!(rt; cursor.next().is_ok());
     assert!(rt; matches!(cursor.refuse(true), Stop::Refused(true, 2)));
     assert!(rt; cursor.end().is_err());
-    let word = cursor.next().ok().ok_or("no word")?;
-    if let Class::Variable = class_of(&word) {
-        let variable = Variable::new(rt.alloc(), &word)?;
-        assert_eq!(rt; variable.place(), 5);
-        assert!(rt; variable.text() == b"?x".as_slice());
-    }
+    assert!(rt; cursor.next().is_ok());
     assert!(rt; cursor.end().is_ok());
     assert!(rt; matches!(cursor.next(), Err(Stop::Refused(false, 0))));
+    Ok(())
+}
+
+/// Whether a word is a name or a variable with this text and at this place.
+fn is_named(
+    alloc: Global,
+    token: &Token<'_>,
+    text: &[u8],
+    place: usize,
+) -> Result<bool, AllocError> {
+    match class_of(token) {
+        Class::Name => {
+            let name = Name::new(alloc, token)?;
+            Ok(name.text() == text && name.place() == place)
+        }
+        Class::Variable => {
+            let variable = Variable::new(alloc, token)?;
+            Ok(variable.text() == text && variable.place() == place)
+        }
+        _ => Ok(false),
+    }
+}
+
+#[test]
+fn names_and_variables(rt: HostRuntime) -> Result<(), Fail> {
+    let expected: [(&[u8], usize); 2] = [(b"Road", 0), (b"?x", 5)];
+    let tokens = lex(rt.alloc(), b"Road ?x")?;
+    for (token, (text, place)) in tokens.as_slice().iter().zip(expected) {
+        assert!(rt; is_named(rt.alloc(), token, text, place)?);
+    }
     Ok(())
 }
 
