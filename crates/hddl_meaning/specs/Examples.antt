@@ -128,7 +128,8 @@ no_argument = record empty_domain {
   actions = action (called 49 (codes "a")) [] (atom (at_terms (called 66 (codes "p")) []) ∷ []) ∷ [];
 }
 
--- `(define (domain d) (:types box can) (:constants c - can) (:predicates (p ?b - box)) (:action a :precondition (p c)))`
+-- `(define (domain d) (:types box can) (:constants c - can) (:predicates (p ?b - box)) (:action a :precondition (p
+-- c)))`
 abbrev pub no_box : DomainText
 no_box = record empty_domain {
   types = record { names = called 27 (codes "box") ∷ called 31 (codes "can") ∷ []; of_type = None } ∷ [];
@@ -243,7 +244,8 @@ abbrev pub of_box : ℕ → List ℕ → AtomText
 of_box place name = at_terms (called place name) (term.Variable (variable (place + length name + 1) (codes "?b")) ∷ [])
 
 -- `(define (domain d) (:types box) (:predicates (done ?b - box)) (:task pack :parameters (?b - box)) (:method m
--- :parameters (?b - box) :task (pack ?b) :ordered-subtasks (mark ?b)) (:action mark :parameters (?b - box) :effect (done ?b)))`
+-- :parameters (?b - box) :task (pack ?b) :ordered-subtasks (mark ?b)) (:action mark :parameters (?b - box) :effect
+-- (done ?b)))`
 abbrev pub packing : DomainText
 packing = record empty_domain {
   types = record { names = called 27 (codes "box") ∷ []; of_type = None } ∷ [];

@@ -9,7 +9,8 @@ use Rattle.hddl_names.specs.Reach.{Reaches}
 use Rattle.hddl_names.specs.TypeNumbers.{AreTypesOf, numbered_pairs}
 use Rattle.hddl_names.specs.declared.intervals.Interval.{Interval}
 
--- junctions, the intervals and tops of lines between them, and for each number the positions of the junctions that lead to it
+-- junctions, the intervals and tops of lines between them, and for each number the positions of the junctions that lead
+-- to it
 pub record Closure : Type 0 where
   pub junctions : List ℕ
   pub intervals : List Interval

@@ -6,6 +6,8 @@
 //! to it, a bit for each: then one look tells whether a number leads to another, and a pass over two sets whether
 //! something leads to both. The time to make it is that of going over all pairs, with a set for each pair past a
 //! junction.
+//!
+//! In the words of graphs: reachability by interval labels along trees, and by hubs, the junctions, between them.
 ghost use Rattle.std.specs.Prelude.{◌≡◌, ◌<◌, ◌↔◌, ◌⊎◌, ◌||◌, ℕ, [], Some, List, true, replicate, length, get_or, All, Contains, IsTrue, IfOk, IfSome, OnOk};
 ghost use Rattle.htn_order.specs.Closure.{AreBelow};
 ghost use Rattle.hddl_names.specs.Closures.{along_lines, set_of, AreSound, AreCarried, HaveOwn, IsWithin, LeadsTo, Meet, PassesTo, ShareJunction, Tells};

@@ -104,7 +104,7 @@ impl DeclaredTypes {
         Ok(DeclaredTypes { rows })
     }
 
-    /// Those of an object.
+    /// The types that an object is declared with.
     pub(crate) fn row(&self, object: usize) -> &[usize]
         ensures { result.now ≡ get_or self.now object [] }
     {

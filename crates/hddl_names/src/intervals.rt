@@ -5,6 +5,8 @@
 //! lead to it. So a number leads to another exactly where its place is in the other's interval. No promise rests on the
 //! walk: whether the intervals of the children tile that of their parent is looked at once, after it. Where a number
 //! has several parents, or leads to itself, they don't, and there are none.
+//!
+//! In the words of graphs: interval labels of a tree, as Agrawal, Borgida and Jagadish (1989) have them.
 ghost use Rattle.std.specs.Prelude.{◌≡◌, ◌<◌, ◌↔◌, ℕ, IsTrue, IfOk, IfSome, [], length, get_or};
 ghost use Rattle.hddl_names.specs.Intervals.{Tile, AreTiled, StandAtPlaces, IsInside, HasTop, HaveTops, TellOfRows, interval_at, top_at};
 

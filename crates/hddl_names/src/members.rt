@@ -54,7 +54,7 @@ fn has_flag(flags: &[bool], number: usize) -> bool
     }
 }
 
-/// Those of the numbers that have a flag, where each number comes once.
+/// The numbers that have a flag, of a list in which each number comes once.
 fn flagged(alloc: Global, flags: &[bool], numbers: &[usize]) -> Result<Vec<usize>, AllocError>
     requires { IsDistinct nat_eq numbers.now }
     ensures items { IfOk result (λ found. found.items ≡ filter (λ n. get_or flags.now n false) numbers.now) }
@@ -69,7 +69,7 @@ fn flagged(alloc: Global, flags: &[bool], numbers: &[usize]) -> Result<Vec<usize
     Ok(found)
 }
 
-/// Those of the types that have a flag, among the types in a row and those above them.
+/// The types that have a flag, of the types in a row and those above them.
 fn flagged_above(
     alloc: Global,
     types: &TypeHierarchy,

@@ -3,6 +3,8 @@
 //! So all numbers of a cycle have the same rank, and a pair of two ranks is on none. Two walks find ranks
 //! that only numbers which lead to one another share, so that a pair of one rank lies on a cycle. No promise
 //! rests on these walks but that of speed: whether ranks rise is looked at once, after them.
+//!
+//! In the words of graphs: the numbers of strongly connected components, by Kosaraju's algorithm.
 ghost use Rattle.std.specs.Prelude.{◌≡◌, ◌≤◌, ◌↔◌, IsTrue, IfOk, All, get_or};
 ghost use Rattle.hddl_names.specs.Ranks.{NeverRise};
 

@@ -14,7 +14,7 @@ pub fn fold(alloc: Global, bytes: &[u8]) -> Result<Vec<u8>, AllocError>
         .collect(alloc)
 }
 
-/// The same in a buffer that is used again: what it held goes.
+/// Puts bytes in lower case into a buffer that is used again: what it held goes.
 pub fn fold_into(buffer: &mut Vec<u8>, bytes: &[u8]) -> Result<(), AllocError>
     ensures { OnOk result (buffer.new.items ≡ folded bytes.now) }
 {

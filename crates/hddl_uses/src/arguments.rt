@@ -170,7 +170,7 @@ fn check_argument(
     Ok(first_of(unknown, clash))
 }
 
-/// Such an argument, where there are as many as places.
+/// A fault of some argument, where there are as many arguments as places.
 pub(crate) fn check_arguments(
     context: &Context<'_>,
     scope: &Scope,

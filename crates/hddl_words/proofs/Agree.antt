@@ -35,7 +35,8 @@ pub record Agrees {A : Type 0} (N : ℕ) (into out : ℕ → ℕ) (R : Phrase A)
   pub keeps : (k : ℕ) (ws rest : List Word) (a : A) → length ws < N → Nests (into k) ws → p ws ≡ read a rest → Nests (out k) rest
   pub ends : (k : ℕ) (ws : List Word) (u : Bool) → length ws < N → 0 < into k → Nests (into k) ws → p ws ≡ refused u 0 → ⊥
 
--- the same of what follows a word, where `before` gives the level before that word: it doesn't run out of words inside a bracket
+-- the same of what follows a word, where `before` gives the level before that word: it doesn't run out of words inside
+-- a bracket
 pub data StepAgrees {A : Type 0} (N : ℕ) (before into out : ℕ → ℕ) (R : List Word → A → List Word → Type 0) : Step A → Type 0 where
   on : {p : Reader A} → Agrees N into out R p → ((k : ℕ) (ws : List Word) (u : Bool) → length ws < N → 0 < before k → Nests (into k) ws → p ws ≡ refused u 0 → ⊥) → StepAgrees N before into out R (go p)
   off : {u : Bool} → ((ws rest : List Word) (a : A) → R ws a rest → ⊥) → StepAgrees N before into out R (stop u)

@@ -21,7 +21,8 @@ MayStand class.Open k = k < 64
 MayStand class.Close k = 0 < k
 MayStand _ k = ⊤
 
--- the words close the k brackets that are open before them, and all that they open, of which at most 64 are open at once
+-- the words close the k brackets that are open before them, and all that they open, of which at most 64 are open at
+-- once
 abbrev pub Nests : ℕ → List Word → Type 0
 Nests k [] = k ≡ 0
 Nests k (w ∷ ws) = MayStand (class_of w) k × Nests (after (class_of w) k) ws
@@ -38,7 +39,8 @@ bracket_at kind.Close place [] more = Some (ExtraClose place)
 bracket_at kind.Close place (p ∷ places) more = more places
 bracket_at _ place places more = more places
 
--- the first fault of the brackets, where the places of those that are open before the words are given, the innermost first
+-- the first fault of the brackets, where the places of those that are open before the words are given, the innermost
+-- first
 unfoldable pub bracket_fault : List ℕ → List Word → Option TextFault
 bracket_fault places [] = innermost places
 bracket_fault places (w ∷ ws) = bracket_at w.kind w.place places (λ p. bracket_fault p ws)

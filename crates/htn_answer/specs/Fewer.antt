@@ -10,7 +10,8 @@ abbrev pub FinishesLive : {C : Type 0} → WordMachine C → Type 0
 FinishesLive m = (word : List ℕ) → IsFinishing m word → Finishes (IsLiveStep m) (IsDone m) m.initials word
 
 module _ {C : Type 0} (m few : WordMachine C) (initial_of : ℕ → ℕ) (number_of : C → ℕ → ℕ) where
-  -- `few` has some of the numbers that are not dead, in their order: `initial_of` and `number_of` tell which. What it leaves out leads where a lower
+  -- `few` has some of the numbers that are not dead, in their order: `initial_of` and `number_of` tell which. What it
+  -- leaves out leads where a lower
   -- number leads that it has
   pub record HasEnough : Type 0 where
     pub is_done : (c : C) → few.is_done c ≡ m.is_done c

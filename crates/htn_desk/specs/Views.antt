@@ -58,12 +58,14 @@ pub record Sits (size : Size) (v : View) : Type 0 where
   pub of_desk : 0 < v.seats → v.size ≡ size
   pub ended : v.ended ≤ v.seats
 
--- the numbers below both the draw word and `pieces` were drawn, each once, and no others; the draw word is their number and that of the seats that have ended. So a seat has ended only if the draw word is above `pieces`
+-- the numbers below both the draw word and `pieces` were drawn, each once, and no others; the draw word is their number
+-- and that of the seats that have ended. So a seat has ended only if the draw word is above `pieces`
 pub record Numbers (pieces draw : ℕ) (views : List View) : Type 0 where
   pub drawn : (x : ℕ) → draws x views ≡ once_below x (min draw pieces)
   pub counted : draw ≡ min draw pieces + sum_by (λ v. v.ended) views
 
--- the least word is the greatest u64 if there is no report, and else the least report; each seen value is a report, and not below the least word
+-- the least word is the greatest u64 if there is no report, and else the least report; each seen value is a report, and
+-- not below the least word
 pub record Places (least : ℕ) (views : List View) : Type 0 where
   pub lowest : (x : ℕ) → 0 < reports x views → (least ≤ x) × (x < no_place)
   pub reached : least < no_place → 0 < reports least views

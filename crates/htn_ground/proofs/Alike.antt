@@ -15,18 +15,22 @@ use Rattle.htn_ground.proofs.Completions.{completions_leaf, filter_none, relatio
 
 -- ## A choice by its parts: values, an object, the rest
 
+-- values, one object more, and the rest
 abbrev whole : List ℕ → ℕ → List ℕ → List ℕ
 whole values o rest = (values ++ o ∷ []) ++ rest
 
+-- the object stands behind the values
 at_object : (values rest : List ℕ) (o : ℕ) → get_or (whole values o rest) (length values) 0 ≡ o
 at_object [] rest o = refl
 at_object (v ∷ values) rest o = at_object values rest o
 
+-- the values stand before it
 at_value : (values rest : List ℕ) (o k : ℕ) → k < length values → get_or (whole values o rest) k 0 ≡ get_or values k 0
 at_value [] rest o k below = absurd (omega arith)
 at_value (v ∷ values) rest o zero below = refl
 at_value (v ∷ values) rest o (suc k) below = at_value values rest o k (omega arith)
 
+-- elsewhere another object makes no difference
 at_other : (values rest : List ℕ) (o p k : ℕ) → (k ≡ length values → ⊥) → get_or (whole values o rest) k 0 ≡ get_or (whole values p rest) k 0
 at_other [] rest o p zero other = absurd (other refl)
 at_other [] rest o p (suc k) other = refl
@@ -35,13 +39,16 @@ at_other (v ∷ values) rest o p (suc k) other = at_other values rest o p k (λ 
 
 -- ## One relation
 
+-- equal numbers, as a test
 is_same : (m n : ℕ) → m ≡ n → eqb n m ≡ true
 is_same m n e = grind (arith, nat_tests)
 
 module _ (positive : Bool) (a b : ℕ) (values rest : List ℕ) (o : ℕ) where
+  -- the parameter that gets an object
   abbrev n : ℕ
   n = length values
 
+  -- what the equality says of an object there
   abbrev test : ℕ → ℕ → Bool
   test = single_of positive (term_after values a) (term_after values b)
 
@@ -59,30 +66,37 @@ module _ (positive : Bool) (a b : ℕ) (values rest : List ℕ) (o : ℕ) where
       ∙ sym (ap (λ c. not c || beq positive (eqb o (get_or values a 0))) (is_same b n e))
       ∙ (λ i. single_of positive (sym (known values a below) i) (sym (unknown values b (omega arith)) i) n o)
 
+-- a test against true
 beq_true : (b : Bool) → b ≡ beq true b
 beq_true true = refl
 beq_true false = refl
 
+-- a test against false
 beq_false : (b : Bool) → not b ≡ beq false b
 beq_false true = refl
 beq_false false = refl
 
+-- equal numbers, by the test
 is_equal : (m n : ℕ) → eqb m n ≡ true → m ≡ n
 is_equal m n e = grind (arith, nat_tests)
 
+-- different numbers, by the test
 differs : (m n : ℕ) → eqb m n ≡ false → m ≡ n → ⊥
 differs m n e is = true≢false (sym (is_same n m (sym is)) ∙ e)
 
+-- neither of two
 or_false : (a b : Bool) → (a || b) ≡ false → (a ≡ false) × (b ≡ false)
 or_false true b e = absurd (true≢false e)
 or_false false b e = (refl, e)
 
+-- one of two numbers is this one
 either : (a b n : ℕ) → (eqb a n || eqb b n) ≡ true → (a ≡ n) ⊎ (b ≡ n)
 either a b n e = elim (eqb a n) as (λ c. eqb a n ≡ c → (c || eqb b n) ≡ true → (a ≡ n) ⊎ (b ≡ n)) [
   | true ↦ λ f _. inl (is_equal a n f)
   | false ↦ λ _ f. inr (is_equal b n f)
 ] refl e
 
+-- neither of two numbers is this one
 neither : (a b n : ℕ) → (eqb a n || eqb b n) ≡ false → (a ≡ n → ⊥) × (b ≡ n → ⊥)
 neither a b n e =
     let parts = or_false (eqb a n) (eqb b n) e in
@@ -103,6 +117,7 @@ holds_apart (Different a b) values rest o p apart =
     let others = neither a b (length values) apart in
     λ i. not (eqb (at_other values rest o p a others.0 i) (at_other values rest o p b others.1 i))
 
+-- a relation that doesn't start here holds alike for objects that it allows
 holds_alike : (r : Relation) (values rest : List ℕ) (o p : ℕ) → (relation_start r ≡ length values → ⊥) → relation_single values r (length values) o ≡ true → relation_single values r (length values) p ≡ true
     → relation_holds r (whole values o rest) ≡ relation_holds r (whole values p rest)
 holds_alike r values rest o p other so sp = elim (relation_names r (length values)) as (λ b. relation_names r (length values) ≡ b → relation_holds r (whole values o rest) ≡ relation_holds r (whole values p rest)) [
@@ -110,6 +125,7 @@ holds_alike r values rest o p other so sp = elim (relation_names r (length value
   | false ↦ λ e. holds_apart r values rest o p e
 ] refl
 
+-- and fails for those that it doesn't
 holds_not : (r : Relation) (values rest : List ℕ) (o : ℕ) → (relation_start r ≡ length values → ⊥) → relation_single values r (length values) o ≡ false → relation_holds r (whole values o rest) ≡ false
 holds_not r values rest o other so = elim (relation_names r (length values)) as (λ b. relation_names r (length values) ≡ b → relation_holds r (whole values o rest) ≡ false) [
   | true ↦ λ e. holds_named r values rest o other e ∙ so
@@ -118,19 +134,23 @@ holds_not r values rest o other so = elim (relation_names r (length values)) as 
 
 -- ## All relations
 
+-- none of the relations starts here
 starts_other : (m n : ℕ) (b : Bool) → (eqb m n || b) ≡ false → (m ≡ n → ⊥) × (b ≡ false)
 starts_other m n b e =
     let parts = or_false (eqb m n) b e in
     (differs m n parts.0, parts.1)
 
+-- the first of both
 and_first : (a b : Bool) → (a && b) ≡ true → a ≡ true
 and_first true b e = refl
 and_first false b e = cc
 
+-- the second of both
 and_second : (a b : Bool) → (a && b) ≡ true → b ≡ true
 and_second true b e = e
 and_second false b e = cc
 
+-- where none of the relations starts here, all hold alike for objects that all allow
 pub all_alike : (relations : List Relation) (values rest : List ℕ) (o p : ℕ) → some_starts_at relations (length values) ≡ false
     → relation_singles relations values (length values) o ≡ true → relation_singles relations values (length values) p ≡ true
     → relations_hold relations (whole values o rest) ≡ relations_hold relations (whole values p rest)
@@ -139,6 +159,7 @@ all_alike (r ∷ relations) values rest o p starts so sp =
     let others = starts_other (relation_start r) (length values) (some_starts_at relations (length values)) starts in
     λ i. holds_alike r values rest o p others.0 (and_first _ _ so) (and_first _ _ sp) i && all_alike relations values rest o p others.1 (and_second _ _ so) (and_second _ _ sp) i
 
+-- and some fails for an object that not all allow
 all_fail : (relations : List Relation) (values rest : List ℕ) (o : ℕ) → some_starts_at relations (length values) ≡ false
     → relation_singles relations values (length values) o ≡ false → relations_hold relations (whole values o rest) ≡ false
 all_fail [] values rest o starts so = so
@@ -156,20 +177,25 @@ all_fail (r ∷ relations) values rest o starts so =
 
 -- ## One value more
 
+-- one of two, by the first
 or_first : (a b : Bool) → a ≡ true → (a || b) ≡ true
 or_first true b e = refl
 or_first false b e = cc
 
+-- one of two, by the second
 or_last : (a b : Bool) → b ≡ true → (a || b) ≡ true
 or_last true b e = refl
 or_last false b e = e
 
+-- no smaller, by the test
 at_most : (m n : ℕ) → ltb m n ≡ false → n ≤ m
 at_most m n e = grind (arith, nat_tests)
 
+-- a smaller number, as a test
 below : (m n : ℕ) → m < n → ltb m n ≡ true
 below m n h = grind (arith, nat_tests)
 
+-- what lies beyond one place and isn't the next lies beyond the next
 deeper : (m n k : ℕ) → k ≡ m + 1 → (n ≡ m + 1 → ⊥) → ltb m n ≡ true → ltb k n ≡ true
 deeper m n k is other e = below k n (past (is_below m n e))
   where
@@ -190,14 +216,17 @@ depth_other (Different a b) n apart e =
     let right : (b ≡ n → ⊥) = (neither a b n apart).1 in
     omega (arith, e, left, right)
 
+-- one value more
 length_longer : (values : List ℕ) (o : ℕ) → length (values ++ o ∷ []) ≡ length values + 1
 length_longer values o = omega (arith, length-append values (o ∷ []))
 
+-- a relation that doesn't name the parameter stays as it was
 bound_apart : (r : Relation) (values : List ℕ) (o : ℕ) (b : Bool) → relation_names r (length values) ≡ false → ltb (length values) (relation_depth r) ≡ b → (b || relation_holds r values) ≡ true
     → (ltb (length (values ++ o ∷ [])) (relation_depth r) || relation_holds r (values ++ o ∷ [])) ≡ true
 bound_apart r values o true apart deep holds = or_first _ _ (deeper (length values) (relation_depth r) (length (values ++ o ∷ [])) (length_longer values o) (depth_other r (length values) apart) deep)
 bound_apart r values o false apart low holds = or_last _ _ (relation_holds-append r values (o ∷ []) (at_most (length values) (relation_depth r) low) ∙ holds)
 
+-- a relation that doesn't start here is decided by its one object
 bound_one : (r : Relation) (values : List ℕ) (o : ℕ) → (relation_start r ≡ length values → ⊥) → (ltb (length values) (relation_depth r) || relation_holds r values) ≡ true → relation_single values r (length values) o ≡ true
     → (ltb (length (values ++ o ∷ [])) (relation_depth r) || relation_holds r (values ++ o ∷ [])) ≡ true
 bound_one r values o other holds so =
@@ -216,6 +245,7 @@ bound_more (r ∷ relations) values o starts holds so =
 
 -- ## Counting
 
+-- as many images pass as members whose images do
 length-filter-map : (p : List ℕ → Bool) (f : List ℕ → List ℕ) (xs : List (List ℕ)) → length (filter p (map f xs)) ≡ length (filter (λ x. p (f x)) xs)
 length-filter-map p f [] = refl
 length-filter-map p f (x ∷ xs) =
@@ -225,18 +255,23 @@ length-filter-map p f (x ∷ xs) =
     ]
 
 module _ (domains : List (List ℕ)) (relations : List Relation) (values : List ℕ) (starts : some_starts_at relations (length values) ≡ false) where
+  -- all relations allow the object here
   abbrev allows : ℕ → Bool
   allows = relation_singles relations values (length values)
 
+  -- the completions with an object here
   abbrev by : ℕ → List (List ℕ)
   by o = completions domains relations (values ++ o ∷ [])
 
+  -- what may follow it
   abbrev rests : ℕ → List (List ℕ)
   rests o = assignments (drop (length (values ++ o ∷ [])) domains)
 
+  -- the same may follow each object
   same_rests : (o p : ℕ) → rests o ≡ rests p
   same_rests o p = ap (λ m. assignments (drop m domains)) (length-append values (o ∷ []) ∙ sym (length-append values (p ∷ [])))
 
+  -- objects that are allowed have equally many completions
   by_alike : (o p : ℕ) → allows o ≡ true → allows p ≡ true → length (by o) ≡ length (by p)
   by_alike o p so sp =
       length-filter-map (relations_hold relations) (λ rest. whole values o rest) (rests o)
@@ -244,9 +279,11 @@ module _ (domains : List (List ℕ)) (relations : List Relation) (values : List 
       ∙ ap (λ (l : List (List ℕ)). length (filter (λ rest. relations_hold relations (whole values p rest)) l)) (same_rests o p)
       ∙ sym (length-filter-map (relations_hold relations) (λ rest. whole values p rest) (rests p))
 
+  -- those that aren't have none
   pub by_none : (o : ℕ) → allows o ≡ false → by o ≡ []
   by_none o so = filter_none (relations_hold relations) (values ++ o ∷ []) (λ rest. all_fail relations values rest o starts so) (rests o)
 
+  -- so a run has as many as it has allowed objects, times those of one
   pub run_alike : (p : ℕ) → allows p ≡ true → (run : List ℕ) → length (flat_map by run) ≡ length (filter allows run) * length (by p)
   run_alike p sp [] = omega arith
   run_alike p sp (o ∷ run) =
@@ -258,6 +295,7 @@ module _ (domains : List (List ℕ)) (relations : List Relation) (values : List 
       one_more : (each count : ℕ) → each + count * each ≡ suc count * each
       one_more each count = grind arith
 
+  -- and none where none is allowed
   pub run_none : (run : List ℕ) → filter allows run ≡ [] → length (flat_map by run) ≡ 0
   run_none [] none = refl
   run_none (o ∷ run) none =

@@ -20,24 +20,30 @@ use Rattle.htn_ground.proofs.Classified.{turned}
 
 -- ## Ascending numbers without one
 
+-- a number isn't among greater ones
 none_above : (x : ℕ) (xs : List ℕ) → All (λ y. nat_cmp x y ≡ Less) xs → list_any (eqb x) xs ≡ false
 none_above x xs above = list_any_none (eqb x) xs (λ k d below. unsigned_ties x (get_or xs k d) ∙ ap is_eq (above k d below))
 
+-- equal numbers, by the test
 is_equal : (m n : ℕ) → eqb m n ≡ true → n ≡ m
 is_equal m n e = grind (arith, nat_tests)
 
+-- the first of both
 and_first : (a b : Bool) → (a && b) ≡ true → a ≡ true
 and_first true b e = refl
 and_first false b e = cc
 
+-- the second of both
 and_second : (a b : Bool) → (a && b) ≡ true → b ≡ true
 and_second true b e = e
 and_second false b e = cc
 
+-- not both, where the second isn't
 and_false : (a b : Bool) → b ≡ false → (a && b) ≡ false
 and_false true b e = e
 and_false false b e = refl
 
+-- one member that is or isn't counted apart
 stands : (b c : Bool) (y : ℕ) (xs ys : List ℕ) → c ≡ b → length ys ≡ length xs → length ys + cond c 1 0 ≡ length (cond b (y ∷ xs) xs)
 stands true c y xs ys e same = ap (λ d. length ys + cond d 1 0) e ∙ one_more (length ys) (length xs) same
   where
@@ -48,6 +54,7 @@ stands false c y xs ys e same = ap (λ d. length ys + cond d 1 0) e ∙ no_more 
     no_more : (m n : ℕ) → m ≡ n → m + 0 ≡ n
     no_more m n e = omega arith
 
+-- one member more that is kept or not
 later : (b : Bool) (n y : ℕ) (xs ys : List ℕ) → length ys + n ≡ length xs → length (cond (b && true) (y ∷ ys) ys) + n ≡ length (cond b (y ∷ xs) xs)
 later true n y xs ys same = both_more (length ys) n (length xs) same
   where
@@ -55,14 +62,17 @@ later true n y xs ys same = both_more (length ys) n (length xs) same
     both_more k m n e = omega arith
 later false n y xs ys same = same
 
+-- nothing is counted of what doesn't pass
 gone : (b c : Bool) (m n : ℕ) → b ≡ false → m + cond (b && c) 1 0 ≡ n → m ≡ n
 gone true c m n e sum = absurd cc
 gone false c m n e sum = omega (arith, sum)
 
 module _ (p : ℕ → Bool) (x : ℕ) where
+  -- passes, and isn't this one
   abbrev without : ℕ → Bool
   without o = p o && not (eqb o x)
 
+  -- in an ascending list one less passes, if this one does and stands there
   pub length-without : (xs : List ℕ) → IsStrictlySortedBy nat_cmp xs → length (filter without xs) + cond (list_any (eqb x) xs && p x) 1 0 ≡ length (filter p xs)
   length-without [] up = refl
   length-without (y ∷ xs) up =
@@ -78,10 +88,12 @@ module _ (p : ℕ → Bool) (x : ℕ) where
             ∙ later (p y) (cond (list_any (eqb x) xs && p x) 1 0) y (filter p xs) (filter without xs) (length-without xs (sorted_tail nat_cmp y xs up))
       ] refl
 
+-- nothing passes a test that none passes
 filter_nothing : (p : ℕ → Bool) → ((o : ℕ) → p o ≡ false) → (xs : List ℕ) → filter p xs ≡ []
 filter_nothing p fails [] = refl
 filter_nothing p fails (x ∷ xs) = ap (λ b. cond b (x ∷ filter p xs) (filter p xs)) (fails x) ∙ filter_nothing p fails xs
 
+-- equal numbers, as a test
 is_itself : (o x : ℕ) → o ≡ x → eqb o x ≡ true
 is_itself o x e = grind (arith, nat_tests)
 
@@ -99,9 +111,11 @@ length-only p x only xs up =
     none true o h = ap not (is_itself o x (h refl))
     none false o h = refl
 
+-- where only this one may pass and doesn't, none does
 pub nothing-only : (p : ℕ → Bool) (x : ℕ) → ((o : ℕ) → p o ≡ true → o ≡ x) → (xs : List ℕ) → IsStrictlySortedBy nat_cmp xs → (list_any (eqb x) xs && p x) ≡ false → filter p xs ≡ []
 nothing-only p x only xs up fails = nil_from_length (filter p xs) (length-only p x only xs up ∙ ap (λ b. cond b 1 0) fails)
 
+-- a member that doesn't pass makes no difference to whether this one stands there
 differ : (b l q : Bool) → (b ≡ true → q ≡ false) → (l && q) ≡ ((b || l) && q)
 differ true l q h = and_false l q (h refl) ∙ sym (h refl)
 differ false l q h = refl
@@ -122,6 +136,7 @@ only_kept p x only (y ∷ xs) up =
           ∙ ap (λ b. cond b (x ∷ []) []) (differ (eqb x y) (list_any (eqb x) xs) (p x) (λ h. ap p (sym (is_equal x y h)) ∙ e))
     ] refl
 
+-- one of two, by the second
 or_later : (a b : Bool) → b ≡ true → (a || b) ≡ true
 or_later true b h = refl
 or_later false b h = h
@@ -135,15 +150,18 @@ all_kept p (y ∷ xs) passes =
 
 -- ## One relation more
 
+-- a test against true
 beq_true : (b : Bool) → beq true b ≡ b
 beq_true true = refl
 beq_true false = refl
 
+-- a test against false
 beq_false : (b : Bool) → beq false b ≡ not b
 beq_false true = refl
 beq_false false = refl
 
 module _ (relations : List Relation) (values : List ℕ) (place : ℕ) where
+  -- all relations allow the object at the place
   abbrev allows : ℕ → Bool
   allows = relation_singles relations values place
 
@@ -152,9 +170,11 @@ module _ (relations : List Relation) (values : List ℕ) (place : ℕ) where
   allows_first n = relation_singles (take n relations) values place
 
   module _ (i : ℕ) (d : Relation) (below : i < length relations) where
+    -- the next relation
     abbrev here : Relation
     here = get_or relations i d
 
+    -- an object is allowed by one relation more
     allows_more : (o : ℕ) → allows_first (i + 1) o ≡ (allows_first i o && relation_single values here place o)
     allows_more o =
         ap (λ (rs : List Relation). relation_singles rs values place o) (take_more relations i d below)

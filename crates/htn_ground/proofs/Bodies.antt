@@ -10,13 +10,16 @@ use Rattle.htn_task.specs.declared.formula.Formula.{Formula, ForAll, the_lemmas}
 use Rattle.htn_task.specs.Formulas.{formula_of, formulas_view}
 use Rattle.htn_ground.specs.Shown.{stands_in, stands_in_any}
 
+-- a `forall` as the definitions have it
 pub view-ForAll : (types : Vec ℕ Global) (body : Vec Formula Global) → formula_of (ForAll types body) ≡ model.for_all types.items (model.formulas_of (formulas_view body.items))
 view-ForAll types body = search (rules, the_lemmas)
 
+-- the places of a body are those of its formulas
 pub places-body : (t : Task) (fs : List model.Formula) → formulas_places t (model.formulas_of fs) ≡ flat_map (formula_places t) fs
 places-body t [] = refl
 places-body t (f ∷ fs) = ap (λ l. formula_places t f ++ l) (places-body t fs)
 
+-- the literals of a body are those of its formulas
 literals-body : (t : Task) (values : List ℕ) (fs : List model.Formula) → literals_in_all t values (model.formulas_of fs) ≡ flat_map (literals_in t values) fs
 literals-body t values [] = refl
 literals-body t values (f ∷ fs) = ap (λ l. literals_in t values f ++ l) (literals-body t values fs)
@@ -29,6 +32,7 @@ literals-bodies t values fs (choice ∷ choices) = λ i. literals-body t (values
 
 -- ## Parameters in a formula
 
+-- a parameter stands in a body where it does in a formula of it
 pub stands-body : (place : ℕ) (fs : List model.Formula) → stands_in_any place (model.formulas_of fs) ≡ list_any (stands_in place) fs
 stands-body place [] = refl
 stands-body place (f ∷ fs) = ap (λ b. stands_in place f || b) (stands-body place fs)
@@ -40,5 +44,6 @@ stands_here place [] i f below is stands = absurd (omega arith)
 stands_here place (y ∷ items) zero f below is stands = ap (λ b. b || list_any (stands_in place) (formulas_view items)) (stands ∙ ap (λ g. stands_in place (formula_of g)) is)
 stands_here place (y ∷ items) (suc i) f below is stands = stands_here place items i f (omega arith) is stands
 
+-- past the body it stands nowhere
 pub stands_nowhere : (place : ℕ) (items : List Formula) (i : ℕ) → length items ≤ i → false ≡ list_any (stands_in place) (formulas_view (drop i items))
 stands_nowhere place items i past = ap (λ l. list_any (stands_in place) (formulas_view l)) (sym (drop_all i items past))

@@ -23,14 +23,17 @@ relation_holds-append (Different a b) values rest h =
     let places = below_max a b (length values) h in
     (λ i. not (eqb (get_or_append_left values rest 0 a places.0 i) (get_or_append_left values rest 0 b places.1 i)))
 
+-- neither of two
 or_false : (a b : Bool) → (a || b) ≡ false → (a ≡ false) × (b ≡ false)
 or_false true b e = cc
 or_false false b e = (refl, e)
 
+-- not both, where the second isn't
 and_false : (a b : Bool) → b ≡ false → (a && b) ≡ false
 and_false true b e = e
 and_false false b e = refl
 
+-- no smaller, by the test
 ltb_false : (m n : ℕ) → ltb m n ≡ false → n ≤ m
 ltb_false m n e = grind (arith, nat_tests)
 
@@ -44,15 +47,18 @@ fails (r ∷ relations) values rest e =
           ap (λ b. b && relations_hold relations (values ++ rest)) (relation_holds-append r values rest (ltb_false _ _ parts.0) ∙ parts.1)
     ] refl e
 
+-- nothing passes that begins with values that none passes with
 pub filter_none : (p : List ℕ → Bool) (values : List ℕ) → ((rest : List ℕ) → p (values ++ rest) ≡ false) → (rests : List (List ℕ)) → filter p (map (λ rest. values ++ rest) rests) ≡ []
 filter_none p values none [] = refl
 filter_none p values none (rest ∷ rests) =
     ap (λ b. cond b ((values ++ rest) ∷ filter p (map (λ w. values ++ w) rests)) (filter p (map (λ w. values ++ w) rests))) (none rest) ∙ filter_none p values none rests
 
+-- where a relation between values fails there are no completions
 pub completions_none : (domains : List (List ℕ)) (relations : List Relation) (values : List ℕ) → bound_relations_hold relations values ≡ false → completions domains relations values ≡ []
 completions_none domains relations values e =
     filter_none (relations_hold relations) values (λ rest. fails relations values rest e) (assignments (drop (length values) domains))
 
+-- no smaller, as a test
 ltb_true : (m n : ℕ) → n ≤ m → ltb m n ≡ false
 ltb_true m n h = grind (arith, nat_tests)
 
@@ -62,6 +68,7 @@ all_bound [] values of = refl
 all_bound (r ∷ relations) values of =
     (λ i. (ltb_true (length values) (relation_depth r) (of 0 r (omega arith)) i || relation_holds r values) && all_bound relations values (All-tail (λ r. relation_depth r ≤ length values) r relations of) i)
 
+-- where all parameters have values these are the one completion
 pub completions_leaf : (domains : List (List ℕ)) (relations : List Relation) (values : List ℕ) → AreRelationsOf relations (length domains) → length values ≡ length domains
     → bound_relations_hold relations values ≡ true → completions domains relations values ≡ values ∷ []
 completions_leaf domains relations values of long holds =
@@ -76,6 +83,7 @@ map_longer : (values : List ℕ) (object : ℕ) (rests : List (List ℕ)) → ma
 map_longer values object [] = refl
 map_longer values object (rest ∷ rests) = (λ i. sym (append_assoc values (object ∷ []) rest) i ∷ map_longer values object rests i)
 
+-- what passes is gathered object by object
 each_object : (p : List ℕ → Bool) (values : List ℕ) (rests : List (List ℕ)) (objects : List ℕ)
     → filter p (map (λ rest. values ++ rest) (flat_map (λ object. map (λ rest. object ∷ rest) rests) objects)) ≡ flat_map (λ object. filter p (map (λ rest. (values ++ object ∷ []) ++ rest) rests)) objects
 each_object p values rests [] = refl
@@ -85,6 +93,7 @@ each_object p values rests (object ∷ objects) =
     ∙ filter-append p (map (λ rest. values ++ rest) (map (λ rest. object ∷ rest) rests)) (map (λ rest. values ++ rest) later)
     ∙ (λ i. filter p (map_longer values object rests i) ++ each_object p values rests objects i)
 
+-- what is gathered of equal pieces is equal
 same_pieces : (f g : ℕ → List (List ℕ)) → ((o : ℕ) → f o ≡ g o) → (objects : List ℕ) → flat_map f objects ≡ flat_map g objects
 same_pieces f g same [] = refl
 same_pieces f g same (o ∷ objects) = (λ i. same o i ++ same_pieces f g same objects i)
@@ -106,6 +115,7 @@ completions_step domains relations values domain below is =
     ap (λ (ds : List (List ℕ)). filter p (map (λ rest. values ++ rest) (assignments ds))) next
     ∙ completions_run domains relations values domain
 
+-- nothing in front changes nothing
 map_same : (rests : List (List ℕ)) → map (λ rest. [] ++ rest) rests ≡ rests
 map_same [] = refl
 map_same (rest ∷ rests) = ap (λ l. rest ∷ l) (map_same rests)

@@ -19,6 +19,7 @@ use Rattle.htn_ground.specs.Search.{fixed_holds, is_bound, AreLiteralsOf, is_rul
 
 -- ## counting
 
+-- as many choices as objects times those of the rest
 length_pieces : (rests : List (List ℕ)) (objects : List ℕ) → length (flat_map (λ item. map (λ rest. item ∷ rest) rests) objects) ≡ length objects * length rests
 length_pieces rests [] = omega arith
 length_pieces rests (item ∷ objects) =
@@ -26,21 +27,26 @@ length_pieces rests (item ∷ objects) =
     ∙ (λ i. length-map rests (λ (rest : List ℕ). item ∷ rest) i + length_pieces rests objects i)
     ∙ grind arith
 
+-- the number of assignments is the product of the lists' lengths
 pub length-assignments : (domains : List (List ℕ)) → length (assignments domains) ≡ product domains
 length-assignments [] = refl
 length-assignments (objects ∷ domains) = length_pieces (assignments domains) objects ∙ ap (λ n. length objects * n) (length-assignments domains)
 
+-- the first of both
 and_first : (a b : Bool) → (a && b) ≡ true → a ≡ true
 and_first true b e = refl
 and_first false b e = cc
 
+-- the second of both
 and_second : (a b : Bool) → (a && b) ≡ true → b ≡ true
 and_second true b e = e
 and_second false b e = cc
 
+-- no greater, by the test
 leb_true : (m n : ℕ) → leb m n ≡ true → m ≤ n
 leb_true m n e = grind (arith, nat_tests)
 
+-- no smaller, as a test
 not_below : (m n : ℕ) → n ≤ m → ltb m n ≡ false
 not_below m n h = grind (arith, nat_tests)
 
@@ -56,6 +62,7 @@ product_more domains i count size next domain below is long times whole =
 -- ## literals
 
 module _ (state : State) where
+  -- terms that have values have the same with more
   same_arguments : (values rest : List ℕ) (terms : List Term) → list_all (is_among (length values)) terms ≡ true → map (value_of (values ++ rest)) terms ≡ map (value_of values) terms
   same_arguments values rest [] bound = refl
   same_arguments values rest (parameter p ∷ terms) bound =
@@ -66,6 +73,7 @@ module _ (state : State) where
       is_below n m e = grind (arith, nat_tests)
   same_arguments values rest (object o ∷ terms) bound = ap (λ l. o ∷ l) (same_arguments values rest terms bound)
 
+  -- a literal that has all its values holds just so with more
   fixed_holds-append : (values rest : List ℕ) (l : FixedLiteral) → is_bound (length values) l ≡ true → fixed_holds state (values ++ rest) l ≡ fixed_holds state values l
   fixed_holds-append values rest l bound =
       ap (λ (arguments : List ℕ). literal_holds state (atom l.is_positive (record { predicate = l.predicate; arguments = arguments }))) (same_arguments values rest (terms_of l.arguments.items) bound)
@@ -85,6 +93,7 @@ module _ (state : State) where
       or_later true b e = refl
       or_later false b e = e
 
+  -- with all values, ruled out so far is ruled out
   dead_whole : (literals : List FixedLiteral) (values : List ℕ) → AreLiteralsOf literals (length values) → is_ruled_out_so_far state literals values ≡ is_ruled_out state literals values
   dead_whole [] values of = refl
   dead_whole (l ∷ literals) values of =
@@ -92,6 +101,7 @@ module _ (state : State) where
 
   -- ## live assignments and their numbers
 
+  -- numbers of two lists go on
   enumerate_append : (n : ℕ) (xs ys : List (List ℕ)) → enumerate_from n (xs ++ ys) ≡ enumerate_from n xs ++ enumerate_from (n + length xs) ys
   enumerate_append n [] ys = let e : n ≡ n + 0 = omega arith in ap (λ m. enumerate_from m ys) e
   enumerate_append n (x ∷ xs) ys =
@@ -99,6 +109,7 @@ module _ (state : State) where
       ap (λ l. (n, x) ∷ l) (enumerate_append (n + 1) xs ys ∙ ap (λ m. enumerate_from (n + 1) xs ++ enumerate_from m ys) e)
 
   module _ (literals : List FixedLiteral) where
+    -- the live ones of two lists, with their numbers
     pub live_from-append : (n : ℕ) (xs ys : List (List ℕ)) → live_from state literals n (xs ++ ys) ≡ live_from state literals n xs ++ live_from state literals (n + length xs) ys
     live_from-append n xs ys =
         ap (filter (λ p. not (is_ruled_out state literals p.1))) (enumerate_append n xs ys)
@@ -117,6 +128,7 @@ module _ (state : State) where
           | false ↦ live_none n relations values dead rests
         ]
 
+    -- values that are not ruled out are live
     pub live_leaf : (n : ℕ) (values : List ℕ) → AreLiteralsOf literals (length values) → is_ruled_out_so_far state literals values ≡ false
         → live_from state literals n (values ∷ []) ≡ (n, values) ∷ []
     live_leaf n values of live = ap (λ b. cond (not b) ((n, values) ∷ []) []) (sym (dead_whole literals values of) ∙ live)

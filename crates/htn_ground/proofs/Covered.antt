@@ -21,22 +21,27 @@ use Rattle.htn_ground.proofs.Counting.{dead_more}
 use Rattle.htn_ground.proofs.Gathered.{Each, Each-append, gathered-append, gathered_join, none_passes, seen, seen-append, seen_more}
 use Rattle.htn_ground.proofs.Lists.{flat_map_more}
 
+-- one of two, by the first
 or_first : (a b : Bool) → a ≡ true → (a || b) ≡ true
 or_first a b e = ap (λ c. c || b) e
 
+-- one of two, by the second
 or_last : (a b : Bool) → b ≡ true → (a || b) ≡ true
 or_last true b e = refl
 or_last false b e = e
 
+-- a list is cut in two
 split_at : (n : ℕ) (xs : List ℕ) → n ≤ length xs → xs ≡ take n xs ++ drop n xs
 split_at zero xs h = refl
 split_at (suc n) [] h = absurd (omega arith)
 split_at (suc n) (x ∷ xs) h = ap (λ l. x ∷ l) (split_at n xs (omega arith))
 
 module _ (state : State) (literals : List FixedLiteral) (shown : List Bool) (passes : Network → Bool) (make : List ℕ → Instance) (ignores : Ignores state literals shown passes make) where
+  -- the network at values
   abbrev net : List ℕ → Network
   net values = (make values).network
 
+  -- one with the network of a member was seen
   one_seen : (xs : List (List ℕ)) (x y : List ℕ) → Contains xs x → net x ≡ net y → seen passes make xs y ≡ true
   one_seen [] x y (k, below, is) e = absurd (omega arith)
   one_seen (z ∷ xs) x y (zero, below, is) e = or_first _ _ ((network_eq-decides (net z) (net y)).1 (ap net is ∙ e))
@@ -44,6 +49,7 @@ module _ (state : State) (literals : List FixedLiteral) (shown : List Bool) (pas
 
   -- ## Dead choices
 
+  -- no completion of values that are ruled out passes
   dead_each : (relations : List Relation) (values : List ℕ) → is_ruled_out_so_far state literals values ≡ true → (rests : List (List ℕ))
       → Each passes make (λ y. passes (net y) ≡ false) (filter (relations_hold relations) (map (λ rest. values ++ rest) rests))
   dead_each relations values dead [] = tt
@@ -297,6 +303,7 @@ some_longer f objects from to order some =
     ∙ ap length (flat_map-append f (take from objects) (take (to - from) (drop from objects))) ∙ length-append (flat_map f (take from objects)) (flat_map f (take (to - from) (drop from objects))) in
     omega (arith, split, some)
 
+-- where some of the first objects give something, all do
 pub some_all : (f : ℕ → List (List ℕ)) (objects : List ℕ) (n : ℕ) → 0 < length (flat_map f (take n objects)) → 0 < length (flat_map f objects)
 some_all f objects n some = elim (leb n (length objects)) as (λ b. leb n (length objects) ≡ b → 0 < length (flat_map f objects)) [
   | true ↦ λ e. subst (λ (l : List ℕ). 0 < length (flat_map f l)) (take_all (length objects) objects (omega arith)) (some_longer f objects n (length objects) (at_most n (length objects) e) some)

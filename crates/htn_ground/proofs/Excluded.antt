@@ -20,10 +20,12 @@ excludes_from state literals i depth l c inside is at bound agrees values o long
     list_any_at (λ m. is_bound (length all) m && not (fixed_holds state all m)) literals i l inside
     (ap (λ (m : FixedLiteral). is_bound (length all) m && not (fixed_holds state all m)) (sym is) ∙ (λ j. binds j && not (agrees values o e j)))
 
+-- the first of both
 and_first : (a b : Bool) → (a && b) ≡ true → a ≡ true
 and_first true b e = refl
 and_first false b e = cc
 
+-- the second of both
 and_second : (a b : Bool) → (a && b) ≡ true → b ≡ true
 and_second true b e = e
 and_second false b e = cc

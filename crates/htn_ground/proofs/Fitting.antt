@@ -12,15 +12,19 @@ use Rattle.htn_ground.proofs.Counting.{live_more}
 use Rattle.htn_ground.proofs.Lists.{flat_map_more}
 use Rattle.htn_ground.proofs.Skipped.{live_skip}
 
+-- a smaller number, as a test
 is_below : (m n : ℕ) → m < n → ltb m n ≡ true
 is_below m n h = grind (arith, nat_tests)
 
+-- one that is no smaller, as a test
 is_past : (m n : ℕ) → n ≤ m → ltb m n ≡ false
 is_past m n h = grind (arith, nat_tests)
 
+-- what the test says of a smaller number
 below : (m n : ℕ) → ltb m n ≡ true → m < n
 below m n e = grind (arith, nat_tests)
 
+-- and of one that is no smaller
 past : (m n : ℕ) → ltb m n ≡ false → n ≤ m
 past m n e = grind (arith, nat_tests)
 
@@ -32,6 +36,7 @@ fits n h = ap (λ b. cond b (Some n) None) (is_below n (2 ^ 64) h)
 pub misfits : (n : ℕ) → 2 ^ 64 ≤ n → fitting n ≡ None
 misfits n h = ap (λ b. cond b (Some n) None) (is_past n (2 ^ 64) h)
 
+-- the number that a choice gives
 some_by : (b : Bool) (m n : ℕ) → Some m ≡ cond b (Some n) None → m ≡ n
 some_by true m n e = cc
 some_by false m n e = absurd cc
@@ -40,6 +45,7 @@ some_by false m n e = absurd cc
 pub fitting_some : (m n : ℕ) → Some m ≡ fitting n → m ≡ n
 fitting_some m n e = some_by (ltb n (2 ^ 64)) m n e
 
+-- a number that doesn't fit is past 64 bits
 none_by : (b : Bool) (n : ℕ) → ltb n (2 ^ 64) ≡ b → None ≡ cond b (Some n) None → 2 ^ 64 ≤ n
 none_by true n is e = absurd cc
 none_by false n is e = past n (2 ^ 64) is

@@ -25,6 +25,7 @@ use Rattle.htn_ground.specs.Candidates.{atom_of, is_excluded, rows_of}
 
 -- ## An atom grows with the object of the last parameter
 
+-- a number is smaller than one that it isn't past, or the same
 below_or_same : (x y : ℕ) → x ≤ y → (nat_cmp x y ≡ Less) ⊎ (x ≡ y)
 below_or_same x y h = by (cases_order x y)
   where
@@ -33,16 +34,19 @@ below_or_same x y h = by (cases_order x y)
     by (inr (inl below)) = inl (sym (nat_cmp_is x y Less below))
     by (inr (inr above)) = absurd (omega arith)
 
+-- a parameter's value grows with the last one
 value_grows : (values : List ℕ) (x y p : ℕ) → x ≤ y → get_or (values ++ x ∷ []) p 0 ≤ get_or (values ++ y ∷ []) p 0
 value_grows [] x y zero h = h
 value_grows [] x y (suc p) h = omega arith
 value_grows (v ∷ values) x y zero h = omega arith
 value_grows (v ∷ values) x y (suc p) h = value_grows values x y p h
 
+-- and so does a term's
 term_grows : (values : List ℕ) (x y : ℕ) (t : Term) → x ≤ y → value_of (values ++ x ∷ []) t ≤ value_of (values ++ y ∷ []) t
 term_grows values x y (parameter p) h = value_grows values x y p h
 term_grows values x y (object o) h = omega arith
 
+-- and so do arguments, in their order
 arguments_grow : (values : List ℕ) (x y : ℕ) (terms : List Term) → x ≤ y
     → (slice_cmp nat_cmp (map (value_of (values ++ x ∷ [])) terms) (map (value_of (values ++ y ∷ [])) terms) ≡ Less) ⊎ (map (value_of (values ++ x ∷ [])) terms ≡ map (value_of (values ++ y ∷ [])) terms)
 arguments_grow values x y [] h = inr refl
@@ -65,6 +69,7 @@ arguments_grow values x y (t ∷ terms) h = by (below_or_same a b (term_grows va
     by (inr same) (inl less) = inl (ap (λ o. ordering_then o (slice_cmp nat_cmp us vs)) (ap (nat_cmp a) (sym same) ∙ tied_itself nat_cmp_total a) ∙ less)
     by (inr same) (inr alike) = inr (λ i. same i ∷ alike i)
 
+-- and so does the atom
 atom_grows : (values : List ℕ) (x y : ℕ) (c : Candidates) → x ≤ y
     → (atom_cmp (atom_of (values ++ x ∷ []) c) (atom_of (values ++ y ∷ []) c) ≡ Less) ⊎ (atom_of (values ++ x ∷ []) c ≡ atom_of (values ++ y ∷ []) c)
 atom_grows values x y c h = by (arguments_grow values x y (terms_of c.arguments.items) h)
@@ -82,14 +87,17 @@ atom_grows values x y c h = by (arguments_grow values x y (terms_of c.arguments.
 
 -- ## Between two neighbours
 
+-- below what is below, or the same
 up_to : (x y z : Atom) → (atom_cmp x y ≡ Less) ⊎ (x ≡ y) → atom_cmp y z ≡ Less → atom_cmp x z ≡ Less
 up_to x y z (inl less) h = atom_cmp-total.trans x y z less h
 up_to x y z (inr same) h = subst (λ (a : Atom). atom_cmp a z ≡ Less) (sym same) h
 
+-- above what is above, or the same
 from_on : (x y z : Atom) → atom_cmp x y ≡ Less → (atom_cmp y z ≡ Less) ⊎ (y ≡ z) → atom_cmp x z ≡ Less
 from_on x y z h (inl less) = atom_cmp-total.trans x y z h less
 from_on x y z h (inr same) = subst (λ (a : Atom). atom_cmp x a ≡ Less) same h
 
+-- no atom between two that stand side by side is in the list
 none_between : (xs : List Atom) (low high q : Atom) (i : ℕ) → AllWithin (λ y. atom_cmp y low ≡ Less) xs 0 i
     → ((k : ℕ) (d : Atom) → i ≤ k → k < length xs → atom_cmp high (get_or xs k d) ≡ Less)
     → (atom_cmp low q ≡ Less) ⊎ (low ≡ q) → (atom_cmp q high ≡ Less) ⊎ (q ≡ high) → list_any (is_same q) xs ≡ false
@@ -117,6 +125,7 @@ below_later xs high next i sorted there is below k d late inside = by (cases_lt 
     by (inl h) = atom_cmp-total.trans high (get_or xs i d) (get_or xs k d) first (Less-from_sorted atom_cmp xs i k d sorted h inside)
     by (inr h) = let same : k ≡ i = omega arith in ap (λ n. atom_cmp high (get_or xs n d)) same ∙ first
 
+-- an ascending list is sorted, ties allowed
 sorted_ties : (xs : List Atom) → IsStrictlySortedBy atom_cmp xs → IsSortedBy (λ a b. is_lt (atom_cmp a b)) xs
 sorted_ties xs sorted k d low high =
     ap is_lt (atom_cmp-total.antisymm (get_or xs (k + 1) d) (get_or xs k d) ∙ ap ordering_reverse (Less-from_sorted atom_cmp xs k (k + 1) d sorted (omega arith) high))

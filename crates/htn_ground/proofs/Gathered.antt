@@ -17,12 +17,15 @@ use Rattle.htn_ground.proofs.Numbered.{method_more}
 
 -- ## Inserting
 
+-- two lists are put into a set one after the other
 pub insert_all-append : (kept xs ys : List Instance) → insert_all same_network kept (xs ++ ys) ≡ insert_all same_network (insert_all same_network kept xs) ys
 insert_all-append kept xs ys = fold-append (insert_key same_network) kept xs ys
 
+-- one of two, by the first
 or_first : (a b : Bool) → a ≡ true → (a || b) ≡ true
 or_first a b e = ap (λ c. c || b) e
 
+-- one of two, by the second
 or_last : (a b : Bool) → b ≡ true → (a || b) ≡ true
 or_last true b e = refl
 or_last false b e = e
@@ -34,6 +37,7 @@ any_after test kept i any = elim (list_any (same_network i) kept) as (λ b. list
   | false ↦ list_any-append test kept (i ∷ []) ∙ or_first _ _ any
 ]
 
+-- what is in the set stays
 any_kept : (test : Instance → Bool) (kept xs : List Instance) → list_any test kept ≡ true → list_any test (insert_all same_network kept xs) ≡ true
 any_kept test kept [] any = any
 any_kept test kept (x ∷ xs) any = any_kept test (insert_key same_network kept x) xs (any_after test kept x any)
@@ -42,13 +46,16 @@ any_kept test kept (x ∷ xs) any = any_kept test (insert_key same_network kept 
 alike : (i j k : Instance) → i.network ≡ j.network → same_network i k ≡ same_network j k
 alike i j k e = ap (λ (n : Network). network_eq n k.network) e
 
+-- instances with one network are the same to it
 alike_any : (i j : Instance) → i.network ≡ j.network → (kept : List Instance) → list_any (same_network i) kept ≡ list_any (same_network j) kept
 alike_any i j e [] = refl
 alike_any i j e (k ∷ kept) = λ l. alike i j k e l || alike_any i j e kept l
 
+-- an instance is the same as one with its network
 itself : (i j : Instance) → i.network ≡ j.network → same_network i j ≡ true
 itself i j e = (network_eq-decides i.network j.network).1 e
 
+-- what is the same has one network
 told : (i j : Instance) → same_network i j ≡ true → i.network ≡ j.network
 told i j e = (network_eq-decides i.network j.network).0 e
 
@@ -80,18 +87,22 @@ from_inserted kept (x ∷ xs) i is =
     added (k ∷ kept) x xs i (zero, below, is) = (zero, omega arith, is)
     added (k ∷ kept) x xs i (suc n, below, is) = later k (kept ++ x ∷ xs) i (added kept x xs i (n, omega arith, is))
 
+-- a distinct instance is one of the list
 pub Contains-distinct : (instances : List Instance) (i : Instance) → Contains (distinct instances) i → Contains instances i
 Contains-distinct instances i is = from_inserted [] instances i is
 
 -- ## Instances at values
 
 module _ (passes : Network → Bool) (make : List ℕ → Instance) where
+  -- the instances of values that pass
   abbrev of : List (List ℕ) → List Instance
   of values = filter (λ i. passes i.network) (map make values)
 
+  -- those of two lists
   pub of-append : (xs ys : List (List ℕ)) → of (xs ++ ys) ≡ of xs ++ of ys
   of-append xs ys = ap (filter (λ i. passes i.network)) (map-append make xs ys) ∙ filter-append (λ (i : Instance). passes i.network) (map make xs) (map make ys)
 
+  -- two lists are gathered one after the other
   pub gathered-append : (kept : List Instance) (xs ys : List (List ℕ)) → gathered passes make kept (xs ++ ys) ≡ gathered passes make (gathered passes make kept xs) ys
   gathered-append kept xs ys = ap (insert_all same_network kept) (of-append xs ys) ∙ insert_all-append kept (of xs) (of ys)
 
@@ -99,6 +110,7 @@ module _ (passes : Network → Bool) (make : List ℕ → Instance) where
   abbrev pub seen : List (List ℕ) → List ℕ → Bool
   seen xs y = list_any (λ x. same_network (make x) (make y)) xs
 
+  -- a network was seen in two lists where it was in one
   pub seen-append : (xs ys : List (List ℕ)) (y : List ℕ) → seen (xs ++ ys) y ≡ (seen xs y || seen ys y)
   seen-append xs ys y = list_any-append (λ x. same_network (make x) (make y)) xs ys
 
@@ -107,10 +119,12 @@ module _ (passes : Network → Bool) (make : List ℕ → Instance) where
   Each P [] = Unit {0}
   Each P (x ∷ xs) = P x × Each P xs
 
+  -- each of two lists
   pub Each-append : (P : List ℕ → Type 0) (xs ys : List (List ℕ)) → Each P xs → Each P ys → Each P (xs ++ ys)
   Each-append P [] ys h g = g
   Each-append P (x ∷ xs) ys h g = (h.0, Each-append P xs ys h.1 g)
 
+  -- what is put in, or has the network of it, was seen
   insert_seen : (kept : List Instance) (x y : List ℕ) → (make x).network ≡ (make y).network → list_any (same_network (make y)) (insert_key same_network kept (make x)) ≡ true
   insert_seen kept x y e = alike_any (make y) (make x) (sym e) (insert_key same_network kept (make x)) ∙ any_inserted (make x) kept
 
@@ -138,6 +152,7 @@ module _ (passes : Network → Bool) (make : List ℕ → Instance) where
         | false ↦ λ e. known_more kept ys known.1
       ] refl
 
+  -- where none passes the set stays
   pub none_passes : (kept : List Instance) (ys : List (List ℕ)) → Each (λ y. passes (make y).network ≡ false) ys → gathered passes make kept ys ≡ kept
   none_passes kept [] none = refl
   none_passes kept (y ∷ ys) none = ap (λ b. insert_all same_network kept (cond b (make y ∷ of ys) (of ys))) none.0 ∙ none_passes kept ys none.1
@@ -173,6 +188,7 @@ distinct_more t g methods i m number old new below is named so_far pushed =
     ∙ sym (insert_all-append [] (live before) (live (piece (i, m))))
     ∙ ap distinct (sym (filter-append (λ (x : Instance). is_live t x.network) before (piece (i, m))) ∙ ap live (sym (method_more piece methods i m below is)))
 
+-- all pass where each network does
 filter_any : (xs : List Instance) → filter (λ x. any_network x.network) xs ≡ xs
 filter_any [] = refl
 filter_any (x ∷ xs) = ap (λ l. x ∷ l) (filter_any xs)

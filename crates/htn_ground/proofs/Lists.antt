@@ -23,6 +23,7 @@ pieces_more f xs i x start done next below is so_far pushed =
 
 -- ## Choices by their last object
 
+-- choices of one object
 single_choices : (objects : List ℕ) → flat_map (λ o. map (λ rest. o ∷ rest) ([] ∷ [])) objects ≡ lengthened ([] ∷ []) objects
 single_choices objects = singles objects ∙ sym (append-nil (map (λ o. o ∷ []) objects))
   where
@@ -30,16 +31,19 @@ single_choices objects = singles objects ∙ sym (append-nil (map (λ o. o ∷ [
     singles [] = refl
     singles (o ∷ objects) = ap (λ l. (o ∷ []) ∷ l) (singles objects)
 
+-- an object in front of a choice that grows at its end
 longer_first : (x : ℕ) (choice : List ℕ) (objects : List ℕ) → map (λ o. (x ∷ choice) ++ o ∷ []) objects ≡ map (λ rest. x ∷ rest) (map (λ o. choice ++ o ∷ []) objects)
 longer_first x choice [] = refl
 longer_first x choice (o ∷ objects) = ap (λ l. (x ∷ (choice ++ o ∷ [])) ∷ l) (longer_first x choice objects)
 
+-- the same of all choices
 lengthened-first : (x : ℕ) (objects : List ℕ) (choices : List (List ℕ)) → lengthened (map (λ rest. x ∷ rest) choices) objects ≡ map (λ rest. x ∷ rest) (lengthened choices objects)
 lengthened-first x objects [] = refl
 lengthened-first x objects (choice ∷ choices) =
     (λ i. longer_first x choice objects i ++ lengthened-first x objects choices i)
     ∙ sym (map-append (λ rest. x ∷ rest) (map (λ o. choice ++ o ∷ []) objects) (lengthened choices objects))
 
+-- the same for each of some objects
 lengthened-pieces : (objects : List ℕ) (choices : List (List ℕ)) (xs : List ℕ)
     → flat_map (λ x. map (λ rest. x ∷ rest) (lengthened choices objects)) xs ≡ lengthened (flat_map (λ x. map (λ rest. x ∷ rest) choices) xs) objects
 lengthened-pieces objects choices [] = refl
@@ -47,12 +51,14 @@ lengthened-pieces objects choices (x ∷ xs) =
     (λ i. sym (lengthened-first x objects choices) i ++ lengthened-pieces objects choices xs i)
     ∙ sym (flat_map-append (λ choice. map (λ o. choice ++ o ∷ []) objects) (map (λ rest. x ∷ rest) choices) (flat_map (λ y. map (λ rest. y ∷ rest) choices) xs))
 
+-- assignments with one parameter more
 pub assignments-last : (domains : List (List ℕ)) (objects : List ℕ) → assignments (domains ++ objects ∷ []) ≡ lengthened (assignments domains) objects
 assignments-last [] objects = single_choices objects
 assignments-last (domain ∷ domains) objects =
     ap (λ (choices : List (List ℕ)). flat_map (λ x. map (λ rest. x ∷ rest) choices) domain) (assignments-last domains objects)
     ∙ lengthened-pieces objects (assignments domains) domain
 
+-- assignments to the types up to the next one
 pub assignments_more : (t : Task) (types : List ℕ) (i : ℕ) → i < length types
     → assignments (domains_of t (take (i + 1) types)) ≡ lengthened (assignments (domains_of t (take i types))) (objects_of t (get_or types i 0))
 assignments_more t types i below =

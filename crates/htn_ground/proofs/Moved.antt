@@ -21,6 +21,7 @@ use Rattle.htn_ground.specs.declared.fixed.FixedLiteral.{FixedLiteral}
 use Rattle.htn_ground.specs.Candidates.{AgreesWith, atom_of, moved_atom, moved_atoms, moved_last, rows_of}
 use Rattle.htn_ground.specs.Search.{fixed_atom}
 
+-- images are moved as their members are
 pub map-moved_last : {X Y : Type 0} (f : X → Y) (place : ℕ) (xs : List X) → map f (moved_last place xs) ≡ moved_last place (map f xs)
 map-moved_last f place xs =
     map-append f (remove xs place) (take 1 (drop place xs))
@@ -68,10 +69,12 @@ moved_true state predicate place q of long is =
     contains-set_of (map (moved_atom place) (filter fits (atoms_of state))) (moved_atom place q)
     ∙ moved_found place fits q (atoms_of state) (λ i. of i && long i) (sym (contains_key-keys state q) ∙ is)
 
+-- what implies something false is false
 false_by : (a b : Bool) → (a ≡ true → b ≡ true) → not b ≡ true → a ≡ false
 false_by true b h e = absurd (let yes : b ≡ true = h refl in cc)
 false_by false b h e = refl
 
+-- a plain literal holds where its atom is true
 positive_holds : (state : State) (positive : Bool) (a : Atom) → positive ≡ true → literal_holds state (atom positive a) ≡ contains state a
 positive_holds state true a e = refl
 positive_holds state false a e = absurd cc

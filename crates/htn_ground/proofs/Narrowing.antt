@@ -6,12 +6,14 @@ use Rattle.htn_model.specs.Instances.{assignments}
 use Rattle.htn_ground.specs.Search.{each_passes, narrowed}
 
 module _ (test : ℕ → ℕ → Bool) where
+  -- no choice passes with an object that fails
   dropped : (j object : ℕ) → test j object ≡ false → (rests : List (List ℕ)) → filter (each_passes test j) (map (λ rest. object ∷ rest) rests) ≡ []
   dropped j object fails [] = refl
   dropped j object fails (rest ∷ rests) =
       ap (λ b. cond (b && each_passes test (j + 1) rest) ((object ∷ rest) ∷ filter (each_passes test j) (map (λ w. object ∷ w) rests)) (filter (each_passes test j) (map (λ w. object ∷ w) rests))) fails
       ∙ dropped j object fails rests
 
+  -- with one that passes, the rest decides
   kept : (j object : ℕ) → test j object ≡ true → (rests : List (List ℕ)) → filter (each_passes test j) (map (λ rest. object ∷ rest) rests) ≡ map (λ rest. object ∷ rest) (filter (each_passes test (j + 1)) rests)
   kept j object passes [] = refl
   kept j object passes (rest ∷ rests) =
@@ -22,6 +24,7 @@ module _ (test : ℕ → ℕ → Bool) where
         | false ↦ kept j object passes rests
       ]
 
+  -- the same for each of some objects
   by_objects : (j : ℕ) (rests : List (List ℕ)) (objects : List ℕ)
       → filter (each_passes test j) (flat_map (λ object. map (λ rest. object ∷ rest) rests) objects)
       ≡ flat_map (λ object. map (λ rest. object ∷ rest) (filter (each_passes test (j + 1)) rests)) (filter (test j) objects)
@@ -35,6 +38,7 @@ module _ (test : ℕ → ℕ → Bool) where
         | false ↦ λ e. ap (λ l. l ++ flat_map piece (filter (test j) objects)) (dropped j object e rests)
       ] refl
 
+  -- the assignments that pass are those from narrowed lists
   pub filter-assignments : (j : ℕ) (domains : List (List ℕ)) → filter (each_passes test j) (assignments domains) ≡ assignments (narrowed test j domains)
   filter-assignments j [] = refl
   filter-assignments j (objects ∷ domains) =

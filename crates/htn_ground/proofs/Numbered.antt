@@ -25,6 +25,7 @@ use Rattle.htn_ground.proofs.Pinned.{among_term}
 
 -- ## Numbers
 
+-- numbers of two lists go on
 pub enumerate-append : {X : Type 0} (n : ℕ) (xs ys : List X) → enumerate_from n (xs ++ ys) ≡ enumerate_from n xs ++ enumerate_from (n + length xs) ys
 enumerate-append n [] ys = let e : n ≡ n + 0 = omega arith in ap (λ m. enumerate_from m ys) e
 enumerate-append n (x ∷ xs) ys =
@@ -68,6 +69,7 @@ module _ (t : Task) (number : ℕ) (m : MethodSchema) where
         | false ↦ λ e. ap (λ l. cond (not (is_dead (problem_of t) here.network)) ((n, here) ∷ l) l) (live_same literals dead (n + 1) vs)
       ] refl
 
+-- the live instances of two lists
 pub live-append : (t : Task) (xs ys : List (ℕ × Instance)) → live_instances t (xs ++ ys) ≡ live_instances t xs ++ live_instances t ys
 live-append t xs ys = filter-append (λ (p : ℕ × Instance). not (is_dead (problem_of t) p.1.network)) xs ys
 
@@ -89,6 +91,7 @@ next_fitted items xs i p d below is are =
     (short, is ∙ ap (λ l. get_or l i p) are ∙ get_or-map fitted xs i d p short)
 
 module _ (t : Task) (number : ℕ) (m : MethodSchema) where
+  -- the instance of numbered values, with its number
   abbrev here : ℕ × List ℕ → ℕ × Instance
   here p = (p.0, method_instance t number m p.1)
 
@@ -128,9 +131,11 @@ module _ (t : Task) (number : ℕ) (m : MethodSchema) where
 
 -- ## What a fixed literal rules out is dead
 
+-- one of two, by the first
 or_left : (a b : Bool) → a ≡ true → (a || b) ≡ true
 or_left a b h = ap (λ x. x || b) h
 
+-- one of two, by the second
 or_right : (a b : Bool) → b ≡ true → (a || b) ≡ true
 or_right true b h = refl
 or_right false b h = h
@@ -139,14 +144,17 @@ or_right false b h = h
 abbrev any_literal : Task → (Literal → Bool) → List ℕ → List Formula → Bool
 any_literal t test v formulas = list_any test (literals_of t v (state_formulas formulas))
 
+-- a literal that passes stands in the longer list too
 any_later : (t : Task) (test : Literal → Bool) (v : List ℕ) (f : Formula) (formulas : List Formula) → any_literal t test v formulas ≡ true → any_literal t test v (f ∷ formulas) ≡ true
 any_later t test v (literal p a) formulas h = or_right _ _ h
 any_later t test v (equation e) formulas h = h
 any_later t test v (for_all types body) formulas h = list_any-append test (literals_in t v (for_all types body)) (literals_of t v (state_formulas formulas)) ∙ or_right _ _ h
 
+-- what makes a step makes one with more formulas
 step_later : (f : Formula) (formulas : List Formula) → has_step formulas ≡ true → has_step (f ∷ formulas) ≡ true
 step_later f formulas h = or_right _ _ h
 
+-- a literal that stands in the list makes a step, which has it
 stands_step : (formulas : List Formula) (p : Bool) (a : AtomSchema) (k : ℕ) → k < length formulas → get_or formulas k (literal p a) ≡ literal p a
     → (has_step formulas ≡ true) × ((t : Task) (test : Literal → Bool) (v : List ℕ) → test (atom p (ground_atom v a)) ≡ true → any_literal t test v formulas ≡ true)
 stands_step [] p a k below is = absurd (omega arith)
@@ -158,20 +166,24 @@ stands_step (f ∷ formulas) p a (suc k) below is =
     let later = stands_step formulas p a k (omega arith) is in
     (step_later f formulas later.0, λ t test v h. any_later t test v f formulas (later.1 t test v h))
 
+-- a dead literal makes the network dead
 dead_network : (t : Task) (number : ℕ) (m : MethodSchema) (v : List ℕ) → has_step m.precondition ≡ true
     → any_literal t (is_dead_literal (problem_of t)) v m.precondition ≡ true → is_dead (problem_of t) (method_instance t number m v).network ≡ true
 dead_network t number m v step dead =
     ap (λ b. list_any (is_dead_child (problem_of t)) (cond b (precondition (literals_of t v (state_formulas m.precondition)) ∷ []) [] ++ map (λ s. child_of t (ground_task v s)) m.network.subtasks)) step
     ∙ or_left _ _ dead
 
+-- a fixed literal that is false at first is dead
 dead_literal : (t : Task) (v : List ℕ) (l : FixedLiteral) → is_changed t l.predicate ≡ false → fixed_holds t.initial_atoms v l ≡ false
     → is_dead_literal (problem_of t) (atom l.is_positive (ground_atom v (schema_of l))) ≡ true
 dead_literal t v l unchanged fails = λ i. not (unchanged i) && not (fails i)
 
+-- what isn't so is false
 not_false : (b : Bool) → not b ≡ true → b ≡ false
 not_false true h = absurd cc
 not_false false h = refl
 
+-- values that are ruled out make a dead network
 pub ruled_out_dead : (t : Task) (number : ℕ) (m : MethodSchema) (literals : List FixedLiteral) → All (IsFixed t m.precondition) literals
     → (v : List ℕ) → is_ruled_out t.initial_atoms literals v ≡ true → is_dead (problem_of t) (method_instance t number m v).network ≡ true
 ruled_out_dead t number m [] fixed v h = absurd cc
@@ -187,10 +199,12 @@ ruled_out_dead t number m (l ∷ literals) fixed v h =
 
 -- ## The literals of a method name its parameters
 
+-- terms of a schema are objects and its parameters
 terms_among : (t : Task) (n : ℕ) (terms : List Term) → All (IsTerm t n) terms → list_all (is_among n) terms ≡ true
 terms_among t n [] h = refl
 terms_among t n (x ∷ terms) h = λ i. among_term t n x (All-head (IsTerm t n) x terms h) i && terms_among t n terms (All-tail (IsTerm t n) x terms h) i
 
+-- and so are those of its fixed literals
 pub literals_bound : (t : Task) (m : MethodSchema) → IsMethodSchema t m → (literals : List FixedLiteral) → All (IsFixed t m.precondition) literals → AreLiteralsOf literals (length m.parameters)
 literals_bound t m typed [] fixed = All-nil (λ l. is_bound (length m.parameters) l ≡ true)
 literals_bound t m typed (l ∷ literals) fixed =
@@ -207,6 +221,7 @@ method_at t methods i m are typed below is =
 
 -- ## A loop's step
 
+-- the live instances of one method more
 pub live_step : (t : Task) (g : GroundTask) (methods : List MethodSchema) (i : ℕ) (m : MethodSchema) (number first next : ℕ) (literals : List FixedLiteral)
     (found new : List (ℕ × Instance)) (values : List (ℕ × List ℕ)) → i < length methods → m ≡ get_or methods i m → number ≡ i → All (IsFixed t m.precondition) literals
     → found ≡ live_instances t (enumerate_from 0 (flat_map (λ p. instances_of_method t g p.0 p.1) (enumerate_from 0 (take i methods))))

@@ -26,6 +26,7 @@ ascending_run objects from to sorted = sorted_from_strictly_increasing (take (to
     by k long below = omega (arith, at k (omega (arith, long)), at (k + 1) long, below_from_sorted objects (from + k) (from + (k + 1)) 0 sorted (omega arith) below)
 
 module _ (state : State) (literals : List FixedLiteral) (domains : List (List ℕ)) (relations : List Relation) (values : List ℕ) where
+  -- the completions with an object at the next parameter
   abbrev pieces : ℕ → List (List ℕ)
   pieces object = completions domains relations (values ++ object ∷ [])
 

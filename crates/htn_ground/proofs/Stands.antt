@@ -10,9 +10,11 @@ use Rattle.htn_task.specs.Formulas.{formula_of, formulas_view}
 use Rattle.htn_ground.specs.declared.fixed.FixedLiteral.{FixedLiteral}
 use Rattle.htn_ground.specs.Fixed.{IsFixed, schema_of}
 
+-- a literal as the definitions have it
 view-Literal : (p : Bool) (a : AtomSchema) → formula_of (Literal p a) ≡ model.literal p a
 view-Literal p a = search (rules, the_lemmas)
 
+-- a formula of the list stands in the definitions' list
 contains_view : (items : List Formula) (k : ℕ) (f : Formula) → k < length items → f ≡ get_or items k f → Contains (formulas_view items) (formula_of f)
 contains_view [] k f below is = absurd (omega arith)
 contains_view (y ∷ items) zero f below is = (0, omega arith, ap formula_of (sym is))
@@ -20,6 +22,7 @@ contains_view (y ∷ items) (suc k) f below is =
     let later = contains_view items k f (omega arith) is in
     (suc later.0, (let h : later.0 < length (formulas_view items) = later.1 in omega arith), later.2)
 
+-- a literal of the precondition whose predicate no effect names is a fixed one
 pub fixed_at : (t : Task) (pre : List model.Formula) (items : List Formula) (k : ℕ) (f : Formula) (p : Bool) (a : AtomSchema) (l : FixedLiteral)
     → k < length items → f ≡ get_or items k f → formulas_view items ≡ pre → f ≡ Literal p a → l.is_positive ≡ p → schema_of l ≡ a → false ≡ is_changed t a.predicate → IsFixed t pre l
 fixed_at t pre items k f p a l below is seen literal sign atom unchanged =

@@ -10,6 +10,7 @@ use Rattle.htn_ground.specs.declared.candidates.Candidates.{Candidates}
 use Rattle.htn_ground.specs.declared.fixed.FixedLiteral.{FixedLiteral}
 use Rattle.htn_ground.specs.Search.{fixed_holds, is_ruled_out_so_far}
 
+-- the atom of the candidates' literal under values
 abbrev pub atom_of : List ℕ → Candidates → Atom
 atom_of values c = record { predicate = c.predicate; arguments = map (value_of values) (terms_of c.arguments.items) }
 
@@ -36,11 +37,14 @@ Excludes state literals c =
 
 -- ## The argument of the parameter behind the others
 
+-- the item at the place is moved behind the others
 abbrev pub moved_last : {X : Type 0} → ℕ → List X → List X
 moved_last place items = remove items place ++ take 1 (drop place items)
 
+-- the argument at the place is moved behind the others
 abbrev pub moved_atom : ℕ → Atom → Atom
 moved_atom place a = record { predicate = a.predicate; arguments = moved_last place a.arguments }
 
+-- the state's atoms of the predicate that have such an argument, each moved so
 abbrev pub moved_atoms : State → ℕ → ℕ → State
 moved_atoms state predicate place = set_of (map (moved_atom place) (filter (λ a. nat_eq a.predicate predicate && nat_lt place (length a.arguments)) (atoms_of state)))

@@ -22,6 +22,7 @@ same_network = on (λ i. i.network) network_eq
 abbrev pub distinct : List Instance → List Instance
 distinct instances = insert_all same_network [] instances
 
+-- the network is not dead in the task's problem
 abbrev pub is_live : Task → Network → Bool
 is_live t network = not (is_dead (problem_of t) network)
 
@@ -29,6 +30,7 @@ is_live t network = not (is_dead (problem_of t) network)
 abbrev pub live_methods : Task → GroundTask → List Instance
 live_methods t g = filter (λ i. is_live t i.network) (methods_of t g)
 
+-- each network passes
 abbrev pub any_network : Network → Bool
 any_network network = true
 

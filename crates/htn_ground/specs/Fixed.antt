@@ -7,6 +7,7 @@ use Rattle.htn_model.specs.Grounding.{is_changed}
 use Rattle.htn_task.specs.Views.{terms_of}
 use Rattle.htn_ground.specs.declared.fixed.FixedLiteral.{FixedLiteral}
 
+-- the atom of a literal, without its sign
 abbrev pub schema_of : FixedLiteral → AtomSchema
 schema_of l = record { predicate = l.predicate; arguments = terms_of l.arguments.items }
 

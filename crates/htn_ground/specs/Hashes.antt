@@ -8,6 +8,7 @@ use Rattle.htn_model.specs.Problem.{GroundTask, Child, precondition, action, tas
 use Rattle.htn_model.specs.Equality.{child_eq-decides, child_eq-laws, ground_task_eq-decides}
 use Rattle.htn_state.specs.Views.{literals_hash}
 
+-- what a ground task feeds to a hasher
 abbrev pub ground_task_hash : GroundTask → HashWrites
 ground_task_hash t = fed.u32 t.name ++ fed.slice fed.u16 t.arguments
 
@@ -25,9 +26,11 @@ child_hash-Alike = same_Alike child_hash child_eq-decides
 
 -- ## Lists of nodes
 
+-- the lists have equal nodes, one by one
 abbrev pub children_eq : List Child → List Child → Bool
 children_eq = pointwise child_eq
 
+-- what a list of nodes feeds to a hasher
 abbrev pub children_hash : List Child → HashWrites
 children_hash = fed.slice child_hash
 

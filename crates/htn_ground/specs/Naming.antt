@@ -10,12 +10,15 @@ use Rattle.htn_task.specs.Numbers.{number_of}
 abbrev pub unnamed : Word
 unnamed = codes "?"
 
+-- the name of an object
 abbrev pub object_name : Task → ℕ → Word
 object_name t o = get_or t.objects o unnamed
 
+-- the name of a compound task or an action
 abbrev pub task_name : Task → ℕ → Word
 task_name t n = get_or (task_names t) n unnamed
 
+-- the name of a method, if there is one
 abbrev pub numbered_method_name : Task → Option ℕ → Word
 numbered_method_name t None = unnamed
 numbered_method_name t (Some m) = get_or (method_names t) m unnamed
@@ -29,10 +32,12 @@ abbrev pub objects_named : Task → List Word → Option (List ℕ)
 objects_named t [] = Some []
 objects_named t (w ∷ words) = option_and_then (λ o. option_and_then (λ os. Some (o ∷ os)) (objects_named t words)) (number_of t.objects w)
 
+-- the ground task that words name: its name, and objects for its arguments
 abbrev pub task_named : Task → Word → List Word → Option GroundTask
 task_named t w words =
     option_and_then (λ n. option_and_then (λ os. Some (record { name = n; arguments = os })) (objects_named t words)) (number_of (task_names t) w)
 
+-- the words of a task, both ways
 abbrev pub naming_of : Task → Naming
 naming_of t = record {
   named = task_named t;

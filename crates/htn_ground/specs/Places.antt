@@ -8,9 +8,11 @@ use Rattle.htn_model.specs.TaskCode.{term_code, equality_schema_code}
 use Rattle.htn_task.specs.Views.{term_of}
 use Rattle.htn_ground.specs.declared.conditions.Place.{Place}
 
+-- a place as the definitions have it: its term and its type
 abbrev pub place_of : Place → Term × ℕ
 place_of p = (term_of p.term, p.type_number)
 
+-- places as the definitions have them
 abbrev pub places_of : List Place → List (Term × ℕ)
 places_of places = map place_of places
 
@@ -18,6 +20,7 @@ places_of places = map place_of places
 abbrev pub among : ℕ → List (Term × ℕ) → List (Term × ℕ)
 among count places = filter (λ p. is_among count p.0) places
 
+-- conditions as values of the logic, by their parts
 abbrev pub conditions_code : Coded Conditions
 conditions_code =
     code_by (List ℕ × (List EqualitySchema × List (Term × ℕ)))

@@ -16,10 +16,12 @@ use Rattle.htn_ground.specs.declared.fixed.FixedLiteral.{FixedLiteral}
 
 -- ## Relations between two parameters
 
+-- the relation holds between the values at its two places
 abbrev pub relation_holds : Relation → List ℕ → Bool
 relation_holds (Same a b) values = slice_index values a == slice_index values b
 relation_holds (Different a b) values = not (slice_index values a == slice_index values b)
 
+-- the relation is an equality, and not a negated one
 abbrev pub is_equality : Relation → Bool
 is_equality (Same a b) = true
 is_equality (Different a b) = false
@@ -29,6 +31,7 @@ abbrev pub relation_depth : Relation → ℕ
 relation_depth (Same a b) = max a b + 1
 relation_depth (Different a b) = max a b + 1
 
+-- all relations hold of the values
 abbrev pub relations_hold : List Relation → List ℕ → Bool
 relations_hold relations values = list_all (λ r. relation_holds r values) relations
 
@@ -66,16 +69,20 @@ abbrev pub place_constant : Task → Term × ℕ → Bool
 place_constant t (object o, type) = has_type t type o
 place_constant t (parameter p, type) = true
 
+-- the object has the type of the place, if that holds this parameter
 abbrev pub place_single : Task → Term × ℕ → ℕ → ℕ → Bool
 place_single t (object x, type) j o = true
 place_single t (parameter p, type) j o = not (j == p) || has_type t type o
 
+-- the equalities between objects hold, and objects have the types of the places that they stand in
 abbrev pub constants_hold : Task → Conditions → Bool
 constants_hold t c = list_all (λ e. constant_of e.is_positive e.left e.right) c.equalities && list_all (place_constant t) c.places
 
+-- all equalities allow the object at the parameter, as far as they name no other
 abbrev pub equality_singles : List EqualitySchema → ℕ → ℕ → Bool
 equality_singles equalities j o = list_all (λ e. single_of e.is_positive e.left e.right j o) equalities
 
+-- the object has the types of all places of the parameter
 abbrev pub place_singles : Task → List (Term × ℕ) → ℕ → ℕ → Bool
 place_singles t places j o = list_all (λ p. place_single t p j o) places
 
@@ -87,6 +94,7 @@ singles_of t c j o = equality_singles c.equalities j o && place_singles t c.plac
 abbrev pub all_relations : List EqualitySchema → List Relation
 all_relations equalities = flat_map (λ e. relations_of e.is_positive e.left e.right) equalities
 
+-- the relations of the conditions' equalities
 abbrev pub all_relations_of : Conditions → List Relation
 all_relations_of c = all_relations c.equalities
 
@@ -94,6 +102,7 @@ all_relations_of c = all_relations c.equalities
 abbrev pub AreAmong : ℕ → EqualitySchema → Type 0
 AreAmong count e = (is_among count e.left ≡ true) × (is_among count e.right ≡ true)
 
+-- the terms of the conditions are objects and their own parameters
 pub record AreBound (c : Conditions) : Type 0 where
   pub equalities : All (AreAmong (length c.parameters)) c.equalities
   pub places : All (λ p. is_among (length c.parameters) p.0 ≡ true) c.places
@@ -136,6 +145,7 @@ abbrev pub relation_single : List ℕ → Relation → ℕ → ℕ → Bool
 relation_single values (Same a b) = single_of true (term_after values a) (term_after values b)
 relation_single values (Different a b) = single_of false (term_after values a) (term_after values b)
 
+-- all relations whose other parameter has a value allow the object at the parameter
 abbrev pub relation_singles : List Relation → List ℕ → ℕ → ℕ → Bool
 relation_singles relations values j o = list_all (λ r. relation_single values r j o) relations
 
@@ -146,9 +156,11 @@ product (objects ∷ domains) = length objects * product domains
 
 -- ## Literals that never change
 
+-- the atom of a literal under values
 abbrev pub fixed_atom : List ℕ → FixedLiteral → Atom
 fixed_atom values l = record { predicate = l.predicate; arguments = map (value_of values) (terms_of l.arguments.items) }
 
+-- the literal holds in the state under values
 abbrev pub fixed_holds : State → List ℕ → FixedLiteral → Bool
 fixed_holds state values l = literal_holds state (atom l.is_positive (fixed_atom values l))
 

@@ -22,10 +22,12 @@ abbrev mutual
   stands_in place (equation e) = is_parameter place e.left || is_parameter place e.right
   stands_in place (for_all types body) = stands_in_any place body
 
+  -- the parameter stands in one of the formulas
   pub stands_in_any : ℕ → Formulas → Bool
   stands_in_any place no_formulas = false
   stands_in_any place (formula f fs) = stands_in place f || stands_in_any place fs
 
+-- the parameter is an argument of the task
 abbrev pub stands_in_task : ℕ → TaskSchema → Bool
 stands_in_task place s = list_any (is_parameter place) s.arguments
 
@@ -33,7 +35,8 @@ stands_in_task place s = list_any (is_parameter place) s.arguments
 abbrev pub is_shown : List Formula → List TaskSchema → ℕ → Bool
 is_shown precondition subtasks place = list_any (stands_in place) (state_formulas precondition) || list_any (stands_in_task place) subtasks
 
--- the networks of the instances do not depend on the parameters that are not shown, and none passes that a literal rules out
+-- the networks of the instances do not depend on the parameters that are not shown, and none passes that a literal
+-- rules out
 pub record Ignores (state : State) (literals : List FixedLiteral) (shown : List Bool) (passes : Network → Bool) (make : List ℕ → Instance) : Type 0 where
   pub hidden : (values more : List ℕ) (o x : ℕ) → get_or shown (length values) true ≡ false → (make (values ++ o ∷ more)).network ≡ (make (values ++ x ∷ more)).network
   pub ruled_out : (values : List ℕ) → is_ruled_out state literals values ≡ true → passes (make values).network ≡ false

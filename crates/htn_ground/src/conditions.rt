@@ -190,7 +190,7 @@ fn push_all_task_places(
     Ok(())
 }
 
-/// The same equality.
+/// A copy of an equality.
 fn copied(equality: &EqualitySchema) -> EqualitySchema
     ensures { result ≡ equality.now }
 {

@@ -4,7 +4,8 @@ use Rattle.htn_level.specs.declared.order.Expanded.{Expanded}
 use Rattle.htn_level.specs.declared.order.Expanded.TheVariants.{Whole, Done}
 
 module _ {S : Type 0} (has_successors : ℕ → List S → Type 0) where
-  -- the successors of the ranks from `first` on and below `last`: each rank has its list of them, and the lists stand end to end
+  -- the successors of the ranks from `first` on and below `last`: each rank has its list of them, and the lists stand
+  -- end to end
   pub record AreSuccessors (first last : ℕ) (successors : List S) : Type 0 where
     pub lists : List (List S)
     pub count : first + length lists ≡ last

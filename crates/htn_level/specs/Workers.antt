@@ -13,7 +13,8 @@ use Rattle.htn_level.specs.Level.{AreSuccessors, IsExpanded}
 abbrev pub CanExpandAll : (ℕ → Type 0) → (first last : ℕ) → Type 0
 CanExpandAll can_expand first last = (rank : ℕ) → first ≤ rank → rank < last → can_expand rank
 
--- a level is cut into pieces of so many ranks, the last one possibly shorter: where the piece of this number begins, and where it ends
+-- a level is cut into pieces of so many ranks, the last one possibly shorter: where the piece of this number begins,
+-- and where it ends
 abbrev pub piece_first : (first size number : ℕ) → ℕ
 piece_first first size number = first + number * size
 
@@ -45,7 +46,8 @@ module _ {S F : Type 0} (has_successors : ℕ → List S → Type 0) (finishes :
   IsOutcome number seen (Ran expanded) = IsExpanded has_successors finishes (piece_first first size number) (piece_last first last size number) expanded
   IsOutcome number seen (Skipped skip) = Contains seen skip.seen × (skip.first ≡ piece_first first size number)
 
-  -- there is one result for each number that was drawn; the ranks found were reported and no others; each result is right
+  -- there is one result for each number that was drawn; the ranks found were reported and no others; each result is
+  -- right
   pub record Brings (drawn reported seen : List ℕ) (pieces : List (Piece S F)) : Type 0 where
     pub numbers : map (λ p. p.number) pieces ≡ drawn
     pub places : flat_map (λ p. places_of p.outcome) pieces ≡ reported

@@ -31,11 +31,13 @@ child_apart : (P : Option Node → Type 0) (place : Place) (k : ℕ) (n : Node) 
 child_apart P place k n ns q (r, e, is) (i, s, f, at) = first_apart place r s k i (sym (append_assoc place (k ∷ []) r) ∙ sym e ∙ f)
 
 mutual
+  -- no place stands twice among a tree's leaves and steps
   primitives_distinct : (place : Place) (n : Node) → IsWithoutRepeats (primitives place n)
   primitives_distinct place (leaf g) = ((λ i. i), tt)
   primitives_distinct place (step literals) = ((λ i. i), tt)
   primitives_distinct place (compound t number nodes) = all_primitives_distinct place 0 nodes
 
+  -- the same of trees from the k-th child on
   pub all_primitives_distinct : (place : Place) (k : ℕ) (ns : Nodes) → IsWithoutRepeats (primitives_from place k ns)
   all_primitives_distinct place k no_nodes = tt
   all_primitives_distinct place k (node n ns) =
@@ -45,6 +47,7 @@ mutual
       (all_in (FromAt IsPrimitive place (suc k) ns) q _ (primitives_from_stand place (suc k) ns) j))
 
 mutual
+  -- no place stands twice among a tree's compound nodes
   compounds_distinct : (place : Place) (n : Node) → IsWithoutRepeats (compounds place n)
   compounds_distinct place (leaf g) = tt
   compounds_distinct place (step literals) = tt
@@ -53,6 +56,7 @@ mutual
     all_compounds_distinct place 0 nodes,
   )
 
+  -- the same of trees from the k-th child on
   pub all_compounds_distinct : (place : Place) (k : ℕ) (ns : Nodes) → IsWithoutRepeats (compounds_from place k ns)
   all_compounds_distinct place k no_nodes = tt
   all_compounds_distinct place k (node n ns) =

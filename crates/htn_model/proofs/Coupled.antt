@@ -236,12 +236,14 @@ module _ (problem : Problem) (grounded : IsGrounded problem) (states : ℕ → S
       k.forward (λ i p. k.starts (i ∷ p)) (λ i p. k.ends (i ∷ p)) k.keeps (λ i p. k.steps (i ∷ p))
 
   mutual
+    -- a node sits in its span
     pub sits : (n : Node) (slots : Slots) (g h : ℕ) → Keeps slots n g h → Sits problem states slots n g h
     sits (leaf named) slots g h k = (k.starts [] tt, let e = k.ends [] tt in omega arith)
     sits (step literals) slots g h k = (k.starts [] tt, (let e = k.ends [] tt in omega arith), k.steps [] literals refl)
     sits (compound t number nodes) slots g h k =
         let s = spread t number nodes slots g h k in (s.start, s.finish, s.spans, all_sit nodes slots 0 s.start s.finish s.each)
 
+    -- and so does each of its children
     pub all_sit : (ns : Nodes) (slots : Slots) (k : ℕ) (start finish : ℕ → ℕ)
         → ((i : ℕ) (m : Node) → child_at ns i ≡ Some m → Keeps (λ p. slots ((k + i) ∷ p)) m (start (k + i)) (finish (k + i)))
         → AllSit problem states slots k ns start finish

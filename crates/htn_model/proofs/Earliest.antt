@@ -1,4 +1,5 @@
--- Where each child of a network in turn starts as soon as it may and finishes as early as it can, none finishes later than anywhere.
+-- Where each child of a network in turn starts as soon as it may and finishes as early as it can, none finishes later
+-- than anywhere.
 use Rattle.std.proofs.Common.{◌≡◌, ℕ, zero, suc, ◌≤◌, ◌<◌, true, arith}
 use Rattle.htn_model.specs.Problem.{Order, is_before}
 use Rattle.htn_model.specs.Fits.{AreSpans}

@@ -23,12 +23,14 @@ module _ (network : Network) (rest : List Child) (starts : network.children ≡ 
   instance_is false number n h = absurd cc
 
   mutual
+    -- no tree has such a root
     no_tree : (n : Node) → root n ≡ task (named 0) → IsTree (sketched (endless network)) n → ⊥
     no_tree (leaf g) e h = absurd cc
     no_tree (step literals) e h = absurd cc
     no_tree (compound t number nodes) e h =
         no_trees nodes rest (h.2 ∙ ap (λ (n : Network). n.children) (instance_is (ground_task_eq (named 0) t) number h.0 h.1) ∙ starts) h.3
 
+    -- nor do trees begin with it
     no_trees : (ns : Nodes) (later : List Child) → roots ns ≡ task (named 0) ∷ later → AreTrees (sketched (endless network)) ns → ⊥
     no_trees no_nodes later e h = absurd cc
     no_trees (node n ns) later e h = let first : root n ≡ task (named 0) = cc in no_tree n first h.0

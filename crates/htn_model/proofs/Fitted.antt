@@ -134,10 +134,12 @@ module _ (naming : Naming) (file : PlanFile) (forest : IsForest file) (trees : N
           ((root_of_child nodes a m there ∙ ap Some (shaded_root naming _ m p shades), more.0), (m, there, shades, more.1))
 
   mutual
+    -- a plan tree is shaded by the tree that it shows
     pub shade : (p : PlanTree) → Shown p
     shade (action_at g i) = shade_action g i
     shade (decomposition t method plans) = shade_decomposition t method plans (shade_all plans)
 
+    -- and so are plan trees
     pub shade_all : (plans : PlanTrees) → AllShown plans
     shade_all no_plans = λ ids shows place nodes finds positions has e. (nothing_mapped (λ a. id_at (place ++ a ∷ [])) positions (sym shows ∙ e), tt)
     shade_all (plan p plans) = shade_plan p plans (shade p) (shade_all plans)

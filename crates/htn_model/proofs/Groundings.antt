@@ -232,7 +232,8 @@ needing_both = refl
 
 -- ## A precondition over all objects
 
--- boxes are of type 1; the method's precondition is that each is done, and the action's that each is done and the object 0
+-- boxes are of type 1; the method's precondition is that each is done, and the action's that each is done and the
+-- object 0
 abbrev boxes : List Name → List ℕ → Task
 boxes names numbers = record only_objects {
   objects = names;

@@ -94,7 +94,8 @@ with_id id ids [] = id
 with_id id ids (a ∷ q) = ids (a ∷ q)
 
 abbrev mutual
-  -- each leaf and each compound node has a line of its task with its id, and the compound node's line lists the ids of its children
+  -- each leaf and each compound node has a line of its task with its id, and the compound node's line lists the ids of
+  -- its children
   pub Marks : Naming → PlanFile → Slots → (Place → ℕ) → Node → Type 0
   Marks naming file slots ids (leaf g) =
       (line : ActionLine) × (slice_get file.actions (slots []) ≡ Some line) × (line.id ≡ ids []) × (naming.named line.name line.arguments ≡ Some g)
@@ -105,6 +106,7 @@ abbrev mutual
       × IsRearrangementOf line.children (map (id_below ids) (subtask_positions 0 (roots nodes)))
       × AllMarks naming file slots ids 0 nodes
 
+  -- the same of trees from the k-th child on
   pub AllMarks : Naming → PlanFile → Slots → (Place → ℕ) → ℕ → Nodes → Type 0
   AllMarks naming file slots ids i no_nodes = Unit {0}
   AllMarks naming file slots ids i (node n ns) =
@@ -369,6 +371,7 @@ module _ (naming : Naming) (problem : Problem) (file : PlanFile) (states : ℕ �
         by (Some a) e = (a, e)
 
     mutual
+      -- a plan tree that has room is laid out in it
       pub lay : (p : PlanTree) (id g h : ℕ) → ShowsTree naming file id p → Fits naming problem states p g h
           → (y : Laid) × (IsLaid (child_of p) g h y × (y.ids [] ≡ id))
       lay (action_at t i) id g h (line, there, is, named) (low, high) = (
@@ -400,6 +403,7 @@ module _ (naming : Naming) (problem : Problem) (file : PlanFile) (states : ℕ �
             ),
           )
 
+      -- and so are plan trees, each in its span
       pub lay_all : (plans : PlanTrees) (positions ids : List ℕ) (children : List Child) (start finish : ℕ → ℕ) → StandAt children positions plans
           → ShowTrees naming file ids plans → AllFit naming problem states positions plans start finish
           → AllOf (λ a id p. (y : Laid) × LaidAt start finish a id p y) positions ids plans

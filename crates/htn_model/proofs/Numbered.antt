@@ -71,6 +71,7 @@ later_child : (P : Option Node → Type 0) (place : Place) (k : ℕ) (n : Node) 
 later_child P place k n ns q (i, r, e, is) = (suc i, r, e ∙ shifted place r (suc k + i) (k + suc i) (omega arith), is)
 
 mutual
+  -- leaves and steps stand at their places
   pub primitives_stand : (place : Place) (n : Node) → AllByRecursion (At IsPrimitive place n) (primitives place n)
   primitives_stand place (leaf g) = (([], sym (append-nil place), tt), tt)
   primitives_stand place (step literals) = (([], sym (append-nil place), tt), tt)
@@ -78,6 +79,7 @@ mutual
       all_map (FromAt IsPrimitive place 0 nodes) (At IsPrimitive place (compound t number nodes)) (primitives_from place 0 nodes)
       (child_below IsPrimitive place t number nodes) (primitives_from_stand place 0 nodes)
 
+  -- the same of trees from the k-th child on
   pub primitives_from_stand : (place : Place) (k : ℕ) (ns : Nodes) → AllByRecursion (FromAt IsPrimitive place k ns) (primitives_from place k ns)
   primitives_from_stand place k no_nodes = tt
   primitives_from_stand place k (node n ns) =
@@ -95,6 +97,7 @@ IsCompound (Some (step literals)) = ⊥
 IsCompound (Some (compound t number nodes)) = Unit {0}
 
 mutual
+  -- compound nodes stand at their places
   pub compounds_stand : (place : Place) (n : Node) → AllByRecursion (At IsCompound place n) (compounds place n)
   compounds_stand place (leaf g) = tt
   compounds_stand place (step literals) = tt
@@ -104,6 +107,7 @@ mutual
         (child_below IsCompound place t number nodes) (compounds_from_stand place 0 nodes),
   )
 
+  -- the same of trees from the k-th child on
   pub compounds_from_stand : (place : Place) (k : ℕ) (ns : Nodes) → AllByRecursion (FromAt IsCompound place k ns) (compounds_from place k ns)
   compounds_from_stand place k no_nodes = tt
   compounds_from_stand place k (node n ns) =
@@ -124,6 +128,7 @@ not_below : (P : Option Node → Type 0) (r : Place) → (P None → ⊥) → P 
 not_below P r not h = not (subst P (nothing_below r) h)
 
 mutual
+  -- the place of a leaf or step is listed
   primitive_in : (place : Place) (n : Node) (r : Place) → IsPrimitive (node_below (Some n) r) → In (place ++ r) (primitives place n)
   primitive_in place (leaf g) [] h = inl (append-nil place)
   primitive_in place (leaf g) (i ∷ r) h = absurd (not_below IsPrimitive r (λ x. x) h)
@@ -133,6 +138,7 @@ mutual
   primitive_in place (compound t number nodes) (i ∷ r) h =
       subst (λ q. In q (primitives_from place 0 nodes)) (shifted place r (0 + i) i (omega arith)) (primitive_in_from place 0 nodes i r h)
 
+  -- the same of trees from the k-th child on
   primitive_in_from : (place : Place) (k : ℕ) (ns : Nodes) (i : ℕ) (r : Place) → IsPrimitive (node_below (child_at ns i) r)
       → In (place ++ (k + i) ∷ r) (primitives_from place k ns)
   primitive_in_from place k no_nodes i r h = absurd (not_below IsPrimitive r (λ x. x) h)
@@ -145,6 +151,7 @@ mutual
       (subst (λ q. In q (primitives_from place (suc k) ns)) (shifted place r (suc k + i) (k + suc i) (omega arith)) (primitive_in_from place (suc k) ns i r h))
 
 mutual
+  -- the place of a compound node is listed
   compound_in : (place : Place) (n : Node) (r : Place) → IsCompound (node_below (Some n) r) → In (place ++ r) (compounds place n)
   compound_in place (leaf g) [] h = absurd h
   compound_in place (leaf g) (i ∷ r) h = absurd (not_below IsCompound r (λ x. x) h)
@@ -154,6 +161,7 @@ mutual
   compound_in place (compound t number nodes) (i ∷ r) h =
       inr (subst (λ q. In q (compounds_from place 0 nodes)) (shifted place r (0 + i) i (omega arith)) (compound_in_from place 0 nodes i r h))
 
+  -- the same of trees from the k-th child on
   compound_in_from : (place : Place) (k : ℕ) (ns : Nodes) (i : ℕ) (r : Place) → IsCompound (node_below (child_at ns i) r)
       → In (place ++ (k + i) ∷ r) (compounds_from place k ns)
   compound_in_from place k no_nodes i r h = absurd (not_below IsCompound r (λ x. x) h)

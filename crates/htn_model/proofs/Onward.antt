@@ -115,6 +115,7 @@ module _ (problem : Problem) (grounded : IsGrounded problem) (order : Order) (tr
         peels = subst (λ ys. next (splice i ys front) rest) (sym (no_children_at problem x primitive)) peels;
       }
 
+  -- by whether a compound task is free
   by : (front : List Placed) (list : List Place) (c : Config) (number : ℕ) (next : Peeling) → Followed front list c
       → (o : Option ℕ) → first_free_compound (front_roots front) (fo front) ≡ o → PeelsBy precedes number next o front list → Onward front list c number next
   by front list c number next f (Some i) first p = onward_compound front list c i number next f first p.0 p.1

@@ -107,11 +107,13 @@ all_map P Q [] f h = tt
 all_map P Q (x ∷ xs) f h = (f x h.0, all_map P Q xs f h.1)
 
 mutual
+  -- leaves and steps stand below the place of their tree
   pub primitives_under : (place : Place) (n : Node) → AllByRecursion (Under place) (primitives place n)
   primitives_under place (leaf g) = (([], sym (append-nil place)), tt)
   primitives_under place (step literals) = (([], sym (append-nil place)), tt)
   primitives_under place (compound t number nodes) = all_under place 0 nodes
 
+  -- the same of trees from the i-th child on
   all_under : (place : Place) (i : ℕ) (ns : Nodes) → AllByRecursion (Under place) (primitives_from place i ns)
   all_under place i no_nodes = tt
   all_under place i (node n ns) =

@@ -53,6 +53,7 @@ abbrev mutual
   IsWithin zero (decomposition t method plans) = ⊥
   IsWithin (suc depth) (decomposition t method plans) = AreWithin depth plans
 
+  -- all of the plans are within the depth
   pub AreWithin : ℕ → PlanTrees → Type 0
   AreWithin depth no_plans = Unit {0}
   AreWithin depth (plan p plans) = IsWithin depth p × AreWithin depth plans

@@ -53,6 +53,7 @@ module _ (naming : Naming) (problem : Problem) (states : ℕ → State) where
           ),
         )
 
+    -- the same of the children at these positions
     pub all_fit_shaded : (plans : PlanTrees) (slots : Slots) (nodes : Nodes) (positions : List ℕ) (start finish : ℕ → ℕ)
         → AreTrees problem nodes → AllSit problem states slots 0 nodes start finish → AllShade naming slots nodes positions plans
         → AllFit naming problem states positions plans start finish

@@ -89,6 +89,7 @@ pub shifted : (g : ℕ) (slots : Slots) (m : Option Node) (i j top : ℕ) → i 
 shifted g slots m i j top same is = subst (λ k. IsLastEnd g (λ p. slots (k ∷ p)) m top) same is
 
 mutual
+  -- a node has a last end below it
   pub last_end : (g : ℕ) (slots : Slots) (m : Node) → (top : ℕ) × IsLastEnd g slots (Some m) top
   last_end g slots (leaf named) = primitive_end g slots (leaf named) refl tt
   last_end g slots (step literals) = primitive_end g slots (step literals) refl tt
@@ -105,6 +106,7 @@ mutual
         },
       )
 
+  -- and so does each of its children
   pub last_ends : (g : ℕ) (slots : Slots) (k : ℕ) (nodes : Nodes) → LastEnds g slots k nodes
   last_ends g slots k no_nodes = record { tops = λ i. g; count = 0; each = λ i. nothing_last g (λ p. slots ((k + i) ∷ p)); small = λ i h. omega arith }
   last_ends g slots k (node n ns) =

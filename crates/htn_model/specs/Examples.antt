@@ -172,7 +172,8 @@ pub record OrderGoesThroughEmptyTasks : Type 0 where
 
 -- ## All children of a decomposed task have its order towards the others
 
--- a task is before an action that makes a fact, and its method has three unordered actions, of which the second needs the fact
+-- a task is before an action that makes a fact, and its method has three unordered actions, of which the second needs
+-- the fact
 abbrev pub three_before : Sketch
 three_before = record {
   initials = record { children = task (named 0) ∷ action (named 1) ∷ []; order = two_in_order } ∷ [];

@@ -12,6 +12,7 @@ mutual
     action_at : GroundTask → ℕ → PlanTree
     decomposition : GroundTask → Word → PlanTrees → PlanTree
 
+  -- a list of plan trees
   pub data PlanTrees : Type 0 where
     no_plans : PlanTrees
     plan : PlanTree → PlanTrees → PlanTrees
@@ -55,7 +56,8 @@ abbrev pub StepsFit : (ℕ → State) → List Child → (start finish : ℕ →
 StepsFit states children start finish =
     (a : ℕ) (literals : List Literal) → slice_get children a ≡ Some (precondition literals) → StepFits states literals (start a) (finish a)
 
--- the plans, matched to the network's subtasks, and the network's steps have room, where `AllHaveRoom` says it of the plans at their spans
+-- the plans, matched to the network's subtasks, and the network's steps have room, where `AllHaveRoom` says it of the
+-- plans at their spans
 abbrev pub HasRoom : (ℕ → State) → Network → PlanTrees → (AllHaveRoom : List ℕ → (ℕ → ℕ) → (ℕ → ℕ) → Type 0) → ℕ → ℕ → Type 0
 HasRoom states network plans AllHaveRoom g h =
     (positions : List ℕ) × IsMatching network.children positions plans × (start : ℕ → ℕ) × (finish : ℕ → ℕ) × AreSpans network.order start finish g h

@@ -1,4 +1,5 @@
--- Spans found greedily: each position starts as soon as what is before it has finished, and finishes as early as it can.
+-- Spans found greedily: each position starts as soon as what is before it has finished, and finishes as early as it
+-- can.
 use Rattle.std.specs.Prelude.{◌≡◌, ◌↔◌, ℕ, suc, ◌≤◌, ◌<◌, List, [], ◌∷◌, ◌⊎◌, Some, true, slice_get, ⊤}
 use Rattle.htn_model.specs.State.{State}
 use Rattle.htn_model.specs.Literal.{Literal}
@@ -79,7 +80,8 @@ pub record GreedySpansDecide (naming : Naming) (problem : Problem) : Type 0 wher
   pub greedily : (states : ℕ → State) (network : Network) (plans : PlanTrees) (n g h : ℕ) → IsNetwork network → LineTables naming problem states n plans → h ≤ n
       → NetworkFits naming problem states network plans g h ↔ FitsGreedily naming problem states network plans g h
 
--- the least that greedy spans reach, over the instances of the line's method and their matchings, is the line's earliest finish
+-- the least that greedy spans reach, over the instances of the line's method and their matchings, is the line's
+-- earliest finish
 pub record LinesDecide (naming : Naming) (problem : Problem) : Type 0 where
   pub some : (states : ℕ → State) (t : GroundTask) (method : Word) (plans : PlanTrees) (n g h number : ℕ) (network : Network) → LineTables naming problem states n plans → h ≤ n
       → slice_get (problem.methods_of t) number ≡ Some network → method ≡ naming.method_name t number → FitsGreedily naming problem states network plans g h

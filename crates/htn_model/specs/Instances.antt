@@ -48,6 +48,7 @@ abbrev mutual
   literals_in t values (equation e) = ground_equality values e ∷ []
   literals_in t values (for_all types body) = flat_map (λ more. literals_in_all t (values ++ more) body) (assignments (domains_of t types))
 
+  -- the literals of formulas under values
   pub literals_in_all : Task → List ℕ → Formulas → List Literal
   literals_in_all t values no_formulas = []
   literals_in_all t values (formula f fs) = literals_in t values f ++ literals_in_all t values fs
@@ -87,11 +88,13 @@ abbrev pub task_places : Task → TaskSchema → List (Term × ℕ)
 task_places t s = zip s.arguments (task_types t s.name)
 
 abbrev mutual
+  -- the typed places of a formula's atoms
   pub formula_places : Task → Formula → List (Term × ℕ)
   formula_places t (literal positive a) = atom_places t a
   formula_places t (equation e) = []
   formula_places t (for_all types body) = formulas_places t body
 
+  -- the typed places of the atoms of formulas
   pub formulas_places : Task → Formulas → List (Term × ℕ)
   formulas_places t no_formulas = []
   formulas_places t (formula f fs) = formula_places t f ++ formulas_places t fs

@@ -1,4 +1,5 @@
--- The search by levels: the configurations that words of one length reach, in the order of the words, of equal ones only the first over all levels.
+-- The search by levels: the configurations that words of one length reach, in the order of the words, of equal ones
+-- only the first over all levels.
 use Rattle.std.specs.Prelude.{◌≡◌, ℕ, zero, suc, ◌+◌, ◌<◌, ◌≤◌, leb, List, [], ◌∷◌, ◌++◌, map, length, Option, Some, None, Bool, true, cond, ◌&&◌, filter, find, flat_map}
 use Rattle.std.specs.List.{list_any}
 use Rattle.htn_model.specs.Literal.{holds}
@@ -84,7 +85,8 @@ level problem step same bound (suc steps) =
 abbrev pub first_done : Problem → List Reached → Option Reached
 first_done problem rs = find (λ r. is_done problem r.config) rs
 
--- the first done configuration of the first level that has one is reached by the least word, and where no level has one, no word finishes
+-- the first done configuration of the first level that has one is reached by the least word, and where no level has
+-- one, no word finishes
 pub record LevelsFindLeast (problem : Problem) (step : Stepping) (same : Config → Config → Bool) (bound : ℕ) : Type 0 where
   pub found : (steps : ℕ) (r : Reached) → steps ≤ bound
       → ((earlier : ℕ) → earlier < steps → first_done problem (level problem step same bound earlier).reached ≡ None)

@@ -33,7 +33,8 @@ table n f = map (λ a. map (f a) (range_with_len 0 n)) (range_with_len 0 n)
 abbrev pub origin : ℕ → ℕ → ℕ → ℕ
 origin i m a = cond (ltb a i) a (cond (ltb a (i + m)) i (a + 1 - m))
 
--- the order where the node at i was replaced by m nodes: they have their own order among themselves, and that of the replaced node towards the others
+-- the order where the node at i was replaced by m nodes: they have their own order among themselves, and that of the
+-- replaced node towards the others
 abbrev pub replaced_order : Order → ℕ → ℕ → Order → ℕ → ℕ → Bool
 replaced_order order i m inner a b =
     cond (eqb (origin i m a) i && eqb (origin i m b) i) (is_before inner (a - i) (b - i)) (is_before order (origin i m a) (origin i m b))

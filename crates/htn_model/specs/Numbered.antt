@@ -1,4 +1,5 @@
--- The plan file of a solution: actions numbered in order of execution, and then compound nodes, each before those below it.
+-- The plan file of a solution: actions numbered in order of execution, and then compound nodes, each before those below
+-- it.
 use Rattle.std.specs.Prelude.{◌≡◌, ℕ, suc, List, [], ◌∷◌, ◌++◌, map, Option, Some, None, Bool, true, false, cond, eqb, ◌&&◌}
 use Rattle.std.specs.List.{filter}
 use Rattle.htn_model.specs.Problem.{GroundTask, Problem}

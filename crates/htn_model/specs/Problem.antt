@@ -1,4 +1,5 @@
--- A ground planning problem: task networks with closed orders, the instances of methods and of the initial network, and the actions.
+-- A ground planning problem: task networks with closed orders, the instances of methods and of the initial network, and
+-- the actions.
 use Rattle.std.specs.Prelude.{◌≡◌, ℕ, ◌⊎◌, List, [], length, get_or, Option, Some, None, Bool, true, false, cond, nat_eq, slice_get, refl}
 use Rattle.std.specs.Bool.{beq}
 use Rattle.std.specs.Coded.{Coded, code_by, coded×, coded⊎, coded_ℕ, coded_bool, coded_list}

@@ -35,6 +35,7 @@ mutual
     equation : EqualitySchema → Formula
     for_all : (types : List ℕ) → (body : Formulas) → Formula
 
+  -- a list of formulas
   pub data Formulas : Type 0 where
     no_formulas : Formulas
     formula : Formula → Formulas → Formulas

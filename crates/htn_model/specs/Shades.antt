@@ -9,6 +9,7 @@ use Rattle.htn_model.specs.Fits.{PlanTree, action_at, decomposition, PlanTrees, 
 use Rattle.htn_model.specs.Placement.{Slots}
 
 abbrev mutual
+  -- a tree of which the lines show all but its steps, at these gaps
   pub Shades : Naming → Slots → Node → PlanTree → Type 0
   Shades naming slots n (action_at g i) = (n ≡ leaf g) × (slots [] ≡ i)
   Shades naming slots n (decomposition t method plans) =
@@ -22,7 +23,8 @@ abbrev mutual
   AllShade naming slots nodes (a ∷ positions) (plan p plans) =
       (m : Node) × (child_at nodes a ≡ Some m) × Shades naming (λ q. slots (a ∷ q)) m p × AllShade naming slots nodes positions plans
 
--- a forest of an initial network, placed among n action lines in its order, that shades the roots' lines, shows that they have room
+-- a forest of an initial network, placed among n action lines in its order, that shades the roots' lines, shows that
+-- they have room
 abbrev pub PlacedForestsFit : Naming → Problem → Type 0
 PlacedForestsFit naming problem =
     (states : ℕ → State) (slots : Slots) (number : ℕ) (network : Network) (trees : Nodes) (positions : List ℕ) (plans : PlanTrees) (n : ℕ)

@@ -18,6 +18,7 @@ abbrev mutual
   compounds place (step literals) = []
   compounds place (compound t number nodes) = place ∷ compounds_from place 0 nodes
 
+  -- the places of compound nodes of trees, of which the first is the child with this number
   pub compounds_from : Place → ℕ → Nodes → List Place
   compounds_from place i no_nodes = []
   compounds_from place i (node n ns) = compounds (place ++ i ∷ []) n ++ compounds_from place (suc i) ns

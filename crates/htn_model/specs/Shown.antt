@@ -41,7 +41,8 @@ pub record FitIsAcceptance (naming : Naming) (problem : Problem) : Type 0 where
   pub fits : (file : PlanFile) (states : ℕ → State) (plans : PlanTrees) → IsForest file → LinesRun naming problem file states → ShowTrees naming file file.roots plans
       → IsAccepted naming problem file → ForestFits naming problem states plans (length file.actions)
 
--- a file is valid exactly where it is the shadow of a solution: such a file is a forest of lines with instances that run to the goal
+-- a file is valid exactly where it is the shadow of a solution: such a file is a forest of lines with instances that
+-- run to the goal
 abbrev pub ValidIsAcceptance : Naming → Problem → Type 0
 ValidIsAcceptance naming problem = (file : PlanFile) → IsVerdict naming problem file valid ↔ IsAccepted naming problem file
 

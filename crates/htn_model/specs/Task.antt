@@ -86,6 +86,7 @@ abbrev mutual
   formula_types (equation e) = []
   formula_types (for_all types body) = types ++ formulas_types body
 
+  -- the types of the variables of formulas
   pub formulas_types : Formulas → List ℕ
   formulas_types no_formulas = []
   formulas_types (formula f fs) = formula_types f ++ formulas_types fs
@@ -156,11 +157,13 @@ pub record IsTaskSchema (t : Task) (count : ℕ) (s : TaskSchema) : Type 0 where
   pub arguments : All (IsTerm t count) s.arguments
 
 abbrev mutual
+  -- the formula's numbers name something, and its arities agree
   pub IsFormula : Task → ℕ → Formula → Type 0
   IsFormula t count (literal positive a) = IsAtomSchema t count a
   IsFormula t count (equation e) = IsEqualitySchema t count e
   IsFormula t count (for_all types body) = AreTypes t types × AreFormulas t (count + length types) body
 
+  -- the same of each formula of a list
   pub AreFormulas : Task → ℕ → Formulas → Type 0
   AreFormulas t count no_formulas = Unit {0}
   AreFormulas t count (formula f fs) = IsFormula t count f × AreFormulas t count fs

@@ -65,16 +65,19 @@ abbrev pub literal_parts_code : Coded (Bool × AtomSchema)
 literal_parts_code = coded× coded_bool atom_schema_code
 
 abbrev mutual
+  -- a formula as a value that can be compared
   pub formula_tree : Formula → Gv
   formula_tree (literal positive a) = gcons (gnum 0) (literal_parts_code.code (positive, a))
   formula_tree (equation e) = gcons (gnum 1) (equality_schema_code.code e)
   formula_tree (for_all types body) = gcons (gnum 2) (gcons (numbers_code.code types) (formulas_tree body))
 
+  -- formulas as such a value
   pub formulas_tree : Formulas → Gv
   formulas_tree no_formulas = gnil
   formulas_tree (formula f fs) = gcons (formula_tree f) (formulas_tree fs)
 
 mutual
+  -- formulas with one such value are one
   pub same_formula : (f g : Formula) → formula_tree f ≡ formula_tree g → f ≡ g
   same_formula (literal p a) (literal q b) e =
       let parts : literal_parts_code.code (p, a) ≡ literal_parts_code.code (q, b) = cc in
@@ -93,6 +96,7 @@ mutual
       let right : formulas_tree body ≡ formulas_tree rest = cc in
       ap₂ for_all (numbers_code.inj types others left) (same_formulas body rest right)
 
+  -- and so are lists of them
   pub same_formulas : (fs gs : Formulas) → formulas_tree fs ≡ formulas_tree gs → fs ≡ gs
   same_formulas no_formulas no_formulas e = refl
   same_formulas no_formulas (formula g gs) e = absurd cc

@@ -12,6 +12,7 @@ mutual
     step : List Literal → Node
     compound : GroundTask → ℕ → Nodes → Node
 
+  -- a list of trees
   pub data Nodes : Type 0 where
     no_nodes : Nodes
     node : Node → Nodes → Nodes
@@ -40,22 +41,26 @@ nodes_of (n ∷ ns) = node n (nodes_of ns)
 -- ## Trees
 
 abbrev mutual
+  -- an action leaf is an action instance, and below a compound node stand trees of its instance's children
   pub IsTree : Problem → Node → Type 0
   IsTree problem (leaf g) = (a : Action) × (problem.action_of g ≡ Some a)
   IsTree problem (step literals) = ⊤
   IsTree problem (compound t number nodes) =
       (network : Network) × (slice_get (problem.methods_of t) number ≡ Some network) × (roots nodes ≡ network.children) × AreTrees problem nodes
 
+  -- all of the trees are such trees
   pub AreTrees : Problem → Nodes → Type 0
   AreTrees problem no_nodes = ⊤
   AreTrees problem (node n ns) = IsTree problem n × AreTrees problem ns
 
 abbrev mutual
+  -- the number of a tree's nodes
   pub size : Node → ℕ
   size (leaf g) = 1
   size (step literals) = 1
   size (compound t number nodes) = suc (total_size nodes)
 
+  -- the number of the nodes of trees
   pub total_size : Nodes → ℕ
   total_size no_nodes = 0
   total_size (node n ns) = size n + total_size ns

@@ -17,22 +17,27 @@ module _ {X : Type 0} where
   AllBelow n [] = Unit {0}
   AllBelow n (p ∷ ps) = (p.0 < n) × AllBelow n ps
 
+  -- numbers below one are below a greater one
   below_more : (m n : ℕ) (ps : List (ℕ × X)) → m ≤ n → AllBelow m ps → AllBelow n ps
   below_more m n [] most below = tt
   below_more m n (p ∷ ps) most below = ((let h : p.0 < m = below.0 in omega arith), below_more m n ps most below.1)
 
+  -- with one more that is below
   below_push : (n : ℕ) (ps : List (ℕ × X)) (p : ℕ × X) → AllBelow n ps → p.0 < n → AllBelow n (ps ++ p ∷ [])
   below_push n [] p below low = (low, tt)
   below_push n (q ∷ ps) p below low = (below.0, below_push n ps p below.1 low)
 
+  -- numbers that rise from b on rise from a smaller one on
   rises_from : (a b : ℕ) (ps : List (ℕ × X)) → a ≤ b → Rises b ps → Rises a ps
   rises_from a b [] most rises = tt
   rises_from a b (p ∷ ps) most rises = ((let h : b ≤ p.0 = rises.0 in omega arith), rises.1)
 
+  -- with one more that is above all others
   rises_push : (a : ℕ) (ps : List (ℕ × X)) (p : ℕ × X) → Rises a ps → AllBelow p.0 ps → a ≤ p.0 → Rises a (ps ++ p ∷ [])
   rises_push a [] p rises below low = (low, tt)
   rises_push a (q ∷ ps) p rises below low = (rises.0, rises_push (suc q.0) ps p rises.1 below.1 below.0)
 
+  -- none of them is below the start
   rises_low : (a : ℕ) (ps : List (ℕ × X)) → Rises a ps → (p : ℕ × X) → In p ps → a ≤ p.0
   rises_low a [] rises p inside = absurd inside
   rises_low a (q ∷ ps) rises p inside =
@@ -49,10 +54,12 @@ module _ {X : Type 0} where
       subst (λ (s : ℕ × X). s.0 < q.0) (same_Some r p x) (rises_low (suc r.0) ps rises.1 q (In-at ps j q y))
   rises_at a (r ∷ ps) rises (suc i) (suc j) p q less x y = rises_at (suc r.0) ps rises.1 i j p q (omega arith) x y
 
+  -- numbers of members rise
   pub rises_numbered : (a : ℕ) (xs : List X) → Rises a (enumerate_from a xs)
   rises_numbered a [] = tt
   rises_numbered a (x ∷ xs) = (omega arith, subst (λ n. Rises n (enumerate_from (a + 1) xs)) (let e : a + 1 ≡ suc a = omega arith in e) (rises_numbered (a + 1) xs))
 
+  -- and so do those of members that pass
   pub rises_filter : (keeps : ℕ × X → Bool) (a : ℕ) (ps : List (ℕ × X)) → Rises a ps → Rises a (filter keeps ps)
   rises_filter keeps a [] rises = tt
   rises_filter keeps a (p ∷ ps) rises = by (keeps p) (rises_filter keeps (suc p.0) ps rises.1)
@@ -61,19 +68,23 @@ module _ {X : Type 0} where
       by true rest = (rises.0, rest)
       by false rest = rises_from a (suc p.0) (filter keeps ps) (let low : a ≤ p.0 = rises.0 in omega arith) rest
 
+  -- a member, with one more, is one before or that one
   In-push : (ps : List (ℕ × X)) (p q : ℕ × X) → In q (ps ++ p ∷ []) → In q ps ⊎ (p ≡ q)
   In-push [] p q inside = elim inside [ inl here ↦ inr here | inr none ↦ absurd none ]
   In-push (r ∷ ps) p q inside =
       elim inside [ inl here ↦ inl (inl here) | inr later ↦ elim (In-push ps p q later) [ inl left ↦ inl (inr left) | inr last ↦ inr last ] ]
 
+  -- the one more is a member
   In-pushed : (ps : List (ℕ × X)) (p : ℕ × X) → In p (ps ++ p ∷ [])
   In-pushed [] p = inl refl
   In-pushed (r ∷ ps) p = inr (In-pushed ps p)
 
+  -- and so are those before
   In-front : (ps : List (ℕ × X)) (p q : ℕ × X) → In q ps → In q (ps ++ p ∷ [])
   In-front [] p q inside = absurd inside
   In-front (r ∷ ps) p q inside = elim inside [ inl here ↦ inl here | inr later ↦ inr (In-front ps p q later) ]
 
+  -- where some member passes there is one
   any_In : (same : ℕ × X → Bool) (ps : List (ℕ × X)) → list_any same ps ≡ true → (q : ℕ × X) × In q ps × (same q ≡ true)
   any_In same [] h = absurd cc
   any_In same (p ∷ ps) h = by (same p) refl h (any_In same ps)
@@ -83,6 +94,7 @@ module _ {X : Type 0} where
       by false is h rest = (let at = rest h in (at.0, inr at.1, at.2))
 
 module _ {X : Type 0} (same : X → X → Bool) where
+  -- the same but for their numbers
   abbrev pub same_second : ℕ × X → ℕ × X → Bool
   same_second p q = same p.1 q.1
 
@@ -93,6 +105,7 @@ module _ {X : Type 0} (same : X → X → Bool) where
     pub stays : (q : ℕ × X) → In q kept → In q all
     pub first : (p : ℕ × X) → In p rest → (q : ℕ × X) × In q all × ((p ≡ q) ⊎ (same p.1 q.1 ≡ true)) × (q.0 ≤ p.0)
 
+  -- what a set keeps of numbered members is the first of each kind
   pub kept_first : (a : ℕ) (kept rest : List (ℕ × X)) → Rises 0 kept → AllBelow a kept → Rises a rest → IsKept kept rest (insert_all same_second kept rest)
   kept_first a kept [] low below rises = record { rises = low; each = λ q inside. inl inside; stays = λ q inside. inside; first = λ p inside. absurd inside }
   kept_first a kept (p ∷ rest) low below rises = by (list_any (same_second p) kept) refl
@@ -132,6 +145,7 @@ module _ {X : Type 0} (same : X → X → Bool) where
         ];
       }
 
+  -- whether one is the same as some, with numbers or without
   any_seconds : (x : X) (n : ℕ) (ps : List (ℕ × X)) → list_any (same_second (n, x)) ps ≡ list_any (same x) (map (λ (p : ℕ × X). p.1) ps)
   any_seconds x n [] = refl
   any_seconds x n (p ∷ ps) = ap (λ b. same x p.1 || b) (any_seconds x n ps)

@@ -9,6 +9,7 @@ use Rattle.htn_model.specs.Choice.{child_of, is_free, first_free_compound}
 use Rattle.htn_order.specs.Free.{IsFirstFree, HasNoneFree}
 use Rattle.htn_order.proofs.Free.{first_passing, none_passing}
 
+-- nothing and no
 and_false : (p : Bool) → (p && false) ≡ false
 and_false true = refl
 and_false false = refl
@@ -17,10 +18,12 @@ and_false false = refl
 abbrev pub is_free_task : List Child → Order → ℕ → Bool
 is_free_task nodes order j = is_compound (child_of nodes j) && is_free (length nodes) (is_before order) j
 
+-- what isn't free is no free task
 not_free : (nodes : List Child) (order : Order) (j : ℕ) → length order ≡ length nodes → is_free (length order) (is_before order) j ≡ false → is_free_task nodes order j ≡ false
 not_free nodes order j whole h =
     ap (λ b. is_compound (child_of nodes j) && b) (ap (λ n. is_free n (is_before order) j) (sym whole) ∙ h) ∙ and_false (is_compound (child_of nodes j))
 
+-- a task at the first free position from one on, before which no task is free, is the first free one
 pub first_task : (nodes : List Child) (order : Order) (from i : ℕ) (t : GroundTask) → length order ≡ length nodes → ((j : ℕ) → j < from → is_free_task nodes order j ≡ false)
     → IsFirstFree order from i → child_of nodes i ≡ task t → Some i ≡ first_free_compound nodes (is_before order)
 first_task nodes order from i t whole none first stands =
@@ -32,6 +35,7 @@ first_task nodes order from i t whole none first stands =
       | inr on ↦ not_free nodes order j whole (first.first j on low)
     ]))
 
+-- where no position from one on is free, and no task before it, there is no free task
 pub no_task : (nodes : List Child) (order : Order) (from : ℕ) → length order ≡ length nodes → ((j : ℕ) → j < from → is_free_task nodes order j ≡ false)
     → HasNoneFree order from → None ≡ first_free_compound nodes (is_before order)
 no_task nodes order from whole none free =

@@ -29,11 +29,13 @@ use Rattle.htn_net.proofs.Once.{In, In-at, at-In}
 -- ## Numbered elements
 
 module _ {X : Type 0} where
+  -- a member is numbered by its position
   numbered_in : (a : ℕ) (xs : List X) (n : ℕ) (x : X) → slice_get xs n ≡ Some x → In (a + n, x) (enumerate_from a xs)
   numbered_in a [] n x at = absurd (none-some x at)
   numbered_in a (y ∷ xs) zero x at = inl (let e : a ≡ a + 0 = omega arith in λ i. (e i, same_Some y x at i))
   numbered_in a (y ∷ xs) (suc n) x at = inr (subst (λ (k : ℕ). In (k, x) (enumerate_from (a + 1) xs)) (let e : a + 1 + n ≡ a + suc n = omega arith in e) (numbered_in (a + 1) xs n x at))
 
+  -- a numbered member stands at its position
   in_numbered : (a : ℕ) (xs : List X) (p : ℕ × X) → In p (enumerate_from a xs) → (j : ℕ) × (a + j ≡ p.0) × (slice_get xs j ≡ Some p.1)
   in_numbered a [] p inside = absurd inside
   in_numbered a (y ∷ xs) p inside =
@@ -42,6 +44,7 @@ module _ {X : Type 0} where
         | inr later ↦ (let at = in_numbered (a + 1) xs p later in let e : a + 1 + at.0 ≡ p.0 = at.1 in (suc at.0, (let f : a + suc at.0 ≡ p.0 = omega arith in f), at.2))
       ]
 
+  -- a member that passes is among what passes
   in_filter : (keeps : X → Bool) (xs : List X) (x : X) → In x xs → keeps x ≡ true → In x (filter keeps xs)
   in_filter keeps [] x inside passes = absurd inside
   in_filter keeps (y ∷ xs) x inside passes = by (keeps y) refl (in_filter keeps xs x)
@@ -50,6 +53,7 @@ module _ {X : Type 0} where
       by true is rest = elim inside [ inl here ↦ inl here | inr later ↦ inr (rest later passes) ]
       by false is rest = elim inside [ inl here ↦ absurd (true≢false (sym passes ∙ ap keeps (sym here) ∙ is)) | inr later ↦ rest later passes ]
 
+  -- what is among it is a member and passes
   passed : (keeps : X → Bool) (xs : List X) (x : X) → In x (filter keeps xs) → In x xs × (keeps x ≡ true)
   passed keeps [] x inside = absurd inside
   passed keeps (y ∷ xs) x inside = by (keeps y) refl (passed keeps xs x) inside
@@ -58,10 +62,12 @@ module _ {X : Type 0} where
       by true is rest there = elim there [ inl here ↦ (inl here, ap keeps (sym here) ∙ is) | inr later ↦ (let at = rest later in (inr at.0, at.1)) ]
       by false is rest there = let at = rest there in (inr at.0, at.1)
 
+-- an image that is there is that of something
 map_some : {A B : Type 0} (f : A → B) (o : Option A) (y : B) → option_map f o ≡ Some y → (x : A) × (o ≡ Some x) × (f x ≡ y)
 map_some f None y h = absurd (none-some y h)
 map_some f (Some x) y h = (x, refl, same_Some (f x) y h)
 
+-- what isn't so is false
 not_true : (b : Bool) → not b ≡ true → b ≡ false
 not_true true h = sym h
 not_true false h = refl
@@ -78,6 +84,7 @@ alike p q (inl same) = ap (λ (r : ℕ × Instance). r.1.network) (sym same)
 alike p q (inr one) = sym ((network_eq-decides p.1.network q.1.network).0 one)
 
 module _ (t : Task) (g : GroundTask) where
+  -- of the live instances those with one network are kept by the first
   methods_kept : IsKept same_network [] (live_methods t g) (listed_methods t g)
   methods_kept = kept_first same_network 0 [] (live_methods t g) tt tt (rises_filter (is_alive t) 0 (enumerate_from 0 (methods_of t g)) (rises_numbered 0 (methods_of t g)))
 
@@ -119,9 +126,11 @@ module _ (t : Task) (g : GroundTask) where
       (rank.0, first.0, rank.1, alike (n, x) first.0 first.2, first.3)
 
 module _ (t : Task) where
+  -- and so are initial networks
   initials_kept : IsKept same_network [] (enumerate_from 0 (initials t)) (listed_initials t)
   initials_kept = kept_first same_network 0 [] (enumerate_from 0 (initials t)) tt tt (rises_numbered 0 (initials t))
 
+  -- an initial network that is listed is one, by its number
   pub listed_initial : (rank : ℕ) (p : ℕ × Instance) → slice_get (listed_initials t) rank ≡ Some p → slice_get (initials t) p.0 ≡ Some p.1
   listed_initial rank p at =
       elim (initials_kept.each p (In-at (listed_initials t) rank p at)) [
@@ -133,6 +142,7 @@ module _ (t : Task) where
             ap (slice_get (initials t)) number ∙ stands.2)
       ]
 
+  -- those that are listed are the distinct ones
   pub distinct_initials : map (λ (p : ℕ × Instance). p.1) (listed_initials t) ≡ ground.distinct (initials t)
   distinct_initials = seconds_kept same_network [] (enumerate_from 0 (initials t)) ∙ ap ground.distinct (seconds 0 (initials t))
     where
@@ -140,6 +150,7 @@ module _ (t : Task) where
       seconds a [] = refl
       seconds a (x ∷ xs) = ap (λ l. x ∷ l) (seconds (a + 1) xs)
 
+  -- for each initial network an equal one is listed, with no greater number
   initial_listed : (n : ℕ) (x : Instance) → slice_get (initials t) n ≡ Some x
       → (rank : ℕ) × (q : ℕ × Instance) × (slice_get (listed_initials t) rank ≡ Some q) × (q.1.network ≡ x.network) × (q.0 ≤ n)
   initial_listed n x at =
@@ -156,6 +167,7 @@ module _ (t : Task) (c : Config) where
   free_listed none rank = ap (λ o. option_and_then (choose (problem_of t) c) (number_by t c rank o)) none
 
   module _ (i : ℕ) (g : GroundTask) (first : first_free_compound c.open_nodes (is_before c.order) ≡ Some i) (stands : child_of c.open_nodes i ≡ task g) where
+    -- the number of a rank is that of what is listed there
     pub at_task : (rank : ℕ) → number_at t c rank ≡ option_map (λ p. p.0) (slice_get (listed_methods t g) rank)
     at_task rank = ap (number_by t c rank) first ∙ ap (λ x. option_map (λ (p : ℕ × Instance). p.0) (slice_get (listed_for t x) rank)) stands
 
@@ -163,6 +175,7 @@ module _ (t : Task) (c : Config) where
     pub number_listed : (rank : ℕ) (p : ℕ × Instance) → slice_get (listed_methods t g) rank ≡ Some p → number_at t c rank ≡ Some p.0
     number_listed rank p at = at_task rank ∙ ap (option_map (λ (q : ℕ × Instance). q.0)) at
 
+    -- a rank chooses the instance that is listed there
     pub instance_listed : (rank : ℕ) (p : ℕ × Instance) → slice_get (listed_methods t g) rank ≡ Some p
         → choose_listed t c rank ≡ Some (record { position = i; network = p.1.network; state = c.state })
     instance_listed rank p at =
@@ -176,6 +189,7 @@ module _ (t : Task) (c : Config) where
     pub chooses : choose (problem_of t) c number ≡ Some choice
     pub alive : is_dead (problem_of t) choice.network ≡ false
 
+  -- what a rank chooses isn't dead
   alive_at : (rank n : ℕ) (choice : Choice) → number_at t c rank ≡ Some n → choose (problem_of t) c n ≡ Some choice → is_dead (problem_of t) choice.network ≡ false
   alive_at rank n choice is chooses = by (chosen (problem_of t) c n choice chooses)
     where
@@ -188,6 +202,7 @@ module _ (t : Task) (c : Config) where
           slice_get-map (λ (x : Instance). x.network) (methods_of t d.name) n ∙ ap (option_map (λ (x : Instance). x.network)) (ap (slice_get (methods_of t d.name)) (sym p.2) ∙ found.0) in
           ap (is_dead (problem_of t)) (same_Some choice.network p.0.1.network (sym d.method ∙ network)) ∙ found.1
 
+  -- a rank chooses what its number does
   pub numbered : (rank : ℕ) (choice : Choice) → choose_listed t c rank ≡ Some choice → IsNumbered rank choice
   numbered rank choice chooses = by (number_at t c rank) refl chooses
     where
@@ -195,6 +210,7 @@ module _ (t : Task) (c : Config) where
       by None is h = absurd (none-some choice h)
       by (Some n) is h = record { number = n; is = is; chooses = h; alive = alive_at rank n choice is h }
 
+  -- numbers ascend with ranks
   ascends : (o : Option ℕ) → first_free_compound c.open_nodes (is_before c.order) ≡ o → (r s m n : ℕ) → r < s → number_by t c r o ≡ Some m → number_by t c s o ≡ Some n → m < n
   ascends None first r s m n less p q =
       let a : r ≡ m = same_Some r m p in
@@ -213,6 +229,7 @@ module _ (t : Task) (c : Config) where
           let b : y.0.0 ≡ n = y.2 in
           omega arith
 
+  -- for each live step a rank leads to the same, with no greater number
   first_listed : (d : Config) (n : ℕ) → IsLiveStep (machine_of (problem_of t)) c n d → (rank : ℕ) × IsStep (listing_machine t) c rank d × (number_of t c rank ≤ n)
   first_listed d n live = by (chosen (problem_of t) c n made.0 made.1)
     where
@@ -240,6 +257,7 @@ module _ (t : Task) (c : Config) where
           let is : number_of t c listed.0 ≡ listed.1.0 = ap (λ o. unwrap_or o 0) number in
           (listed.0, ap (option_map (result_of c)) same ∙ ap Some made.2, (let h : number_of t c listed.0 ≤ n = omega arith in h))
 
+  -- a step by a rank is the live step by its number
   listed_steps : (d : Config) (rank : ℕ) → IsStep (listing_machine t) c rank d → IsLiveStep (machine_of (problem_of t)) c (number_of t c rank) d
   listed_steps d rank step =
       let choice = map_some (result_of c) (choose_listed t c rank) d step in
@@ -249,6 +267,7 @@ module _ (t : Task) (c : Config) where
         λ dead. true≢false (sym dead ∙ ap (is_dead_choice (problem_of t)) told.chooses ∙ told.alive),
       )
 
+  -- the numbers of steps ascend with their ranks
   listed_ascend : (d e : Config) (r s : ℕ) → r < s → IsStep (listing_machine t) c r d → IsStep (listing_machine t) c s e → number_of t c r < number_of t c s
   listed_ascend d e r s less p q =
       let x = map_some (result_of c) (choose_listed t c r) d p in
@@ -263,12 +282,15 @@ module _ (t : Task) (c : Config) where
 -- ## The whole
 
 module _ (t : Task) where
+  -- the number of an initial rank is that of what is listed there
   number_initial : (rank : ℕ) (p : ℕ × Instance) → slice_get (listed_initials t) rank ≡ Some p → initial_of t rank ≡ p.0
   number_initial rank p at = ap (λ (o : Option (ℕ × Instance)). unwrap_or (option_map (λ (q : ℕ × Instance). q.0) o) 0) at
 
+  -- the configuration in which an initial network is open
   begin : ℕ × Instance → Config
   begin p = start (problem_of t) p.1.network
 
+  -- the machine's initial configuration of an initial network
   initial_at : (n : ℕ) (x : Instance) → slice_get (initials t) n ≡ Some x → slice_get (machine_of (problem_of t)).initials n ≡ Some (start (problem_of t) x.network)
   initial_at n x at =
       slice_get-map (start (problem_of t)) (problem_of t).initials n
@@ -304,10 +326,12 @@ module _ (t : Task) where
 
 -- ## The ranks that a search takes
 
+-- any numbered instance, where one has to be given
 nothing : ℕ × Instance
 nothing = (0, record { method = None; values = []; network = no_network })
 
 module _ (t : Task) (c : Config) where
+  -- where a compound task is free, the ranks of its instances are the live numbers
   pub ranks_live : (i : ℕ) (g : GroundTask) → first_free_compound c.open_nodes (is_before c.order) ≡ Some i → child_of c.open_nodes i ≡ task g
       → IsLiveNumbers (listing_machine t) c (range_with_len 0 (length (listed_methods t g)))
   ranks_live i g first stands = record {
@@ -330,6 +354,7 @@ module _ (t : Task) (c : Config) where
         (n, (let low : n < length (range_with_len 0 (length (listed_methods t g))) = omega arith in low), get_or-range_with_len 0 (length (listed_methods t g)) n n inside ∙ (let e : 0 + n ≡ n = omega arith in e)));
   }
 
+  -- where none is free, the live numbers are those of the nodes
   pub free_live : first_free_compound c.open_nodes (is_before c.order) ≡ None → IsLiveNumbers (listing_machine t) c (live_numbers (problem_of t) c)
   free_live none = record {
     ascending = (live_numbers_are (problem_of t) c).ascending;

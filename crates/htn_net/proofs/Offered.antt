@@ -49,12 +49,14 @@ module _ (t : Task) (c : Config) (i : ℕ) (g : GroundTask) (first : first_free_
       let number : at.0 ≡ p.0 = omega arith in
       choose_instance t c i g first stands p.0 p.1 (ap (slice_get (methods_of t g)) (sym number) ∙ at.2)
 
+  -- the numbers of all instances are choices of the definitions
   pub instances_chosen : All (IsChoice (problem_of t) c) (decomposed_choices i (enumerate_from 0 (methods_of t g)))
   instances_chosen =
       All-map (IsChoice (problem_of t) c) (λ (p : ℕ × Instance). record { number = p.0; position = i; change = chosen.Decomposed p.1 }) (enumerate_from 0 (methods_of t g))
       (subst (λ (l : List (ℕ × Instance)). All (λ (p : ℕ × Instance). choose (problem_of t) c p.0 ≡ Some (record { position = i; network = p.1.network; state = c.state })) l)
       (all_kept (enumerate_from 0 (methods_of t g))) (numbered_chosen (λ (p : ℕ × Instance). true)))
 
+  -- and so are those of the live ones
   pub live_instances_chosen : All (IsChoice (problem_of t) c) (decomposed_choices i (live_methods t g))
   live_instances_chosen =
       All-map (IsChoice (problem_of t) c) (λ (p : ℕ × Instance). record { number = p.0; position = i; change = chosen.Decomposed p.1 }) (live_methods t g)

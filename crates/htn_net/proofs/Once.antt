@@ -14,11 +14,13 @@ module _ {X : Type 0} where
   Once [] = Unit {0}
   Once (x ∷ xs) = (In x xs → ⊥) × Once xs
 
+  -- the member at a position is in the list
   pub In-at : (xs : List X) (i : ℕ) (x : X) → slice_get xs i ≡ Some x → In x xs
   In-at [] i x at = absurd (none-some x at)
   In-at (y ∷ xs) zero x at = inl (same_Some y x at)
   In-at (y ∷ xs) (suc i) x at = inr (In-at xs i x at)
 
+  -- a member stands at some position
   pub at-In : (xs : List X) (x : X) → In x xs → (i : ℕ) × (slice_get xs i ≡ Some x)
   at-In [] x inside = absurd inside
   at-In (y ∷ xs) x inside = elim inside [ inl here ↦ (0, ap Some here) | inr later ↦ (let at = at-In xs x later in (suc at.0, at.1)) ]
@@ -31,11 +33,13 @@ module _ {X : Type 0} where
   one_place (y ∷ xs) once (suc i) zero x p q = absurd (once.0 (subst (λ z. In z xs) (sym (same_Some y x q)) (In-at xs i x p)))
   one_place (y ∷ xs) once (suc i) (suc j) x p q = ap suc (one_place xs once.1 i j x p q)
 
+  -- a member of two lists is one of the first or of the second
   In-append : (xs ys : List X) (x : X) → In x (xs ++ ys) → In x xs ⊎ In x ys
   In-append [] ys x inside = inr inside
   In-append (y ∷ xs) ys x inside =
       elim inside [ inl here ↦ inl (inl here) | inr later ↦ elim (In-append xs ys x later) [ inl left ↦ inl (inr left) | inr right ↦ inr right ] ]
 
+  -- nothing stands twice in two lists that have nothing in common
   Once-append : (xs ys : List X) → Once xs → Once ys → ((x : X) → In x xs → In x ys → ⊥) → Once (xs ++ ys)
   Once-append [] ys p q apart = q
   Once-append (x ∷ xs) ys p q apart = (
@@ -43,6 +47,7 @@ module _ {X : Type 0} where
     Once-append xs ys p.1 q (λ y left right. apart y (inr left) right),
   )
 
+  -- what passes a test was there
   pub In-filter : (keeps : X → Bool) (xs : List X) (x : X) → In x (filter keeps xs) → In x xs
   In-filter keeps [] x inside = inside
   In-filter keeps (y ∷ xs) x inside = by (keeps y) (In-filter keeps xs x) inside
@@ -51,6 +56,7 @@ module _ {X : Type 0} where
       by true rest there = elim there [ inl here ↦ inl here | inr later ↦ inr (rest later) ]
       by false rest there = inr (rest there)
 
+  -- nothing stands twice among what passes
   pub Once-filter : (keeps : X → Bool) (xs : List X) → Once xs → Once (filter keeps xs)
   Once-filter keeps [] once = once
   Once-filter keeps (y ∷ xs) once = by (keeps y) (Once-filter keeps xs once.1)
@@ -60,10 +66,12 @@ module _ {X : Type 0} where
       by false rest = rest
 
 module _ {X Y : Type 0} where
+  -- an image is that of a member
   pub In-map : (f : X → Y) (xs : List X) (y : Y) → In y (map f xs) → (x : X) × In x xs × (f x ≡ y)
   In-map f [] y inside = absurd inside
   In-map f (x ∷ xs) y inside = elim inside [ inl here ↦ (x, inl refl, here) | inr later ↦ (let at = In-map f xs y later in (at.0, inr at.1, at.2)) ]
 
+  -- no image stands twice where different members have different ones
   pub Once-map : (f : X → Y) → ((x z : X) → f x ≡ f z → x ≡ z) → (xs : List X) → Once xs → Once (map f xs)
   Once-map f one [] once = once
   Once-map f one (x ∷ xs) once = (
@@ -71,6 +79,7 @@ module _ {X Y : Type 0} where
     Once-map f one xs once.1,
   )
 
+  -- a member of lists in turn is one of some list
   pub In-flat_map : (f : X → List Y) (xs : List X) (y : Y) → In y (flat_map f xs) → (x : X) × In x xs × In y (f x)
   In-flat_map f [] y inside = absurd inside
   In-flat_map f (x ∷ xs) y inside =
@@ -79,6 +88,7 @@ module _ {X Y : Type 0} where
         | inr right ↦ (let at = In-flat_map f xs y right in (at.0, inr at.1, at.2))
       ]
 
+  -- nothing stands twice in lists in turn of which no two have anything in common
   pub Once-flat_map : (f : X → List Y) → ((x : X) → Once (f x)) → ((x z : X) (y : Y) → In y (f x) → In y (f z) → x ≡ z) → (xs : List X) → Once xs → Once (flat_map f xs)
   Once-flat_map f each apart [] once = tt
   Once-flat_map f each apart (x ∷ xs) once =
@@ -86,6 +96,7 @@ module _ {X Y : Type 0} where
       (λ y left right. (let at = In-flat_map f xs y right in once.0 (subst (λ z. In z xs) (sym (apart x at.0 y left at.2)) at.1)))
 
 module _ {X : Type 0} where
+  -- numbers from a on are no less than a
   numbers_rise : (a : ℕ) (xs : List X) (p : ℕ × X) → In p (enumerate_from a xs) → a ≤ p.0
   numbers_rise a [] p inside = absurd inside
   numbers_rise a (x ∷ xs) p inside =

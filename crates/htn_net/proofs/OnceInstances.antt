@@ -27,9 +27,11 @@ abbrev EachOnce : List (List ℕ) → Type 0
 EachOnce [] = Unit {0}
 EachOnce (objects ∷ domains) = Once objects × EachOnce domains
 
+-- equal lists have equal ends
 same_tail : (o : ℕ) (v w : List ℕ) → o ∷ v ≡ o ∷ w → v ≡ w
 same_tail o v w e = cc
 
+-- no assignment stands twice where no object does
 assignments_once : (domains : List (List ℕ)) → EachOnce domains → Once (assignments domains)
 assignments_once [] each = ((λ none. none), tt)
 assignments_once (objects ∷ domains) each =
@@ -41,6 +43,7 @@ assignments_once (objects ∷ domains) each =
     let e : o ∷ a.0 ≡ p ∷ b.0 = a.2 ∙ sym b.2 in cc))
     objects each.0
 
+-- no object stands twice in an ascending list
 objects_once : (objects : List ℕ) → IsStrictlySortedBy nat_cmp objects → Once objects
 unfolding IsStrictlySortedBy
 objects_once [] ascending = tt
@@ -54,6 +57,7 @@ objects_once (o ∷ objects) ascending = (
 )
 
 module _ (t : Task) (typed : IsWellTyped t) where
+  -- no object stands twice in a type
   type_once : (type : ℕ) → Once (objects_of t type)
   type_once type =
       elim (slice_get_cases t.types type).1 [
@@ -66,22 +70,27 @@ module _ (t : Task) (typed : IsWellTyped t) where
             subst Once (sym (get_or_past (map (λ (d : ObjectType). d.objects) t.types) type [] (omega arith))) tt)
       ]
 
+  -- nor in the domains of parameters
   domains_once : (types : List ℕ) → EachOnce (domains_of t types)
   domains_once [] = tt
   domains_once (type ∷ types) = (type_once type, domains_once types)
 
+  -- so no assignment of instances stands twice
   instances_once : (c : Conditions) → Once (instances t c)
   instances_once c = Once-filter (meets t c) (assignments (domains_of t c.parameters)) (assignments_once (domains_of t c.parameters) (domains_once c.parameters))
 
+  -- and no initial instance does
   pub initials_once : Once (initials t)
   initials_once = Once-map (initial_instance t) (λ v w e. ap (λ (i : Instance). i.values) e) (instances t (initial_conditions t t.initial_network)) (instances_once (initial_conditions t t.initial_network))
 
   module _ (g : GroundTask) where
+    -- no instance stands twice among a method's
     method_once : (p : ℕ × MethodSchema) → Once (instances_of_method t g p.0 p.1)
     method_once p =
         Once-map (method_instance t p.0 p.1) (λ v w e. ap (λ (i : Instance). i.values) e) (filter (λ values. ground_task_eq (ground_task values p.1.task) g) (instances t (method_conditions t p.1)))
         (Once-filter (λ values. ground_task_eq (ground_task values p.1.task) g) (instances t (method_conditions t p.1)) (instances_once (method_conditions t p.1)))
 
+    -- nor among those of all methods
     pub methods_once : Once (methods_of t g)
     methods_once =
         Once-numbered (λ p. instances_of_method t g p.0 p.1) (λ n i. i.method ≡ Some n) method_once

@@ -6,6 +6,7 @@ use Rattle.htn_ground.specs.Views.{child_view, children_of}
 use Rattle.htn_model.specs.Problem.{Child}
 use Rattle.htn_model.specs.Choice.{splice}
 
+-- what is before, the others, and what is after are the list with the others in the place of one
 pub parts_spliced : (seen : List Node) (nodes others first second third : List Child) (at : ℕ) → children_of seen ≡ nodes
     → first ≡ [] ++ children_of (take at seen) → second ≡ first ++ others → third ≡ second ++ children_of (take (length seen - (at + 1)) (drop (at + 1) seen))
     → third ≡ splice at others nodes

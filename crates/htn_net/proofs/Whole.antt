@@ -10,6 +10,7 @@ use Rattle.htn_answer.proofs.Words.{slice_get-map_back}
 use Rattle.htn_net.specs.Listed.{listed_initials}
 use Rattle.htn_net.proofs.Listed.{listed_initial}
 
+-- the order of an initial network is one on its nodes
 pub initial_whole : (t : Task) → IsWellTyped t → (i : Instance) → Contains (initials t) i → length i.network.order ≡ length i.network.children
 initial_whole t typed i here =
     let at : slice_get (initials t) here.0 ≡ Some i = slice_get-get_or (initials t) here.0 i here.1 ∙ ap Some here.2 in

@@ -30,10 +30,12 @@ state_then state (Performed after) = arc_value after
 abbrev pub chosen_of : Config → ℕ × Change → model.Choice
 chosen_of c x = record { position = x.0; network = network_of x.1; state = state_then c.state x.1 }
 
+-- a choice of the code as the definitions have it
 abbrev pub choice_of : Config → Choice → model.Choice
 choice_of c x = chosen_of c (x.position, x.change)
 
--- the number is that of the instance among all of the compound task at the position; or a step or an action stands there
+-- the number is that of the instance among all of the compound task at the position; or a step or an action stands
+-- there
 abbrev pub IsNumberOf : Task → Config → ℕ → ℕ × Change → Type 0
 IsNumberOf t c number (position, Decomposed instance) = (g : GroundTask) × (child_of c.open_nodes position ≡ task g) × (slice_get (methods_of t g) number ≡ Some instance)
 IsNumberOf t c number (position, Performed after) = is_compound (child_of c.open_nodes position) ≡ false

@@ -1,4 +1,5 @@
--- What a search lists: of the instances that are not dead, and of the initial networks, each network once. A rank is a place among those that are listed.
+-- What a search lists: of the instances that are not dead, and of the initial networks, each network once. A rank is a
+-- place among those that are listed.
 use Rattle.std.specs.Prelude.{ℕ, false, List, [], map, length, Option, Some, None, unwrap_or, slice_get, option_map, option_and_then}
 use Rattle.std.specs.List.{enumerate_from}
 use Rattle.indexmap.specs.IndexSet.{insert_all}
@@ -18,9 +19,11 @@ use Rattle.htn_net.specs.Live.{live_methods}
 abbrev pub first_of_each : List (ℕ × Instance) → List (ℕ × Instance)
 first_of_each found = insert_all (λ p q. same_network p.1 q.1) [] found
 
+-- the instances of a ground task that a search lists, with their numbers
 abbrev pub listed_methods : Task → GroundTask → List (ℕ × Instance)
 listed_methods t g = first_of_each (live_methods t g)
 
+-- the initial networks that a search lists, with their numbers
 abbrev pub listed_initials : Task → List (ℕ × Instance)
 listed_initials t = first_of_each (enumerate_from 0 (initials t))
 
@@ -30,11 +33,13 @@ listed_for t (precondition literals) = []
 listed_for t (action g) = []
 listed_for t (task g) = listed_methods t g
 
--- the number of a rank: of the first free compound task's instance, or where none is free of a free node, which are all listed
+-- the number of a rank: of the first free compound task's instance, or where none is free of a free node, which are all
+-- listed
 abbrev pub number_by : Task → Config → ℕ → Option ℕ → Option ℕ
 number_by t c rank None = Some rank
 number_by t c rank (Some i) = option_map (λ p. p.0) (slice_get (listed_for t (child_of c.open_nodes i)) rank)
 
+-- the number of a rank at a configuration, if there is one
 abbrev pub number_at : Task → Config → ℕ → Option ℕ
 number_at t c rank = number_by t c rank (first_free_compound c.open_nodes (is_before c.order))
 
@@ -56,5 +61,6 @@ listing_machine t = record {
 abbrev pub number_of : Task → Config → ℕ → ℕ
 number_of t c rank = unwrap_or (number_at t c rank) 0
 
+-- the number of the initial network with this rank
 abbrev pub initial_of : Task → ℕ → ℕ
 initial_of t rank = unwrap_or (option_map (λ p. p.0) (slice_get (listed_initials t) rank)) 0

@@ -15,6 +15,7 @@ use Rattle.htn_ground.specs.Methods.{live_instances}
 abbrev pub live_methods : Task → GroundTask → List (ℕ × Instance)
 live_methods t g = live_instances t (enumerate_from 0 (methods_of t g))
 
+-- the choice is there and its network is not dead
 abbrev pub is_live_choice : Problem → Option Choice → Bool
 is_live_choice problem None = false
 is_live_choice problem (Some choice) = not (is_dead problem choice.network)

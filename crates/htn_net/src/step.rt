@@ -38,7 +38,7 @@ fn instance_of(
 ) -> Result<Option<Instance>, AllocError>
     ensures { IfOk result (λ o. o ≡ slice_get (model.methods_of task.now goal.now) number) }
 {
-    // Those that are not dead are found faster, and are all that a search takes.
+    // Instances that are not dead are found faster, and are all that a search takes.
     let mut live = live_methods_of(alloc, task, goal)?;
     if let Some(place) = place_of(&live, number) {
         return Ok(Some(live.swap_remove(place).1));

@@ -10,10 +10,12 @@ use Rattle.htn_plan.proofs.Positions.{same_itself, same_equal}
 
 -- ## Where nodes stand
 
+-- what stands below a place in two parts is found part by part
 below_join : (x : Option Node) (p q : Place) → node_below x (p ++ q) ≡ node_below (node_below x p) q
 below_join x [] q = refl
 below_join x (i ∷ p) q = below_join (child_at (children_in x) i) p q
 
+-- a child stands one position below its node
 pub child_stands : (trees : Nodes) (place : Place) (j : ℕ) (n : Node) → node_at trees place ≡ Some n → node_at trees (place ++ j ∷ []) ≡ child_at (children_of n) j
 child_stands trees [] j n h = absurd cc
 child_stands trees (i ∷ p) j n h = below_join (child_at trees i) p (j ∷ []) ∙ ap (λ x. child_at (children_in x) j) h
@@ -22,30 +24,37 @@ child_stands trees (i ∷ p) j n h = below_join (child_at trees i) p (j ∷ []) 
 abbrev pub Stand : Nodes → Place → ℕ → Nodes → Type 0
 Stand trees place i ns = (j : ℕ) → node_at trees (place ++ (i + j) ∷ []) ≡ child_at ns j
 
+-- the first of the trees stands at its place
 pub first_stands : (trees : Nodes) (place : Place) (i : ℕ) (n : Node) (ns : Nodes) → Stand trees place i (node n ns) → node_at trees (place ++ i ∷ []) ≡ Some n
 first_stands trees place i n ns h = let e : i ≡ i + 0 = omega arith in ap (λ k. node_at trees (place ++ k ∷ [])) e ∙ h 0
 
+-- and those after it at theirs
 pub others_stand : (trees : Nodes) (place : Place) (i : ℕ) (n : Node) (ns : Nodes) → Stand trees place i (node n ns) → Stand trees place (suc i) ns
 others_stand trees place i n ns h j = let e : suc i + j ≡ i + suc j = omega arith in ap (λ k. node_at trees (place ++ k ∷ [])) e ∙ h (suc j)
 
+-- the children of a node stand below its place
 pub all_stand : (trees : Nodes) (place : Place) (n : Node) → node_at trees place ≡ Some n → Stand trees place 0 (children_of n)
 all_stand trees place n h j = let e : 0 + j ≡ j = omega arith in ap (λ k. node_at trees (place ++ k ∷ [])) e ∙ child_stands trees place j n h
 
+-- the trees of a forest stand at their positions
 pub roots_stand : (trees : Nodes) → Stand trees [] 0 trees
 roots_stand trees j = let e : 0 + j ≡ j = omega arith in ap (λ k. child_at trees k) e
 
 -- ## No compound node is a leaf
 
 module _ (trees : Nodes) where
+  -- no action stands at the place
   abbrev pub IsOther : Place → Type 0
   IsOther q = is_leaf (node_at trees q) ≡ false
 
   mutual
+    -- no action stands at the places of a tree's compound nodes
     pub compounds_other : (place : Place) (n : Node) → node_at trees place ≡ Some n → AllByRecursion IsOther (compounds place n)
     compounds_other place (leaf g) h = tt
     compounds_other place (step literals) h = tt
     compounds_other place (compound t number nodes) h = (ap is_leaf h, compounds_from_other place 0 nodes (all_stand trees place (compound t number nodes) h))
 
+    -- the same of trees from the i-th child on
     pub compounds_from_other : (place : Place) (i : ℕ) (ns : Nodes) → Stand trees place i ns → AllByRecursion IsOther (compounds_from place i ns)
     compounds_from_other place i no_nodes h = tt
     compounds_from_other place i (node n ns) h =
@@ -54,17 +63,21 @@ module _ (trees : Nodes) where
 
 -- ## Beginnings
 
+-- what all members have, their images have
 all_map : {X : Type 0} (P Q : X → Type 0) (xs : List X) → ((x : X) → P x → Q x) → AllByRecursion P xs → AllByRecursion Q xs
 all_map P Q [] f all = tt
 all_map P Q (x ∷ xs) f all = (f x all.0, all_map P Q xs f all.1)
 
+-- a place at or below another
 abbrev Begins : Place → Place → Type 0
 Begins place q = (r : Place) × (q ≡ place ++ r)
 
+-- a place at or below a child from the k-th on
 abbrev BeginsFrom : Place → ℕ → Place → Type 0
 BeginsFrom place k q = (i : ℕ) × (r : Place) × (q ≡ place ++ (k + i) ∷ r)
 
 mutual
+  -- the compound nodes of a tree stand at its place or below
   compounds_begin : (place : Place) (n : Node) → AllByRecursion (Begins place) (compounds place n)
   compounds_begin place (leaf g) = tt
   compounds_begin place (step literals) = tt
@@ -74,6 +87,7 @@ mutual
       shorter : (q : Place) (h : BeginsFrom place 0 q) → q ≡ place ++ h.0 ∷ h.1
       shorter q (i, r, e) = let same : 0 + i ≡ i = omega arith in e ∙ ap (λ k. place ++ k ∷ r) same
 
+  -- the same of trees from the i-th child on
   compounds_from_begin : (place : Place) (i : ℕ) (ns : Nodes) → AllByRecursion (BeginsFrom place i) (compounds_from place i ns)
   compounds_from_begin place i no_nodes = tt
   compounds_from_begin place i (node n ns) =
@@ -89,10 +103,12 @@ mutual
 
 -- ## Apart
 
+-- places below one place are the same where their ends are
 same_begin : (place u v : Place) → is_same_place (place ++ u) (place ++ v) ≡ is_same_place u v
 same_begin [] u v = refl
 same_begin (i ∷ place) u v = ap (λ b. b && is_same_place (place ++ u) (place ++ v)) (eq-eqb i i refl) ∙ same_begin place u v
 
+-- a smaller number isn't equal
 unequal : (a b : ℕ) → a < b → eqb a b ≡ false
 unequal a b h = by (eqb a b) refl
   where
@@ -100,6 +116,7 @@ unequal a b h = by (eqb a b) refl
     by true e = let same = eqb-true a b e in absurd (omega (arith, same, h))
     by false e = refl
 
+-- two places that differ, the other way round
 same_turned : (p q : Place) → is_same_place p q ≡ false → is_same_place q p ≡ false
 same_turned p q h = by (is_same_place q p) refl
   where
@@ -107,14 +124,17 @@ same_turned p q h = by (is_same_place q p) refl
     by true e = sym (subst (λ r. is_same_place p r ≡ true) (sym (same_equal q p e)) (same_itself p)) ∙ h
     by false e = refl
 
+-- none of a list passes where each is of a kind that doesn't
 none_of : (f : Place → Bool) (Q : Place → Type 0) (ys : List Place) → ((y : Place) → Q y → f y ≡ false) → AllByRecursion Q ys → list_any f ys ≡ false
 none_of f Q [] h all = refl
 none_of f Q (y ∷ ys) h all = ap (λ b. b || list_any f ys) (h y all.0) ∙ none_of f Q ys h all.1
 
+-- no place stands twice
 abbrev pub AreApart : List Place → Type 0
 AreApart [] = Unit {0}
 AreApart (p ∷ ps) = (list_any (is_same_place p) ps ≡ false) × AreApart ps
 
+-- none of two lists passes where none of either does
 any_join : (f : Place → Bool) (xs ys : List Place) → list_any f xs ≡ false → list_any f ys ≡ false → list_any f (xs ++ ys) ≡ false
 any_join f [] ys h g = g
 any_join f (x ∷ xs) ys h g = by (f x) h (any_join f xs ys)
@@ -123,11 +143,13 @@ any_join f (x ∷ xs) ys h g = by (f x) h (any_join f xs ys)
     by true e more = e
     by false e more = more e g
 
+-- no place stands twice in two lists that have none in common
 apart_join : (xs ys : List Place) → AreApart xs → AreApart ys → AllByRecursion (λ x. list_any (is_same_place x) ys ≡ false) xs → AreApart (xs ++ ys)
 apart_join [] ys a b c = b
 apart_join (x ∷ xs) ys a b c = (any_join (is_same_place x) xs ys a.0 c.0, apart_join xs ys a.1 b c.1)
 
 mutual
+  -- the compound nodes of a tree stand at places of their own
   pub compounds_apart : (place : Place) (n : Node) → AreApart (compounds place n)
   compounds_apart place (leaf g) = tt
   compounds_apart place (step literals) = tt
@@ -137,6 +159,7 @@ mutual
       below : (q : Place) → BeginsFrom place 0 q → is_same_place place q ≡ false
       below q (i, r, e) = ap₂ is_same_place (sym (append-nil place)) e ∙ same_begin place [] ((0 + i) ∷ r)
 
+  -- the same of trees from the i-th child on
   pub compounds_from_apart : (place : Place) (i : ℕ) (ns : Nodes) → AreApart (compounds_from place i ns)
   compounds_from_apart place i no_nodes = tt
   compounds_from_apart place i (node n ns) =
@@ -153,6 +176,7 @@ mutual
 
 -- ## Ids
 
+-- one of a list of which none passes
 any_later : (f : Place → Bool) (xs : List Place) (p : Place) (ys : List Place) → list_any f (xs ++ p ∷ ys) ≡ false → f p ≡ false
 any_later f [] p ys h = by (f p) h
   where
@@ -165,6 +189,7 @@ any_later f (x ∷ xs) p ys h = by (f x) h (any_later f xs p ys)
     by true e more = absurd cc
     by false e more = more e
 
+-- a place isn't among those before it
 pub not_before : (front : List Place) (p : Place) (after : List Place) → AreApart (front ++ p ∷ after) → list_any (is_same_place p) front ≡ false
 not_before [] p after a = refl
 not_before (x ∷ front) p after a =
@@ -184,6 +209,7 @@ not_among f p (x ∷ xs) h = by (f x) refl (is_same_place p x) refl (not_among f
         clash i = cc
     by true e false g more = ap (λ c. c || list_any (is_same_place p) (filter f xs)) g ∙ more
 
+-- a place that isn't in a list has the position past it
 pub position_absent : (p : Place) (xs : List Place) → list_any (is_same_place p) xs ≡ false → position p xs ≡ length xs
 position_absent p [] h = refl
 position_absent p (x ∷ xs) h = by (is_same_place p x) h (position_absent p xs)

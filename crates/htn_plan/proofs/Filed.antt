@@ -15,18 +15,22 @@ use Rattle.htn_plan.proofs.Lists.{length_map, take_all}
 -- items with the same ids
 module _ (f g : Place → Option ℕ) (same : (p : Place) → f p ≡ g p) where
   mutual
+    -- the items of a tree hang on the ids of its places alone
     items_same : (place : Place) (n : Node) → items f place n ≡ items g place n
     items_same place (leaf t) = ap (λ id. action id ∷ []) (same place)
     items_same place (step literals) = refl
     items_same place (compound t number nodes) = ap (λ xs. task t number (length (list_of nodes)) ∷ xs) (items_from_same place 0 nodes)
 
+    -- the same of trees from the i-th child on
     pub items_from_same : (place : Place) (i : ℕ) (ns : Nodes) → items_from f place i ns ≡ items_from g place i ns
     items_from_same place i no_nodes = refl
     items_from_same place i (node n ns) = ap₂ ◌++◌ (items_same (place ++ i ∷ []) n) (items_from_same place (suc i) ns)
 
+-- a plan file of its three parts
 abbrev pub with_parts : List ActionLine → List ℕ → List DecompositionLine → PlanFile
 with_parts actions roots decompositions = record { actions = actions; roots = roots; decompositions = decompositions }
 
+-- the parts that were made are those of the solution's file
 pub filed : (t : Task) (s : Solution) (ids : ActionIds) (actions : List ActionLine) (k : ℕ) (xs : List (Item ℕ)) (end : ℕ) (roots : List ℕ) (lines : List DecompositionLine)
     → length s.linearisation ≤ k → AreNumbered t s k actions ids → xs ≡ items_from (id_of ids) [] 0 s.trees → end ≡ length actions + compound_count xs
     → roots ≡ somes (gather_all t (by_number t) end xs nothing).ids → lines ≡ (gather_all t (by_number t) end xs nothing).lines

@@ -20,11 +20,13 @@ use Rattle.htn_plan.proofs.Positions.{position_after, position_there}
 -- ## Counts
 
 mutual
+  -- a tree has as many compound items as places of compound nodes
   pub items_count : (id_at : Place → Option ℕ) (place : Place) (n : Node) → compound_count (items id_at place n) ≡ length (compounds place n)
   items_count id_at place (leaf g) = refl
   items_count id_at place (step literals) = refl
   items_count id_at place (compound t number nodes) = ap suc (items_from_count id_at place 0 nodes)
 
+  -- the same of trees from the i-th child on
   pub items_from_count : (id_at : Place → Option ℕ) (place : Place) (i : ℕ) (ns : Nodes) → compound_count (items_from id_at place i ns) ≡ length (compounds_from place i ns)
   items_from_count id_at place i no_nodes = refl
   items_from_count id_at place i (node n ns) =
@@ -35,6 +37,7 @@ mutual
 -- ## Ids
 
 module _ (s : Solution) where
+  -- how many lines a solution's file has
   abbrev pub total : ℕ
   total = length (action_places s) + length (compound_places s)
 
@@ -49,6 +52,7 @@ module _ (s : Solution) where
           let c = position_absent p (compound_places s) (leaf_not_among s.trees p (compound_places s) h (compounds_from_other s.trees [] 0 s.trees (roots_stand s.trees))) in
           omega (arith, a, c)
 
+  -- a compound node's id, by how many come after it
   pub compound_id : (p : Place) (front after : List Place) → is_leaf (node_at s.trees p) ≡ false → compound_places s ≡ front ++ p ∷ after → id_in s p ≡ total - suc (length after)
   compound_id p front after h e =
       let a = position_after p (action_places s) (compound_places s) (not_among (λ q. is_leaf (node_at s.trees q)) p s.linearisation h) in
@@ -60,14 +64,17 @@ module _ (s : Solution) where
 
 -- ## Gathered
 
+-- items are gathered part by part
 pub gather_join : (t : Task) (end : ℕ) (xs ys : List (Item ℕ)) (b : Gathered) → gather_all t (by_number t) end (xs ++ ys) b ≡ gather_all t (by_number t) end xs (gather_all t (by_number t) end ys b)
 gather_join t end [] ys b = refl
 gather_join t end (x ∷ xs) ys b = ap (gather t (by_number t) end x) (gather_join t end xs ys b)
 
 module _ (t : Task) (s : Solution) where
+  -- the line of the compound node at a place
   abbrev line_at : Place → DecompositionLine
   line_at = decomposition_line_at (naming_of t) s
 
+  -- the id of the action at a place, if one stands there
   abbrev id_at : Place → Option ℕ
   id_at p = id_among s (action_places s) p
 
@@ -77,23 +84,28 @@ module _ (t : Task) (s : Solution) where
   shown place (step literals) = None
   shown place (compound g number nodes) = Some (id_in s place)
 
+  -- the ids of trees from the i-th child on, none for a step
   abbrev all_shown : Place → ℕ → Nodes → List (Option ℕ)
   all_shown place i no_nodes = []
   all_shown place i (node n ns) = shown (place ++ i ∷ []) n ∷ all_shown place (suc i) ns
 
+  -- there are as many as trees
   as_many_shown : (place : Place) (i : ℕ) (ns : Nodes) → length (list_of ns) ≡ length (all_shown place i ns)
   as_many_shown place i no_nodes = refl
   as_many_shown place i (node n ns) = ap suc (as_many_shown place (suc i) ns)
 
+  -- those that are there are the ids of what a file shows
   shown_ids : (place : Place) (i : ℕ) (ns : Nodes) → somes (all_shown place i ns) ≡ ids_of (id_in s) (shown_from place i ns)
   shown_ids place i no_nodes = refl
   shown_ids place i (node (leaf g) ns) = ap (λ ids. id_in s (place ++ i ∷ []) ∷ ids) (shown_ids place (suc i) ns)
   shown_ids place i (node (step literals) ns) = shown_ids place (suc i) ns
   shown_ids place i (node (compound g number nodes) ns) = ap (λ ids. id_in s (place ++ i ∷ []) ∷ ids) (shown_ids place (suc i) ns)
 
+  -- gathering the items adds these ids and the lines of these places in front
   abbrev Gives : List (Item ℕ) → Gathered → List (Option ℕ) → List Place → Type 0
   Gives xs b ids places = gather_all t (by_number t) (total s) xs b ≡ record { ids = ids ++ b.ids; lines = map line_at places }
 
+  -- the lines of compound nodes below a place, and those after them
   abbrev lines_below : Place → Nodes → List Place → List DecompositionLine
   lines_below place nodes after = map line_at (compounds_from place 0 nodes ++ after)
 
@@ -117,6 +129,7 @@ module _ (t : Task) (s : Solution) where
       the_line = ap (λ n. line_of t (id_in s place) (task_at n) (by_number t (task_at n) (number_at n)) (ids_of (id_in s) (shown_from place 0 (children_in n)))) stands
 
   mutual
+    -- the items of a tree give its id and the lines of its compound nodes
     node_gives : (place : Place) (n : Node) (b : Gathered) (after front : List Place) → node_at s.trees place ≡ Some n
         → compound_places s ≡ front ++ (compounds place n ++ after) → b.lines ≡ map line_at after
         → Gives (items id_at place n) b (shown place n ∷ []) (compounds place n ++ after)
@@ -129,6 +142,7 @@ module _ (t : Task) (s : Solution) where
         (split ∙ sym (append_assoc front (place ∷ []) (compounds_from place 0 nodes ++ after))) are)
         ∙ over place g number nodes b after front stands split
 
+    -- the same of trees from the i-th child on
     nodes_give : (place : Place) (i : ℕ) (ns : Nodes) (b : Gathered) (after front : List Place) → Stand s.trees place i ns
         → compound_places s ≡ front ++ (compounds_from place i ns ++ after) → b.lines ≡ map line_at after
         → Gives (items_from id_at place i ns) b (all_shown place i ns) (compounds_from place i ns ++ after)
@@ -146,11 +160,14 @@ module _ (t : Task) (s : Solution) where
         later : compound_places s ≡ front ++ (compounds (place ++ i ∷ []) n ++ (compounds_from place (suc i) ns ++ after))
         later = split ∙ ap (λ places. front ++ places) (append_assoc (compounds (place ++ i ∷ []) n) (compounds_from place (suc i) ns) after)
 
+  -- what is gathered of a whole forest
   whole : gather_all t (by_number t) (total s) (items_from id_at [] 0 s.trees) nothing ≡ record { ids = all_shown [] 0 s.trees ++ []; lines = map line_at (compound_places s ++ []) }
   whole = nodes_give [] 0 s.trees nothing [] [] (roots_stand s.trees) (sym (append-nil (compound_places s))) refl
 
+  -- its lines are those of the solution's file
   pub gathered_lines : (gather_all t (by_number t) (total s) (items_from id_at [] 0 s.trees) nothing).lines ≡ map line_at (compound_places s)
   gathered_lines = ap (λ b. b.lines) whole ∙ ap (map line_at) (append-nil (compound_places s))
 
+  -- and its ids the roots
   pub gathered_roots : somes (gather_all t (by_number t) (total s) (items_from id_at [] 0 s.trees) nothing).ids ≡ ids_of (id_in s) (shown_from [] 0 s.trees)
   gathered_roots = ap (λ b. somes b.ids) whole ∙ ap somes (append-nil (all_shown [] 0 s.trees)) ∙ shown_ids [] 0 s.trees

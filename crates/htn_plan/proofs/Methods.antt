@@ -33,6 +33,7 @@ module _ (t : Task) where
   IsTold (task g number count) = number < length (methods_of t g)
 
   mutual
+    -- the numbers in a tree's items are those of instances
     told : (id_at : Place → Option ℕ) (place : Place) (n : Node) → IsTree (problem_of t) n → AllByRecursion IsTold (items id_at place n)
     told id_at place (leaf g) is = (tt, tt)
     told id_at place (step literals) is = (tt, tt)
@@ -42,6 +43,7 @@ module _ (t : Task) where
       told_from id_at place 0 nodes are,
     )
 
+    -- the same of trees from the i-th child on
     told_from : (id_at : Place → Option ℕ) (place : Place) (i : ℕ) (ns : Nodes) → AreTrees (problem_of t) ns → AllByRecursion IsTold (items_from id_at place i ns)
     told_from id_at place i no_nodes are = tt
     told_from id_at place i (node n ns) are =
@@ -51,9 +53,11 @@ module _ (t : Task) where
   abbrev numbered : List (Item Instance) → List (Item ℕ)
   numbered = map (numbered_item (number_of t))
 
+  -- an instance's method has the name that its number names
   one_name : (g : GroundTask) (i : Instance) → number_of t g i < length (methods_of t g) → by_instance t g i ≡ by_number t g (number_of t g i)
   one_name g i low = sym (ap (λ o. numbered_method_name t (option_and_then (λ (j : Instance). j.method) o)) (stands_within i (methods_of t g) low))
 
+  -- so the lines by instances are those by their numbers
   gathered_alike : (end : ℕ) (xs : List (Item Instance)) → AllByRecursion IsTold (numbered xs) → gather_all t (by_instance t) end xs nothing ≡ gather_all t (by_number t) end (numbered xs) nothing
   gathered_alike end [] are = refl
   gathered_alike end (action id ∷ xs) are = ap (λ (b : Gathered). record { ids = Some (unwrap_or id end) ∷ b.ids; lines = b.lines }) (gathered_alike end xs are.1)

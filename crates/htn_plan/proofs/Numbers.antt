@@ -14,28 +14,35 @@ use Rattle.htn_ground.specs.Naming.{naming_of, task_name, object_name}
 use Rattle.htn_plan.proofs.Lists.{all_join, filter_join, map_join, length_map, take_one, take_drop}
 use Rattle.htn_plan.proofs.Positions.{id_next, ids_next}
 
+-- the action line of a ground task
 abbrev pub line_with : Task → ℕ → GroundTask → ActionLine
 line_with t id g = record { id = id; name = task_name t g.name; arguments = map (object_name t) g.arguments }
 
 module _ (s : Solution) (k : ℕ) (q : Place) (rest : List Place) (here : drop k s.linearisation ≡ q ∷ rest) where
+  -- the places at which actions stand
   abbrev leaves : List Place → List Place
   leaves = filter (λ p. is_leaf (node_at s.trees p))
 
+  -- the actions among one place more
   one_more : first_actions s (suc k) ≡ first_actions s k ++ leaves (q ∷ [])
   one_more = ap leaves (take_one k s.linearisation q rest here) ∙ filter_join (λ p. is_leaf (node_at s.trees p)) (take k s.linearisation) (q ∷ [])
 
+  -- there is one more where an action stands there
   with_leaf : is_leaf (node_at s.trees q) ≡ true → first_actions s (suc k) ≡ first_actions s k ++ q ∷ []
   with_leaf h = one_more ∙ ap (λ b. first_actions s k ++ cond b (q ∷ []) []) h
 
+  -- and none more where a step does
   pub without_leaf : is_leaf (node_at s.trees q) ≡ false → first_actions s (suc k) ≡ first_actions s k
   without_leaf h = one_more ∙ ap (λ b. first_actions s k ++ cond b (q ∷ []) []) h ∙ append-nil (first_actions s k)
 
+  -- all actions, where one stands at the place
   whole : is_leaf (node_at s.trees q) ≡ true → action_places s ≡ first_actions s k ++ q ∷ leaves rest
   whole h =
       ap leaves (sym (take_drop k s.linearisation) ∙ ap (λ xs. take k s.linearisation ++ xs) here)
       ∙ filter_join (λ p. is_leaf (node_at s.trees p)) (take k s.linearisation) (q ∷ rest)
       ∙ ap (λ b. first_actions s k ++ cond b (q ∷ leaves rest) (leaves rest)) h
 
+  -- a step adds no line
   pub nothing_added : (t : Task) (lines : List ActionLine) (ids : ActionIds) → is_leaf (node_at s.trees q) ≡ false
       → AreNumbered t s k lines ids → AreNumbered t s (k + 1) lines ids
   nothing_added t lines ids h (are, each, known) =
@@ -46,6 +53,7 @@ module _ (s : Solution) (k : ℕ) (q : Place) (rest : List Place) (here : drop k
         λ p. known p ∙ sym (ap (λ places. id_among s places p) e),
       )
 
+  -- an action adds its line and its id
   pub action_added : (t : Task) (g : GroundTask) (lines : List ActionLine) (ids new : ActionIds) (id : ℕ) (line : ActionLine)
       → node_at s.trees q ≡ Some (leaf g) → AreNumbered t s k lines ids → IsNumbered ids new q (length lines) id
       → line ≡ line_with t id g → IsActionLine line

@@ -15,27 +15,33 @@ use Rattle.htn_model.specs.Task.{ActionSchema, IsMethodSchema, IsObjectType, IsT
 use Rattle.htn_model.specs.Tree.{AreTrees, IsTree, Node, leaf, step, compound, Nodes, no_nodes, node, Place, child_at, children_of, node_at, node_below}
 use Rattle.htn_plan.proofs.Lists.{all_join}
 
+-- the first of two tests passes
 first_so : (a b : Bool) → (a && b) ≡ true → a ≡ true
 first_so true b h = refl
 first_so false b h = absurd cc
 
+-- the second of two tests passes
 second_so : (a b : Bool) → (a && b) ≡ true → b ≡ true
 second_so true b h = h
 second_so false b h = absurd cc
 
+-- what everything has, all of a list have
 every : {X : Type 0} (P : X → Type 0) → ((x : X) → P x) → (xs : List X) → AllByRecursion P xs
 every P f [] = tt
 every P f (x ∷ xs) = (f x, every P f xs)
 
 module _ {X Y : Type 0} (P : Y → Type 0) (Q : X → Type 0) where
+  -- what images have
   every_map : (f : X → Y) → ((x : X) → Q x → P (f x)) → (xs : List X) → AllByRecursion Q xs → AllByRecursion P (map f xs)
   every_map f g [] h = tt
   every_map f g (x ∷ xs) h = (g x h.0, every_map f g xs h.1)
 
+  -- what the members of lists in turn have
   every_flat_map : (f : X → List Y) → ((x : X) → Q x → AllByRecursion P (f x)) → (xs : List X) → AllByRecursion Q xs → AllByRecursion P (flat_map f xs)
   every_flat_map f g [] h = tt
   every_flat_map f g (x ∷ xs) h = all_join P (f x) (flat_map f xs) (g x h.0) (every_flat_map f g xs h.1)
 
+-- what passes a test has it, and what it had
 every_filter : {X : Type 0} (Q : X → Type 0) (f : X → Bool) (xs : List X) → AllByRecursion Q xs → AllByRecursion (λ x. Q x × (f x ≡ true)) (filter f xs)
 every_filter Q f [] h = tt
 every_filter Q f (x ∷ xs) h = by (f x) refl (every_filter Q f xs h.1)
@@ -44,15 +50,18 @@ every_filter Q f (x ∷ xs) h = by (f x) refl (every_filter Q f xs h.1)
     by true e more = ((h.0, e), more)
     by false e more = more
 
+-- what numbered members have
 every_numbered : {X : Type 0} (P : X → Type 0) (n : ℕ) (xs : List X) → AllByRecursion P xs → AllByRecursion (λ (p : ℕ × X). P p.1) (enumerate_from n xs)
 every_numbered P n [] f = tt
 every_numbered P n (x ∷ xs) f = (f.0, every_numbered P (n + 1) xs f.1)
 
+-- what the member at a position has
 every_at : {X : Type 0} (P : X → Type 0) (xs : List X) (k : ℕ) (x : X) → AllByRecursion P xs → slice_get xs k ≡ Some x → P x
 every_at P [] k x f h = absurd cc
 every_at P (y ∷ xs) zero x f h = let same : y ≡ x = cc in subst P same f.0
 every_at P (y ∷ xs) (suc k) x f h = every_at P xs k x f.1 h
 
+-- what the member at a position has, or the value in its place
 every_get : {X : Type 0} (P : X → Type 0) (xs : List X) (k : ℕ) (d : X) → P d → AllByRecursion P xs → P (get_or xs k d)
 every_get P [] k d p h = p
 every_get P (x ∷ xs) zero d p h = h.0
@@ -65,15 +74,18 @@ abbrev pub IsInRange : Task → GroundTask → Type 0
 IsInRange t g = (g.name < length t.tasks + length t.actions) × AllByRecursion (λ o. o < length t.objects) g.arguments
 
 module _ (t : Task) (typed : IsWellTyped t) where
+  -- the number is that of an object
   abbrev IsObject : ℕ → Type 0
   IsObject o = o < length t.objects
 
+  -- the objects of a type are objects
   objects_fit : (type : ℕ) → AllByRecursion IsObject (objects_of t type)
   objects_fit type =
       every_get (AllByRecursion IsObject) (map (λ d. d.objects) t.types) type [] tt
       (every_map (AllByRecursion IsObject) (IsObjectType t) (λ (d : ObjectType). d.objects) (λ d is. recursion_from_All IsObject d.objects is.declared) t.types
       (recursion_from_All (IsObjectType t) t.types typed.types))
 
+  -- one among objects is an object
   one_of : (o : ℕ) (xs : List ℕ) → AllByRecursion IsObject xs → list_any (nat_eq o) xs ≡ true → IsObject o
   one_of o [] h e = absurd cc
   one_of o (x ∷ xs) h e = by (nat_eq o x) refl e (one_of o xs h.1)
@@ -82,6 +94,7 @@ module _ (t : Task) (typed : IsWellTyped t) where
       by true same g more = subst IsObject (sym ((unsigned_Decides o x).0 same)) h.0
       by false same g more = more g
 
+  -- what has types are objects
   typed_fit : (types objects : List ℕ) → have_types t types objects ≡ true → AllByRecursion IsObject objects
   typed_fit [] [] e = tt
   typed_fit [] (o ∷ objects) e = absurd cc
@@ -91,6 +104,7 @@ module _ (t : Task) (typed : IsWellTyped t) where
 
   -- ## Actions
 
+  -- an action's numbers name something
   action_fits : (g : GroundTask) (a : Action) → action_of t g ≡ Some a → IsInRange t g
   action_fits g a e = by (nat_lt g.name (length t.tasks)) refl e
     where
@@ -119,9 +133,11 @@ module _ (t : Task) (typed : IsWellTyped t) where
 
   -- ## Compound tasks
 
+  -- as many values as wanted, each an object
   abbrev AreValues : ℕ → List ℕ → Type 0
   AreValues n values = (length values ≡ n) × AllByRecursion IsObject values
 
+  -- assignments of objects are such values
   assigned : (domains : List (List ℕ)) → AllByRecursion (AllByRecursion IsObject) domains → AllByRecursion (AreValues (length domains)) (assignments domains)
   assigned [] h = ((refl, tt), tt)
   assigned (objects ∷ domains) h =
@@ -129,14 +145,17 @@ module _ (t : Task) (typed : IsWellTyped t) where
       (λ o is. every_map (AreValues (suc (length domains))) (AreValues (length domains)) (λ values. o ∷ values) (λ values are. (ap suc are.0, (is, are.1))) (assignments domains) (assigned domains h.1))
       objects h.0
 
+  -- the domains of types are lists of objects
   domains_fit : (types : List ℕ) → AllByRecursion (AllByRecursion IsObject) (domains_of t types)
   domains_fit [] = tt
   domains_fit (type ∷ types) = (objects_fit type, domains_fit types)
 
+  -- there are as many domains as types
   as_many : (types : List ℕ) → length (domains_of t types) ≡ length types
   as_many [] = refl
   as_many (type ∷ types) = ap suc (as_many types)
 
+  -- the value of a term is an object
   value_fits : (n : ℕ) (values : List ℕ) → AreValues n values → (x : Term) → IsTerm t n x → IsObject (value_of values x)
   value_fits n values are (object o) is = is
   value_fits n values are (parameter p) is = at values p (let e = are.0 in omega (arith, e, is)) are.1
@@ -146,6 +165,7 @@ module _ (t : Task) (typed : IsWellTyped t) where
       at (x ∷ xs) zero h all = all.0
       at (x ∷ xs) (suc k) h all = at xs k (omega arith) all.1
 
+  -- the instances of one method are of a ground task whose numbers name something
   method_fits : (g : GroundTask) (number : ℕ) (m : MethodSchema) → IsMethodSchema t m → AllByRecursion (λ (i : Instance). IsInRange t g) (instances_of_method t g number m)
   method_fits g number m is =
       every_map (λ (i : Instance). IsInRange t g) (λ values. (AreValues (length m.parameters) values × (meets t (method_conditions t m) values ≡ true)) × (ground_task_eq (ground_task values m.task) g ≡ true))
@@ -162,6 +182,7 @@ module _ (t : Task) (typed : IsWellTyped t) where
                 (recursion_from_All (IsTerm t (length m.parameters)) m.task.arguments is.task.arguments),
           )
 
+  -- the same of all methods
   methods_fit : (g : GroundTask) → AllByRecursion (λ (i : Instance). IsInRange t g) (methods_of t g)
   methods_fit g =
       every_flat_map (λ (i : Instance). IsInRange t g) (λ (p : ℕ × MethodSchema). IsMethodSchema t p.1) (λ p. instances_of_method t g p.0 p.1) (λ p is. method_fits g p.0 p.1 is)
@@ -169,11 +190,13 @@ module _ (t : Task) (typed : IsWellTyped t) where
 
   -- ## Trees
 
+  -- the numbers of a node's task name something
   abbrev Fits : Node → Type 0
   Fits (leaf g) = IsInRange t g
   Fits (step literals) = Unit {0}
   Fits (compound g number nodes) = IsInRange t g
 
+  -- those of a tree's root do
   tree_fits : (n : Node) → IsTree (problem_of t) n → Fits n
   tree_fits (leaf g) (a, e) = action_fits g a e
   tree_fits (step literals) h = tt
@@ -181,16 +204,19 @@ module _ (t : Task) (typed : IsWellTyped t) where
       every_at (λ (n : Network). IsInRange t g) (map (λ (i : Instance). i.network) (methods_of t g)) number network
       (every_map (λ (n : Network). IsInRange t g) (λ (i : Instance). IsInRange t g) (λ (i : Instance). i.network) (λ i h. h) (methods_of t g) (methods_fit g)) e
 
+  -- a child of trees is a tree
   child_tree : (ns : Nodes) (i : ℕ) (n : Node) → AreTrees (problem_of t) ns → child_at ns i ≡ Some n → IsTree (problem_of t) n
   child_tree no_nodes i n h e = absurd cc
   child_tree (node m ns) zero n h e = let same : m ≡ n = cc in subst (IsTree (problem_of t)) same h.0
   child_tree (node m ns) (suc i) n h e = child_tree ns i n h.1 e
 
+  -- the children of a tree are trees
   children_trees : (n : Node) → IsTree (problem_of t) n → AreTrees (problem_of t) (children_of n)
   children_trees (leaf g) h = tt
   children_trees (step literals) h = tt
   children_trees (compound g number nodes) (network, e, same, trees) = trees
 
+  -- what stands below a place in a tree is a tree
   below_tree : (x : Option Node) (p : Place) (n : Node) → ((m : Node) → x ≡ Some m → IsTree (problem_of t) m) → node_below x p ≡ Some n → IsTree (problem_of t) n
   below_tree x [] n h e = h n e
   below_tree None (i ∷ p) n h e = below_tree None p n (λ m f. absurd (nothing m f)) e
@@ -199,6 +225,7 @@ module _ (t : Task) (typed : IsWellTyped t) where
       nothing m f = cc
   below_tree (Some x) (i ∷ p) n h e = below_tree (child_at (children_of x) i) p n (λ m f. child_tree (children_of x) i m (children_trees x (h x refl)) f) e
 
+  -- so the numbers of each node of a forest name something
   pub node_fits : (trees : Nodes) → AreTrees (problem_of t) trees → (p : Place) (n : Node) → node_at trees p ≡ Some n → Fits n
   node_fits trees are [] n e = absurd cc
   node_fits trees are (i ∷ p) n e = tree_fits n (below_tree (child_at trees i) p n (λ m f. child_tree trees i m are f) e)

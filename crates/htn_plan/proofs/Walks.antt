@@ -18,15 +18,18 @@ module _ (numbers : Numbering) where
   numbered_join : (old : List Item) (item : Item) → numbered_items numbers (old ++ item ∷ []) ≡ numbered_items numbers old ++ numbered_item numbers (item_of item) ∷ []
   numbered_join old item = ap (map (numbered_item numbers)) (map_join item_of old (item ∷ [])) ∙ map_join (numbered_item numbers) (items_of old) (item_of item ∷ [])
 
+  -- one frame more is one level more
   pub levels_push : (frames : List Frame) (f : Frame) → levels_of numbers (frames ++ f ∷ []) ≡ level_of numbers f ∷ levels_of numbers frames
   levels_push frames f = ap (map (level_of numbers)) (reverse_last frames f)
 
   -- ## The place that was taken last
 
+  -- the place of one level more
   place_of_last : (ls : List Level) (l : Level) → place_of (ls ++ l ∷ []) ≡ (l.taken - 1) ∷ place_of ls
   place_of_last [] l = refl
   place_of_last (x ∷ ls) l = ap (λ p. p ++ (x.taken - 1) ∷ []) (place_of_last ls l)
 
+  -- the place at which the frames stand
   pub place_by_frames : (frames : List Frame) → map (λ f. f.taken - 1) frames ≡ place_of (levels_of numbers frames)
   place_by_frames [] = refl
   place_by_frames (f ∷ frames) =
@@ -36,6 +39,7 @@ module _ (numbers : Numbering) where
 
   -- ## A node without children
 
+  -- an action or a step is visited by one item
   pub simple_visited : (id_at : Place → Option ℕ) (frames : List Frame) (old new : List Item) (item : Item) (n : Node) → new ≡ old ++ item ∷ []
       → items id_at (place_of (levels_of numbers frames)) n ≡ numbered_item numbers (item_of item) ∷ []
       → numbered_items numbers new ++ pending id_at (levels_of numbers frames)
@@ -47,12 +51,15 @@ module _ (numbers : Numbering) where
 
   module _ (frames after : List Frame) (f : Frame) (g : GroundTask) (number : ℕ) (children : List RustNode)
       (pushed : after ≡ frames ++ f ∷ []) (level : level_of numbers f ≡ record { taken = 0; rest = nodes_of (nodes_view numbers children) }) where
+    -- the levels after a node is entered
     levels : levels_of numbers after ≡ record { taken = 0; rest = nodes_of (nodes_view numbers children) } ∷ levels_of numbers frames
     levels = ap (levels_of numbers) pushed ∙ levels_push frames f ∙ ap (λ l. l ∷ levels_of numbers frames) level
 
+    -- the items of what is left behind it
     abbrev behind : (Place → Option ℕ) → List (spec.Item ℕ)
     behind id_at = items_from id_at (place_of (levels_of numbers frames)) 0 (nodes_of (nodes_view numbers children)) ++ pending id_at (levels_of numbers frames)
 
+    -- a compound node is visited by its item, and then its children are
     pub compound_visited : (id_at : Place → Option ℕ) (old new : List Item) (item : Item) → new ≡ old ++ item ∷ [] → numbered_item numbers (item_of item) ≡ task g number (length children)
         → numbered_items numbers new ++ pending id_at (levels_of numbers after)
         ≡ numbered_items numbers old ++ items id_at (place_of (levels_of numbers frames)) (compound g number (nodes_of (nodes_view numbers children))) ++ pending id_at (levels_of numbers frames)
@@ -63,12 +70,14 @@ module _ (numbers : Numbering) where
         ∙ ap (λ x. numbered_items numbers old ++ (x ∷ behind id_at)) (is ∙ ap (task g number) (sym (as_many numbers children)))
         ∙ sym (append_assoc (numbered_items numbers old) (items id_at (place_of (levels_of numbers frames)) (compound g number (nodes_of (nodes_view numbers children)))) (pending id_at (levels_of numbers frames)))
 
+    -- fewer steps are left
     pub compound_fewer : steps_left (levels_of numbers after) < suc (total_size (nodes_of (nodes_view numbers children))) + suc (total_size (nodes_of (nodes_view numbers children))) + steps_left (levels_of numbers frames)
     compound_fewer = let e = ap steps_left levels in omega (arith, e)
 
   -- ## A child
 
   module _ (old left : List Frame) (f : Frame) (popped : old ≡ left ++ f ∷ []) where
+    -- the last frame is the top level
     top : levels_of numbers old ≡ level_of numbers f ∷ levels_of numbers left
     top = ap (levels_of numbers) popped ∙ levels_push left f
 

@@ -19,6 +19,7 @@ by_instance t g instance = numbered_method_name t instance.method
 abbrev pub by_number : Task → MethodNaming ℕ
 by_number t = method_name t
 
+-- the line that says how a ground task was decomposed
 abbrev pub line_of : Task → ℕ → GroundTask → Word → List ℕ → DecompositionLine
 line_of t id g method children = record {
   id = id;
@@ -28,6 +29,7 @@ line_of t id g method children = record {
   children = children;
 }
 
+-- the ids that are there
 abbrev pub somes : List (Option ℕ) → List ℕ
 somes [] = []
 somes (None ∷ ids) = somes ids
@@ -38,6 +40,7 @@ pub record Gathered : Type 0 where
   pub ids : List (Option ℕ)
   pub lines : List DecompositionLine
 
+-- no ids and no lines
 abbrev pub nothing : Gathered
 nothing = record { ids = []; lines = [] }
 
@@ -50,6 +53,7 @@ gather t names end (task goal method count) g = record {
   lines = line_of t (end - suc (length g.lines)) goal (names goal method) (somes (take count g.ids)) ∷ g.lines;
 }
 
+-- what is gathered of items from the last one on
 abbrev pub gather_all : {Method : Type 0} → Task → MethodNaming Method → ℕ → List (Item Method) → Gathered → Gathered
 gather_all t names end [] g = g
 gather_all t names end (item ∷ items) g = gather t names end item (gather_all t names end items g)

@@ -10,6 +10,7 @@ pub record Level : Type 0 where
   pub taken : ℕ
   pub rest : Nodes
 
+-- how many children of a frame were taken, and the trees of those that are left
 abbrev pub level_of : Numbering → Frame → Level
 level_of numbers f = record { taken = f.taken; rest = nodes_of (drop f.taken (nodes_view numbers f.children.now)) }
 

@@ -72,7 +72,8 @@ IsUnjudged plan (fault.Plan f) = IsFaultyPlan plan f
 IsUnjudged plan fault.OutOfMemory = ⊤
 IsUnjudged plan _ = ⊥
 
--- why there is no verdict: the domain is read first, then the problem, then the pair is checked, and then the plan is read
+-- why there is no verdict: the domain is read first, then the problem, then the pair is checked, and then the plan is
+-- read
 abbrev pub RefusesPlan : List ℕ → List ℕ → List ℕ → RunFault → Type 0
 RefusesPlan domain problem plan (fault.Domain f) = IsFaulty DerivesDomain domain f
 RefusesPlan domain problem plan (fault.Problem f) = (d : DomainText) × Spells DerivesDomain domain d × IsFaulty DerivesProblem problem f

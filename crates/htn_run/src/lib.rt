@@ -1,4 +1,5 @@
-//! `htnplan` as a library: from the bytes of a domain and a problem, and of a plan to be verified, or from the words of a
+//! `htnplan` as a library: from the bytes of a domain and a problem, and of a plan to be verified, or from the words of
+//! a
 //! command line, to the bytes of the answer.
 #![tactic(auto)]
 

@@ -53,7 +53,8 @@ impl ProcessFault {
     }
 }
 
-/// The words of a process, of which the first is the program's name: `NotText` where one is not UTF-8, and `OutOfMemory`.
+/// The words of a process, of which the first is the program's name: `NotText` where one is not UTF-8, and
+/// `OutOfMemory`.
 pub fn words_of<V: Env>(alloc: Global, env: &V) -> Result<Vec<String>, ProcessFault>
     ensures { IfErr result (λ fault. fault ≢ ProcessFault.Output) }
 {

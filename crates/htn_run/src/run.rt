@@ -14,7 +14,8 @@ use std::alloc::Global;
 use std::sync::Wait;
 use std::thread::Threads;
 
-/// Reads a domain and a problem, searches within the bounds, and writes the answer: the text of the plan with the fewest
+/// Reads a domain and a problem, searches within the bounds, and writes the answer: the text of the plan with the
+/// fewest
 /// nodes and then the least code, or `none`, or `unsolvable`, with a line feed. It is the same for every number of
 /// workers, size of the pieces and gate, and however the workers take turns. Nothing is written before the answer is
 /// known.

@@ -18,9 +18,11 @@ module _ (t : Task) (bound : ℕ) where
   abbrev problem : Problem
   problem = problem_of t
 
+  -- there is no answer where there is none
   not_both : (s : tree.Solution) → IsAnswer problem bound (Some s) → IsAnswer problem bound None → ⊥
   not_both s answer none = let over = none s answer.0 in let within = answer.1 in omega arith
 
+  -- a plan that answers for the bound excludes the others
   pub plan_answers : IsGrounded problem → (plan : Solution) → IsAnswer problem bound (Some (solution_of t plan)) → Answers t bound (Plan plan)
   plan_answers grounded plan answer = record {
     plan = λ s. (λ is. (let same : plan ≡ is.0 = (let e = is.1 in cc) in subst (λ x. IsAnswer problem bound (Some x)) (ap (solution_of t) same ∙ is.2) answer), λ other. (plan, refl, same_Some _ _ ((least_word_answers problem grounded).one_answer bound (Some (solution_of t plan)) (Some s) answer other)));
@@ -28,6 +30,7 @@ module _ (t : Task) (bound : ℕ) where
     unsolvable = (λ e. absurd cc, λ other. absurd (other.0 (solution_of t plan) answer.0));
   }
 
+  -- so does none, where the bound was met
   pub none_answers : IsAnswer problem bound None → IsMet problem bound → Answers t bound NoPlan
   none_answers none met = record {
     plan = λ s. (λ is. (let e = is.1 in absurd cc), λ other. absurd (not_both s other none));
@@ -35,6 +38,7 @@ module _ (t : Task) (bound : ℕ) where
     unsolvable = (λ e. absurd cc, λ other. absurd (other.1 met));
   }
 
+  -- and unsolvable, where it was not
   pub unsolvable_answers : IsUnsolvable problem → (IsMet problem bound → ⊥) → Answers t bound Unsolvable
   unsolvable_answers never not_met = record {
     plan = λ s. (λ is. (let e = is.1 in absurd cc), λ other. absurd (never s other.0));

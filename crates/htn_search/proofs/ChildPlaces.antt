@@ -7,6 +7,7 @@ use Rattle.htn_model.specs.Tree.{Place}
 use Rattle.htn_model.specs.Choice.{splice}
 use Rattle.htn_search.specs.Places.{places_view, child_places}
 
+-- one child more
 children_more : (place : Place) (position count : ℕ) → child_places place position (suc count) ≡ child_places place position count ++ (place ++ (position + count) ∷ []) ∷ []
 children_more place position zero = ap (λ k. (place ++ k ∷ []) ∷ []) (let e : position ≡ position + 0 = omega arith in e)
 children_more place position (suc count) =
@@ -32,9 +33,11 @@ cut_last xs i d h =
     (ap (λ l. drop l (take i xs ++ get_or xs i d ∷ [])) (let e : suc i ≡ i + 1 = omega arith in e) ∙ sym (drop-drop 1 i (take i xs ++ get_or xs i d ∷ [])) ∙ ap (drop 1) (drop_at (take i xs) (get_or xs i d ∷ []) i long))
     ∙ append-nil (take i xs)
 
+-- the last of those that are taken
 pub last_of_take : {X : Type 0} (xs : List X) (i : ℕ) (d : X) → i < length xs → get_or (take (i + 1) xs) i d ≡ get_or xs i d
 last_of_take xs i d h = get_or-take (i + 1) xs i d (omega arith)
 
+-- the places of children stand in that of their parent's
 pub put_children : (old left later out children : List (Vec ℕ)) (place : Vec ℕ) (position count : ℕ) → position < length old
     → left ≡ take (position + 1) old → later ≡ drop (position + 1) old
     → place ≡ get_or left position place
@@ -52,6 +55,7 @@ put_children old left later out children place position count within l r p c o =
     ∙ ap₂ ◌++◌ (c ∙ ap (λ q. child_places q 0 count) stood)
     (ap places_view (r ∙ ap (λ k. drop k old) (let e : position + 1 ≡ suc position = omega arith in e)) ∙ sym (drop-map (λ v. v.items) (suc position) old)))
 
+-- a place is taken out
 pub place_removed : (old out : List (Vec ℕ)) (position : ℕ) → out ≡ remove old position → places_view out ≡ splice {X = Place} position [] (places_view old)
 place_removed old out position e =
     ap places_view e ∙ map-append (λ v. v.items) (take position old) (drop (suc position) old)

@@ -27,9 +27,11 @@ module _ (t : Task) where
     pub number_is : (g : GroundTask) (i : Instance) (n : ℕ) → slice_get (methods_of t g) n ≡ Some i → number_of t g i ≡ n
     number_is g i n at = one_place (methods_of t g) (methods_once t typed g) (number_of t g i) n i (stands_at_place i (methods_of t g) n at) at
 
+    -- the number of an initial instance
     pub initial_number_is : (i : Instance) (n : ℕ) → slice_get (initials t) n ≡ Some i → initial_number_of t i ≡ n
     initial_number_is i n at = one_place (initials t) (initials_once t typed) (initial_number_of t i) n i (stands_at_place i (initials t) n at) at
 
+    -- the number makes no difference to an action or a step
     primitive_bare : (child : Child) (m n : ℕ) → is_compound child ≡ false → bare child m ≡ bare child n
     primitive_bare (precondition literals) m n primitive = refl
     primitive_bare (action g) m n primitive = refl

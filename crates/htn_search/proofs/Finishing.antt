@@ -9,9 +9,11 @@ use Rattle.htn_model.specs.Problem.{Problem}
 use Rattle.htn_model.specs.Task.{Task}
 
 module _ (problem : Problem) (c : Config) (n : ℕ) (rest : List ℕ) where
+  -- what finishes finishes after its first number
   pub one_onward : (next : Config) → step_by problem c n ≡ Some next → FinishesFrom problem (n ∷ rest) c → FinishesFrom problem rest next
   one_onward next step h = subst (FinishesFrom problem rest) (same_Some h.0 next (sym h.1 ∙ step)) h.2
 
+  -- and what finishes after a number finishes with it
   pub one_back : (next : Config) → step_by problem c n ≡ Some next → FinishesFrom problem rest next → FinishesFrom problem (n ∷ rest) c
   one_back next step h = (next, step, h)
 
@@ -20,17 +22,21 @@ module _ (problem : Problem) (c : Config) (n : ℕ) (rest : List ℕ) where
   stuck none h = none-some h.0 (sym (ap (option_map (result_of c)) none) ∙ h.1)
 
 module _ (t : Task) (place : ℕ) (items : List Instance) (x : Instance) (all : items ≡ initials t) (inside : place < length items) (is : x ≡ get_or items place x) where
+  -- the instance at the word's first number is an initial network
   pub stands_there : slice_get (problem_of t).initials place ≡ Some x.network
   stands_there =
       slice_get-map (λ (i : Instance). i.network) (initials t) place
       ∙ ap (option_map (λ (i : Instance). i.network)) (ap (λ l. slice_get l place) (sym all) ∙ slice_get-get_or items place x inside ∙ ap Some (sym is))
 
+  -- it is an initial instance
   pub is_initial : Contains (initials t) x
   is_initial = subst (λ l. Contains l x) all (place, inside, sym is)
 
   module _ (numbers : List ℕ) where
+    -- what finishes from the initial network finishes as a word
     pub finishes_back : FinishesFrom (problem_of t) numbers (start (problem_of t) x.network) → Finishes (problem_of t) (place ∷ numbers)
     finishes_back h = (x.network, stands_there, h)
 
+    -- and the other way round
     pub finishes_onward : Finishes (problem_of t) (place ∷ numbers) → FinishesFrom (problem_of t) numbers (start (problem_of t) x.network)
     finishes_onward h = subst (λ n. FinishesFrom (problem_of t) numbers (start (problem_of t) n)) (same_Some h.0 x.network (sym h.1 ∙ stands_there)) h.2

@@ -9,16 +9,19 @@ use Rattle.htn_search.specs.Trail.{before_move, before_moves, count_before, coun
 
 -- ## The last move
 
+-- the count before all moves, the last one first
 count_last : (moves : List Move) (last : Move) (count : ℕ) → count_before_all (moves ++ last ∷ []) count ≡ count_before_all moves (count_before last count)
 count_last [] last count = refl
 count_last (m ∷ moves) last count = ap (count_before m) (count_last moves last count)
 
+-- the last move is within, and those before it are
 pub within_last : (moves : List Move) (last : Move) (count : ℕ) → AreWithin (moves ++ last ∷ []) count → AreWithin moves (count_before last count) × (last.position + last.children ≤ count)
 within_last [] last count h = (tt, h.0)
 within_last (m ∷ moves) last count h =
     let rest = within_last moves last count h.1 in
     ((subst (λ n. m.position + m.children ≤ n) (count_last moves last count) h.0, rest.0), rest.1)
 
+-- one more move that is within
 pub within_push : (moves : List Move) (last : Move) (count : ℕ) → AreWithin moves (count_before last count) → last.position + last.children ≤ count → AreWithin (moves ++ last ∷ []) count
 within_push [] last count h g = (g, tt)
 within_push (m ∷ moves) last count h g = (subst (λ n. m.position + m.children ≤ n) (sym (count_last moves last count)) h.0, within_push moves last count h.1 g)
@@ -26,10 +29,12 @@ within_push (m ∷ moves) last count h g = (subst (λ n. m.position + m.children
 -- ## The trees
 
 module _ (numbers : Numbering) where
+  -- the trees before all moves, the last one taken back first
   pub before_last : (moves : List Move) (last : Move) (trees : List tree.Node) → before_moves numbers (moves ++ last ∷ []) trees ≡ before_moves numbers moves (before_move numbers last trees)
   before_last [] last trees = refl
   before_last (m ∷ moves) last trees = ap (before_move numbers m) (before_last moves last trees)
 
+  -- how many trees there are before a move
   pub length_before : (m : Move) (trees : List tree.Node) → m.position + m.children ≤ length trees → length (before_move numbers m trees) ≡ count_before m (length trees)
   length_before m trees h =
       let node = over (node_of numbers m.node) (take m.children (drop m.position trees)) in
@@ -38,6 +43,7 @@ module _ (numbers : Numbering) where
       let back = length-drop (m.position + m.children) trees in
       omega (arith, both, front, back, h)
 
+  -- a move is taken back by putting its node over the trees of its children
   pub put_back : (old row left out : List Node) (new : Node) (m : Move) → m.position + m.children ≤ length old
       → row ≡ take m.children (drop m.position old) → left ≡ take m.position old ++ drop (m.position + m.children) old
       → out ≡ take m.position left ++ new ∷ drop m.position left

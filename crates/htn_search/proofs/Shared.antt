@@ -52,23 +52,29 @@ ruleset terms = (
   basic,
 )
 
+-- formulas can be shared
 formula_sync : IsSync Formula.the_row
 formula_sync = search (FormulaKnot.crosses, terms) depth 60 fits 20000
 
+-- lists of formulas can be shared
 formulas_sync : IsSync FormulaList.the_row
 formulas_sync = search (formula_sync, basic) depth 60 fits 20000
 
+-- methods can be shared
 method_sync : IsSync MethodSchema.the_row
 method_sync = search (formulas_sync, TaskSchemaShared.the_sync, NetworkShared.the_sync, NameShared.the_sync, terms) depth 60 fits 20000
 
+-- actions can be shared
 action_sync : IsSync ActionSchema.the_row
 action_sync = search (formulas_sync, NameShared.the_sync, terms) depth 60 fits 20000
 
+-- the parts of a task can be shared
 parts_sync : IsSync TaskParts.the_row
 parts_sync =
     search (formulas_sync, method_sync, action_sync, NameShared.the_sync, ObjectTypeShared.the_sync, DeclarationShared.the_sync, InitialShared.the_sync, StateShared.the_sync, basic)
     depth 60 fits 20000
 
+-- so a task can be shared
 pub task_sync : IsSync Task.the_row
 task_sync = search (parts_sync, basic) depth 60 fits 20000
 

@@ -51,6 +51,7 @@ pub record IsBegun (t : Task) (number : ℕ) (numbers : List ℕ) (instance : In
   pub network : slice_get (problem_of t).initials number ≡ Some instance.network
   pub finishes : FinishesFrom (problem_of t) numbers (start (problem_of t) instance.network)
 
+-- a finishing word begins at the instance of its first number
 pub begun : (t : Task) (number : ℕ) (numbers : List ℕ) (instances : List Instance) (instance : Instance) → Finishes (problem_of t) (number ∷ numbers)
     → instances ≡ initials t → instance ≡ get_or instances number instance → IsBegun t number numbers instance
 begun t number numbers instances instance h all at =

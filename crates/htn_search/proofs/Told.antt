@@ -37,6 +37,7 @@ module _ (t : Task) where
   told_step : (c next : Config) (rank : ℕ) → IsStep (listing_machine t) c rank next → step_by (problem_of t) c (number_of t c rank) ≡ Some next
   told_step c next rank step = ((enough t).step c next rank step).0
 
+  -- the numbers of ranks that finish do so
   pub finishes_told : (ranks : List ℕ) (c : Config) → FinishesListed t c ranks → FinishesFrom (problem_of t) (told t c ranks) c
   finishes_told [] c h = done_from (problem_of t) c (subst (λ x. is_done (problem_of t) x ≡ true) (sym h.1) h.2)
   finishes_told (rank ∷ ranks) c h =
@@ -44,6 +45,7 @@ module _ (t : Task) where
       let rest = finishes_told ranks next (h.0, h.1.2, h.2) in
       (next, told_step c next rank h.1.1, subst (λ o. FinishesFrom (problem_of t) (onward o ranks) next) (sym h.1.1) rest)
 
+  -- where an image is there, something is
   some_of : {A B : Type 0} (f : A → B) (o : Option A) (y : B) → option_map f o ≡ Some y → IsSome o
   some_of f None y h = absurd (none-some y h)
   some_of f (Some x) y h = refl
@@ -69,6 +71,7 @@ module _ (t : Task) where
     pub finishes : FinishesListed t (start (problem_of t) x.network) ranks
     pub word : told_word t (rank ∷ ranks) ≡ number ∷ told t (start (problem_of t) x.network) ranks
 
+  -- a word of ranks begins at what is listed
   begun_by : (rank : ℕ) (ranks : List ℕ) (p : ℕ × Instance) → slice_get (listed_initials t) rank ≡ Some p → FinishesListed t (start (problem_of t) p.1.network) ranks → IsBegun rank ranks p.1
   begun_by rank ranks p at finishes = record {
     number = p.0;
@@ -79,6 +82,7 @@ module _ (t : Task) where
         ∙ ap (λ o. p.0 ∷ onward o ranks) (slice_get-map (λ (q : ℕ × Instance). start (problem_of t) q.1.network) (listed_initials t) rank ∙ ap (option_map (λ (q : ℕ × Instance). start (problem_of t) q.1.network)) at);
   }
 
+  -- a word of ranks that finishes begins at a distinct initial network
   pub begun : (rank : ℕ) (ranks : List ℕ) → IsFinishing (listing_machine t) (rank ∷ ranks) → (x : Instance) × (slice_get (distinct (initials t)) rank ≡ Some x) × IsBegun rank ranks x
   begun rank ranks h =
       let p = slice_get-map_back (λ (q : ℕ × Instance). start (problem_of t) q.1.network) (listed_initials t) rank h.1.0 h.1.1 in (
@@ -90,6 +94,7 @@ module _ (t : Task) where
 -- ## The search's answer
 
 module _ (t : Task) (grounded : IsGrounded (problem_of t)) (bound : ℕ) where
+  -- no finishing word has a dead number
   alive : FinishesLive (machine_of (problem_of t))
   alive = live_finishes (machine_of (problem_of t)) (IsOwn (problem_of t)) (lawful (problem_of t) grounded)
 
@@ -108,9 +113,11 @@ module _ (t : Task) (grounded : IsGrounded (problem_of t)) (bound : ℕ) where
 -- ## The instance of a word's first rank
 
 module _ (t : Task) (rank : ℕ) (ranks : List ℕ) (items : List Instance) (finishes : IsFinishing (listing_machine t) (rank ∷ ranks)) (all : items ≡ distinct (initials t)) where
+  -- the first rank is within what is listed
   pub rank_within : rank < length items
   rank_within = slice_get_within items rank (begun t rank ranks finishes).0 (ap (λ l. slice_get l rank) all ∙ (begun t rank ranks finishes).1)
 
+  -- the word begins at the instance that stands there
   pub begun_at : (y : Instance) → y ≡ get_or items rank y → IsBegun t rank ranks y
   begun_at y at =
       let b = begun t rank ranks finishes in

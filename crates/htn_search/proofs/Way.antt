@@ -22,29 +22,35 @@ use Rattle.htn_search.proofs.Moves.{before_last, length_before, within_push}
 
 -- ## The same words
 
+-- the tree of a node, over these children
 same_node : (child : Child) (number : ℕ) (children : List Node) → over (bare child number) children ≡ make child number children
 same_node (precondition literals) number children = refl
 same_node (action g) number children = refl
 same_node (task t) number children = refl
 
+-- the places of children are those of the theory
 pub same_places : (place : Place) (position count : ℕ) → child_places place position count ≡ theory.child_places place position count
 same_places place position zero = refl
 same_places place position (suc count) = ap (λ l. (place ++ position ∷ []) ∷ l) (same_places place (suc position) count)
 
+-- what is visited is what the theory visits
 same_visit : (child : Child) (place : Place) (rest : List Place) → own_place child place ++ rest ≡ visited child place rest
 same_visit (precondition literals) place rest = refl
 same_visit (action g) place rest = refl
 same_visit (task t) place rest = refl
 
+-- there are as many places as children
 pub length-child_places : (place : Place) (position count : ℕ) → length (child_places place position count) ≡ count
 length-child_places place position zero = refl
 length-child_places place position (suc count) = ap suc (length-child_places place (suc position) count)
 
 -- ## One number
 
+-- the position of a choice is that of an open node
 pub position_within : (problem : Problem) (c : Config) (number : ℕ) (choice : Choice) → choose problem c number ≡ Some choice → choice.position < length c.open_nodes
 position_within problem c number choice chooses = choice_within problem c number choice (chosen problem c number choice chooses)
 
+-- how far a walk along a finishing word has come, and what it has recorded
 pub record IsUnderWay (numbers : Numbering) (problem : Problem) (word : List ℕ) (first : Config) (roots : List Place) (rest : List ℕ) (c : Config) (trail : List Move)
     (places visits : List Place) : Type 0 where
   pub finishes : FinishesFrom problem rest c
@@ -55,18 +61,22 @@ pub record IsUnderWay (numbers : Numbering) (problem : Problem) (word : List ℕ
 
 module _ (numbers : Numbering) (problem : Problem) (c : Config) (number : ℕ) (choice : Choice) (chooses : choose problem c number ≡ Some choice) (last : Move)
     (is_move : IsMove numbers c number choice last) (rest : List ℕ) where
+  -- the position of the next choice is that of an open node
   within : choice.position < length c.open_nodes
   within = position_within problem c number choice chooses
 
+  -- the configuration after the next number
   abbrev next : Config
   next = result_of c choice
 
+  -- from there the rest finishes
   next_finishes : FinishesFrom problem (number ∷ rest) c → FinishesFrom problem rest next
   next_finishes h =
       let made = step_choice problem c h.0 number h.1 in
       let same : made.0 ≡ choice = same_Some made.0 choice (sym made.1 ∙ chooses) in
       subst (FinishesFrom problem rest) (made.2 ∙ ap (result_of c) same) h.2
 
+  -- the move, taken back, gives the trees before it
   grown_back : before_move numbers last (rebuild problem rest next) ≡ rebuild problem (number ∷ rest) c
   grown_back =
       let trees = rebuild problem rest next in
@@ -81,6 +91,7 @@ module _ (numbers : Numbering) (problem : Problem) (c : Config) (number : ℕ) (
           ∙ ap (λ x. take i trees ++ over x (take m (drop i trees)) ∷ drop (i + m) trees) is_move.node
           ∙ ap (λ n. take i trees ++ n ∷ drop (i + m) trees) (same_node (child_of c.open_nodes i) number (take m (drop i trees)))
 
+  -- the move is within the trees after it
   move_within : FinishesFrom problem rest next → last.position + last.children ≤ length (rebuild problem rest next)
   move_within h =
       let i = choice.position in
@@ -89,6 +100,7 @@ module _ (numbers : Numbering) (problem : Problem) (c : Config) (number : ℕ) (
       let spliced = length_splice i choice.network.children c.open_nodes within in
       omega (arith, long, spliced, within, is_move.position, is_move.children)
 
+  -- the route goes on from the node's own place
   routed_on : (places : List Place)
       → route problem (number ∷ rest) c places
       ≡ own_place (child_of c.open_nodes choice.position) (get_or places choice.position [])
@@ -132,6 +144,7 @@ module _ (numbers : Numbering) (problem : Problem) (c : Config) (number : ℕ) (
 
 -- ## The ends of a walk
 
+-- a walk that has not begun is under way
 pub way_start : (numbers : Numbering) (problem : Problem) (word : List ℕ) (first : Config) (roots : List Place) (trail : List Move) (visits : List Place)
     → FinishesFrom problem word first → length roots ≡ length first.open_nodes → trail ≡ [] → visits ≡ [] → IsUnderWay numbers problem word first roots word first trail roots visits
 way_start numbers problem word first roots trail visits h placed t v = record {

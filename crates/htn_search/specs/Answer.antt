@@ -14,7 +14,8 @@ use Rattle.htn_search.specs.declared.answer.Answer.TheVariants.{Plan, None as No
 abbrev pub IsPlan : Task → Answer → tree.Solution → Type 0
 IsPlan t answer s = (plan : Solution) × (answer ≡ Plan plan) × (solution_of t plan ≡ s)
 
--- a plan exactly by the solution that answers for the bound, which has fewest nodes and then the least code; none exactly where no solution is
+-- a plan exactly by the solution that answers for the bound, which has fewest nodes and then the least code; none
+-- exactly where no solution is
 -- within the bound, which was met; unsolvable exactly where there is no solution, and the bound was not met
 pub record Answers (t : Task) (bound : ℕ) (answer : Answer) : Type 0 where
   pub plan : (s : tree.Solution) → IsPlan t answer s ↔ IsAnswer (problem_of t) bound (Some s)

@@ -4,6 +4,7 @@ use Rattle.std.specs.Global.{Vec}
 use Rattle.htn_model.specs.Problem.{Child, precondition, action, task}
 use Rattle.htn_model.specs.Tree.{Place}
 
+-- places as lists
 abbrev pub places_view : List (Vec ℕ) → List Place
 places_view places = map (λ p. p.items) places
 

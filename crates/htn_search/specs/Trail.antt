@@ -33,6 +33,7 @@ abbrev pub before_move : Numbering → Move → List Node → List Node
 before_move numbers m trees =
     take m.position trees ++ over (node_of numbers m.node) (take m.children (drop m.position trees)) ∷ drop (m.position + m.children) trees
 
+-- the trees before the moves, from those after them
 abbrev pub before_moves : Numbering → List Move → List Node → List Node
 before_moves numbers [] trees = trees
 before_moves numbers (m ∷ moves) trees = before_move numbers m (before_moves numbers moves trees)

@@ -12,7 +12,8 @@ use Rattle.htn_search.specs.declared.walk.Walk.{Walk}
 use Rattle.htn_search.specs.Trail.{IsMove, before_moves}
 use Rattle.htn_search.specs.Places.{child_places, own_place, places_view}
 
--- the walk one number on: where the number leads, with its move recorded, its children's places, and its place where it is carried out
+-- the walk one number on: where the number leads, with its move recorded, its children's places, and its place where it
+-- is carried out
 pub record IsOneOn (t : Task) (number : ℕ) (old new : Walk) : Type 0 where
   pub choice : Choice
   pub chooses : choose (problem_of t) old.config number ≡ Some choice

@@ -37,8 +37,9 @@ fn find_ranks<G: Gate, R: Threads + Wait + Sync>(
 }
 
 /// The least finishing word of a task, by its steps and then by its numbers; or that no solution is
-/// within the bound, or none at all. `SearchFault::NoThread` never comes with one worker. A number of
-/// the word that doesn't fit 64 bits is answered as want of memory.
+/// within the bound, or none at all. `SearchFault::NoThread` never comes with one worker. For each task that the
+/// word decomposes the live instances are listed with their numbers: where one of these doesn't fit 64 bits, be it
+/// that of an instance which the word doesn't have, the answer is want of memory.
 pub fn find_word<G: Gate, R: Threads + Wait + Sync>(
     rt: &R,
     alloc: Global,

@@ -10,9 +10,11 @@ module _ (i : Instance) where
   abbrev place : List Instance → ℕ
   place xs = position_or_len (instance_eq i) xs
 
+  -- an instance that isn't the first stands one place later
   later : (x : Instance) (xs : List Instance) → instance_eq i x ≡ false → place (x ∷ xs) ≡ suc (place xs)
   later x xs other = let e = ap (λ b. cond (not b) (1 + place xs) 0) other in omega (arith, e)
 
+  -- one that is the first stands there
   here : (x : Instance) (xs : List Instance) → instance_eq i x ≡ true → place (x ∷ xs) ≡ 0
   here x xs same = ap (λ b. cond (not b) (1 + place xs) 0) same
 

@@ -92,7 +92,8 @@ impl Node {
 
 /// On the way down each node's last child is taken out, and the node above it is put in that place:
 /// so the nodes above are a stack, linked by their last children. Where the way ends, the next child
-/// is taken from the top of the stack, before its link.
+/// is taken from the top of the stack, before its link. (This is known as pointer reversal, after Deutsch, Schorr and
+/// Waite.)
 impl Drop for Node {
     fn drop(self) {
         let mut here = self;

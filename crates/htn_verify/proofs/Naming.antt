@@ -22,6 +22,7 @@ same_id : (o : Option ℕ) (x y : ℕ) → o ≡ Some x → o ≡ Some y → x �
 same_id o x y e h = cc
 
 module _ (naming : Naming) (file : PlanFile) (once : IsWithoutRepeats (defined_ids file)) (named_at : ℕ → Option GroundTask) (are : AreNamedAs naming file named_at) where
+  -- the ids of the lines, by their numbers
   abbrev ids : List ℕ
   ids = defined_ids file
 

@@ -12,6 +12,7 @@ abbrev pub IsInstanceOf : Naming → Problem → GroundTask → Word → Network
 IsInstanceOf naming problem t method network =
     (number : ℕ) × (slice_get (problem.methods_of t) number ≡ Some network) × (method ≡ naming.method_name t number)
 
+-- the network is an initial one
 abbrev pub IsInitial : Problem → Network → Type 0
 IsInitial problem network = (number : ℕ) × (slice_get problem.initials number ≡ Some network)
 

@@ -15,6 +15,7 @@ AreTasksOf naming [] tasks = tasks ≡ []
 AreTasksOf naming (line ∷ lines) [] = ⊥
 AreTasksOf naming (line ∷ lines) (t ∷ tasks) = (naming.named line.name line.arguments ≡ Some t) × AreTasksOf naming lines tasks
 
+-- the run of the tasks that action lines name is the run of the lines
 pub record RunsAreOfLines (naming : Naming) (problem : Problem) : Type 0 where
   -- where a task can't be done its line is the first that can't
   pub fails : (file : PlanFile) (tasks : List GroundTask) → AreTasksOf naming file.actions tasks → (i : ℕ) → IsFailing problem tasks i

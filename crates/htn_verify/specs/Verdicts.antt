@@ -3,6 +3,7 @@ use Rattle.htn_model.specs.Verdict as model
 use Rattle.htn_verify.specs.declared.verdict.Verdict.{Verdict}
 use Rattle.htn_verify.specs.declared.verdict.Verdict.TheVariants.{Structure, NoInstance, NotExecutable, GoalFails, NoArrangement, Valid}
 
+-- the verdict as the definitions have it
 abbrev pub verdict_of : Verdict → model.Verdict
 verdict_of Structure = model.structure
 verdict_of (NoInstance name) = model.no_instance name

@@ -156,6 +156,7 @@ module _ (problem : Problem) (grounded : IsGrounded problem) (o : Outlook) (righ
     abbrev old : Network
     old = network_of c
 
+    -- the network after the step
     abbrev new : Network
     new = network_of (result_of c choice)
 
@@ -171,9 +172,11 @@ module _ (problem : Problem) (grounded : IsGrounded problem) (o : Outlook) (righ
     abbrev Among : ℕ → Type 0
     Among a = Inside k inner c.open_nodes (precondition []) a
 
+    -- the position is none of the new nodes'
     abbrev Apart : ℕ → Type 0
     Apart a = Outside k inner c.open_nodes (precondition []) a
 
+    -- a position is one of the new nodes' or none
     at : (a : ℕ) → Among a ⊎ Apart a
     at a = places_of_splice k inner c.open_nodes (precondition []) a here
 

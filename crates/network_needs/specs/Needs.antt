@@ -10,7 +10,8 @@ use Rattle.htn_model.specs.Machine.{Config, IsDone}
 use Rattle.htn_model.specs.Exhaustion.{is_dead, live_step}
 use Rattle.tree_sizes.specs.Measure.{is_as_at_first, is_barred}
 
--- of each node: what has to hold at some time before it has ended, what may become true through it, and whether it never ends
+-- of each node: what has to hold at some time before it has ended, what may become true through it, and whether it
+-- never ends
 pub record Outlook : Type 0 where
   pub wants : Child → List Literal
   pub gives : Child → Literal → Bool
@@ -70,7 +71,8 @@ pub record IsWithin (o : Outlook) (g : GroundTask) (n : Network) : Type 0 where
   pub wants : (l : Literal) → Contains (o.wants (task g)) l → Contains (needed o n) l
   pub gives : (l : Literal) (x : Child) → Contains n.children x → o.gives x l ≡ true → o.gives (task g) l ≡ true
 
--- a step wants only its literals, an action only those of its precondition; an action gives all its effects; and a compound
+-- a step wants only its literals, an action only those of its precondition; an action gives all its effects; and a
+-- compound
 -- task is within each of its instances, dead ones apart and those with a node that never ends
 pub record IsOutlook (problem : Problem) (o : Outlook) : Type 0 where
   pub step_wants : (literals : List Literal) (l : Literal) → Contains (o.wants (precondition literals)) l → Contains literals l

@@ -1,4 +1,5 @@
--- A file's lines are a forest where no id stands twice, each listed one is defined, and each line is reached by its number.
+-- A file's lines are a forest where no id stands twice, each listed one is defined, and each line is reached by its
+-- number.
 use Rattle.std.proofs.Common.{◌≡◌, ℕ, zero, suc, ◌+◌, ◌-◌, ◌<◌, ◌≤◌, cond, List, [], ◌∷◌, length, get_or, Option, Some, slice_get, ◌⊎◌, inl, inr, sym, refl, ap, ◌∙◌, subst, arith}
 use Rattle.std.proofs.lemmas.Bool.{cases_lt, lt-ltb, le-ltb}
 use Rattle.std.proofs.lemmas.List.{length-append}
@@ -51,9 +52,11 @@ line_count file =
 
 module _ (file : PlanFile) (once : IsWithoutRepeats (defined_ids file)) (roots : List ℕ) (children : List (List ℕ)) (are_roots : AreNumbersOf (defined_ids file) roots file.roots)
     (are_children : AreNumbersOfChildren (defined_ids file) children file.decompositions) where
+  -- the ids of the lines, by their numbers
   abbrev ids : List ℕ
   ids = defined_ids file
 
+  -- how many action lines there are
   abbrev actions : ℕ
   actions = length file.actions
 
@@ -107,6 +110,7 @@ module _ (file : PlanFile) (once : IsWithoutRepeats (defined_ids file)) (roots :
           (children_numbers ids children file.decompositions are_children (parent - actions) line at) l inside in
           record { id = id; is = is; reached = from_parent id line (at_in line file.decompositions (parent - actions) at) (subst (IsReached file) same has.reached) there }
 
+  -- each line is reached
   abbrev pub AllReached : Type 0
   AllReached = (l : ℕ) → l < length (defined_ids file) → IsReachedFrom (length file.actions) roots children l
 
@@ -123,16 +127,19 @@ module _ (file : PlanFile) (once : IsWithoutRepeats (defined_ids file)) (roots :
       to_number id (forest.reached id (at_in id ids l is)) l is
 
   module _ (lists_once : IsWithoutRepeats (listed_ids file)) (all : AllReached) where
+    -- each defined id is reached
     reached : (id : ℕ) → IsIn id ids → IsReached file id
     reached id i =
         let (l, is) = in_at id ids i in
         let has = to_id l (all l (slice_get_within ids l id is)) in
         subst (IsReached file) (some_is (slice_get ids l) has.id id has.is is) has.reached
 
+    -- what is reached is listed
     reached_listed : (id : ℕ) → IsReached file id → IsIn id (listed_ids file)
     reached_listed id (from_root _ i) = root_is_listed file id i
     reached_listed id (from_parent _ line stands above below) = child_is_listed file id (child_listed id line file.decompositions stands below)
 
+    -- what is listed is defined
     listed_defined : (id : ℕ) → IsIn id (listed_ids file) → IsIn id ids
     listed_defined id i = elim (in_split id file.roots (all_children file.decompositions) i) [
       | inl r ↦ (let (l, there, is) = at_number ids roots file.roots are_roots id r in at_in id ids l is)
@@ -142,6 +149,7 @@ module _ (file : PlanFile) (once : IsWithoutRepeats (defined_ids file)) (roots :
           at_in id ids l is)
     ]
 
+    -- so the lines are a forest
     pub is_forest : IsForest file
     is_forest = record {
       defined_once = once;

@@ -24,20 +24,25 @@ mutual
   deeper zero (decomposition t method plans) within = absurd within
   deeper (suc depth) (decomposition t method plans) within = all_deeper depth plans within
 
+  -- plans within a depth are within one more
   all_deeper : (depth : ℕ) (plans : PlanTrees) → AreWithin depth plans → AreWithin (suc depth) plans
   all_deeper depth no_plans within = tt
   all_deeper depth (plan p plans) within = (deeper depth p within.0, all_deeper depth plans within.1)
 
 module _ (naming : Naming) (file : PlanFile) (forest : Forest) (task_at : ℕ → GroundTask) (is : IsForestOf file forest) (named : AreTasks naming file task_at) where
+  -- the file's lines are a forest
   abbrev is_forest : IsForest file
   is_forest = is.is_forest
 
+  -- the ids of the lines, by their numbers
   abbrev ids : List ℕ
   ids = defined_ids file
 
+  -- how many action lines there are
   abbrev actions : ℕ
   actions = length file.actions
 
+  -- how deep a tree can be
   abbrev most : ℕ
   most = length file.decompositions
 
@@ -48,6 +53,7 @@ module _ (naming : Naming) (file : PlanFile) (forest : Forest) (task_at : ℕ �
     decompositions = λ line i. (let (j, at) = in_at line file.decompositions i in (task_at (actions + j), named.decompositions j line at));
   }
 
+  -- the tree of the line with an id
   abbrev LineTree : ℕ → Type 0
   LineTree id = Tree file is_forest naming are_named id most
 
@@ -83,6 +89,7 @@ module _ (naming : Naming) (file : PlanFile) (forest : Forest) (task_at : ℕ �
   method_is (l ∷ lines) zero line h = let same : l ≡ line = cc in ap (λ x. x.method) same
   method_is (l ∷ lines) (suc j) line h = method_is lines j line h
 
+  -- the trees within a depth, by line number
   abbrev built : ℕ → ℕ → PlanTree
   built depth = tree_within depth task_at file forest
 
@@ -133,6 +140,7 @@ module _ (naming : Naming) (file : PlanFile) (forest : Forest) (task_at : ℕ �
         ap (built (suc depth)) index ∙ built_decomposition depth (actions + j) (omega arith)
         ∙ ap₂ (λ u m. decomposition u m (trees_of (built depth) (children_at actions forest.children (actions + j)))) task by ∙ ap (decomposition t method) below
 
+    -- the trees by line numbers are those that the lines show
     same_trees : (plans : PlanTrees) (depth : ℕ) (numbers listed : List ℕ) → AreWithin depth plans → AreNumbersOf ids numbers listed → ShowTrees naming file listed plans
         → trees_of (built depth) numbers ≡ plans
     same_trees no_plans depth [] listed within are show = refl

@@ -8,6 +8,7 @@ use Rattle.plan_forest.specs.Reached.{children_at, IsReachedFrom, a_root, a_chil
 use Rattle.plan_forest.proofs.Walked.{at_most, at_least, all_there}
 
 module _ (actions : ℕ) (roots : List ℕ) (children : List (List ℕ)) where
+  -- the line is reached
   abbrev Reached : ℕ → Type 0
   Reached = IsReachedFrom actions roots children
 
@@ -65,6 +66,7 @@ module _ (actions : ℕ) (roots : List ℕ) (children : List (List ℕ)) where
           added.all c (subst (λ k. IsIn c (children_at actions children (get_or lines k 0))) last (subst (λ x. IsIn c (children_at actions children x)) (same i (omega arith)) j))
 
   module _ (met : List Bool) (lines : List ℕ) (walk : IsWalk met lines (length lines)) where
+    -- a member stands at some position
     at_index : (x : ℕ) (xs : List ℕ) → IsIn x xs → (i : ℕ) × (i < length xs) × (get_or xs i 0 ≡ x)
     at_index x [] h = absurd h
     at_index x (y ∷ xs) (inl same) = (0, omega arith, sym same)

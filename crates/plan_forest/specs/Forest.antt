@@ -3,6 +3,7 @@ use Rattle.std.specs.Prelude.{ℕ, List, map, Vec}
 use Rattle.htn_model.specs.PlanFile.{PlanFile, defined_ids, IsForest}
 use Rattle.plan_forest.specs.Numbers.{AreNumbersOf, AreNumbersOfChildren}
 
+-- vectors as lists
 abbrev pub lists_of : {A : Type 0} → List (Vec ℕ A) → List (List ℕ)
 lists_of vectors = map (λ v. v.items) vectors
 

@@ -23,6 +23,7 @@ tree_within (suc depth) task_at file forest line =
     cond (ltb line (length file.actions)) (action_at (task_at line) line)
     (decomposition (task_at line) (method_at file line) (trees_of (tree_within depth task_at file forest) (children_at (length file.actions) forest.children line)))
 
+-- the plan tree of a line
 abbrev pub tree_at : (ℕ → GroundTask) → PlanFile → Forest → ℕ → PlanTree
 tree_at task_at file forest line = tree_within (length file.decompositions) task_at file forest line
 
@@ -39,5 +40,6 @@ pub record AreTrees (naming : Naming) (file : PlanFile) (forest : Forest) (task_
       → tree_at task_at file forest i ≡ decomposition (task_at i) (method_at file i) (trees_of (tree_at task_at file forest) (children_at (length file.actions) forest.children i))
   pub roots : ShowTrees naming file file.roots (trees_of (tree_at task_at file forest) forest.roots)
 
+-- the lines of a forest, each with its task, have plan trees
 abbrev pub ForestsAreTrees : Naming → Type 0
 ForestsAreTrees naming = (file : PlanFile) (forest : Forest) (task_at : ℕ → GroundTask) → IsForestOf file forest → AreTasks naming file task_at → AreTrees naming file forest task_at

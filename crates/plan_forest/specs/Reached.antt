@@ -7,6 +7,7 @@ use Rattle.htn_model.specs.PlanFile.{IsIn, IsWithoutRepeats}
 abbrev pub children_at : (actions : ℕ) → List (List ℕ) → ℕ → List ℕ
 children_at actions children line = cond (ltb line actions) [] (get_or children (line - actions) [])
 
+-- the line is a root, or a child of a line that is reached
 pub data IsReachedFrom (actions : ℕ) (roots : List ℕ) (children : List (List ℕ)) : ℕ → Type 0 where
   a_root : (line : ℕ) → IsIn line roots → IsReachedFrom actions roots children line
   a_child : (parent line : ℕ) → IsReachedFrom actions roots children parent → IsIn line (children_at actions children parent) → IsReachedFrom actions roots children line

@@ -16,6 +16,7 @@ use Rattle.plan_lines.proofs.Left.{length_push}
 use Rattle.plan_lines.proofs.Shown.{filter_in, pieces_in}
 
 module _ (t : Task) (fs : List Formula) (n : NetworkSchema) (shown : List Bool) (count : ℕ) (are : AreShown fs n.subtasks count shown) where
+  -- networks at values that agree on what is shown, from a parameter on
   same_from : (before values others : List ℕ) → length before + length values ≡ count → length values ≡ length others
       → ((k : ℕ) → get_or shown (length before + k) true ≡ true → get_or values k 0 ≡ get_or others k 0)
       → network_of t (before ++ values) fs n ≡ network_of t (before ++ others) fs n
@@ -42,11 +43,13 @@ module _ (t : Task) (fs : List Formula) (n : NetworkSchema) (shown : List Bool) 
 
 -- ## Steps
 
+-- what all members have, each has
 in_all : {X : Type 0} (P : X → Type 0) (x : X) (xs : List X) → IsIn x xs → All P xs → P x
 in_all P x [] i all = absurd i
 in_all P x (z ∷ xs) (inl e) all = subst P (sym e) (all 0 z (omega arith))
 in_all P x (z ∷ xs) (inr i) all = in_all P x xs i (λ k d below. all (suc k) d (omega (arith, below)))
 
+-- some member passes where this one does
 any_in : {X : Type 0} (p : X → Bool) (x : X) (xs : List X) → IsIn x xs → p x ≡ true → list_any p xs ≡ true
 any_in p x [] i h = absurd i
 any_in p x (z ∷ xs) (inl e) h = ap (λ b. b || list_any p xs) (sym (ap p e) ∙ h)

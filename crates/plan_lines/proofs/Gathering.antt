@@ -51,6 +51,7 @@ module _ (Alike : List ℕ → List ℕ → Type 0) (A W : List ℕ → Type 0) 
   }
 
   module _ (At : List ℕ → ℕ → Type 0) where
+    -- with nothing tried nothing is to be found
     pub tried_none : (old : List (List ℕ)) → AreFound Alike A (Tried W At 0) old old
     tried_none old = record { kept = λ values i. i; each = λ values i. inl i; all = λ values w. absurd (let below : w.1.0 < 0 = w.1.1 in omega (arith, below)) }
 
@@ -95,6 +96,7 @@ module _ (Alike : List ℕ → List ℕ → Type 0) (A W : List ℕ → Type 0) 
 
 -- ## Parameters that are shown
 
+-- something is not nothing
 some_none : (o : ℕ) → Some o ≡ None → ⊥
 some_none o e = cc
 
@@ -123,6 +125,7 @@ shown_more shown given n filled here p below s none = by (nat_eq p n) refl
         here (ap (λ k. get_or shown k true) (sym same) ∙ s) (ap (λ k. get_or given k (Some 0)) (sym same) ∙ none)
     by false e = filled p (let apart : p ≡ n → ⊥ = λ same. let yes : nat_eq p n ≡ true = (unsigned_Decides p n).1 same in absurd cc in omega (arith, below, apart)) s none
 
+-- with one more value all shown parameters before the next have values
 pub shown_set : (shown : List Bool) (given : List (Option ℕ)) (n o : ℕ) → n < length given → AreShownFilled shown given n → AreShownFilled shown (set given n (Some o)) (n + 1)
 shown_set shown given n o within filled =
     shown_more shown (set given n (Some o)) n
@@ -134,6 +137,7 @@ module _ (t : Task) (c : Conditions) (h : History) (atoms : List AtomSchema) (gi
   pub fit_more : (p o : ℕ) (values : List ℕ) → p < length given → get_or given p (Some 0) ≡ None → MayFit t c h atoms given values → get_or values p 0 ≡ o → MayFit t c h atoms (set given p (Some o)) values
   fit_more p o values within none ((e, is), ever) at = (((opened given p o within none values).1 (e, at), is), ever)
 
+  -- an instance with one value more is one with those before
   pub with_fewer : (p o : ℕ) (values : List ℕ) → p < length given → get_or given p (Some 0) ≡ None → IsInstanceWith t c (set given p (Some o)) values → IsInstanceWith t c given values
   with_fewer p o values within none (e, is) = (((opened given p o within none values).0 e).0, is)
 
@@ -151,16 +155,19 @@ module _ (t : Task) (c : Conditions) (h : History) (atoms : List AtomSchema) (gi
       found_one (AreAlike shown) (IsInstanceWith t c given) (MayFit t c h atoms given) old new v is allowed
       (λ values w. alike_filled shown given values v (subst (λ (k : ℕ). AreShownFilled shown given k) end filled) w.0.0 allowed.0)
 
+  -- where there is no instance nothing is to be found
   pub found_no_instance : (shown : List Bool) (old : List (List ℕ)) → (HasInstanceWith t c given → ⊥) → AreFound (AreAlike shown) (IsInstanceWith t c given) (MayFit t c h atoms given) old old
   found_no_instance shown old none = found_none (AreAlike shown) (IsInstanceWith t c given) (MayFit t c h atoms given) old (λ values w. none (values, w.0))
 
 -- ## Lists of references
 
+-- the image of a member is among the images
 pub in_mapped : {X Y : Type 0} (f : X → Y) (xs : List X) (i : ℕ) (x : X) → i < length xs → x ≡ get_or xs i x → IsIn (f x) (map f xs)
 in_mapped f [] i x below is = absurd (omega (arith, below))
 in_mapped f (y ∷ xs) zero x below is = inl (ap f is)
 in_mapped f (y ∷ xs) (suc i) x below is = inr (in_mapped f xs i x (omega (arith, below)) is)
 
+-- what holds of what is there
 pub match_some : {X : Type 0} (P : Type 0) (Q : X → Type 0) (o : Option X) (x : X) → o ≡ Some x → MatchOption o P Q → Q x
 match_some P Q o x e h = subst (λ p. MatchOption p P Q) e h
 

@@ -11,6 +11,7 @@ use Rattle.htn_model.specs.Problem.{GroundTask, ground_task_eq}
 use Rattle.plan_lines.specs.Left.{left_of, once, times}
 use Rattle.plan_lines.proofs.Times.{times-append}
 
+-- past a list there is only the value in its place
 pub past : {X : Type 0} (xs : List X) (i : ℕ) (d : X) → length xs ≤ i → get_or xs i d ≡ d
 past [] i d h = refl
 past (x ∷ xs) zero d h = absurd (omega arith)
@@ -20,9 +21,11 @@ past (x ∷ xs) (suc i) d h = past xs i d (omega arith)
 abbrev pub place_of : List GroundTask → GroundTask → ℕ
 place_of tasks g = position_or_len (ground_task_eq g) tasks
 
+-- a task's place is within the list or just past it
 pub place_within : (tasks : List GroundTask) (g : GroundTask) → place_of tasks g ≤ length tasks
 place_within tasks g = prefix_len-le-length _ tasks
 
+-- a task that is found has the place where it is
 pub found_place : (tasks : List GroundTask) (g : GroundTask) (n : ℕ) → position (ground_task_eq g) tasks ≡ Some n → (place_of tasks g ≡ n) × (n < length tasks)
 found_place tasks g n e = by (nat_lt (place_of tasks g) (length tasks)) refl
   where
@@ -36,6 +39,7 @@ found_place tasks g n e = by (nat_lt (place_of tasks g) (length tasks)) refl
         let other : None ≡ Some n = sym (ap (λ b. cond b (Some (place_of tasks g)) None) is) ∙ e in
         absurd cc
 
+-- one that isn't found has the place past the list
 pub no_place : (tasks : List GroundTask) (g : GroundTask) → position (ground_task_eq g) tasks ≡ None → place_of tasks g ≡ length tasks
 no_place tasks g e = by (nat_lt (place_of tasks g) (length tasks)) refl
   where
@@ -52,6 +56,7 @@ no_place tasks g e = by (nat_lt (place_of tasks g) (length tasks)) refl
 pub at_place : (tasks : List GroundTask) (g d : GroundTask) → place_of tasks g < length tasks → g ≡ get_or tasks (place_of tasks g) d
 at_place tasks g d h = (ground_task_eq-decides g (get_or tasks (place_of tasks g) d)).0 (passes_at_first (ground_task_eq g) tasks d h)
 
+-- tasks with one place in the list are one
 pub same_place : (tasks : List GroundTask) (g c : GroundTask) → place_of tasks c < length tasks → place_of tasks g ≡ place_of tasks c → g ≡ c
 same_place tasks g c h e =
     at_place tasks g c (subst (λ (k : ℕ). k < length tasks) (sym e) h) ∙ ap (λ k. get_or tasks k c) e ∙ sym (at_place tasks c c h)
@@ -67,6 +72,7 @@ left_there tasks left g long some = by (nat_lt (place_of tasks g) (length tasks)
         let none : left_of tasks left g ≡ 0 = past left (place_of tasks g) 0 (omega (arith, long, above)) in
         absurd (omega (arith, none, some))
 
+-- how often a task is left after the number at one's place was set
 pub left-set : (tasks : List GroundTask) (left : List ℕ) (c : GroundTask) (v : ℕ) (g : GroundTask) → length left ≡ length tasks → place_of tasks c < length tasks
     → left_of tasks (set left (place_of tasks c) v) g ≡ cond (ground_task_eq g c) v (left_of tasks left g)
 left-set tasks left c v g long within = by (ground_task_eq g c) refl
@@ -124,6 +130,7 @@ left-more tasks left new c n g long at within is = by (ground_task_eq g c) refl
         let same : left_of tasks new g ≡ left_of tasks left g = changed ∙ ap (λ b. cond b (get_or left n 0 + 1) (left_of tasks left g)) e in
         omega (arith, none, same)
 
+-- one member more
 pub length_push : {X : Type 0} (xs : List X) (x : X) → length (xs ++ x ∷ []) ≡ length xs + 1
 length_push [] x = refl
 length_push (y ∷ xs) x = let e = length_push xs x in omega (arith, e)
@@ -180,6 +187,7 @@ left-first tasks left c g long at = by (nat_lt (place_of tasks g) (length tasks)
 
 -- ## Counting children
 
+-- some member passes where the one at a position does
 any_from : (p : GroundTask → Bool) (xs : List GroundTask) (k : ℕ) (d : GroundTask) → k < length xs → p (get_or xs k d) ≡ true → list_any p xs ≡ true
 any_from p [] k d h e = absurd (omega arith)
 any_from p (x ∷ xs) zero d h e = ap (λ b. b || list_any p xs) e
@@ -189,6 +197,7 @@ any_from p (x ∷ xs) (suc k) d h e = or_true (p x) (list_any p xs) (any_from p 
     or_true true b e = refl
     or_true false b e = e
 
+-- a task that isn't in the list has the place past it
 absent_place : (tasks : List GroundTask) (c : GroundTask) → list_any (ground_task_eq c) tasks ≡ false → place_of tasks c ≡ length tasks
 absent_place tasks c e = by (nat_lt (place_of tasks c) (length tasks)) refl
   where
@@ -202,9 +211,11 @@ absent_place tasks c e = by (nat_lt (place_of tasks c) (length tasks)) refl
         let above : length tasks ≤ place_of tasks c = grind (arith, nat_tests) in
         omega (arith, within, above)
 
+-- the images of one more
 pub mapped_more : {X Y : Type 0} (f : X → Y) (xs : List X) (i : ℕ) (x : X) → i < length xs → x ≡ get_or xs i x → map f (take (i + 1) xs) ≡ map f (take i xs) ++ f x ∷ []
 mapped_more f xs i x below is = ap (map f) (take_more xs i x below) ∙ map-append f (take i xs) (get_or xs i x ∷ []) ∙ ap (λ y. map f (take i xs) ++ f y ∷ []) (sym is)
 
+-- how often a task stands in a list with one more
 times_push : (g c : GroundTask) (xs : List GroundTask) → times g (xs ++ c ∷ []) ≡ times g xs + once (ground_task_eq g c)
 times_push g c xs = let e = times-append g xs (c ∷ []) in omega (arith, e)
 
@@ -248,10 +259,12 @@ module _ (tasks : List GroundTask) (left : List ℕ) (seen : List GroundTask) (c
             omega (arith, e, s, m, w, v),
       )
 
+-- what is the contrary of something, and so, means that it isn't
 pub fell : (b x : Bool) → b ≡ not x → b ≡ true → x ≡ false
 fell b true e h = let clash : true ≡ false = sym h ∙ e in absurd cc
 fell b false e h = refl
 
+-- and if it isn't so, that it is
 pub rose : (b x : Bool) → b ≡ not x → b ≡ false → x ≡ true
 rose b true e h = refl
 rose b false e h = let clash : false ≡ true = sym h ∙ e in absurd cc

@@ -37,6 +37,7 @@ module _ (t : Task) (h : History) (g : GroundTask) (method : Word) (children : L
     pub each : (network : Network) → IsIn network networks → IsNamedInstance t g method network
     pub all : (network : Network) (s : Shown t g method network) → s.number < n → HasSubtasks children network → StepsMayHold h network.children → IsIn network networks
 
+  -- no networks of no methods
   pub fit_none : FitSoFar [] 0
   fit_none = record { each = λ network i. absurd i; all = λ network s below has may. absurd (omega (arith, below)) }
 
@@ -90,6 +91,7 @@ module _ (t : Task) (h : History) (g : GroundTask) (method : Word) (children : L
       make : List ℕ → Network
       make v = network_of t v m.precondition m.network
 
+  -- the networks of all methods are those of the line
   pub fit_all : (networks : List Network) (n : ℕ) → length t.methods ≤ n → FitSoFar networks n → AreToFit h (IsNamedInstance t g method) children networks
   fit_all networks n above found = record {
     each = found.each;
@@ -113,18 +115,21 @@ method_networks t number m old new values is =
 -- ## A method with the task's own arguments given
 
 module _ (t : Task) (h : History) (g : GroundTask) (m : MethodSchema) (tasks : List GroundTask) (left : List ℕ) (n : ℕ) (new : List (Option ℕ)) (many : n ≡ length m.parameters) where
+  -- values for the line's task extend none
   given_for : (values : List ℕ) → IsFor t g m values → Extends values (replicate n None) × (map (value_of values) m.task.arguments ≡ g.arguments)
   given_for values (goal, is) =
       let c = method_conditions t m in
       let long = types_long t c.parameters values (first_of (have_types t c.parameters values) (meets t c values) is) in
       (nothing_given values n (omega (arith, long, many)), ap (λ (k : GroundTask). k.arguments) goal)
 
+  -- where the line's arguments give no values there are none
   pub none_fit : Narrows (λ values. map (value_of values) m.task.arguments ≡ g.arguments) (replicate n None) new false → AreValuesToFit t h tasks left m.precondition m.network (IsFor t g m) []
   none_fit none =
       found_none (λ values others. network_of t values m.precondition m.network ≡ network_of t others m.precondition m.network) (IsFor t g m)
       (λ values. IsFor t g m values × Fill tasks left m.network.subtasks values × StepsMayHold h (network_of t values m.precondition m.network).children) []
       (λ values w. let p = given_for values w.0 in none values p.0 p.1)
 
+  -- where they give some, the instances with these are those of the line
   pub goal_fit : (found : List (List ℕ)) → g.name ≡ m.task.name → Narrows (λ values. map (value_of values) m.task.arguments ≡ g.arguments) (replicate n None) new true
       → AreValuesToFit t h tasks left m.precondition m.network (IsInstanceWith t (method_conditions t m) new) found → AreValuesToFit t h tasks left m.precondition m.network (IsFor t g m) found
   goal_fit found named narrows f =
@@ -136,6 +141,7 @@ module _ (t : Task) (h : History) (g : GroundTask) (m : MethodSchema) (tasks : L
       (λ values b. let r = (narrows values).0 b.0 in (same_task g m.task values named r.1, b.1))
       (λ values w. let p = given_for values w.0 in (((narrows values).1 (p.0, p.1), w.0.1), w.1, w.2))
 
+-- a method for another task has none
 pub other_fit : (t : Task) (h : History) (g : GroundTask) (m : MethodSchema) (tasks : List GroundTask) (left : List ℕ) → (m.task.name ≡ g.name → ⊥) → AreValuesToFit t h tasks left m.precondition m.network (IsFor t g m) []
 other_fit t h g m tasks left differ =
     found_none (λ values others. network_of t values m.precondition m.network ≡ network_of t others m.precondition m.network) (IsFor t g m)
@@ -145,12 +151,15 @@ other_fit t h g m tasks left differ =
 -- ## The initial network
 
 module _ (t : Task) (h : History) (roots : List GroundTask) where
+  -- the initial network
   abbrev net : NetworkSchema
   net = t.initial_network.network
 
+  -- its conditions
   abbrev c : Conditions
   c = initial_conditions t t.initial_network
 
+  -- the initial networks that may fit the roots
   pub initials_fit : (tasks : List GroundTask) (left : List ℕ) (n : ℕ) (values : List (List ℕ)) (found : List Instance) → n ≡ length t.initial_network.parameters
       → ((k : GroundTask) → times k roots ≡ left_of tasks left k) → AreValuesToFit t h tasks left [] net (IsInstanceWith t (initial_conditions t t.initial_network) (replicate n None)) values
       → found ≡ map (initial_instance t) values → AreToFit h (IsInitial t) roots (map (λ (i : Instance). i.network) found)

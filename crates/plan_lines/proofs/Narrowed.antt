@@ -24,6 +24,7 @@ bound given x y o is = by (y == o) refl
     by false e = λ values h same.
         let yes : (y == o) ≡ true = (unsigned_Decides y o).1 (sym (stands_for values given x y h is) ∙ same) in absurd cc
 
+-- a value that is given is that of its parameter
 set_is : (given : List (Option ℕ)) (p q : ℕ) (o x : ℕ) → p < length given → (q ≡ p → o ≡ x) → ((q ≡ p → ⊥) → get_or given q (Some 0) ≡ Some x) → get_or (set given p (Some o)) q (Some 0) ≡ Some x
 set_is given p q o x within here other = by (nat_eq q p) refl
   where
@@ -65,10 +66,12 @@ opened given p o within none values = (λ h. (back h, h.has p o (get_or-set_same
 
 -- ## Lists that agree so far
 
+-- lists that agree so far agree on one more
 pub agree_more : (xs ys : List ℕ) (i : ℕ) → i < length xs → i < length ys → take i xs ≡ take i ys → get_or xs i 0 ≡ get_or ys i 0 → take (i + 1) xs ≡ take (i + 1) ys
 agree_more xs ys i h g before here =
     take_more xs i 0 h ∙ ap (λ l. l ++ get_or xs i 0 ∷ []) before ∙ ap (λ y. take i ys ++ y ∷ []) here ∙ sym (take_more ys i 0 g)
 
+-- and on one less
 pub agree_less : (xs ys : List ℕ) (i : ℕ) → take (i + 1) xs ≡ take (i + 1) ys → (take i xs ≡ take i ys) × (get_or xs i 0 ≡ get_or ys i 0)
 agree_less xs ys i e = (
   sym (take-take i (i + 1) xs (omega arith)) ∙ ap (take i) e ∙ take-take i (i + 1) ys (omega arith),
@@ -83,28 +86,34 @@ narrows_more Before Here After a b c first second both parts values = (
   λ h. let p = parts values h.1 in (second values).1 ((first values).1 (h.0, p.0), p.1),
 )
 
+-- what narrows to nothing after another narrows to nothing
 pub narrows_none : (Before Here After : List ℕ → Type 0) (a b c : List (Option ℕ)) → Narrows Before a b true → Narrows Here b c false
     → ((values : List ℕ) → After values → Before values × Here values) → Narrows After a c false
 narrows_none Before Here After a b c first second parts values h after = let p = parts values after in second values ((first values).1 (h, p.0)) p.1
 
 -- ## Terms with the objects beside them
 
+-- the value of the term at a position
 pub mapped_at : (values : List ℕ) (terms : List RustTerm) (i : ℕ) (d : RustTerm) → i < length terms → get_or (map (value_of values) (terms_of terms)) i 0 ≡ value_of values (term_of (get_or terms i d))
 mapped_at values [] i d h = absurd (omega arith)
 mapped_at values (x ∷ terms) zero d h = refl
 mapped_at values (x ∷ terms) (suc i) d h = mapped_at values terms i d (omega arith)
 
+-- there are as many images
 pub mapped_long : {X Y : Type 0} (f : X → Y) (xs : List X) → length (map f xs) ≡ length xs
 mapped_long f [] = refl
 mapped_long f (x ∷ xs) = ap suc (mapped_long f xs)
 
 module _ (terms : List RustTerm) (objects : List ℕ) (a b : List (Option ℕ)) (i : ℕ) where
+  -- what the terms stand for
   abbrev Stand : List ℕ → List ℕ
   Stand values = map (value_of values) (terms_of terms)
 
+  -- as many as there are terms
   stand_long : (values : List ℕ) → length (Stand values) ≡ length terms
   stand_long values = let e = mapped_long (value_of values) (terms_of terms) in let f = mapped_long term_of terms in omega (arith, e, f)
 
+  -- one more term stands for its object
   pub bound_more : (c : List (Option ℕ)) (d : RustTerm) → i < length terms → i < length objects → Narrows (λ values. take i (Stand values) ≡ take i objects) a b true
       → Narrows (λ values. value_of values (term_of (get_or terms i d)) ≡ get_or objects i 0) b c true → Narrows (λ values. take (i + 1) (Stand values) ≡ take (i + 1) objects) a c true
   bound_more c d below within before here =
@@ -113,6 +122,7 @@ module _ (terms : List RustTerm) (objects : List ℕ) (a b : List (Option ℕ)) 
       (λ values f g. agree_more (Stand values) objects i (let e = stand_long values in omega (arith, e, below)) within f (mapped_at values terms i d below ∙ g))
       (λ values f. let p = agree_less (Stand values) objects i f in (p.0, sym (mapped_at values terms i d below) ∙ p.1))
 
+  -- one more can't stand for its object
   pub bound_none : (c : List (Option ℕ)) (d : RustTerm) → i < length terms → i < length objects → Narrows (λ values. take i (Stand values) ≡ take i objects) a b true
       → Narrows (λ values. value_of values (term_of (get_or terms i d)) ≡ get_or objects i 0) b c false → Narrows (λ values. Stand values ≡ objects) a c false
   bound_none c d below within before here =
@@ -120,6 +130,7 @@ module _ (terms : List RustTerm) (objects : List ℕ) (a b : List (Option ℕ)) 
       (λ values. Stand values ≡ objects) a b c before here
       (λ values f. (ap (take i) f, sym (mapped_at values terms i d below) ∙ ap (λ l. get_or l i 0) f))
 
+  -- all terms stand for their objects
   pub bound_all : length terms ≤ i → length terms ≡ length objects → Narrows (λ values. take i (Stand values) ≡ take i objects) a b true → Narrows (λ values. Stand values ≡ objects) a b true
   bound_all above long before values =
       let e = stand_long values in
@@ -150,6 +161,7 @@ nothing_given values n long = record { long = long ∙ sym (length-replicate n N
         let same : 0 ≡ o = cc in
         past values p 0 (omega (arith, above, long)) ∙ same
 
+-- the same of equal terms and objects
 pub narrows_same : (terms others : List Term) (objects these : List ℕ) (old given new : List (Option ℕ)) (b : Bool) → terms ≡ others → objects ≡ these → old ≡ given
     → Narrows (λ values. map (value_of values) terms ≡ objects) old new b → Narrows (λ values. map (value_of values) others ≡ these) given new b
 narrows_same terms others objects these old given new b e f g h =

@@ -7,9 +7,11 @@ use Rattle.htn_task.specs.declared.formula.Formula.{Formula, Literal, the_lemmas
 use Rattle.htn_task.specs.Formulas.{formula_of, formulas_view}
 use Rattle.plan_lines.proofs.Gathering.{in_mapped}
 
+-- a literal as the definitions have it
 view-Literal : (p : Bool) (a : AtomSchema) → formula_of (Literal p a) ≡ model.literal p a
 view-Literal p a = search (rules, the_lemmas)
 
+-- a plain literal of the list is one of the precondition
 pub positive_at : (pre : List model.Formula) (items : List Formula) (k : ℕ) (f : Formula) (a : AtomSchema) → k < length items → f ≡ get_or items k f → formulas_view items ≡ pre → f ≡ Literal true a
     → IsIn (model.literal true a) pre
 positive_at pre items k f a below is seen literal =

@@ -16,6 +16,7 @@ use Rattle.plan_lines.proofs.Times.{times-append, times_itself}
 
 -- ## Schemas whose tasks are taken
 
+-- subtasks that are taken from what is left leave just those that are kept
 pub settled : (tasks : List GroundTask) (old new : List ℕ) (schemas kept : List TaskSchema) (values : List ℕ)
     → ((g : GroundTask) → times g (map (ground_task values) schemas) + left_of tasks new g ≡ times g (map (ground_task values) kept) + left_of tasks old g)
     → Fill tasks old schemas values ↔ Fill tasks new kept values
@@ -24,20 +25,24 @@ settled tasks old new schemas kept values taken = (
   λ fill g. let a = taken g in let b = fill g in omega (arith, a, b),
 )
 
+-- equal tasks count once
 pub once_same : (g h : GroundTask) → g ≡ h → once (ground_task_eq g h) ≡ 1
 once_same g h e = ap once ((ground_task_eq-decides g h).1 e)
 
 -- ## Schemas one by one
 
 module _ {S : Type 0} (at : S → TaskSchema) (values : List ℕ) (schemas : List S) where
+  -- the ground tasks of schemas
   abbrev pub grounded : List S → List GroundTask
   grounded xs = map (ground_task values) (map at xs)
 
+  -- the first of them stand there no more often than all
   part : (g : GroundTask) (n : ℕ) (xs : List S) → times g (grounded (take n xs)) ≤ times g (grounded xs)
   part g zero xs = omega arith
   part g (suc n) [] = omega arith
   part g (suc n) (x ∷ xs) = let e = part g n xs in omega (arith, e)
 
+  -- one schema more counts its own task
   pub one_more : (g : GroundTask) (i : ℕ) (s : S) → i < length schemas → s ≡ get_or schemas i s
       → times g (grounded (take (i + 1) schemas)) ≡ times g (grounded (take i schemas)) + once (ground_task_eq g (ground_task values (at s)))
   one_more g i s below is =
@@ -85,9 +90,11 @@ module _ {S : Type 0} (at : S → TaskSchema) (values : List ℕ) (schemas : Lis
 
 -- ## A schema that is one of the children
 
+-- a task with the schema's name and arguments is its own
 pub same_task : (task : GroundTask) (schema : TaskSchema) (values : List ℕ) → task.name ≡ schema.name → map (value_of values) schema.arguments ≡ task.arguments → ground_task values schema ≡ task
 same_task task schema values name arguments = λ i. record { name = sym name i; arguments = arguments i }
 
+-- the first subtask is matched with one that is left
 pub placed : (tasks : List GroundTask) (left fewer : List ℕ) (first : TaskSchema) (rest : List TaskSchema) (values : List ℕ) (c : GroundTask) → ground_task values first ≡ c
     → ((g : GroundTask) → left_of tasks left g ≡ once (ground_task_eq g c) + left_of tasks fewer g) → Fill tasks left (first ∷ rest) values ↔ Fill tasks fewer rest values
 placed tasks left fewer first rest values c same taken = (
@@ -101,6 +108,7 @@ pub first_left : (tasks : List GroundTask) (left : List ℕ) (first : TaskSchema
 first_left tasks left first rest values fill =
     let a = times_itself (ground_task values first) (map (ground_task values) rest) in let b = fill (ground_task values first) in omega (arith, a, b)
 
+-- the first subtask is one of the tasks
 pub first_there : (tasks : List GroundTask) (left : List ℕ) (first : TaskSchema) (rest : List TaskSchema) (values : List ℕ) → length left ≡ length tasks
     → Fill tasks left (first ∷ rest) values → (number : ℕ) × (number < length tasks) × (slice_get tasks number ≡ Some (ground_task values first))
 first_there tasks left first rest values long fill =
@@ -110,6 +118,7 @@ first_there tasks left first rest values long fill =
 
 -- ## Nothing is left
 
+-- nothing is left where each task was used up
 pub used_up : (tasks : List GroundTask) (left : List ℕ) → length left ≡ length tasks → ((k : ℕ) (g : GroundTask) → k < length tasks → slice_get tasks k ≡ Some g → left_of tasks left g ≡ 0)
     → (g : GroundTask) → left_of tasks left g ≡ 0
 used_up tasks left long none g = by (left_of tasks left g) refl
@@ -122,15 +131,19 @@ used_up tasks left long none g = by (left_of tasks left g) refl
 
 -- ## Showing
 
+-- equivalences in turn
 pub iff_trans : {A B C : Type 0} → A ↔ B → B ↔ C → A ↔ C
 iff_trans f g = (λ a. g.0 (f.0 a), λ c. f.1 (g.1 c))
 
+-- what holds of what is there
 pub if_some : {X : Type 0} (P : X → Type 0) (o : Option X) (x : X) → o ≡ Some x → IfSome o P → P x
 if_some P o x e h = subst (λ p. IfSome p P) e h
 
+-- false tells that it isn't so
 pub none_true : {A : Type 0} → (A → ⊥) → (false ≡ true) ↔ A
 none_true f = (λ e. absurd cc, λ a. absurd (f a))
 
+-- true tells that it is
 pub some_true : {A : Type 0} → A → (true ≡ true) ↔ A
 some_true a = (λ e. a, λ b. refl)
 
@@ -138,14 +151,17 @@ some_true a = (λ e. a, λ b. refl)
 pub turned_off : {A : Type 0} (b : Bool) → b ≡ false → (b ≡ true) ↔ A → A → ⊥
 turned_off b e h a = let clash : true ≡ false = sym (h.1 a) ∙ e in absurd cc
 
+-- a list of no members is empty
 pub no_items : {X : Type 0} (xs : List X) → length xs ≡ 0 → xs ≡ []
 no_items [] e = refl
 no_items (x ∷ xs) e = absurd (omega arith)
 
+-- what holds where nothing is there
 pub if_none : {X : Type 0} (P : Type 0) (o : Option X) → o ≡ None → IfNone o P → P
 if_none P o e h = subst (λ p. IfNone p P) e h
 
 module _ (t : Task) (c : Conditions) (tasks : List GroundTask) (given : List (Option ℕ)) where
+  -- an instance is shown by what is kept exactly where it is by all
   pub shows_kept : (old new : List ℕ) (schemas kept : List TaskSchema) → ((values : List ℕ) → Extends values given → Fill tasks old schemas values ↔ Fill tasks new kept values)
       → ShowsWith t c tasks new kept given ↔ ShowsWith t c tasks old schemas given
   shows_kept old new schemas kept same = (
@@ -153,6 +169,7 @@ module _ (t : Task) (c : Conditions) (tasks : List GroundTask) (given : List (Op
     λ h. (h.0, h.1, h.2, (same h.0 h.1).0 h.3),
   )
 
+  -- none is shown where the subtasks can't be filled
   pub shows_none : (old : List ℕ) (schemas : List TaskSchema) → ((values : List ℕ) → Extends values given → Fill tasks old schemas values → ⊥) → ShowsWith t c tasks old schemas given → ⊥
   shows_none old schemas none h = none h.0 h.1 h.3
 
@@ -160,6 +177,7 @@ module _ (t : Task) (c : Conditions) (tasks : List GroundTask) (given : List (Op
   pub finished : (left : List ℕ) (b : Bool) → ((g : GroundTask) → left_of tasks left g ≡ 0) → (b ≡ true) ↔ HasInstanceWith t c given → (b ≡ true) ↔ ShowsWith t c tasks left [] given
   finished left b none h = (λ e. let i = h.0 e in (i.0, i.1.0, i.1.1, λ g. sym (none g)), λ s. h.1 (s.0, (s.1, s.2)))
 
+  -- none is shown without subtasks where something is left
   pub unfinished : (left : List ℕ) → (((g : GroundTask) → left_of tasks left g ≡ 0) → ⊥) → ShowsWith t c tasks left [] given → ⊥
   unfinished left some h = some (λ g. sym (h.3 g))
 
@@ -170,11 +188,13 @@ module _ (t : Task) (c : Conditions) (tasks : List GroundTask) (given : List (Op
         (values : List ℕ) → Extends values given → is_instance t c values ≡ true → Fill tasks left (first ∷ rest) values
         → (j : ℕ) → j < n → slice_get tasks j ≡ Some (ground_task values first) → ⊥
 
+    -- where each task was tried in vain there is no instance
     pub none_shows : length left ≡ length tasks → NoneTried (length tasks) → ShowsWith t c tasks left (first ∷ rest) given → ⊥
     none_shows long tried h =
         let there = first_there tasks left first rest h.0 long h.3 in
         tried h.0 h.1 h.2 h.3 there.0 there.1 there.2
 
+    -- one task more that was tried in vain
     pub tried_more : (n : ℕ) → NoneTried n → ((values : List ℕ) → Extends values given → is_instance t c values ≡ true → Fill tasks left (first ∷ rest) values → slice_get tasks n ≡ Some (ground_task values first) → ⊥)
         → NoneTried (n + 1)
     tried_more n before here values h is fill j below at = by (nat_eq j n) refl
@@ -205,6 +225,7 @@ module _ (t : Task) (c : Conditions) (tasks : List GroundTask) (given : List (Op
           (λ values h is fill at.
           none (values, (matches values).1 (h, at), is, (placed tasks left fewer first rest values (ground_task values first) refl (λ g. takes g (ground_task values first) at)).0 fill))
 
+-- the same of equal tasks, lists and values
 pub shows_same : (t u : Task) (c d : Conditions) (tasks : List GroundTask) (left new : List ℕ) (schemas others : List TaskSchema) (given more : List (Option ℕ)) (b : Bool)
     → t ≡ u → c ≡ d → left ≡ new → schemas ≡ others → given ≡ more → (b ≡ true) ↔ ShowsWith t c tasks left schemas given → (b ≡ true) ↔ ShowsWith u d tasks new others more
 shows_same t u c d tasks left new schemas others given more b e f g h k shown =

@@ -14,6 +14,7 @@ equals_so_far positive None y = true
 equals_so_far positive (Some x) None = true
 equals_so_far positive (Some x) (Some y) = beq positive (x == y)
 
+-- the equality holds, or a side of it has no value yet
 abbrev pub equality_so_far : List (Option ℕ) → EqualitySchema → Bool
 equality_so_far given e = equals_so_far e.is_positive (object_of given e.left) (object_of given e.right)
 
@@ -22,6 +23,7 @@ abbrev pub has_type_so_far : Task → ℕ → Option ℕ → Bool
 has_type_so_far t type None = true
 has_type_so_far t type (Some o) = has_type t type o
 
+-- what stands in the place has its type, or has no value yet
 abbrev pub place_so_far : Task → List (Option ℕ) → Term × ℕ → Bool
 place_so_far t given p = has_type_so_far t p.1 (object_of given p.0)
 
@@ -33,6 +35,7 @@ meets_so_far t c given = list_all (equality_so_far given) c.equalities && list_a
 abbrev pub IsInstanceWith : Task → Conditions → List (Option ℕ) → List ℕ → Type 0
 IsInstanceWith t c given values = Extends values given × (is_instance t c values ≡ true)
 
+-- some instance has the values that are given
 abbrev pub HasInstanceWith : Task → Conditions → List (Option ℕ) → Type 0
 HasInstanceWith t c given = (values : List ℕ) × IsInstanceWith t c given values
 
@@ -46,6 +49,7 @@ values_of given = map (λ value. unwrap_or value 0) given
 
 -- ## Parameters that depend on no open one
 
+-- the term is the parameter at this place
 abbrev pub is_parameter : Term → ℕ → Bool
 is_parameter (parameter p) place = p == place
 is_parameter (object o) place = false

@@ -39,7 +39,8 @@ pub record AreFound (Alike : List ℕ → List ℕ → Type 0) (IsAllowed IsWant
 abbrev pub IsFor : Task → GroundTask → MethodSchema → List ℕ → Type 0
 IsFor t g m values = (ground_task values m.task ≡ g) × (is_instance t (method_conditions t m) values ≡ true)
 
--- of the values that are allowed, and with which the subtasks are what is left and the step may hold, some with each network
+-- of the values that are allowed, and with which the subtasks are what is left and the step may hold, some with each
+-- network
 abbrev pub AreValuesToFit : Task → History → List GroundTask → List ℕ → List Formula → NetworkSchema → (List ℕ → Type 0) → List (List ℕ) → Type 0
 AreValuesToFit t h tasks left precondition n IsAllowed found =
     AreFound (λ values others. network_of t values precondition n ≡ network_of t others precondition n) IsAllowed

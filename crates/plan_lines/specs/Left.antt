@@ -7,6 +7,7 @@ use Rattle.htn_model.specs.Task.{Task, MethodSchema}
 use Rattle.htn_model.specs.Instances.{Conditions, ground_task, is_instance, method_conditions}
 use Rattle.plan_lines.specs.Given.{Extends}
 
+-- 1 for true and 0 for false
 abbrev pub once : Bool → ℕ
 once true = 1
 once false = 0

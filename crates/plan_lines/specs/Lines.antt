@@ -12,6 +12,7 @@ abbrev pub IsNamedInstance : Task → GroundTask → Word → Network → Type 0
 IsNamedInstance t g method network =
     (number : ℕ) × (slice_get ((problem_of t).methods_of g) number ≡ Some network) × (method ≡ (naming_of t).method_name g number)
 
+-- the network is an initial one
 abbrev pub IsInitial : Task → Network → Type 0
 IsInitial t network = (number : ℕ) × (slice_get (problem_of t).initials number ≡ Some network)
 

@@ -107,7 +107,7 @@ pub fn instances_to_fit(
     Ok(found)
 }
 
-/// The same for the initial network.
+/// The instances of the initial network that may fit into a run: each that has the roots' tasks.
 pub fn initials_to_fit(
     alloc: Global,
     names: &Names<'_>,

@@ -28,7 +28,7 @@ fn is_open(given: &[Option<u16>], terms: &[Term]) -> bool {
     false
 }
 
-/// Those of some atoms of a step that have open arguments.
+/// The atoms that have open arguments, of some atoms of a step.
 fn open_atoms<'a>(
     alloc: Global,
     schemas: &[&'a AtomSchema],
@@ -85,7 +85,8 @@ fn narrowest(ever: &EverTrue<'_>, schemas: &[&AtomSchema], given: &[Option<u16>]
     best
 }
 
-/// Appends values of instances, with those that are given, at which these atoms of the step are ever true: of those that
+/// Appends values of instances, with those that are given, at which these atoms of the step are ever true: of those
+/// that
 /// differ at parameters alone that are not shown one. It recurses no deeper than there are atoms.
 pub(crate) fn push_joined(
     alloc: Global,

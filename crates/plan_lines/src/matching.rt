@@ -14,7 +14,8 @@ use htn_task::{FormulaList, NetworkSchema, Task, TaskSchema};
 use plan_run::EverTrue;
 use std::alloc::{AllocError, Global};
 
-/// Appends values of instances, with those that are given, of which the tasks that are left are those of the schemas. It
+/// Appends values of instances, with those that are given, of which the tasks that are left are those of the schemas.
+/// It
 /// recurses no deeper than there are parameters.
 fn push_matching(
     alloc: Global,

@@ -18,21 +18,26 @@ use Rattle.plan_room.proofs.Stacked.{last_pushed, last_lower, pushed, popped, st
 
 module _ (l : Lines) (are : AreLines l) (memo : Memo) (top : ℕ) (rest : List Frame) (frame after : Frame) (same : after.question ≡ frame.question)
     (stacked : AreStacked l memo top (rest ++ frame ∷ [])) (is_after : IsFrame l after) where
+  -- the lines above, and what the last one is
   parts : AreStacked l memo top rest × (line_size l frame.question.line < last_size l top rest) × IsFrame l frame × (known memo frame.question ≡ None)
   parts = popped l memo top rest frame stacked
 
+  -- a frame that goes on is of the same line
   same_size : line_size l after.question.line ≡ line_size l frame.question.line
   same_size = ap (λ (q : Question). line_size l q.line) same
 
   -- ## A question
 
   module _ (question : Question) (asked : IsOpenBelow l memo (children_of l frame.question.line) question) where
+    -- the question is of a line
     pub asked_low : question.line < l.count
     asked_low = subst (λ c. c < l.count) asked.is (child_low l are frame.question.line asked.place parts.2.line asked.low)
 
+    -- of a decomposition line
     pub asked_line : IsLine l question.line
     asked_line = (asked.no_action, (let e = asked_low in omega arith))
 
+    -- which is smaller than the last one
     less : line_size l question.line < line_size l frame.question.line
     less = subst (λ c. line_size l c < line_size l frame.question.line) asked.is (smaller l are frame.question.line asked.place parts.2.line asked.low)
 
@@ -52,12 +57,15 @@ module _ (l : Lines) (are : AreLines l) (memo : Memo) (top : ℕ) (rest : List F
   -- ## An answer
 
   module _ (new : Memo) (end : Option ℕ) (noted : (q : Question) → known new q ≡ cond (question_eq after.question q) (Some end) (known memo q)) where
+    -- the lines above stay as they are
     pub rest_stacked : AreStacked l new top rest
     rest_stacked = still_stacked l memo new after.question end noted top rest (let e = same_size in let f = parts.1 in omega arith) parts.0
 
+    -- what is known stays right with one answer more
     pub more_known : IsFinish (LineFits l frame.question.line frame.question.gap) l.actions (answer frame.question (Some end)) → IsMemo l memo → IsMemo l new
     more_known is = memo_noted l memo new after.question end noted (subst (λ q. IsFinish (LineFits l q.line q.gap) l.actions (answer q (Some end))) (sym same) is)
 
+    -- and less is left
     pub fewer_left : 0 < length rest → missing l new * top + last_size l top rest < missing l memo * top + last_size l top (rest ++ frame ∷ [])
     fewer_left some =
         let lower = last_lower l memo top rest parts.0 some in

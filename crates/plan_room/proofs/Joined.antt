@@ -21,6 +21,7 @@ use Rattle.plan_room.proofs.Onto.{onto, in_turn, length_in_turn, at_turn, turned
 -- ## By places of lists
 
 module _ (l : Lines) (network : Network) (start finish : ℕ → ℕ) where
+  -- children stand at positions of their tasks
   stand : (children positions : List ℕ) → length positions ≡ length children
       → ((j : ℕ) → j < length children → slice_get network.children (get_or positions j 0) ≡ Some (child_of (l.plan_of (get_or children j 0))))
       → StandAt network.children positions (plans_of l.plan_of children)
@@ -29,6 +30,7 @@ module _ (l : Lines) (network : Network) (start finish : ℕ → ℕ) where
   stand (c ∷ children) [] e h = absurd (omega arith)
   stand (c ∷ children) (a ∷ positions) e h = (h 0 (omega arith), stand children positions (omega arith) (λ j low. h (suc j) (omega arith)))
 
+  -- and fit there
   all_fit : (children positions : List ℕ) → length positions ≡ length children
       → ((j : ℕ) → j < length children → Fits l.naming l.problem l.states (l.plan_of (get_or children j 0)) (start (get_or positions j 0)) (finish (get_or positions j 0)))
       → AllFit l.naming l.problem l.states positions (plans_of l.plan_of children) start finish
@@ -36,11 +38,13 @@ module _ (l : Lines) (network : Network) (start finish : ℕ → ℕ) where
   all_fit (c ∷ children) [] e h = absurd (omega arith)
   all_fit (c ∷ children) (a ∷ positions) e h = (h 0 (omega arith), all_fit children positions (omega arith) (λ j low. h (suc j) (omega arith)))
 
+  -- as many positions as children
   as_many_stand : (children positions : List ℕ) → StandAt network.children positions (plans_of l.plan_of children) → length positions ≡ length children
   as_many_stand [] positions h = ap length h
   as_many_stand (c ∷ children) [] h = absurd h
   as_many_stand (c ∷ children) (a ∷ positions) h = ap suc (as_many_stand children positions h.1)
 
+  -- each child stands at its position
   stands_at : (children positions : List ℕ) → StandAt network.children positions (plans_of l.plan_of children) → (j : ℕ) → j < length children
       → slice_get network.children (get_or positions j 0) ≡ Some (child_of (l.plan_of (get_or children j 0)))
   stands_at [] positions h j low = absurd (omega arith)
@@ -48,6 +52,7 @@ module _ (l : Lines) (network : Network) (start finish : ℕ → ℕ) where
   stands_at (c ∷ children) (a ∷ positions) h zero low = h.0
   stands_at (c ∷ children) (a ∷ positions) h (suc j) low = stands_at children positions h.1 j (omega arith)
 
+  -- and fits there
   pub fits_at : (children positions : List ℕ) → AllFit l.naming l.problem l.states positions (plans_of l.plan_of children) start finish → (j : ℕ) → j < length children
       → Fits l.naming l.problem l.states (l.plan_of (get_or children j 0)) (start (get_or positions j 0)) (finish (get_or positions j 0))
   fits_at [] positions h j low = absurd (omega arith)
@@ -57,14 +62,17 @@ module _ (l : Lines) (network : Network) (start finish : ℕ → ℕ) where
 
 -- ## Choices
 
+-- a plan tree is a subtask
 plan_is_subtask : (p : PlanTree) → IsSubtask (child_of p)
 plan_is_subtask (action_at g i) = tt
 plan_is_subtask (decomposition t method plans) = tt
 
+-- what passes for a child is it
 is_child : (o : Option Child) (c : Child) → is_child_at o c ≡ true → o ≡ Some c
 is_child None c is = absurd cc
 is_child (Some b) c is = ap Some ((child_eq-decides b c).0 is)
 
+-- what passes for a step is one
 is_step : (o : Option Child) (b : Bool) → (is_step_at o && b) ≡ true → ((literals : List Literal) × (o ≡ Some (precondition literals))) × (b ≡ true)
 is_step None b is = absurd cc
 is_step (Some (precondition literals)) b is = ((literals, refl), is)
@@ -72,18 +80,23 @@ is_step (Some (action g)) b is = absurd cc
 is_step (Some (task t)) b is = absurd cc
 
 module _ (l : Lines) (children : List ℕ) (network : Network) (sequence : List ℕ) (gap : ℕ) where
+  -- the search for room of the network's choices
   abbrev w : Seating
   w = seating_of l children network sequence gap
 
+  -- how many children there are
   abbrev k : ℕ
   k = length children
 
+  -- the positions of subtasks
   abbrev subtasks : List ℕ
   subtasks = subtask_positions 0 network.children
 
+  -- the choice is a child that stands at the position
   abbrev ChildAt : ℕ → ℕ → Type 0
   ChildAt a c = (c < k) × (slice_get network.children a ≡ Some (child_of (l.plan_of (get_or children c 0))))
 
+  -- the choice is the step of the position
   abbrev StepAt : ℕ → ℕ → Type 0
   StepAt a c = (c ≡ k + a) × ((literals : List Literal) × (slice_get network.children a ≡ Some (precondition literals)))
 
@@ -345,11 +358,13 @@ as_long [] ys r = sym (ap length r)
 as_long (x ∷ xs) ys (left, right, e, r) =
     let more = as_long xs (left ++ right) r in let f = ap length e in let g = length-append left (x ∷ right) in let i = length-append left right in omega arith
 
+-- where a network has room it has as many subtasks as there are children
 pub as_many_fit : (l : Lines) (children : List ℕ) (network : Network) (g h : ℕ) → NetworkFits l.naming l.problem l.states network (plans_of l.plan_of children) g h
     → AreAsMany l children network
 as_many_fit l children network g h fits =
     sym (as_long fits.0 (subtask_positions 0 network.children) fits.1.each_once) ∙ as_many_stand l network fits.2 fits.3 children fits.0 fits.1.stand
 
+-- what has room has it forwards
 pub fits_forward : (l : Lines) (p : PlanTree) (g h : ℕ) → Fits l.naming l.problem l.states p g h → g ≤ h
 fits_forward l (action_at t i) g h (from, to) = omega arith
 fits_forward l (decomposition t method plans) g h fits =

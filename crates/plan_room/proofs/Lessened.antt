@@ -5,20 +5,25 @@ use Rattle.std.proofs.Math.Nat.{mul-le-mul_right}
 use Rattle.std.proofs.lemmas.List.{get_or-set_other, get_or-set_same}
 use Rattle.plan_room.specs.Trials.{weight, level, behind, left}
 
+-- one factor less
 one_factor : (k x y : ℕ) → x ≡ suc y → x * k ≡ k + y * k
 one_factor k x y e = ap (λ z. z * k) e ∙ (let f : suc y * k ≡ k + y * k = omega arith in f)
 
+-- what is left below the next choice of a position
 level_next : (count size depth next : ℕ) → depth < size → level count (size - depth) next ≡ 1 + (count - next) * (weight count (size - suc depth) + 1)
 level_next count size depth next low = ap (λ d. level count d next) (let e : size - depth ≡ suc (size - suc depth) = omega arith in e)
 
+-- there is always something left
 level_positive : (count d next : ℕ) → 1 ≤ level count d next
 level_positive count zero next = omega arith
 level_positive count (suc d) next = omega arith
 
+-- from the first choice on it is all that a position has
 level_first : (count d : ℕ) → level count d 0 ≡ weight count d
 level_first count zero = refl
 level_first count (suc d) = ap (λ c. 1 + c * (weight count d + 1)) (let e : count - 0 ≡ count = omega arith in e)
 
+-- what is behind doesn't hang on later choices
 behind_same : (count size : ℕ) (xs : List ℕ) (depth next i : ℕ) → i ≤ depth → behind count size (set xs depth next) i ≡ behind count size xs i
 behind_same count size xs depth next zero low = refl
 behind_same count size xs depth next (suc i) low =
@@ -26,6 +31,7 @@ behind_same count size xs depth next (suc i) low =
     let same : get_or (set xs depth next) i 0 ≡ get_or xs i 0 = get_or-set_other xs depth i next 0 (let e : i ≡ depth → ⊥ = omega arith in e) in
     let here = ap (λ c. (count - suc c) * (weight count (size - suc i) + 1) + 1) same in omega arith
 
+-- less is left from a later choice on
 pub skip_less : (count size : ℕ) (chosen : List ℕ) (depth next later : ℕ) → depth < size → next < later → later ≤ count → left count size chosen depth later < left count size chosen depth next
 skip_less count size chosen depth next later low less small =
     let now = level_next count size depth next low in
@@ -34,6 +40,7 @@ skip_less count size chosen depth next later low less small =
     let factor = one_factor k (count - next) (count - suc next) (omega arith) in
     let most : (count - later) * k ≤ (count - suc next) * k = mul-le-mul_right k (let e : count - later ≤ count - suc next = omega arith in e) in omega arith
 
+-- less is left after a choice is taken
 pub take_less : (count size : ℕ) (chosen : List ℕ) (depth next : ℕ) → depth < size → next < count → depth < length chosen
     → left count size (set chosen depth next) (depth + 1) 0 < left count size chosen depth next
 take_less count size chosen depth next low less inside =
@@ -48,6 +55,7 @@ take_less count size chosen depth next low less inside =
     let step : left count size xs (suc depth) 0 < left count size chosen depth next = omega arith in
     subst (λ d. left count size xs d 0 < left count size chosen depth next) (let e : suc depth ≡ depth + 1 = omega arith in e) step
 
+-- less is left after a position is given up
 pub back_less : (count size : ℕ) (chosen : List ℕ) (depth before next : ℕ) → depth ≡ suc before → before < size
     → left count size chosen before (get_or chosen before 0 + 1) < left count size chosen depth next
 back_less count size chosen depth before next e low =

@@ -21,15 +21,18 @@ use Rattle.plan_room.proofs.Joined.{suited}
 -- ## First and next places
 
 module _ (task_of_place : ℕ → GroundTask) (place from n : ℕ) (e : from ≡ suc place) (low : place < n) where
+  -- a place whose task isn't this one is another
   at_other : (c : ℕ) → (c ≡ place) ⊎ (c ≡ place → ⊥) → (t : GroundTask) → task_of_place c ≡ t → ground_task_eq (task_of_place place) t ≡ false → c ≡ place → ⊥
   at_other c side t is other same =
       both_ways (ground_task_eq (task_of_place place) t) other ((ground_task_eq-decides (task_of_place place) t).1 (ap task_of_place (sym same) ∙ is))
 
+  -- the first place of another task stays
   kept : (t : GroundTask) (o : Option ℕ) → ground_task_eq (task_of_place place) t ≡ false → IsFirstPlace task_of_place from n t o → IsFirstPlace task_of_place place n t o
   kept t None other none = λ c more less is. let o = at_other c (cases_eq c place) t is other in none c (omega arith) less is
   kept t (Some first) other (after, below, same, least) =
       (omega arith, below, same, λ c more less is. let o = at_other c (cases_eq c place) t is other in least c (omega arith) less is)
 
+  -- the first places, with one place more in front
   pub noted_first : (find found : GroundTask → Option ℕ) → ((t : GroundTask) → IsFirstPlace task_of_place from n t (find t))
       → ((t : GroundTask) → found t ≡ cond (ground_task_eq (task_of_place place) t) (Some place) (find t)) → (t : GroundTask) → IsFirstPlace task_of_place place n t (found t)
   noted_first find found first noted t = subst (IsFirstPlace task_of_place place n t) (sym (noted t)) (by (ground_task_eq (task_of_place place) t) refl)
@@ -39,6 +42,7 @@ module _ (task_of_place : ℕ → GroundTask) (place from n : ℕ) (e : from ≡
       by false is = kept t (find t) is (first t)
 
   module _ (after : List ℕ) (are : AreNext task_of_place from n after) where
+    -- a place with no later one of its task
     pub none_next : (o : Option ℕ) → o ≡ None → IsFirstPlace task_of_place from n (task_of_place place) o → AreNext task_of_place place n after
     none_next o is none = record {
       size = are.size;
@@ -51,6 +55,7 @@ module _ (task_of_place : ℕ → GroundTask) (place from n : ℕ) (e : from ≡
       ];
     }
 
+    -- a place with a next one of its task
     pub some_next : (o : Option ℕ) (next : ℕ) → o ≡ Some next → IsFirstPlace task_of_place from n (task_of_place place) o → AreNext task_of_place place n (set after place next)
     some_next o next is first =
         let (past, below, alike, least) = subst (IsFirstPlace task_of_place from n (task_of_place place)) is first in
@@ -83,9 +88,11 @@ module _ (task_of_place : ℕ → GroundTask) (children : List ℕ) (actions : �
     (low : place < length children) (rising : List Bool) (size : length rising ≡ length children) (rise : AreRising task_of_place children actions from rising) (b : Bool)
     (so : b ≡ true → (get_or children place 0 < actions)
     × ((length children ≤ get_or after place 0) ⊎ ((get_or children place 0 < get_or children (get_or after place 0) 0) × (get_or rising (get_or after place 0) false ≡ true)))) where
+  -- the next place of the same task
   abbrev next : ℕ
   next = get_or after place 0
 
+  -- it comes later
   next_more : place < next
   next_more = are.more place low
 
@@ -93,6 +100,7 @@ module _ (task_of_place : ℕ → GroundTask) (children : List ℕ) (actions : �
   no_earlier : (d : ℕ) → place < d → d < length children → task_of_place place ≡ task_of_place d → next ≤ d
   no_earlier d more small same = are.next place d (omega arith) more small same
 
+  -- where a line and those after it rise, it does before all of them
   onward : (get_or children place 0 < actions) × ((length children ≤ next) ⊎ ((get_or children place 0 < get_or children next 0) × (get_or rising next false ≡ true)))
       → (d : ℕ) → place ≤ d → d < length children → task_of_place place ≡ task_of_place d
       → (get_or children d 0 < actions) × ((x : ℕ) → d < x → x < length children → task_of_place place ≡ task_of_place x → get_or children d 0 < get_or children x 0)
@@ -118,6 +126,7 @@ module _ (task_of_place : ℕ → GroundTask) (children : List ℕ) (actions : �
         (below_too, (λ x beyond l alike. all x beyond l (sym link ∙ alike))))
   ]
 
+  -- so the flags tell which rise, with one place more in front
   pub rising_on : AreRising task_of_place children actions place (set rising place b)
   rising_on c d more less small flag same = elim (cases_eq c place) [
     | inl at ↦ (let is : b ≡ true = sym (get_or-set_same rising place b false (omega arith)) ∙ subst (λ k. get_or (set rising place b) k false ≡ true) at flag in
@@ -135,6 +144,7 @@ module _ (order : Order) (sequence : List ℕ) (first : ℕ → ℕ) (rising : L
       ⊎ ((i : ℕ) × (from ≤ i) × (i < length sequence) × (get_or sequence i 0 ≡ v) × (first v ≡ f)
       × ((j : ℕ) → from ≤ j → j < length sequence → first (get_or sequence j 0) ≡ f → i ≤ j))
 
+  -- the position's flag is set
   abbrev Flagged : List Bool → ℕ → Type 0
   Flagged fixed a = get_or fixed a false ≡ true
 
@@ -142,6 +152,7 @@ module _ (order : Order) (sequence : List ℕ) (first : ℕ → ℕ) (rising : L
   abbrev Together : ℕ → ℕ → Type 0
   Together a b = AreTwins order a b ⊎ ((is_before order a b ≡ true) × (get_or rising (first a) false ≡ true))
 
+  -- positions of one task that are together with those between are together
   together_through : IsClosed order → (a b c : ℕ) → first a ≡ first b → Together a b → Together b c → Together a c
   together_through closed a b c same (inl (into, out)) (inl (in_too, out_too)) = inl ((λ x. into x ∙ in_too x), (λ x. out x ∙ out_too x))
   together_through closed a b c same (inl (into, out)) (inr (before, rises)) = inr (out c ∙ before, subst (λ f. get_or rising f false ≡ true) (sym same) rises)
@@ -149,9 +160,11 @@ module _ (order : Order) (sequence : List ℕ) (first : ℕ → ℕ) (rising : L
   together_through closed a b c same (inr (before, rises)) (inr (before_too, rises_too)) = inr (closed.transitive a b c before before_too, rises)
 
   module _ (is_sequence : IsSequence order sequence) (place from : ℕ) (e : from ≡ suc place) (low : place < length sequence) where
+    -- the position at the place
     abbrev here : ℕ
     here = get_or sequence place 0
 
+    -- the flags tell which positions are fixed, with one place more in front
     pub flagged_on : IsClosed order → (fixed : List Bool) → AreFlagged order sequence first rising from (Flagged fixed) → (v : ℕ) → IsSeen from (first here) v → (b : Bool)
         → (b ≡ true → (v ≡ length order) ⊎ (Flagged fixed v × Together here v)) → length fixed ≡ length order → AreFlagged order sequence first rising place (Flagged (set fixed here b))
     flagged_on closed fixed flagged v seen b so size i j more less small flag same = elim (cases_eq i place) [
@@ -178,6 +191,7 @@ module _ (order : Order) (sequence : List ℕ) (first : ℕ → ℕ) (rising : L
                   (flagged k j k_from (omega arith) small (subst (λ a. Flagged fixed a) (sym at_k) flag_there) (ap first at_k ∙ k_first ∙ sym f)))
             ]
 
+    -- the last positions that were seen, with one place more in front
     pub seen_on : (seen : List ℕ) (n : ℕ) → n < length seen → first here ≤ n → ((f : ℕ) → f ≤ n → IsSeen from f (get_or seen f 0))
         → (f : ℕ) → f ≤ n → IsSeen place f (get_or (set seen (first here) here) f 0)
     seen_on seen n wide within all f small = elim (cases_eq f (first here)) [
@@ -214,27 +228,33 @@ module _ (order : Order) (sequence : List ℕ) (first : ℕ → ℕ) (rising : L
 
 -- ## The choices of a network
 
+-- the task of a node, or another for a step
 task_of_child : model.Child → GroundTask → GroundTask
 task_of_child (precondition literals) t = t
 task_of_child (action g) t = g
 task_of_child (task g) t = g
 
+-- that of a plan tree's node is its own
 child_task : (p : PlanTree) (t : GroundTask) → task_of_child (child_of p) t ≡ task_of p
 unfolding task_of_child
 child_task (action_at g i) t = refl
 child_task (decomposition g method plans) t = refl
 
+-- plan trees with one node have one task
 same_task : (p q : PlanTree) → child_of p ≡ child_of q → task_of p ≡ task_of q
 same_task p q e = sym (child_task p (task_of p)) ∙ ap (λ x. task_of_child x (task_of p)) e ∙ child_task q (task_of p)
 
+-- the first place of a plan tree's node is that of its task
 first_of_plan : (find : GroundTask → Option ℕ) (n : ℕ) (p : PlanTree) → first_of find n (child_of p) ≡ place_or (find (task_of p)) n
 first_of_plan find n (action_at g i) = refl
 first_of_plan find n (decomposition g method plans) = refl
 
+-- a plan tree's node is no step
 plan_no_step : (p : PlanTree) → is_step_at (Some (child_of p)) ≡ false
 plan_no_step (action_at g i) = refl
 plan_no_step (decomposition g method plans) = refl
 
+-- no place of the task comes before its first
 place_least : (task_of_place : ℕ → GroundTask) (n : ℕ) (t : GroundTask) (o : Option ℕ) → IsFirstPlace task_of_place 0 n t o → (c : ℕ) → c < n → task_of_place c ≡ t → place_or o n ≤ c
 place_least task_of_place n t None none c low is = absurd (none c (omega arith) low is)
 place_least task_of_place n t (Some first) (from, below, alike, least) c low is = least c (omega arith) low is
@@ -242,12 +262,15 @@ place_least task_of_place n t (Some first) (from, below, alike, least) c low is 
 module _ (l : Lines) (children : List ℕ) (network : Network) (sequence : List ℕ) (gap : ℕ) (find : GroundTask → Option ℕ) (nodes : List Child)
     (nodes_are : children_of nodes ≡ network.children) (square : IsSquare (length network.children) network.order) (is_sequence : IsSequence network.order sequence)
     (firsts : (t : GroundTask) → IsFirstPlace (task_at l children) 0 (length children) t (find t)) where
+  -- how many children there are
   abbrev k : ℕ
   k = length children
 
+  -- the first place for each position
   abbrev first_list : List ℕ
   first_list = map (λ c. first_of find k (child_view c)) nodes
 
+  -- that of a position is that of its node
   first_at : (a : ℕ) (x : model.Child) → slice_get network.children a ≡ Some x → get_or first_list a 0 ≡ first_of find k x
   first_at a x is = get_or_from_slice_get first_list a (first_of find k x) 0 (slice_get-map (λ c. first_of find k (child_view c)) nodes a ∙ by (slice_get nodes a) seen)
     where
@@ -258,9 +281,11 @@ module _ (l : Lines) (children : List ℕ) (network : Network) (sequence : List 
       by None e = absurd cc
       by (Some c) e = let f : child_view c ≡ x = cc in ap (λ y. Some (first_of find k y)) f
 
+  -- the choice is a child that stands at the position
   abbrev ChildAt : ℕ → ℕ → Type 0
   ChildAt a c = (c < k) × (slice_get network.children a ≡ Some (child_of (l.plan_of (get_or children c 0))))
 
+  -- the choice is the step of the position
   abbrev StepAt : ℕ → ℕ → Type 0
   StepAt a c = (c ≡ k + a) × ((literals : List Literal) × (slice_get network.children a ≡ Some (precondition literals)))
 
@@ -268,15 +293,18 @@ module _ (l : Lines) (children : List ℕ) (network : Network) (sequence : List 
   child_first : (a c : ℕ) → slice_get network.children a ≡ Some (child_of (l.plan_of (get_or children c 0))) → get_or first_list a 0 ≡ place_or (find (task_at l children c)) k
   child_first a c is = first_at a (child_of (l.plan_of (get_or children c 0))) is ∙ first_of_plan find k (l.plan_of (get_or children c 0))
 
+  -- a task's first place is within the children or just past them
   place_low : (t : GroundTask) (o : Option ℕ) → IsFirstPlace (task_at l children) 0 k t o → place_or o k ≤ k
   place_low t None none = (let e : k ≤ k = omega arith in e)
   place_low t (Some first) (from, below, alike, least) = omega arith
 
+  -- and so is a node's
   child_low : (x : model.Child) → first_of find k x ≤ k
   child_low (precondition literals) = (let e : k ≤ k = omega arith in e)
   child_low (action t) = place_low t (find t) (firsts t)
   child_low (task t) = place_low t (find t) (firsts t)
 
+  -- and a position's
   pub first_low : (a : ℕ) → get_or first_list a 0 ≤ k
   first_low a = by (slice_get_cases network.children a).1
     where
@@ -299,6 +327,7 @@ module _ (l : Lines) (children : List ℕ) (network : Network) (sequence : List 
   place_is t None none c low is = absurd (none c (omega arith) low is)
   place_is t (Some first) (from, below, alike, least) c low is = alike
 
+  -- so the links tell which positions share choices, and which of these are fixed
   pub linked : AreLines l → (links : Links) (rising : List Bool) → links.first.items ≡ first_list → AreNext (task_at l children) 0 k links.after.items
       → AreRising (task_at l children) children l.actions 0 rising
       → AreFlagged network.order sequence (λ a. get_or links.first.items a 0) rising 0 (λ a. get_or links.fixed.items a false ≡ true)
@@ -370,6 +399,7 @@ module _ (l : Lines) (children : List ℕ) (network : Network) (sequence : List 
 
 module _ (l : Lines) (children : List ℕ) (network : Network) (sequence : List ℕ) (gap : ℕ) (a d : ℕ) (x : model.Child) (at : slice_get network.children a ≡ Some x)
     (suits : suits_at l children network a d ≡ true) where
+  -- the choice of a step is its own
   pub step_choice : is_step_at (Some x) ≡ true → d ≡ length children + a
   step_choice is = elim (suited l children network sequence gap a d suits) [
     | inl child ↦ (let same : x ≡ child_of (l.plan_of (get_or children d 0)) = (let e = child.1 in cc) in
@@ -377,6 +407,7 @@ module _ (l : Lines) (children : List ℕ) (network : Network) (sequence : List 
     | inr step ↦ step.0
   ]
 
+  -- the choice of a subtask is a child
   pub child_choice : is_step_at (Some x) ≡ false → d < length children
   child_choice is = elim (suited l children network sequence gap a d suits) [
     | inl child ↦ child.0

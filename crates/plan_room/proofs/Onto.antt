@@ -7,6 +7,7 @@ use Rattle.htn_model.proofs.Ascending.{in_map}
 use Rattle.htn_model.proofs.Planted.{no_longer}
 use Rattle.htn_model.proofs.Proper.{same_members}
 
+-- a number is in a list or isn't
 decide_in : (x : ℕ) (xs : List ℕ) → IsIn x xs ⊎ (IsIn x xs → ⊥)
 decide_in x [] = inr (λ i. i)
 decide_in x (y ∷ ys) = by (cases_eq x y) (decide_in x ys)
@@ -16,20 +17,24 @@ decide_in x (y ∷ ys) = by (cases_eq x y) (decide_in x ys)
     by (inr other) (inl there) = inl (inr there)
     by (inr other) (inr none) = inr (λ i. elim i [ inl same ↦ other same | inr there ↦ none there ])
 
+-- the numbers below a bound
 below : ℕ → List ℕ
 below zero = []
 below (suc n) = n ∷ below n
 
+-- each of them is there
 in_below : (n x : ℕ) → x < n → IsIn x (below n)
 unfolding below
 in_below zero x low = absurd (omega arith)
 in_below (suc n) x low = elim (cases_eq x n) [ inl same ↦ inl same | inr other ↦ inr (in_below n x (omega arith)) ]
 
+-- there are as many
 length_below : (n : ℕ) → length (below n) ≡ n
 unfolding below
 length_below zero = refl
 length_below (suc n) = ap suc (length_below n)
 
+-- no image stands twice where different members have different ones
 distinct_map : (m : ℕ → ℕ) (xs : List ℕ) → IsWithoutRepeats xs → ((a b : ℕ) → IsIn a xs → IsIn b xs → m a ≡ m b → a ≡ b) → IsWithoutRepeats (map m xs)
 distinct_map m [] d apart = tt
 distinct_map m (x ∷ xs) d apart = (
@@ -56,28 +61,33 @@ pub in_turn : (ℕ → ℕ) → ℕ → ℕ → List ℕ
 in_turn f i zero = []
 in_turn f i (suc n) = f i ∷ in_turn f (suc i) n
 
+-- as many values as numbers
 pub length_in_turn : (f : ℕ → ℕ) (i n : ℕ) → length (in_turn f i n) ≡ n
 unfolding in_turn
 length_in_turn f i zero = refl
 length_in_turn f i (suc n) = ap suc (length_in_turn f (suc i) n)
 
+-- the value at a number
 pub at_turn : (f : ℕ → ℕ) (i n j : ℕ) → j < n → get_or (in_turn f i n) j 0 ≡ f (i + j)
 unfolding in_turn
 at_turn f i zero j low = absurd (omega arith)
 at_turn f i (suc n) zero low = ap f (let e : i ≡ i + 0 = omega arith in e)
 at_turn f i (suc n) (suc j) low = at_turn f (suc i) n j (omega arith) ∙ ap f (let e : suc i + j ≡ i + suc j = omega arith in e)
 
+-- the value of each number is in the list
 in_turn_in : (f : ℕ → ℕ) (i n j : ℕ) → i ≤ j → j < i + n → IsIn (f j) (in_turn f i n)
 unfolding in_turn
 in_turn_in f i zero j from to = absurd (omega arith)
 in_turn_in f i (suc n) j from to = elim (cases_eq j i) [ inl same ↦ inl (ap f same) | inr other ↦ inr (in_turn_in f (suc i) n j (omega arith) (omega arith)) ]
 
+-- each in the list is the value of a number
 in_in_turn : (f : ℕ → ℕ) (i n x : ℕ) → IsIn x (in_turn f i n) → (j : ℕ) × (i ≤ j) × (j < i + n) × (x ≡ f j)
 unfolding in_turn
 in_in_turn f i zero x h = absurd h
 in_in_turn f i (suc n) x (inl same) = (i, omega arith, omega arith, same)
 in_in_turn f i (suc n) x (inr there) = let (j, from, to, same) = in_in_turn f (suc i) n x there in (j, omega arith, omega arith, same)
 
+-- no value stands twice where different numbers have different ones
 distinct_in_turn : (f : ℕ → ℕ) (i n : ℕ) → ((a b : ℕ) → a < i + n → b < i + n → f a ≡ f b → a ≡ b) → IsWithoutRepeats (in_turn f i n)
 unfolding in_turn
 distinct_in_turn f i zero apart = tt

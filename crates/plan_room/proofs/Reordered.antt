@@ -45,9 +45,11 @@ one_kept x xs ys same one = IsPermutation-keeps xs (λ zs. (c : ℕ) × (c < len
 -- ## Two children exchanged
 
 module _ (l : Lines) (network : Network) (sequence : List ℕ) (gap : ℕ) (zs : List ℕ) (i j : ℕ) (p : i < length zs) (q : j < length zs) where
+  -- the children, two of them exchanged
   abbrev ys : List ℕ
   ys = swap zs i j
 
+  -- there are as many
   same_size : length ys ≡ length zs
   same_size = length-swap zs i j
 
@@ -81,12 +83,14 @@ module _ (l : Lines) (network : Network) (sequence : List ℕ) (gap : ℕ) (zs :
     )
   ]
 
+  -- choices stay within their number
   low_there : (c : ℕ) → c < length zs + length network.children → exchange i j c < length ys + length network.children
   low_there c low = elim (cases_lt c (length zs)) [
     | inl small ↦ (let e = same_size in let w = exchange-within i j (length zs) c p q small in omega arith)
     | inr high ↦ (let e = same_size in let w = exchange_past (length zs) i j c p q high in omega arith)
   ]
 
+  -- what has room with the one has it with the other
   matched_there : (h : ℕ) → HasMatchedRoom (seating_of l zs network sequence gap) h → HasMatchedRoom (seating_of l ys network sequence gap) h
   matched_there h (m, seated, have) = (
     (λ a. exchange i j (m a)),

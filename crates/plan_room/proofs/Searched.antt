@@ -8,30 +8,38 @@ use Rattle.plan_room.specs.Matching.{Seating, IsSeating, IsSeated, HasRoomWith, 
 use Rattle.plan_room.proofs.Placed.{never, one_more, all_placed, no_earlier, kept}
 use Rattle.plan_room.proofs.Twins.{changed, changed_seated, changed_room, changed_first, changed_other}
 
+-- a later gap is beaten too
 pub beaten_later : (b : Option ℕ) {x h : ℕ} → IsBeaten b x → x ≤ h → IsBeaten b h
 beaten_later None none least = none
 beaten_later (Some k) late least = omega arith
 
 module _ (w : Seating) (is_seating : IsSeating w) (chosen finishes : List ℕ) (depth next : ℕ) (best : Option ℕ)
     (searched : IsSearched w chosen finishes depth next best) where
+  -- what was searched so far
   abbrev Searched : List ℕ → List ℕ → ℕ → ℕ → Option ℕ → Type 0
   Searched = IsSearched w
 
+  -- which choices suit which positions
   abbrev suits : ℕ → ℕ → Bool
   suits = w.suits
 
+  -- when a choice has room
   abbrev room : Room
   room = w.room
 
+  -- the positions in the sequence that is searched
   abbrev sequence : List ℕ
   sequence = w.sequence
 
+  -- the sequence keeps the order
   is_sequence : IsSequence w.order w.sequence
   is_sequence = is_seating.sequence
 
+  -- what has room from a gap on has it from an earlier one on
   sooner : (c x y x' : ℕ) → x' ≤ x → w.room c x y → w.room c x' y
   sooner = is_seating.sooner
 
+  -- the position that is next
   abbrev here : ℕ
   here = get_or sequence depth 0
 
@@ -45,6 +53,7 @@ module _ (w : Seating) (is_seating : IsSeating w) (chosen finishes : List ℕ) (
   DismissedTo end = (m : ℕ → ℕ) → IsSeated w m → (h : ℕ) → h ≤ w.last → HasRoomWith w m h
       → AgreeBelow sequence chosen depth m → next ≤ m here → m here < end → IsBeaten best h
 
+  -- a matching that is to come has the next choice or one up to the end, or a later one
   passed_over : (end : ℕ) (m : ℕ → ℕ) → IsToCome sequence chosen depth next m
       → ((AgreeBelow sequence chosen depth m) × (next ≤ m here) × (m here < end)) ⊎ IsToCome sequence chosen depth end m
   passed_over end m come = by (cases_eq come.place depth)
@@ -80,6 +89,7 @@ module _ (w : Seating) (is_seating : IsSeating w) (chosen finishes : List ℕ) (
     ];
   }
 
+  -- a choice that is dismissed may be skipped
   pub skipped_one : next < w.count → Dismissed → Searched chosen finishes depth (next + 1) best
   skipped_one less dismissed = skipped (next + 1) (omega arith) (λ m assigned h low have agree from to. dismissed m assigned h low have agree (omega arith))
 
@@ -128,6 +138,7 @@ module _ (w : Seating) (is_seating : IsSeating w) (chosen finishes : List ℕ) (
           by come (inl e) = absurd (let f = come.here e in let g : so (get_or sequence come.place 0) ≡ so here = ap (λ k. so (get_or sequence k 0)) e in let k = first in omega arith)
           by come (inr o) = absurd (let l = come.low in let f = come.later (omega arith) in let g = still come.place (omega arith) in omega arith)
 
+    -- at a fixed position a later choice finishes no earlier than the best
     pub fixed_beaten : IsFixed w here → (m : ℕ → ℕ) → IsSeated w m → (h : ℕ) → h ≤ w.last → HasRoomWith w m h → AgreeBelow sequence chosen depth m
         → choice < m here → IsBeaten best h
     fixed_beaten fixed m assigned h low have agree beyond =
@@ -165,6 +176,7 @@ module _ (w : Seating) (is_seating : IsSeating w) (chosen finishes : List ℕ) (
   unsuited low not_suited m assigned h small have agree is =
       absurd (both_ways (suits here next) not_suited (subst (λ c. suits here c ≡ true) is (assigned.suited here (is_sequence.within depth low))))
 
+  -- a choice that is taken is dismissed
   pub taken : (i : ℕ) → i < depth → depth < length sequence → get_or chosen i 0 ≡ next → Dismissed
   taken i before low same m assigned h small have agree is =
       let alike : m (get_or sequence i 0) ≡ m here = agree i before ∙ same ∙ sym is in
@@ -178,6 +190,7 @@ module _ (w : Seating) (is_seating : IsSeating w) (chosen finishes : List ℕ) (
       absurd (never (λ a. room (m a)) w.order w.sequence w.last w.gap finishes depth (λ a. sooner (m a)) is_sequence placing low start is_start
       (subst (λ c. (k : ℕ) → k ≤ w.last → room c start k → ⊥) (sym is) none) h small have)
 
+  -- and so is one that finishes no earlier than the best
   pub too_late : depth < length sequence → (start finish : ℕ) → IsStart w.order finishes w.gap here start → IsFirst (room next start) w.last finish → IsBeaten best finish → Dismissed
   too_late low start finish is_start first late m assigned h small have agree is =
       let placing = searched.placed depth (let e : depth ≤ depth = omega arith in e) m agree in
@@ -185,6 +198,7 @@ module _ (w : Seating) (is_seating : IsSeating w) (chosen finishes : List ℕ) (
       finish (subst (λ c. IsFirst (room c start) w.last finish) (sym is) first) h have in
       beaten_later best late least
 
+  -- as many finishes as positions
   pub size_is : length finishes ≡ length w.order
   size_is = (searched.placed 0 (omega arith) (λ a. 0) (λ i l. absurd (omega arith))).size
 
@@ -195,6 +209,7 @@ module _ (w : Seating) (is_seating : IsSeating w) (chosen finishes : List ℕ) (
       (λ j low. let placing = searched.placed depth (let e : depth ≤ depth = omega arith in e) m agree in
       let least = (placing.each j low).least h start finish have in let to = have.spans.to (get_or sequence j 0) in omega arith)
 
+  -- where the first positions finish no earlier than the best, all that follows is dismissed
   pub top_dismissed : (top : ℕ) → IsTop sequence finishes w.gap depth top → IsBeaten best top
       → (m : ℕ → ℕ) → (h : ℕ) → HasRoomWith w m h → AgreeBelow sequence chosen depth m → IsBeaten best h
   top_dismissed top is_top beaten m h have agree = beaten_later best beaten (top_least top is_top m agree h have)
@@ -213,6 +228,7 @@ module _ (w : Seating) (is_seating : IsSeating w) (chosen finishes : List ℕ) (
   module _ (before : ℕ) (deep : depth ≡ suc before)
       (dismissed : (m : ℕ → ℕ) → IsSeated w m → (h : ℕ) → h ≤ w.last → HasRoomWith w m h
       → AgreeBelow sequence chosen depth m → next ≤ m here → IsBeaten best h) where
+    -- a position was given up, and the search stands at the next choice of the one before
     pub gone_back : Searched chosen finishes before (suc (get_or chosen before 0)) best
     gone_back = record {
       size = searched.size;
@@ -245,15 +261,19 @@ module _ (w : Seating) (is_seating : IsSeating w) (chosen finishes : List ℕ) (
   -- the next choice is taken
   module _ (low : depth < length sequence) (less : next < w.count) (suitable : suits here next ≡ true) (free : (i : ℕ) → i < depth → get_or chosen i 0 ≡ next → ⊥)
       (start finish : ℕ) (is_start : IsStart w.order finishes w.gap here start) (first : IsFirst (room next start) w.last finish) where
+    -- the choices with the next one
     abbrev more : List ℕ
     more = set chosen depth next
 
+    -- those before are as they were
     as_was : (i : ℕ) → i < depth → get_or more i 0 ≡ get_or chosen i 0
     as_was i l = get_or-set_other chosen depth i next 0 (let e : i ≡ depth → ⊥ = omega arith in e)
 
+    -- the new choice stands at the depth
     at_depth : get_or more depth 0 ≡ next
     at_depth = get_or-set_same chosen depth next 0 (let e = searched.size in omega arith)
 
+    -- each choice is one that suits its position
     each_low : (i : ℕ) → i < suc depth → (i ≡ depth) ⊎ (i ≡ depth → ⊥) → (get_or more i 0 < w.count) × (suits (get_or sequence i 0) (get_or more i 0) ≡ true)
     each_low i l (inl e) = subst (λ j. (get_or more j 0 < w.count) × (suits (get_or sequence j 0) (get_or more j 0) ≡ true)) (sym e)
         ((let f = at_depth in omega arith), subst (λ c. suits here c ≡ true) (sym at_depth) suitable)
@@ -262,12 +282,14 @@ module _ (w : Seating) (is_seating : IsSeating w) (chosen finishes : List ℕ) (
       subst (λ c. suits (get_or sequence i 0) c ≡ true) (sym (as_was i (omega arith))) (searched.suited i (omega arith)),
     )
 
+    -- no choice is taken twice
     each_apart : (i j : ℕ) → i < suc depth → j < suc depth → get_or more i 0 ≡ get_or more j 0 → (i ≡ depth) ⊎ (i ≡ depth → ⊥) → (j ≡ depth) ⊎ (j ≡ depth → ⊥) → i ≡ j
     each_apart i j li lj same (inl e) (inl f) = e ∙ sym f
     each_apart i j li lj same (inl e) (inr f) = absurd (free j (omega arith) (sym (as_was j (omega arith)) ∙ sym same ∙ ap (λ k. get_or more k 0) e ∙ at_depth))
     each_apart i j li lj same (inr e) (inl f) = absurd (free i (omega arith) (sym (as_was i (omega arith)) ∙ same ∙ ap (λ k. get_or more k 0) f ∙ at_depth))
     each_apart i j li lj same (inr e) (inr f) = searched.apart i j (omega arith) (omega arith) (sym (as_was i (omega arith)) ∙ same ∙ as_was j (omega arith))
 
+    -- each position is placed as early as can be
     each_placed : (i : ℕ) → i ≤ suc depth → (m : ℕ → ℕ) → AgreeBelow sequence more i m → (i ≡ suc depth) ⊎ (i ≡ suc depth → ⊥)
         → ArePlaced (λ a. room (m a)) w.order w.sequence w.last w.gap (set finishes here finish) i
     each_placed i l m agree (inl e) =
@@ -280,6 +302,7 @@ module _ (w : Seating) (is_seating : IsSeating w) (chosen finishes : List ℕ) (
         kept (λ a. room (m a)) w.order w.sequence w.last w.gap finishes i depth finish is_sequence
         (searched.placed i (omega arith) m (λ j k. agree j k ∙ as_was j (omega arith))) (omega arith) low
 
+    -- a matching that is to come is still to come
     come_on : (m : ℕ → ℕ) → (come : IsToCome sequence chosen depth next m) → (come.place ≡ depth) ⊎ (come.place ≡ depth → ⊥) → (m here ≡ next) ⊎ (m here ≡ next → ⊥)
         → IsToCome sequence more (suc depth) 0 m
     come_on m come (inl e) (inl is) = record {
@@ -308,6 +331,7 @@ module _ (w : Seating) (is_seating : IsSeating w) (chosen finishes : List ℕ) (
       here = λ f. absurd (let k = come.low in omega arith);
     }
 
+    -- a choice was taken, and the search stands at the next position
     pub gone_on : Searched more (set finishes here finish) (suc depth) 0 best
     gone_on = record {
       size = length-set chosen depth next ∙ searched.size;
@@ -324,6 +348,7 @@ module _ (w : Seating) (is_seating : IsSeating w) (chosen finishes : List ℕ) (
       ];
     }
 
+    -- the same, one position further
     pub gone_on_one : Searched more (set finishes here finish) (depth + 1) 0 best
     gone_on_one = subst (λ d. Searched more (set finishes here finish) d 0 best) (let e : suc depth ≡ depth + 1 = omega arith in e) gone_on
 
@@ -332,9 +357,11 @@ module _ (w : Seating) (is_seating : IsSeating w) (chosen finishes : List ℕ) (
   chosen_at a (inl low) = get_or chosen (is_sequence.listed a low).0 0
   chosen_at a (inr past) = 0
 
+  -- the choices, position by position
   matching : ℕ → ℕ
   matching a = chosen_at a (cases_lt a (length w.order))
 
+  -- each position has the choice at its place in the sequence
   at : (a : ℕ) → a < length w.order → (i : ℕ) × (i < length sequence) × (get_or sequence i 0 ≡ a) × (matching a ≡ get_or chosen i 0)
   unfolding matching
   at a low = by (cases_lt a (length w.order))
@@ -343,6 +370,7 @@ module _ (w : Seating) (is_seating : IsSeating w) (chosen finishes : List ℕ) (
       by (inl inside) = let (i, l, same) = is_sequence.listed a inside in (i, l, same, refl)
       by (inr past) = absurd (omega arith)
 
+  -- so the matching agrees with the choices
   agrees : AgreeBelow sequence chosen depth matching
   agrees i l =
       let low : i < length sequence = (let w = searched.within in omega arith) in
@@ -362,6 +390,7 @@ module _ (w : Seating) (is_seating : IsSeating w) (chosen finishes : List ℕ) (
 
   -- all positions have their choices
   module _ (all : length sequence ≤ depth) (end : ℕ) (top : IsTop sequence finishes w.gap depth end) where
+    -- the end is the greatest of the finishes
     greatest : IsGreatest finishes w.gap end
     greatest = record {
       from = top.from;
@@ -372,14 +401,17 @@ module _ (w : Seating) (is_seating : IsSeating w) (chosen finishes : List ℕ) (
       soonest = λ k low every. top.soonest k low (λ j l. every (get_or sequence j 0) (let i = is_sequence.within j (let x = searched.within in omega arith) in let e = size_is in omega arith));
     }
 
+    -- a matching with these choices has room up to it, and no earlier
     first_of : (m : ℕ → ℕ) → AgreeBelow sequence chosen depth m → IsFirst (HasRoomWith w m) w.last end
     first_of m agree =
         all_placed (λ a. room (m a)) w.order w.sequence w.last w.gap finishes depth (λ a. sooner (m a)) is_sequence
         (searched.placed depth (let e : depth ≤ depth = omega arith in e) m agree) (λ a. is_seating.forward (m a)) is_seating.square is_seating.within all end greatest
 
+    -- so no such matching finishes earlier
     pub first_least : (m : ℕ → ℕ) → (h : ℕ) → HasRoomWith w m h → AgreeBelow sequence chosen depth m → end ≤ h
     first_least m h have agree = (first_of m agree).least h have
 
+    -- the choices are a matching
     assigned_so : IsSeated w matching
     assigned_so = record {
       low = λ a l. (let (i, inside, same, is) = at a l in let low = searched.low i (omega arith) in omega arith);
@@ -413,6 +445,7 @@ module _ (w : Seating) (is_seating : IsSeating w) (chosen finishes : List ℕ) (
 -- once all are tried, the best is the first gap by which the network has room in some matching
 module _ (w : Seating) (best : Option ℕ) (found : IsFound (HasMatchedRoom w) w.last best)
     (none_better : (m : ℕ → ℕ) → IsSeated w m → (h : ℕ) → h ≤ w.last → HasRoomWith w m h → IsBeaten best h) where
+  -- once all is searched, the best is the first
   pub best_first : (end : ℕ) → best ≡ Some end → IsFirst (HasMatchedRoom w) w.last end
   best_first end is =
       let (small, there) = subst (IsFound (HasMatchedRoom w) w.last) is found in
@@ -425,6 +458,7 @@ module _ (w : Seating) (best : Option ℕ) (found : IsFound (HasMatchedRoom w) w
         ];
       }
 
+  -- and where there is none, nothing has room
   pub best_never : best ≡ None → (k : ℕ) → k ≤ w.last → HasMatchedRoom w k → ⊥
   best_never is k low (m, assigned, have) = subst (λ b. IsBeaten b k) is (none_better m assigned k low have)
 

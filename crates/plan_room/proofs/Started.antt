@@ -14,9 +14,11 @@ module _ (w : Seating) (finishes : List ℕ) (depth position : ℕ) where
     pub after : (j : ℕ) → place ≤ j → j < depth → is_before w.order (get_or w.sequence j 0) position ≡ true → get_or finishes (get_or w.sequence j 0) w.gap ≤ start
     pub soonest : (k : ℕ) → w.gap ≤ k → ((b : ℕ) → is_before w.order b position ≡ true → get_or finishes b w.gap ≤ k) → start ≤ k
 
+  -- with no place looked at the network's gap is the start
   pub none_yet : IsStartFrom depth w.gap
   none_yet = record { low = omega arith; from = omega arith; after = λ j m l. absurd (omega arith); soonest = λ k low all. low }
 
+  -- with one place more the start may be later
   pub raised : (place start later : ℕ) → IsStartFrom (suc place) start → start ≤ later
       → (is_before w.order (get_or w.sequence place 0) position ≡ true → get_or finishes (get_or w.sequence place 0) w.gap ≤ later)
       → ((k : ℕ) → start ≤ k → ((b : ℕ) → is_before w.order b position ≡ true → get_or finishes b w.gap ≤ k) → later ≤ k) → IsStartFrom place later
@@ -30,6 +32,7 @@ module _ (w : Seating) (finishes : List ℕ) (depth position : ℕ) where
     soonest = λ k low all. soonest k (so.soonest k low all) all;
   }
 
+  -- with all places it is the first gap by which all before the position have finished
   pub started : IsSequence w.order w.sequence → length finishes ≡ length w.order → depth < length w.sequence → position ≡ get_or w.sequence depth 0
       → (place start : ℕ) → IsStartFrom place start → (top : ℕ) → IsTop w.sequence finishes w.gap place top → (place ≡ 0) ⊎ (top ≤ start) → IsStart w.order finishes w.gap position start
   started is_sequence size inside here place start so top is_top done = record {

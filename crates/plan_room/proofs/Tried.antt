@@ -22,24 +22,29 @@ use Rattle.plan_room.proofs.Unrolled.{unrolled, rolled, is_network}
 use Rattle.plan_room.proofs.Windowed.{beaten_past}
 
 module _ (l : Lines) (children : List ℕ) (instances : List Instance) (gap : ℕ) where
+  -- one of the first networks has room up to a gap
   abbrev Some_of : ℕ → ℕ → Type 0
   Some_of number h = SomeFits l children instances number gap h
 
+  -- none of the first networks finishes earlier than the best
   abbrev NoneBetter : ℕ → Option ℕ → Type 0
   NoneBetter number best = (h : ℕ) → h ≤ l.actions → Some_of number h → IsBeaten best h
 
+  -- what was found of the first is found of one more
   wider : (number : ℕ) (best : Option ℕ) → IsFound (Some_of number) l.actions best → IsFound (Some_of (number + 1)) l.actions best
   wider number None found = tt
   wider number (Some end) (low, (i, inside, instance, is, room)) = (low, (i, (let l = inside in omega arith), instance, is, room))
 
   module _ (tried : ℕ) (best : Option ℕ) (found : IsFound (Some_of tried) l.actions best) (none_better : NoneBetter tried best)
       (instance : Instance) (is : slice_get instances tried ≡ Some instance) where
+    -- a network of those tried is one before or this one
     at_tried : (i : ℕ) → i < tried + 1 → (other : Instance) → slice_get instances i ≡ Some other → (i < tried) ⊎ (other ≡ instance)
     at_tried i low other there = elim (cases_eq i tried) [
       | inl same ↦ inr (let e : slice_get instances tried ≡ Some other = subst (λ j. slice_get instances j ≡ Some other) same there in let f : other ≡ instance = cc in f)
       | inr before ↦ inl (omega arith)
     ]
 
+    -- where one of those has room, one before or this one has
     one_of : (h : ℕ) → Some_of (tried + 1) h → Some_of tried h ⊎ NetworkHasRoom l children instance.network gap h
     one_of h (i, low, other, there, room) = elim (at_tried i low other there) [
       | inl before ↦ inl (i, before, other, there, room)
@@ -75,10 +80,12 @@ module _ (l : Lines) (children : List ℕ) (instances : List Instance) (gap : �
 -- all networks are done with
 module _ (l : Lines) (are : AreLines l) (i gap : ℕ) (line : IsLine l i) (instances : List Instance)
     (candidates : AreCandidates l (IsOneOf l i) (children_of l i) (networks_of instances)) where
+  -- where a network has room the line has
   pub some_rolled : (number h : ℕ) → SomeFits l (children_of l i) instances number gap h → LineFits l i gap h
   some_rolled number h (j, low, instance, there, room) =
       rolled l are i gap h line instance.network (candidates.each instance.network (in_mapped (λ (x : Instance). x.network) instance instances (at_in instance instances j there))) room
 
+  -- where the line has room one of its networks has
   pub some_unrolled : (h : ℕ) → h ≤ l.actions → LineFits l i gap h → SomeFits l (children_of l i) instances (length instances) gap h
   some_unrolled h low fits =
       let (network, one, room) = unrolled l are i gap h line fits in
@@ -86,16 +93,19 @@ module _ (l : Lines) (are : AreLines l) (i gap : ℕ) (line : IsLine l i) (insta
       let (j, is) = in_at instance instances there in
       (j, slice_get_within instances j instance is, instance, is, subst (λ n. NetworkHasRoom l (children_of l i) n gap h) same room)
 
+  -- each of the networks is one of the problem's
   pub network_at : (j : ℕ) (instance : Instance) → slice_get instances j ≡ Some instance → IsNetwork instance.network
   network_at j instance is = is_network l are i instance.network (candidates.each instance.network (in_mapped (λ (x : Instance). x.network) instance instances (at_in instance instances j is)))
 
   module _ (tried : ℕ) (best : Option ℕ) (all : length instances ≤ tried) (low : tried ≤ length instances)
       (found : IsFound (SomeFits l (children_of l i) instances tried gap) l.actions best)
       (none_better : (h : ℕ) → h ≤ l.actions → SomeFits l (children_of l i) instances tried gap h → IsBeaten best h) where
+    -- the line has room up to no gap before the best
     none_earlier : (h : ℕ) → h ≤ l.actions → LineFits l i gap h → IsBeaten best h
     none_earlier h small fits = none_better h small
         (subst (λ n. SomeFits l (children_of l i) instances n gap h) (let e : length instances ≡ tried = omega arith in e) (some_unrolled h small fits))
 
+    -- so the best is the first
     pub line_first : (end : ℕ) → best ≡ Some end → IsFirst (LineFits l i gap) l.actions end
     line_first end is =
         let (small, some) = subst (IsFound (SomeFits l (children_of l i) instances tried gap) l.actions) is found in
@@ -105,6 +115,7 @@ module _ (l : Lines) (are : AreLines l) (i gap : ℕ) (line : IsLine l i) (insta
           least = λ k fits. elim (cases_lt l.actions k) [ inl past ↦ omega arith | inr inside ↦ subst (λ b. IsBeaten b k) is (none_earlier k inside fits) ];
         }
 
+    -- and where there is none the line never has room
     pub line_never : best ≡ None → (k : ℕ) → k ≤ l.actions → LineFits l i gap k → ⊥
     line_never is k small fits = subst (λ b. IsBeaten b k) is (none_earlier k small fits)
 

@@ -22,6 +22,7 @@ use Rattle.plan_room.specs.declared.frames.Frame.{Frame}
 abbrev pub IsLine : Lines → ℕ → Type 0
 IsLine l i = (l.actions ≤ i) × (i ≤ l.count)
 
+-- the network has room for the children between two gaps
 abbrev pub NetworkHasRoom : Lines → List ℕ → Network → ℕ → ℕ → Type 0
 NetworkHasRoom l children network g h = NetworkFits l.naming l.problem l.states network (plans_of l.plan_of children) g h
 
@@ -43,6 +44,7 @@ abbrev pub unboxed : Option (Box Work) → Option Work
 unboxed None = None
 unboxed (Some kept) = Some kept.value
 
+-- a frame asks about a line, over networks that are those of the line
 pub record IsFrame (l : Lines) (frame : Frame) : Type 0 where
   pub line : IsLine l frame.question.line
   pub within : frame.question.gap ≤ l.actions
@@ -64,14 +66,17 @@ abbrev mutual
   plan_size (action_at g i) = 1
   plan_size (decomposition t method plans) = suc (plans_size plans)
 
+  -- the number of nodes of plan trees
   pub plans_size : PlanTrees → ℕ
   plans_size no_plans = 0
   plans_size (plan p plans) = plan_size p + plans_size plans
 
+-- the number of nodes below a line, or below the roots
 abbrev pub size_at : Bool → Lines → ℕ → ℕ
 size_at true l i = plan_size (l.plan_of i)
 size_at false l i = suc (plans_size (plans_of l.plan_of l.roots))
 
+-- the number of nodes below a line; behind the last line stand the roots
 abbrev pub line_size : Lines → ℕ → ℕ
 line_size l i = size_at (ltb i l.count) l i
 
@@ -81,18 +86,22 @@ AreStacked l memo top [] = ⊤
 AreStacked l memo top (frame ∷ frames) =
     (line_size l frame.question.line < top) × IsFrame l frame × (known memo frame.question ≡ None) × AreStacked l memo (line_size l frame.question.line) frames
 
+-- the size of the last frame's line, or another where there is none
 abbrev pub last_size : Lines → ℕ → List Frame → ℕ
 last_size l top [] = top
 last_size l top (frame ∷ frames) = last_size l (line_size l frame.question.line) frames
 
+-- the first frame asks this question
 abbrev pub StartsAt : Question → List Frame → Type 0
 StartsAt question [] = ⊥
 StartsAt question (frame ∷ frames) = frame.question ≡ question
 
+-- the sum over the numbers below a bound
 abbrev pub sum_to : (ℕ → ℕ) → ℕ → ℕ
 sum_to f zero = 0
 sum_to f (suc n) = sum_to f n + f n
 
+-- 1 where nothing is there
 abbrev pub one_if_none : {X : Type 0} → Option X → ℕ
 one_if_none None = 1
 one_if_none (Some x) = 0

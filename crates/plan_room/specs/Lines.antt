@@ -7,6 +7,7 @@ use Rattle.htn_model.specs.Problem.{GroundTask, Problem, Network, IsGrounded}
 use Rattle.htn_model.specs.PlanFile.{Word, Naming, IsIn}
 use Rattle.htn_model.specs.Fits.{PlanTree, action_at, decomposition, PlanTrees, no_plans, plan, NetworkFits, ForestFits}
 
+-- the lines of a plan file with what is known of them
 pub record Lines : Type 0 where
   pub naming : Naming
   pub problem : Problem
@@ -22,17 +23,21 @@ pub record Lines : Type 0 where
   pub children : ℕ → List ℕ
   pub roots : List ℕ
 
+-- the plan trees of lines
 abbrev pub plans_of : (ℕ → PlanTree) → List ℕ → PlanTrees
 plans_of plan_of [] = no_plans
 plans_of plan_of (line ∷ lines) = plan (plan_of line) (plans_of plan_of lines)
 
+-- the task of a plan tree
 abbrev pub task_of : PlanTree → GroundTask
 task_of (action_at g i) = g
 task_of (decomposition t method plans) = t
 
+-- the line is a decomposition line
 abbrev pub IsDecompositionLine : Lines → ℕ → Type 0
 IsDecompositionLine l i = (l.actions ≤ i) × (i < l.count)
 
+-- what is known of lines that have plans
 pub record AreLines (l : Lines) : Type 0 where
   pub grounded : IsGrounded l.problem
   pub first : l.actions ≤ l.count
@@ -50,6 +55,7 @@ abbrev pub IsNetworkOf : Lines → ℕ → Network → Type 0
 IsNetworkOf l i network = (t : GroundTask) × (method : Word) × (plans : PlanTrees) × (number : ℕ) × (l.plan_of i ≡ decomposition t method plans)
     × (slice_get (l.problem.methods_of t) number ≡ Some network) × (method ≡ l.naming.method_name t number)
 
+-- the network is an initial one
 abbrev pub IsInitial : Lines → Network → Type 0
 IsInitial l network = (number : ℕ) × (slice_get l.problem.initials number ≡ Some network)
 
@@ -59,6 +65,7 @@ pub record AreCandidates (l : Lines) (IsOne : Network → Type 0) (children : Li
   pub all : (network : Network) → IsOne network → (g h : ℕ) → h ≤ l.actions → NetworkFits l.naming l.problem l.states network (plans_of l.plan_of children) g h
       → IsIn network networks
 
+-- the networks of instances
 abbrev pub networks_of : List Instance → List Network
 networks_of instances = map (λ i. i.network) instances
 

@@ -7,6 +7,7 @@ use Rattle.plan_room.specs.Matching.{Seating, AreTwins, IsFixed}
 use Rattle.plan_room.specs.declared.places.Places.{Places}
 use Rattle.plan_room.specs.declared.links.Links.{Links}
 
+-- the place of a ground task, if it has one
 abbrev pub place_of : Places → GroundTask → Option ℕ
 place_of places t = get ground_task_eq places.first t
 
@@ -32,24 +33,28 @@ abbrev pub place_or : Option ℕ → ℕ → ℕ
 place_or None n = n
 place_or (Some place) n = place
 
+-- the place of a node's task, and the last for a step
 abbrev pub first_of : (GroundTask → Option ℕ) → ℕ → Child → ℕ
 first_of find n (precondition literals) = n
 first_of find n (action t) = place_or (find t) n
 first_of find n (task t) = place_or (find t) n
 
--- where a flag is set, those from there on that have the same task are action lines, each later one after the earlier ones
+-- where a flag is set, those from there on that have the same task are action lines, each later one after the earlier
+-- ones
 abbrev pub AreRising : (ℕ → GroundTask) → List ℕ → ℕ → ℕ → List Bool → Type 0
 AreRising task_of children actions from rising = (c d : ℕ) → from ≤ c → c ≤ d → d < length children → get_or rising c false ≡ true → task_of c ≡ task_of d
     → (get_or children d 0 < actions) × ((e : ℕ) → d < e → e < length children → task_of c ≡ task_of e → get_or children d 0 < get_or children e 0)
 
--- where a flag is set, the later positions with the same first place are twins of that one, or come after it, and the task's lines rise
+-- where a flag is set, the later positions with the same first place are twins of that one, or come after it, and the
+-- task's lines rise
 abbrev pub AreFlagged : Order → List ℕ → (ℕ → ℕ) → List Bool → ℕ → (ℕ → Type 0) → Type 0
 AreFlagged order sequence first rising from IsFlagged = (i j : ℕ) → from ≤ i → i < j → j < length sequence → IsFlagged (get_or sequence i 0)
     → first (get_or sequence i 0) ≡ first (get_or sequence j 0)
     → AreTwins order (get_or sequence i 0) (get_or sequence j 0)
     ⊎ ((is_before order (get_or sequence i 0) (get_or sequence j 0) ≡ true) × (get_or rising (first (get_or sequence i 0)) false ≡ true))
 
--- what stands at a position comes no earlier than its first; what can stand there after another, no earlier than that one's next
+-- what stands at a position comes no earlier than its first; what can stand there after another, no earlier than that
+-- one's next
 pub record AreLinked (w : Seating) (k : ℕ) (links : Links) : Type 0 where
   pub firsts : length links.first.items ≡ length w.order
   pub first : (a c : ℕ) → c < k → w.suits a c ≡ true → get_or links.first.items a 0 ≤ c

@@ -1,4 +1,5 @@
--- The search among the matchings of a network's positions to choices: a child's line for a subtask, and one of its own for a step.
+-- The search among the matchings of a network's positions to choices: a child's line for a subtask, and one of its own
+-- for a step.
 use Rattle.std.specs.Prelude.{◌≡◌, ℕ, ◌+◌, ◌≤◌, ◌<◌, ◌⊎◌, Bool, true, false, List, length, get_or, Option, Some, None, ⊤}
 use Rattle.htn_model.specs.Problem.{Order, IsSquare, is_before}
 use Rattle.plan_room.specs.Placing.{Room, IsFirst, HaveRoom, IsSequence, IsStart, ArePlaced}
@@ -20,6 +21,7 @@ pub record IsAssignment (suits : ℕ → ℕ → Bool) (count size : ℕ) (m : �
   pub suited : (a : ℕ) → a < size → suits a (m a) ≡ true
   pub apart : (a b : ℕ) → a < size → b < size → m a ≡ m b → a ≡ b
 
+-- each position has a choice of its own that suits it
 abbrev pub IsSeated : Seating → (ℕ → ℕ) → Type 0
 IsSeated w m = IsAssignment w.suits w.count (length w.order) m
 
@@ -31,7 +33,8 @@ HasRoomWith w m h = HaveRoom (λ a. w.room (m a)) w.order w.gap h
 abbrev pub HasMatchedRoom : Seating → ℕ → Type 0
 HasMatchedRoom w h = (m : ℕ → ℕ) × IsSeated w m × HasRoomWith w m h
 
--- who has room has it forwards, and from earlier on too; who can stand somewhere does in each matching; and positions that a
+-- who has room has it forwards, and from earlier on too; who can stand somewhere does in each matching; and positions
+-- that a
 -- choice can stand at have all their choices in common
 pub record IsSeating (w : Seating) : Type 0 where
   pub sequence : IsSequence w.order w.sequence
@@ -50,7 +53,8 @@ AreTwins order a b = ((x : ℕ) → is_before order x a ≡ is_before order x b)
 abbrev pub IsBlockedBy : Seating → ℕ → ℕ → Type 0
 IsBlockedBy w c d = (x y x' y' : ℕ) → w.room d x y → w.room c x' y' → y ≤ x' → ⊥
 
--- the later positions that have choices in common with this one are its twins, or come after it, where later choices block each earlier one
+-- the later positions that have choices in common with this one are its twins, or come after it, where later choices
+-- block each earlier one
 abbrev pub IsFixed : Seating → ℕ → Type 0
 IsFixed w a = (i j c : ℕ) → i < j → j < length w.sequence → get_or w.sequence i 0 ≡ a → w.suits a c ≡ true → w.suits (get_or w.sequence j 0) c ≡ true
     → AreTwins w.order a (get_or w.sequence j 0)
@@ -79,6 +83,7 @@ abbrev pub IsBeaten : Option ℕ → ℕ → Type 0
 IsBeaten None h = ⊥
 IsBeaten (Some best) h = best ≤ h
 
+-- what was found is within a bound and holds
 abbrev pub IsFound : (ℕ → Type 0) → ℕ → Option ℕ → Type 0
 IsFound Holds n None = ⊤
 IsFound Holds n (Some best) = (best ≤ n) × Holds best
@@ -94,6 +99,7 @@ pub record IsTop (sequence finishes : List ℕ) (g depth top : ℕ) : Type 0 whe
   pub soonest : (k : ℕ) → g ≤ k → ((j : ℕ) → j < depth → get_or finishes (get_or sequence j 0) g ≤ k) → top ≤ k
 
 module _ (w : Seating) where
+  -- what was searched so far, and the best of it
   pub record IsSearched (chosen finishes : List ℕ) (depth next : ℕ) (best : Option ℕ) : Type 0 where
     pub size : length chosen ≡ length w.sequence
     pub within : depth ≤ length w.sequence

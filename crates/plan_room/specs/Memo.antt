@@ -14,6 +14,7 @@ use Rattle.plan_room.specs.declared.rooms.Finish.TheVariants.{Unknown, Never, At
 abbrev pub known : Memo → Question → Option (Option ℕ)
 known memo q = get question_eq memo.ends q
 
+-- what is known of a question, as a finish
 abbrev pub answer : Question → Option (Option ℕ) → Finish
 answer q None = Unknown q
 answer q (Some None) = Never

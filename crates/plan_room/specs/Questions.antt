@@ -9,6 +9,7 @@ use Rattle.std.proofs.Common.{ap}
 use Rattle.htn_model.specs.AtomOrder.{both_true}
 use Rattle.plan_room.specs.declared.rooms.Question.{Question}
 
+-- equal lines and equal gaps
 abbrev pub question_eq : Question → Question → Bool
 question_eq = eq_of_both (on (λ q. q.line) nat_eq) (on (λ q. q.gap) nat_eq)
 
@@ -26,6 +27,7 @@ question_eq-laws = decided question_eq question_eq-decides
 pub question_eq-partial : IsPartialEquivalence question_eq
 question_eq-partial = partial_equiv_from_equiv question_eq-laws
 
+-- what a question feeds to a hasher
 abbrev pub question_hash : Question → HashWrites
 question_hash q = fed.usize q.line ++ fed.usize q.gap
 

@@ -1,4 +1,5 @@
--- What can stand at the positions of a line's network: the line's children at the subtasks, and each step at its own position.
+-- What can stand at the positions of a line's network: the line's children at the subtasks, and each step at its own
+-- position.
 use Rattle.std.specs.Prelude.{◌≡◌, ℕ, ◌+◌, ◌-◌, ◌≤◌, ◌<◌, ◌&&◌, ◌^◌, Bool, true, false, cond, eqb, ltb, List, length, get_or, Option, Some, None, slice_get}
 use Rattle.htn_model.specs.Literal.{Literal}
 use Rattle.htn_model.specs.Problem.{Network, Child, precondition, action, task, child_eq, IsSquare}
@@ -9,13 +10,16 @@ use Rattle.plan_room.specs.Lines.{Lines, AreLines, plans_of, IsNetworkOf, IsInit
 
 -- ## Lines, with the root at the number past all others
 
+-- the children of a line, or the roots
 abbrev pub children_at : Bool → Lines → ℕ → List ℕ
 children_at true l i = l.children i
 children_at false l i = l.roots
 
+-- the children of a line; behind the last line stand the roots
 abbrev pub children_of : Lines → ℕ → List ℕ
 children_of l i = children_at (ltb i l.count) l i
 
+-- the network is one of the line's, or an initial one
 abbrev pub IsOneAt : Bool → Lines → ℕ → Network → Type 0
 IsOneAt true l i network = IsNetworkOf l i network
 IsOneAt false l i network = IsInitial l network
@@ -24,6 +28,7 @@ IsOneAt false l i network = IsInitial l network
 abbrev pub IsOneOf : Lines → ℕ → Network → Type 0
 IsOneOf l i = IsOneAt (ltb i l.count) l i
 
+-- what stands below the line, or below the roots, has room between two gaps
 abbrev pub FitAt : Bool → Lines → ℕ → ℕ → ℕ → Type 0
 FitAt true l i g h = Fits l.naming l.problem l.states (l.plan_of i) g h
 FitAt false l i g h = (network : Network) × IsInitial l network × NetworkFits l.naming l.problem l.states network (plans_of l.plan_of l.roots) g h
@@ -34,10 +39,12 @@ LineFits l i = FitAt (ltb i l.count) l i
 
 -- ## Choices: the children by their places in the list, and then a step for each position
 
+-- the node that stands there, if one does, is this one
 abbrev pub is_child_at : Option Child → Child → Bool
 is_child_at None c = false
 is_child_at (Some b) c = child_eq b c
 
+-- a precondition step stands there
 abbrev pub is_step_at : Option Child → Bool
 is_step_at None = false
 is_step_at (Some (precondition literals)) = true
@@ -45,6 +52,7 @@ is_step_at (Some (action g)) = false
 is_step_at (Some (task t)) = false
 
 module _ (l : Lines) (children : List ℕ) (network : Network) where
+  -- a choice may stand at a position: a child where its task stands, a step at its own
   abbrev pub suits_at : ℕ → ℕ → Bool
   suits_at a c = cond (ltb c (length children)) (is_child_at (slice_get network.children a) (child_of (l.plan_of (get_or children c 0))))
       (is_step_at (slice_get network.children a) && eqb c (length children + a))
@@ -53,10 +61,12 @@ module _ (l : Lines) (children : List ℕ) (network : Network) where
   abbrev pub StepRoom : ℕ → ℕ → ℕ → Type 0
   StepRoom a x y = (x ≤ y) × ((literals : List Literal) × (slice_get network.children a ≡ Some (precondition literals)) × StepFits l.states literals x y)
 
+  -- when a choice has room between two gaps: a child with all below it, a step by its literals
   abbrev pub ChoiceRoom : Room
   ChoiceRoom c x y = (c < length children → Fits l.naming l.problem l.states (l.plan_of (get_or children c 0)) x y)
       × (length children ≤ c → StepRoom (c - length children) x y)
 
+  -- the search for room of a network's choices, by positions in a sequence, from a gap on
   abbrev pub seating_of : List ℕ → ℕ → Seating
   seating_of sequence gap = record {
     order = network.order;

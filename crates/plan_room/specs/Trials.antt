@@ -23,9 +23,11 @@ abbrev pub behind : ℕ → ℕ → List ℕ → ℕ → ℕ
 behind count size chosen zero = 0
 behind count size chosen (suc i) = behind count size chosen i + ((count - suc (get_or chosen i 0)) * (weight count (size - suc i) + 1) + 1)
 
+-- how much of a search among matchings is left
 abbrev pub left : ℕ → ℕ → List ℕ → ℕ → ℕ → ℕ
 left count size chosen depth next = behind count size chosen depth + level count (size - depth) next
 
+-- how much of a trial is left
 abbrev pub left_of : Seating → Trial → ℕ
 left_of w trial = left w.count (length w.sequence) trial.chosen.items trial.depth trial.next
 
@@ -35,6 +37,7 @@ IsAsked Asks (finishes.Unknown question) = Asks question
 IsAsked Asks finishes.Never = ⊤
 IsAsked Asks (finishes.At h) = ⊤
 
+-- the search stands where its trial says, and what the trial notes of it is right
 pub record IsTried (w : Seating) (trial : Trial) : Type 0 where
   pub searched : IsSearched w trial.chosen.items trial.finishes.items trial.depth trial.next trial.best
   pub noted : IsNoted w trial.chosen.items trial.finishes.items trial.highs.items trial.taken.items trial.depth
@@ -49,6 +52,7 @@ AreDismissed w trial =
 abbrev pub AreOver : Seating → Trial → Type 0
 AreOver w trial = (m : ℕ → ℕ) → IsSeated w m → (h : ℕ) → h ≤ w.last → HasRoomWith w m h → IsBeaten trial.best h
 
+-- what a step of a trial says: less is left, a question is asked, or all were tried
 abbrev pub StepSays : Seating → (Question → Type 0) → Trial → Trial → Step → Type 0
 StepSays w Asks old new Onward = left_of w new < left_of w old
 StepSays w Asks old new (Unknown question) = Asks question

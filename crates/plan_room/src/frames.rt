@@ -145,7 +145,7 @@ fn work_of<L: PlanLines>(
     })
 }
 
-/// The same search from its start, with the children in an order that is guessed.
+/// The search among the matchings from its start, with the children in an order that is guessed.
 fn guessed_work<L: PlanLines>(
     alloc: Global,
     lines: &L,

@@ -49,6 +49,7 @@ begun problem initial h is start = record {
 }
 
 module _ (problem : Problem) (tasks : List GroundTask) (g : GroundTask) (old : History) (run : IsHistoryOf problem tasks old) where
+  -- the history tells the atoms of the state after k tasks
   abbrev Each : History → ℕ → Type 0
   Each new k = (state : State) × (run_tasks problem problem.initial_state (take k (tasks ++ g ∷ [])) ≡ Some state) × ((a : Atom) → contains state a ≡ truth new a k)
 

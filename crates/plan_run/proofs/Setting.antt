@@ -39,6 +39,7 @@ pub record IsTouched (old mid : History) (a : Atom) : Type 0 where
   pub within : position_or_len (atom_eq a) mid.atoms < length mid.turns
 
 module _ (old mid : History) (a : Atom) (value : Bool) (touched : IsTouched old mid a) where
+  -- the atom's place in the history
   abbrev place : ℕ
   place = position_or_len (atom_eq a) mid.atoms
 
@@ -63,15 +64,19 @@ module _ (old mid : History) (a : Atom) (value : Bool) (touched : IsTouched old 
 
   module _ (new : History) (turns : List ℕ) (initial : new.initial ≡ mid.initial) (last : new.last ≡ mid.last) (atoms : new.atoms ≡ mid.atoms) (are : new.turns ≡ set mid.turns place turns)
       (over : IsTurnedOver (turns_of mid a) turns mid.last) (other : is_turned (contains mid.initial a) (length (turns_of mid a)) ≡ value → ⊥) where
+    -- the atom's turns are the new ones
     its_turns : turns_of new a ≡ turns
     its_turns = ap₂ (λ ls xs. get_or ls (position_or_len (atom_eq a) xs) []) are atoms ∙ set_here mid.atoms mid.turns a turns touched.within
 
+    -- those of others are as they were
     their_turns : (b : Atom) → (a ≡ b → ⊥) → turns_of new b ≡ turns_of mid b
     their_turns b n = ap₂ (λ ls xs. get_or ls (position_or_len (atom_eq b) xs) []) are atoms ∙ set_there mid.atoms mid.turns a b turns touched.history.as_many touched.within n
 
+    -- the atom is true by the new turns
     its_truth : (k : ℕ) → truth new a k ≡ is_true_in (contains mid.initial a) turns k
     its_truth k = ap₂ (λ s ts. is_true_in (contains s a) ts k) initial its_turns
 
+    -- others are true as they were
     their_truth : (b : Atom) → (a ≡ b → ⊥) → (k : ℕ) → truth new b k ≡ truth old b k
     their_truth b n k = ap₂ (λ s ts. is_true_in (contains s b) ts k) initial (their_turns b n) ∙ same_truth b k
 

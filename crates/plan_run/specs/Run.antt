@@ -28,6 +28,7 @@ pub record IsFailing (problem : Problem) (tasks : List GroundTask) (i : ℕ) : T
   pub is : slice_get tasks i ≡ Some task
   pub fails : perform_action state (problem.action_of task) ≡ None
 
+-- what the outcome of a run says
 abbrev pub IsOutcome : Problem → List GroundTask → Outcome → Type 0
 IsOutcome problem tasks (Fails i) = IsFailing problem tasks i
 IsOutcome problem tasks (Runs turns) = IsHistoryOf problem tasks turns

@@ -75,6 +75,7 @@ IsEverTrue h a = (k : ℕ) × (k ≤ h.last) × (truth h a k ≡ true)
 
 -- ## Literals
 
+-- a literal is true in a gap of the history
 abbrev pub literal_truth : History → Literal → ℕ → Bool
 literal_truth h (atom true a) k = truth h a k
 literal_truth h (atom false a) k = not (truth h a k)
@@ -90,7 +91,8 @@ abbrev pub IsNextGap : (ℕ → Bool) → (from last : ℕ) → Option ℕ → T
 IsNextGap test from last None = (k : ℕ) → from ≤ k → k ≤ last → test k ≡ false
 IsNextGap test from last (Some gap) = (from ≤ gap) × (gap ≤ last) × (test gap ≡ true) × ((k : ℕ) → from ≤ k → k < gap → test k ≡ false)
 
--- a gap from one on, up to the last of them, before which none passes, and that passes if it is the same one; or that none does
+-- a gap from one on, up to the last of them, before which none passes, and that passes if it is the same one; or that
+-- none does
 abbrev pub IsOnward : (ℕ → Bool) → (from last : ℕ) → Option ℕ → Type 0
 IsOnward test from last None = (k : ℕ) → from ≤ k → k ≤ last → test k ≡ false
 IsOnward test from last (Some gap) = (from ≤ gap) × (gap ≤ last) × ((k : ℕ) → from ≤ k → k < gap → test k ≡ false) × (gap ≡ from → test from ≡ true)

@@ -167,14 +167,14 @@ impl<'a> EverTrue<'a> {
         self.turns.is_ever_true(atom)
     }
 
-    /// Those of a predicate.
+    /// Atoms among which is each of a predicate that is true in some gap.
     pub fn with_predicate(&self, predicate: u16) -> &[&'a Atom]
         ensures { (a : model.Atom) → IsEverTrue self.now a → a.predicate ≡ predicate → IsIn a (map (λ a. a.now) result.now) }
     {
         self.lists.at(Slot::Predicate(predicate))
     }
 
-    /// Those of a predicate that have an object at a place of their arguments.
+    /// Atoms among which is each of a predicate, with an object at a place of its arguments, that is true in some gap.
     pub fn with_argument(&self, predicate: u16, place: usize, object: u16) -> &[&'a Atom]
         ensures { (a : model.Atom) → IsEverTrue self.now a → a.predicate ≡ predicate → slice_get a.arguments place ≡ Some object
             → IsIn a (map (λ a. a.now) result.now) }

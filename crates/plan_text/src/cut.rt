@@ -69,7 +69,7 @@ impl<'a> Lines<'a> {
         }
     }
 
-    /// The same lines once more.
+    /// The lines that are left, to be gone over once more.
     pub fn again(&self) -> Lines<'a>
         ensures same { result ≡ self.now }
         ensures few { length result ≤ 16777217 }

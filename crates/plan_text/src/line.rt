@@ -92,7 +92,7 @@ pub(crate) fn kind_of<'w, 'a>(words: &'w [Piece<'a>]) -> Option<LineKind<'w, 'a>
     }
 }
 
-/// The same for a line that begins with an id.
+/// The kind of a line that begins with an id, by the words after it; none where it is of no kind.
 fn named_kind<'w, 'a>(id: Piece<'a>, words: &'w [Piece<'a>]) -> Option<LineKind<'w, 'a>>
     ensures { option_map seen_kind result ≡ named_kind (seen id.entry) (seen_all words.now) }
 {
@@ -112,7 +112,7 @@ fn named_kind<'w, 'a>(id: Piece<'a>, words: &'w [Piece<'a>]) -> Option<LineKind<
     }
 }
 
-/// The same for a line with an arrow, by the words after it.
+/// The kind of a line with an arrow, by the words before and after it; none where it is of no kind.
 fn decomposition_kind<'w, 'a>(
     id: Piece<'a>,
     task: Piece<'a>,

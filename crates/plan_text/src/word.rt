@@ -31,7 +31,7 @@ impl Word {
         Ok(Word { bytes })
     }
 
-    /// The same with the letters A to Z in lower case.
+    /// A word of these bytes, with the letters A to Z in lower case.
     pub fn folded(alloc: Global, bytes: &[u8]) -> Result<Word, AllocError>
         ensures { IfOk result (λ word. word ≡ map to_ascii_lowercase bytes.now) }
     {

@@ -1,4 +1,5 @@
--- A small machine: tasks that are open, and a value. A task is carried out (0), which adds one; or replaced by another (1), which doubles; or given up (2), and then nothing more happens.
+-- A small machine: tasks that are open, and a value. A task is carried out (0), which adds one; or replaced by another
+-- (1), which doubles; or given up (2), and then nothing more happens.
 use Rattle.std.specs.Prelude.{ℕ, suc, zero, ◌+◌, ◌-◌, ◌*◌, ◌%◌, nat_eq, Bool, true, false, not, ◌&&◌, if◌then◌else◌, List, Option, Some, None}
 use Rattle.word_machine.specs.Machine.{WordMachine}
 use Rattle.search_tests.specs.declared.tallies.Tally.{Tally}

@@ -191,6 +191,7 @@ module _ (t : Task) (old new : Tables) (own : AreTables t old) (later : AreLater
       ap (λ w. config_in new w c.network) (words_stay c.state known.0)
       ∙ config_stays words c.network (own.sets c.state words (slice_get-get_or old.states c.state [] known.0)) known.1
 
+  -- what was allowed stays so
   allowed_stays : (r : Reached) → allows old r → allows new r
   allowed_stays (Known c) known = known_stays c known
   allowed_stays (New words n) allowed = (
@@ -198,6 +199,7 @@ module _ (t : Task) (old new : Tables) (own : AreTables t old) (later : AreLater
     (numbers_stay old.networks new.networks n own.networks later.networks allowed.1).0,
   )
 
+  -- what was reached stands for the same point
   reached_stays : (r : Reached) → allows old r → point_of new r ≡ point_of old r
   reached_stays (Known c) known = point_stays c known
   reached_stays (New words n) allowed = config_stays words n allowed.0 allowed.1

@@ -78,7 +78,8 @@ pub record IsFirstTask (networks : NetworkTable) (network node : ℕ) : Type 0 w
 
 -- ## All of them
 
--- the atoms are told apart as the task does: those of a predicate that some effect names are fluent, and of the others those that are true at first are static
+-- the atoms are told apart as the task does: those of a predicate that some effect names are fluent, and of the others
+-- those that are true at first are static
 pub record AreAtoms (t : Task) (atoms : Table) : Type 0 where
   pub table : IsTable atoms
   pub fluents : (predicate : ℕ) → is_changed atoms.fluents predicate ≡ ground.is_changed t predicate

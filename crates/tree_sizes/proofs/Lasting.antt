@@ -20,10 +20,12 @@ or_none true (Some u) = refl
 or_none false None = refl
 or_none false (Some u) = refl
 
+-- what is so and true is so
 and_true : (a : Bool) → (a && true) ≡ a
 and_true true = refl
 and_true false = refl
 
+-- what is so and false is false
 and_false : (a : Bool) → (a && false) ≡ false
 and_false true = refl
 and_false false = refl

@@ -32,9 +32,11 @@ module _ (network : Network) where
       let e : x.network ≡ y.network = (network_eq-decides x.network y.network).0 same in
       ap (network_eq network) (sym e) ∙ is
 
+  -- one of two, by the first
   either_first : (a b : Bool) → a ≡ true → (a || b) ≡ true
   either_first a b e = ap (λ c. c || b) e
 
+  -- one of two, by the second
   either_last : (a b : Bool) → b ≡ true → (a || b) ≡ true
   either_last true b e = refl
   either_last false b e = e

@@ -18,7 +18,8 @@ is_barred_by problem (Some a) = list_any (is_dead_literal problem) a.preconditio
 abbrev pub is_barred : Problem → GroundTask → Bool
 is_barred problem g = is_barred_by problem (problem.action_of g)
 
--- a node takes a number itself, and a compound task no more than that and what the nodes of any of its instances take, dead ones apart
+-- a node takes a number itself, and a compound task no more than that and what the nodes of any of its instances take,
+-- dead ones apart
 pub record IsLowerMeasure (problem : Problem) (size : Child → ℕ) : Type 0 where
   pub positive : (x : Child) → 1 ≤ size x
   pub step : (literals : List Literal) → size (precondition literals) ≤ 1
@@ -53,7 +54,8 @@ estimate size cap c = max (length c.open_nodes) (min (sum_by size c.open_nodes) 
 abbrev pub lower_bound : Problem → (Child → ℕ) → ℕ → Config → ℕ
 lower_bound problem size cap c = cond (is_as_at_first problem c.state) (estimate size cap c) (length c.open_nodes)
 
--- at least the open nodes, nothing where none is open, and a step lowers it by one at most; so no word without dead numbers that finishes is shorter
+-- at least the open nodes, nothing where none is open, and a step lowers it by one at most; so no word without dead
+-- numbers that finishes is shorter
 pub record IsLowerBound (problem : Problem) (low : Config → ℕ) : Type 0 where
   pub above_open : (c : Config) → length c.open_nodes ≤ low c
   pub closed_zero : (c : Config) → c.open_nodes ≡ [] → low c ≡ 0

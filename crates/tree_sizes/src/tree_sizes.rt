@@ -35,7 +35,7 @@ impl TreeSizes {
         TreeSizes::of_enumerated(alloc, found)
     }
 
-    /// The same by instances that were enumerated.
+    /// The sizes by instances that were enumerated.
     pub fn of_enumerated(alloc: Global, found: Enumeration) -> Result<TreeSizes, AllocError>
         ensures { IfOk result (λ s. (t : model.Task) → IsEnumeration t found → IsLowerMeasure (problem_of t) (size_of s)) }
     {

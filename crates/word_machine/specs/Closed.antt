@@ -5,7 +5,8 @@ use Rattle.word_machine.specs.Machine.{WordMachine, IsLiveStep, IsDone}
 use Rattle.word_machine.specs.Contents.{CutOff, word_of, IsOriginWithin}
 use Rattle.word_machine.specs.declared.closed.Successor.{Successor}
 
--- what is searched: the steps, what is done, what bounds the steps that are left (as the open nodes), the initial configurations, and the bound on steps
+-- what is searched: the steps, what is done, what bounds the steps that are left (as the open nodes), the initial
+-- configurations, and the bound on steps
 pub record Search (C : Type 0) : Type 1 where
   pub Step : C → ℕ → C → Type 0
   pub IsDone : C → Type 0
@@ -39,7 +40,8 @@ module _ {C : Type 0} where
     abbrev pub FitsBound : C → List ℕ → Type 0
     FitsBound c w = length w + S.open_len c ≤ S.bound + 1
 
-    -- the configuration that v reaches is covered, or it was cut, and is past the bound by as much as the least that was
+    -- the configuration that v reaches is covered, or it was cut, and is past the bound by as much as the least that
+    -- was
     abbrev pub IsAccounted : List C → List (List ℕ) → CutOff → C → List ℕ → Type 0
     IsAccounted keys words cut c v = IsCovered keys words c v ⊎ ((cut.any ≡ true) × (S.bound + 1 < length v + S.open_len c) × (S.bound + 1 + cut.past ≤ length v + S.open_len c))
 
@@ -66,7 +68,8 @@ module _ {C : Type 0} where
     IsCompleteBelow keys words size =
         (v : List ℕ) (c : C) → length v < size → Reaches S.Step S.initials v c → FitsBound c v → IsCovered keys words c v
 
-    -- the successor's word has so many numbers and reaches it, and it is not done; `words` are those of the ranks before
+    -- the successor's word has so many numbers and reaches it, and it is not done; `words` are those of the ranks
+    -- before
     pub record IsCandidate (words : List (List ℕ)) (size : ℕ) (s : Successor C) : Type 0 where
       pub within : IsOriginWithin (length words) s.origin
       pub long : length (word_of words s.origin) ≡ size

@@ -26,7 +26,8 @@ abbrev pub cut_more : CutOff → ℕ → CutOff
 cut_more cut past = record { any = true; past = min cut.past past }
 
 module _ {C : Type 0} (eq : C → C → Bool) where
-  -- a configuration that is there changes nothing; another goes last if there is room for what is left of it, and else it is cut off
+  -- a configuration that is there changes nothing; another goes last if there is room for what is left of it, and else
+  -- it is cut off
   abbrev pub offer : Contents C → Successor C → ℕ → ℕ → Contents C
   offer contents s left room =
       if list_any (eq s.configuration) contents.keys then contents
@@ -39,7 +40,8 @@ module _ {C : Type 0} (eq : C → C → Bool) where
 
 -- the same by what a configuration stands for, whatever tells that it is there
 module _ {C : Type 0} where
-  -- one is offered: it is there, and nothing changes; or it is not, and it goes last if there is room for what is left of it, and else it is cut off
+  -- one is offered: it is there, and nothing changes; or it is not, and it goes last if there is room for what is left
+  -- of it, and else it is cut off
   abbrev pub IsOffered : Contents C → Successor C → ℕ → ℕ → Contents C → Type 0
   IsOffered old s left room new =
       ((r : ℕ) × (slice_get old.keys r ≡ Some s.configuration) × (new ≡ old))

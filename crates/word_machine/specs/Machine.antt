@@ -32,7 +32,8 @@ module _ {Configuration : Type 0} (m : WordMachine Configuration) where
   abbrev pub IsFinishing : List ℕ → Type 0
   IsFinishing word = Finishes IsStep IsDone m.initials word
 
-  -- some word without dead numbers reaches a configuration that none reaches with its steps and the open nodes within the bound
+  -- some word without dead numbers reaches a configuration that none reaches with its steps and the open nodes within
+  -- the bound
   abbrev pub IsMet : ℕ → Type 0
   IsMet bound = MeetsBound IsLiveStep m.open_len m.initials bound
 

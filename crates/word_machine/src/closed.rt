@@ -61,7 +61,8 @@ impl Link {
     }
 }
 
-/// The configurations that were kept, in the order in which they were found, none of them twice. The position of one is its rank.
+/// The configurations that were kept, in the order in which they were found, none of them twice. The position of one is
+/// its rank.
 #[derive(Drop)]
 pub struct Closed<C: Eq + Hash> {
     configurations: IndexSet<C>,

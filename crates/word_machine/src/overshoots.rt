@@ -3,7 +3,8 @@ ghost use Rattle.std.specs.Prelude.{◌≡◌, ℕ, ◌+◌, ◌-◌, ◌^◌, �
 ghost use Rattle.std.specs.List.{sum};
 ghost use Rattle.word_machine.specs.Contents.{slot_of};
 
-/// How many were left out, by how far past the bound they were: 1, 2 and so on, and at the end all that were 64 or more.
+/// How many were left out, by how far past the bound they were: 1, 2 and so on, and at the end all that were 64 or
+/// more.
 #[derive(Clone, Copy, Debug)]
 pub struct Overshoots {
     pub counts: [u32; 64],
