@@ -4,3 +4,4 @@ pub mod Bounded
 pub mod Within
 pub mod Checked
 pub mod NeededLists
+pub mod RowsThere

@@ -1,14 +1,15 @@
 //! What a network needs from the start.
-ghost use Rattle.std.specs.Prelude.{◌≡◌, ◌<◌, ◌++◌, ◌∷◌, [], cond, length, IfOk, OnOk};
+ghost use Rattle.std.specs.Prelude.{◌≡◌, ◌<◌, ◌++◌, ◌∷◌, [], ℕ, cond, length, not, IfOk, OnOk};
 ghost use Rattle.std.specs.List.{list_any};
-ghost use Rattle.htn_model.specs.Problem as problem;
-ghost use Rattle.htn_ground.specs.Views.{children_of};
+ghost use Rattle.htn_model.specs.Literal as model;
+ghost use Rattle.htn_model.specs.Problem.{Network};
 ghost use Rattle.htn_state.specs.Views.{literal_of, literals_of};
-ghost use Rattle.network_needs.specs.Needs.{needed, needed_at, needed_goal};
-ghost use Rattle.network_needs.specs.Rows.{outlook_of};
+ghost use Rattle.network_needs.specs.Needs.{has_blocked, is_ungiven, may_give, needed, needed_at, needed_goal};
+ghost use Rattle.network_needs.specs.Places.{all_needed, ArePlaces};
+ghost use Rattle.network_needs.specs.Rows.{literal_number, outlook_of};
 
 use crate::needs::Needs;
-use htn_ground::Child;
+use crate::places::Place;
 use htn_order::Order;
 use htn_state::Literal;
 use std::alloc::{AllocError, Global};
@@ -25,71 +26,138 @@ fn push_if(found: &mut Vec<Literal>, literal: &Literal, is_kept: bool) -> Result
     Ok(())
 }
 
+/// Whether one of the nodes of some places never ends.
+pub fn has_blocked_place(places: &[Place]) -> bool
+    ensures { result ≡ list_any (λ p. p.is_blocked) places.now }
+{
+    for place in places {
+        if place.is_blocked {
+            return true;
+        }
+    }
+    false
+}
+
 impl Needs {
-    /// Whether a literal may become true through one of some nodes.
-    fn is_given(&self, children: &[Child], literal: &Literal) -> bool
-        ensures { result
-            ≡ list_any (λ x. (outlook_of self.now).gives x (literal_of literal.now)) (children_of children.now) }
+    /// Whether the node at a position may make the literal of a number true for another one: it isn't after it, and
+    /// gives it.
+    fn may_give_at(
+        &self,
+        places: &[Place],
+        order: &Order,
+        number: Option<usize>,
+        at: usize,
+        position: usize,
+    ) -> bool
+        requires { position < length places.now }
+        ensures { (n : Network) (l : model.Literal) → ArePlaces self.now places.now n → order.now ≡ n.order
+            → number ≡ literal_number self.now l → result ≡ may_give (outlook_of self.now) n l at position }
     {
-        for child in children {
-            if self.gives(child, literal) {
-                return true;
+        at != position && !order.is_before(at, position) && self.gives_at(places[position], number)
+    }
+
+    /// Whether no node may make the literal of a number true for the one at a position.
+    fn is_ungiven_at(
+        &self,
+        places: &[Place],
+        order: &Order,
+        number: Option<usize>,
+        at: usize,
+    ) -> bool
+        ensures { (n : Network) (l : model.Literal) → ArePlaces self.now places.now n → order.now ≡ n.order
+            → number ≡ literal_number self.now l → result ≡ is_ungiven (outlook_of self.now) n at l }
+    {
+        for position in 0..places.len() {
+            if self.may_give_at(places, order, number, at, position) {
+                return false;
             }
         }
-        false
+        true
     }
 
     /// Adds what a network needs for the node at a position.
     fn push_needed_at(
         &self,
         found: &mut Vec<Literal>,
-        children: &[Child],
+        places: &[Place],
         order: &Order,
         at: usize,
     ) -> Result<(), AllocError>
-        requires { at < length children.now }
-        ensures { OnOk result (literals_of found.new.items ≡ literals_of found.old.items
-            ++ needed_at (outlook_of self.now) (record { children = children_of children.now; order = order.now }) at) }
+        requires { at < length places.now }
+        ensures { OnOk result ((n : Network) → ArePlaces self.now places.now n → order.now ≡ n.order
+            → literals_of found.new.items ≡ literals_of found.old.items ++ needed_at (outlook_of self.now) n at) }
     {
-        for literal in self.wants(&children[at]) {
-            let is_kept = self.is_ungiven(children, order, at, literal);
+        for literal in self.wants_at(places[at]) {
+            let number = self.number_of(literal);
+            let is_kept = self.is_ungiven_at(places, order, number, at);
             push_if(found, literal, is_kept)?;
         }
         Ok(())
     }
 
     /// What a network needs for its nodes: what each wants, and no other one that isn't after it gives.
-    pub fn needed(
+    fn needed(
         &self,
         alloc: Global,
-        children: &[Child],
+        places: &[Place],
         order: &Order,
     ) -> Result<Vec<Literal>, AllocError>
-        ensures { IfOk result (λ v. literals_of v.items ≡ needed (outlook_of self.now)
-            (record { children = children_of children.now; order = order.now })) }
+        ensures { IfOk result (λ v. (n : Network) → ArePlaces self.now places.now n → order.now ≡ n.order
+            → literals_of v.items ≡ needed (outlook_of self.now) n) }
     {
         let mut found = Vec::new(alloc);
-        for at in 0..children.len() {
-            self.push_needed_at(&mut found, children, order, at)?;
+        for at in 0..places.len() {
+            self.push_needed_at(&mut found, places, order, at)?;
         }
         Ok(found)
     }
 
-    /// What a network needs for a goal: those of its literals that no node gives.
-    pub fn needed_goal(
+    /// Whether the literal of a number may become true through the node of one of some places.
+    fn is_given_at(&self, places: &[Place], number: Option<usize>) -> bool
+        ensures { (n : Network) (l : model.Literal) → ArePlaces self.now places.now n
+            → number ≡ literal_number self.now l
+            → result ≡ list_any (λ x. (outlook_of self.now).gives x l) n.children }
+    {
+        for place in places {
+            if self.gives_at(*place, number) {
+                return true;
+            }
+        }
+        false
+    }
+
+    /// Adds what a network needs for a goal: those of its literals that no node gives.
+    fn push_needed_goal(
+        &self,
+        found: &mut Vec<Literal>,
+        places: &[Place],
+        goal: &[Literal],
+    ) -> Result<(), AllocError>
+        ensures { OnOk result ((n : Network) → ArePlaces self.now places.now n
+            → literals_of found.new.items
+            ≡ literals_of found.old.items ++ needed_goal (outlook_of self.now) (literals_of goal.now) n) }
+    {
+        for literal in goal {
+            let number = self.number_of(literal);
+            let is_kept = !self.is_given_at(places, number);
+            push_if(found, literal, is_kept)?;
+        }
+        Ok(())
+    }
+
+    /// All that the network of some places needs from the start, for its nodes and for a goal.
+    pub fn all_needed(
         &self,
         alloc: Global,
-        children: &[Child],
+        places: &[Place],
+        order: &Order,
         goal: &[Literal],
     ) -> Result<Vec<Literal>, AllocError>
-        ensures { IfOk result (λ v. (order : problem.Order) → literals_of v.items ≡ needed_goal (outlook_of self.now)
-            (literals_of goal.now) (record { children = children_of children.now; order = order })) }
+        ensures { IfOk result (λ v. (n : Network) → ArePlaces self.now places.now n → order.now ≡ n.order
+            → literals_of v.items ≡ all_needed (outlook_of self.now) (literals_of goal.now) n) }
     {
-        let mut found = Vec::new(alloc);
-        for literal in goal {
-            let is_kept = !self.is_given(children, literal);
-            push_if(&mut found, literal, is_kept)?;
-        }
+        let mut found = self.needed(alloc, places, order)?;
+        self.push_needed_goal(&mut found, places, goal)?;
         Ok(found)
     }
 }

@@ -32,6 +32,7 @@ use Rattle.network_table.specs.declared.expansion.Expansion.TheVariants.{Decompo
 use Rattle.network_table.specs.declared.expansion.Removal.{Removal}
 use Rattle.network_table.proofs.Expanding.{all_more, grown_itself}
 use Rattle.network_table.proofs.Growing.{grown_then, numbers_stay}
+use Rattle.needs_table.specs.declared.table.NeedsTable.{NeedsTable}
 use Rattle.word_machine.specs.Meaning.{IsGrown as MeaningGrown}
 use Rattle.task_machine.specs.Growing.{IsWider, StandFor}
 use Rattle.task_machine.specs.Meaning.{allows, config_in, knows, meaning, point, point_of}
@@ -89,6 +90,20 @@ with_atoms t s later grown own = record {
   sound = own.sound;
   goal = literals_later t s.atoms later grown s.goal (problem_of t).goal own.goal;
   performers = performers_later t s.atoms later grown s.networks s.performers.items own.performers;
+  performed = own.performed;
+  instances = own.instances;
+}
+
+-- the tables with other needs
+pub with_needs : (t : Task) (s : Tables) (needs : NeedsTable) → AreTables t s → AreTables t (record s { needs = needs })
+with_needs t s needs own = record {
+  atoms = own.atoms;
+  numbering = own.numbering;
+  sets = own.sets;
+  networks = own.networks;
+  sound = own.sound;
+  goal = own.goal;
+  performers = own.performers;
   performed = own.performed;
   instances = own.instances;
 }
@@ -155,6 +170,14 @@ with_state t s states state numbering set others own = record {
 pub later_tables_itself : (t : Task) (s : Tables) → AreTables t s → AreLater s s
 later_tables_itself t s own = record {
   atoms = later_itself s.atoms own.atoms.table;
+  states = ([], sym (append-nil s.states));
+  networks = grown_itself s.networks;
+}
+
+-- those with more atoms and other needs are later
+pub later_needs : (t : Task) (s : Tables) (atoms : Table) (needs : NeedsTable) → IsLater s.atoms atoms → AreLater s (record s { atoms = atoms; needs = needs })
+later_needs t s atoms needs grown = record {
+  atoms = grown;
   states = ([], sym (append-nil s.states));
   networks = grown_itself s.networks;
 }

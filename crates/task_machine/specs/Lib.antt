@@ -3,6 +3,6 @@ pub mod Growing
 pub mod Laws
 pub mod Meaning
 pub mod Prefix
-pub mod Sized
+pub mod Owned
 pub mod Steps
 pub mod Tables

@@ -36,3 +36,9 @@ returns-clause-own c =
 
 pub returns-clause-sized : goal.returns-clause-sized
 returns-clause-sized c = λ sizes. c.new-3.ensures.bounds (size_of sizes)
+
+pub returns-clause-goal : goal.returns-clause-goal
+returns-clause-goal c = c.new-6.ensures.goal ∙ c.in_ok-literals.ensures
+
+pub returns-clause-none : goal.returns-clause-none
+returns-clause-none c = (c.new-6.ensures.none, c.new-3.ensures.empty)
