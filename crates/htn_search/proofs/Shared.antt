@@ -12,6 +12,7 @@ use Rattle.htn_task.proofs.term.EqualitySchema.TheSendSync as EqualityShared
 use Rattle.htn_task.proofs.term.TaskSchema.TheSendSync as TaskSchemaShared
 use Rattle.htn_task.proofs.term.Term.TheSendSync as TermShared
 use Rattle.htn_task.proofs.term.TermList.TheSendSync as TermsShared
+use Rattle.network_needs.proofs.needs.Needs.TheSendSync as NeedsShared
 use Rattle.tree_sizes.proofs.tree_sizes.TreeSizes.TheSendSync as SizesShared
 use Rattle.std.proofs.Crossing.{crosses}
 use Rattle.std.proofs.alloc.Global.TheSendSync as GlobalShared
@@ -79,4 +80,4 @@ pub task_sync : IsSync Task.the_row
 task_sync = search (parts_sync, basic) depth 60 fits 20000
 
 -- what the machine of a task has beside it
-pub ruleset kept = (SizesShared.the_send, SizesShared.the_sync, basic)
+pub ruleset kept = (SizesShared.the_send, SizesShared.the_sync, NeedsShared.the_send, NeedsShared.the_sync, basic)

@@ -3,6 +3,7 @@ use Rattle.std.specs.Prelude.{◌≡◌, ℕ, not, ◌&&◌, None, Option, Some,
 use Rattle.std.specs.Option.{option_map}
 use Rattle.std.proofs.Common.{◌∙◌, ap, ap₂}
 use Rattle.std.proofs.Math.Bridge.{le_prop}
+use Rattle.std.proofs.Math.Nat.{ℕ_set}
 use Rattle.std.proofs.lemmas.Option.{none-some}
 use Rattle.htn_model.specs.Exhaustion.{is_dead, live_step}
 use Rattle.htn_model.specs.Grounding.{problem_of}
@@ -26,7 +27,7 @@ most_steps = 10000
 
 -- that a bound is a lower one has one proof at most
 pub estimate-prop : (problem : Problem) (low : Config → ℕ) → IsProp (IsEstimate problem low)
-estimate-prop problem low = hlevel (le_prop)
+estimate-prop problem low = hlevel (le_prop, ℕ_set)
 
 -- what the open nodes take together, and more than any bound where the state lacks what they need
 abbrev pub bound_by : Problem → (Child → ℕ) → Outlook → Config → ℕ

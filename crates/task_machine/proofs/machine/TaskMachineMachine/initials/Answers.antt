@@ -1,4 +1,5 @@
 use Rattle.std.proofs.Common.{◌≡◌, ◌∙◌, ap, map}
+use Rattle.needs_table.specs.declared.table.NeedsTable.{NeedsTable}
 use Rattle.task_machine.proofs.Estimates.{kept_still}
 use Rattle.network_table.proofs.Expanding.{all_more, map_all}
 use Rattle.task_machine.specs.Meaning.{knows, point}
@@ -17,7 +18,7 @@ pub returns-clause-owned : goal.returns-clause-owned
 returns-clause-owned c =
     let m = c.args.self.now in
     let did = c.in_ok-initials.ensures in
-    c.in_ok-prepare_needs.ensures.owned m.task.now m.sizes did.owned did.sized (ap (λ n. n.goal) did.needs ∙ c.requires.own.goal)
+    c.in_ok-prepare_needs.ensures.owned m.task.now m.sizes did.owned did.sized (ap (λ (n : NeedsTable). n.goal) did.needs ∙ c.requires.own.goal)
 
 pub returns-clause-grown : goal.returns-clause-grown
 returns-clause-grown c =

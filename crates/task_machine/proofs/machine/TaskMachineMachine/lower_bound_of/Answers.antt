@@ -41,7 +41,7 @@ returns-in-Known c =
     c.lower_bound.ensures t m.sizes m.needs c.requires.own
     ∙ ap (λ w. bound_by (problem_of t) size o (config_in tables w at.network)) words
     ∙ sym (own_bound (problem_of t) m.grounded size o (point tables at) belongs)
-    ∙ ap (λ r. needs_bound (problem_of t) size most_steps o (point_of tables r)) (sym c.in-Known.is)
+    ∙ ap (λ (r : Reached). needs_bound (problem_of t) size most_steps o (point_of tables r)) (sym c.in-Known.is)
 
 pub returns-in-New : goal.returns-in-New
 returns-in-New c =
@@ -52,5 +52,5 @@ returns-in-New c =
     let size = size_of m.sizes in
     let belongs = subst (λ (r : Reached). IsOwn (problem_of t) (point_of tables r)) c.in-New.is c.requires.belongs in
     c.lower_bound-2.ensures t m.sizes m.needs c.requires.own
-    ∙ sym (own_bound (problem_of t) m.grounded size o (config_in tables c.in-New.state.now c.in-New.network) belongs)
-    ∙ ap (λ r. needs_bound (problem_of t) size most_steps o (point_of tables r)) (sym c.in-New.is)
+    ∙ sym (own_bound (problem_of t) m.grounded size o (config_in tables c.in-New.state c.in-New.network) belongs)
+    ∙ ap (λ (r : Reached). needs_bound (problem_of t) size most_steps o (point_of tables r)) (sym c.in-New.is)

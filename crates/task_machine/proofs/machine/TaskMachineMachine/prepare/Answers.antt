@@ -1,4 +1,5 @@
 use Rattle.std.proofs.Common.{◌∙◌, ap}
+use Rattle.needs_table.specs.declared.table.NeedsTable.{NeedsTable}
 use Rattle.task_machine.proofs.Estimates.{kept_still}
 use Rattle.task_machine.proofs.Owned.{later_tables_then, meaning_grown}
 use Rattle.task_machine.proofs.machine.TaskMachineMachine.prepare.Goals as goal
@@ -14,7 +15,7 @@ pub returns-clause-owned : goal.returns-clause-owned
 returns-clause-owned c =
     let m = c.args.self.now in
     let did = c.in_ok-prepare.ensures in
-    c.in_ok-prepare_needs.ensures.owned m.task.now m.sizes did.owned did.sized (ap (λ n. n.goal) did.needs ∙ c.requires.own.goal)
+    c.in_ok-prepare_needs.ensures.owned m.task.now m.sizes did.owned did.sized (ap (λ (n : NeedsTable). n.goal) did.needs ∙ c.requires.own.goal)
 
 pub returns-clause-grown : goal.returns-clause-grown
 returns-clause-grown c =
