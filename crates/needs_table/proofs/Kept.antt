@@ -74,21 +74,20 @@ pub blocked_ends : (problem : Problem) (o : Outlook) (state : State) (n : Networ
 blocked_ends problem o state n blocked = sym (ap (λ x. not x && (holds state (needed o n) && holds state (needed_goal o problem.goal n))) blocked)
 
 -- what is made of one more number
-pub mapped_more : {X Y : Type 0} (f : X → Y) (h : ℕ → X) (ids : List ℕ) (k id : ℕ) → k < length ids → id ≡ get_or ids k id
-    → map f (map h (take (k + 1) ids)) ≡ map f (map h (take k ids)) ++ f (h id) ∷ []
-mapped_more f h ids k id low is =
+pub mapped_more : {X Y : Type 0} (f : X → Y) (h : ℕ → X) (ids : List ℕ) (k d : ℕ) → k < length ids
+    → map f (map h (take (k + 1) ids)) ≡ map f (map h (take k ids)) ++ f (h (get_or ids k d)) ∷ []
+mapped_more f h ids k d low =
     let e : k + 1 ≡ suc k = omega arith in
-    ap (λ j. map f (map h (take j ids))) e
-    ∙ ap (λ l. map f (map h l)) (take-suc ids k id low)
-    ∙ ap (map f) (map_push h (take k ids) (get_or ids k id))
-    ∙ map_push f (map h (take k ids)) (h (get_or ids k id))
-    ∙ ap (λ i. map f (map h (take k ids)) ++ f (h i) ∷ []) (sym is)
+    ap (λ (j : ℕ). map f (map h (take j ids))) e
+    ∙ ap (λ (l : List ℕ). map f (map h l)) (take-suc ids k d low)
+    ∙ ap (map f) (map_push h (take k ids) (get_or ids k d))
+    ∙ map_push f (map h (take k ids)) (h (get_or ids k d))
 
 -- one more thing made of a node's place
-pub places_more : {P X Y : Type 0} (f : P → Y) (g : X → Y) (h : ℕ → X) (old new : List P) (p : P) (ids : List ℕ) (k id : ℕ) → k < length ids → id ≡ get_or ids k id → new ≡ old ++ p ∷ []
-    → f p ≡ g (h id) → map f old ≡ map g (map h (take k ids)) → map f new ≡ map g (map h (take (k + 1) ids))
-places_more f g h old new p ids k id low is pushed same before =
-    ap (map f) pushed ∙ map_push f old p ∙ ap₂ (λ l x. l ++ x ∷ []) before same ∙ sym (mapped_more g h ids k id low is)
+pub places_more : {P X Y : Type 0} (f : P → Y) (g : X → Y) (h : ℕ → X) (old new : List P) (p : P) (ids : List ℕ) (k d : ℕ) → k < length ids → new ≡ old ++ p ∷ []
+    → f p ≡ g (h (get_or ids k d)) → map f old ≡ map g (map h (take k ids)) → map f new ≡ map g (map h (take (k + 1) ids))
+places_more f g h old new p ids k d low pushed same before =
+    ap (map f) pushed ∙ map_push f old p ∙ ap₂ (λ l x. l ++ x ∷ []) before same ∙ sym (mapped_more g h ids k d low)
 
 -- what stands at a number is kept of its network
 pub kept_at : (o : Outlook) (goal : List Literal) (atoms : Table) (networks : NetworkTable) (needs : List (Option CompiledLiterals)) (n : ℕ) (found needed : Option CompiledLiterals)

@@ -1,5 +1,5 @@
 //! What networks need, by number.
-ghost use Rattle.std.specs.Prelude.{◌≡◌, ◌<◌, [], length, map, IfOk, OnOk};
+ghost use Rattle.std.specs.Prelude.{◌≡◌, ◌<◌, [], length, IfOk, OnOk};
 ghost use Rattle.htn_model.specs.Problem as model;
 ghost use Rattle.network_needs.specs.Needs.{may_end, Outlook};
 ghost use Rattle.network_needs.specs.Places.{ArePlaces};
@@ -69,11 +69,13 @@ impl NeedsTable {
             (network_of (children networks.now) network.now)) }
     {
         let _count = atoms.len();
-        let places = places_of(alloc, needs, networks, network)?;
-        if has_blocked_place(&places) {
+        let kept = places_of(alloc, needs, networks, network)?;
+        let places = kept.as_slice();
+        if has_blocked_place(places) {
             return Ok(None);
         }
-        let literals = needs.all_needed(alloc, &places, network.order(), self.goal.as_slice())?;
+        let goal = self.goal.as_slice();
+        let literals = needs.all_needed(alloc, places, network.order(), goal)?;
         let compiled = CompiledLiterals::of(alloc, atoms, &literals)?;
         Ok(Some(compiled))
     }
@@ -94,7 +96,8 @@ impl NeedsTable {
     {
         let _count = atoms.len();
         let all = networks.networks();
-        for number in self.needs.len()..all.len() {
+        let first = self.needs.len();
+        for number in first..all.len() {
             let needed = self.needed_by(alloc, needs, atoms, networks, &all[number])?;
             self.needs.push(needed)?;
         }

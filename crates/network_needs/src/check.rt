@@ -91,7 +91,7 @@ impl Needs {
     }
 
     /// Whether no node may make a literal true for the one at a position: none but itself and those after it gives it.
-    pub(crate) fn is_ungiven(
+    fn is_ungiven(
         &self,
         children: &[Child],
         order: &Order,

@@ -1,11 +1,10 @@
 //! What a network needs from the start.
-ghost use Rattle.std.specs.Prelude.{◌≡◌, ◌<◌, ◌++◌, ◌∷◌, [], ℕ, cond, length, not, IfOk, OnOk};
-ghost use Rattle.std.specs.List.{list_any};
+ghost use Rattle.std.specs.Prelude.{◌≡◌, ◌<◌, ◌++◌, ◌∷◌, [], cond, length, IfOk, OnOk};
 ghost use Rattle.htn_model.specs.Literal as model;
 ghost use Rattle.htn_model.specs.Problem.{Network};
 ghost use Rattle.htn_state.specs.Views.{literal_of, literals_of};
-ghost use Rattle.network_needs.specs.Needs.{has_blocked, is_ungiven, may_give, needed, needed_at, needed_goal};
-ghost use Rattle.network_needs.specs.Places.{all_needed, ArePlaces};
+ghost use Rattle.network_needs.specs.Needs.{is_ungiven, needed, needed_at, needed_goal};
+ghost use Rattle.network_needs.specs.Places.{all_needed, ArePlaces, is_given_by, may_give_by, some_is_blocked};
 ghost use Rattle.network_needs.specs.Rows.{literal_number, outlook_of};
 
 use crate::needs::Needs;
@@ -28,7 +27,7 @@ fn push_if(found: &mut Vec<Literal>, literal: &Literal, is_kept: bool) -> Result
 
 /// Whether one of the nodes of some places never ends.
 pub fn has_blocked_place(places: &[Place]) -> bool
-    ensures { result ≡ list_any (λ p. p.is_blocked) places.now }
+    ensures { result ≡ some_is_blocked places.now }
 {
     for place in places {
         if place.is_blocked {
@@ -50,8 +49,7 @@ impl Needs {
         position: usize,
     ) -> bool
         requires { position < length places.now }
-        ensures { (n : Network) (l : model.Literal) → ArePlaces self.now places.now n → order.now ≡ n.order
-            → number ≡ literal_number self.now l → result ≡ may_give (outlook_of self.now) n l at position }
+        ensures { result ≡ may_give_by self.now places.now order.now number at position }
     {
         at != position && !order.is_before(at, position) && self.gives_at(places[position], number)
     }
@@ -114,9 +112,7 @@ impl Needs {
 
     /// Whether the literal of a number may become true through the node of one of some places.
     fn is_given_at(&self, places: &[Place], number: Option<usize>) -> bool
-        ensures { (n : Network) (l : model.Literal) → ArePlaces self.now places.now n
-            → number ≡ literal_number self.now l
-            → result ≡ list_any (λ x. (outlook_of self.now).gives x l) n.children }
+        ensures { result ≡ is_given_by self.now places.now number }
     {
         for place in places {
             if self.gives_at(*place, number) {

@@ -4,11 +4,11 @@ ghost use Rattle.std.specs.Option.{option_map};
 ghost use Rattle.htn_ground.specs.Views.{child_view};
 ghost use Rattle.htn_state.specs.Views.{literal_of, literals_of};
 ghost use Rattle.network_needs.specs.Places.{row_at};
-ghost use Rattle.network_needs.specs.Rows.{blocks, gives_by, literal_number, row_of, wants_by};
+ghost use Rattle.network_needs.specs.Rows.{blocks, gives_by, leaf_row, literal_number, row_of, task_row, wants_by};
 
 use crate::needs::Needs;
 use crate::rows::Row;
-use htn_ground::Child;
+use htn_ground::{Child, GroundTask};
 use htn_state::Literal;
 
 /// Where the row of a node stands, if it has one.
@@ -31,21 +31,33 @@ pub struct Place {
 }
 
 impl Needs {
+    /// Where the row of a compound task stands.
+    fn task_spot(&self, goal: &GroundTask) -> Spot
+        ensures { row_at self.now result ≡ task_row self.now goal.now }
+    {
+        match self.tasks.get_index_of(goal) {
+            Some(number) => Spot::Task(number),
+            None => Spot::Nowhere,
+        }
+    }
+
+    /// Where the row of a step or an action stands.
+    fn leaf_spot(&self, leaf: &Child) -> Spot
+        ensures { row_at self.now result ≡ leaf_row self.now (child_view leaf.now) }
+    {
+        match self.rows.leaves.get_index_of(leaf) {
+            Some(number) => Spot::Leaf(number),
+            None => Spot::Nowhere,
+        }
+    }
+
     /// Where the row of a node stands.
     fn spot(&self, child: &Child) -> Spot
         ensures { row_at self.now result ≡ row_of self.now (child_view child.now) }
     {
         match child {
-            Child::Task(goal) => match self.tasks.get_index_of(goal) {
-                Some(number) => Spot::Task(number),
-                None => Spot::Nowhere,
-            },
-            Child::Precondition(_) | Child::Action(_) => {
-                match self.rows.leaves.get_index_of(child) {
-                    Some(number) => Spot::Leaf(number),
-                    None => Spot::Nowhere,
-                }
-            }
+            Child::Task(goal) => self.task_spot(goal),
+            Child::Precondition(_) | Child::Action(_) => self.leaf_spot(child),
         }
     }
 

@@ -1,4 +1,4 @@
-use Rattle.std.proofs.Common.{◌∙◌, List, ℕ, ap, get_or, map, refl}
+use Rattle.std.proofs.Common.{◌∙◌, List, ℕ, ap, map}
 use Rattle.std.proofs.lemmas.List.{take_all}
 use Rattle.htn_model.specs.Choice.{child_of}
 use Rattle.network_needs.specs.Places.{row_at}
@@ -14,10 +14,13 @@ loop-id-preserved c =
     let node = child_of (children c.args.networks.now) in
     let k = c.loop-id.id-index in
     let ids = c.nodes-nodes.result.now in
+    let old = c.loop-id.places.items in
+    let new = c.push.new.self.items in
+    let p = c.place.result in
     record {
-      rows = places_more (λ (p : Place). row_at n p.spot) (row_of n) node c.loop-id.places.items _ c.place.result ids k (get_or ids k 0) c.loop-id-test.true refl c.in_ok-push.ensures.items
+      rows = places_more (λ (q : Place). row_at n q.spot) (row_of n) node old new p ids k 0 c.loop-id-test.true c.in_ok-push.ensures.items
           (c.place.ensures.row ∙ ap (row_of n) c.child.ensures) c.loop-id.invariant.rows;
-      blocked = places_more (λ (p : Place). p.is_blocked) (blocks n) node c.loop-id.places.items _ c.place.result ids k (get_or ids k 0) c.loop-id-test.true refl c.in_ok-push.ensures.items
+      blocked = places_more (λ (q : Place). q.is_blocked) (blocks n) node old new p ids k 0 c.loop-id-test.true c.in_ok-push.ensures.items
           (c.place.ensures.blocked ∙ ap (blocks n) c.child.ensures) c.loop-id.invariant.blocked;
     }
 

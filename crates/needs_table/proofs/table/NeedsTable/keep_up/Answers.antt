@@ -1,4 +1,4 @@
-use Rattle.std.proofs.Common.{◌≡◌, ◌∙◌, ◌+◌, ◌∷◌, [], ◌<◌, ℕ, length, length-append, get_or, ap, sym, subst, refl, arith}
+use Rattle.std.proofs.Common.{◌≡◌, ◌∙◌, ◌+◌, ◌∷◌, [], ◌<◌, ℕ, List, length, length-append, get_or, ap, sym, subst, refl, arith}
 use Rattle.network_needs.specs.Rows.{outlook_of}
 use Rattle.network_table.specs.Networks.{children, network_at, numbered_at}
 use Rattle.network_table.specs.Numbered.{IsWithin, Numbered, network_of}
@@ -12,8 +12,8 @@ pub loop-number-init : goal.loop-number-init
 loop-number-init c = record {
   later = later_itself c.args.atoms.now c.len-_count.ensures.table;
   kept = c.requires.kept;
-  goal = refl;
-  count = sym c.len.ensures;
+  same_goal = refl;
+  count = sym (c.len-first.ensures ∙ c.args.self.now.needs.ok.0);
 }
 
 pub needed_by-requires : goal.needed_by-requires
@@ -22,7 +22,7 @@ needed_by-requires c =
     let n = c.loop-number.number in
     let x = c.index-all-number.result in
     let low : n < length t.networks.keys = omega (arith, c.loop-number-test.true, ap length c.networks-all.ensures) in
-    let same = network_of_number t n x low (c.index-all-number.is ∙ ap (λ l. get_or l n x) c.networks-all.ensures) in
+    let same = network_of_number t n x low (c.index-all-number.is ∙ ap (λ (l : List Numbered). get_or l n x) c.networks-all.ensures) in
     subst (IsWithin (children t)) (sym same) (within_at t n c.requires.whole low)
 
 pub loop-number-preserved : goal.loop-number-preserved
@@ -37,7 +37,7 @@ loop-number-preserved c =
     let needed = c.in_ok-needed.needed in
     let atoms = c.needed_by.new.atoms in
     let low : n < length t.networks.keys = omega (arith, c.loop-number-test.true, ap length c.networks-all.ensures) in
-    let same = network_of_number t n x low (c.index-all-number.is ∙ ap (λ l. get_or l n x) c.networks-all.ensures) in
+    let same = network_of_number t n x low (c.index-all-number.is ∙ ap (λ (l : List Numbered). get_or l n x) c.networks-all.ensures) in
     let right =
     subst (λ k. IsKept o s.goal atoms (network_at t k) needed) (sym i.count)
     (subst (λ (y : Numbered). IsKept o s.goal atoms (network_of (children t) y) needed) same did.kept) in
@@ -46,7 +46,7 @@ loop-number-preserved c =
     record {
       later = later_more c.args.atoms.now c.loop-number.atoms atoms i.later did.later;
       kept = keeps_push o s.goal c.loop-number.atoms atoms t s.needs.items _ needed did.later (subst (λ k. k < length t.networks.keys) (sym i.count) low) right c.in_ok-push.ensures.items i.kept;
-      goal = i.goal;
+      same_goal = i.same_goal;
       count = omega (arith, long, pushed, i.count);
     }
 

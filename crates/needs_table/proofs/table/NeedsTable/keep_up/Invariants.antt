@@ -9,6 +9,6 @@ abbrev pub invariant-loop-number : goal.invariant-loop-number
 invariant-loop-number l = record {
   later : IsLater l.initial.atoms l.atoms;
   kept : AreKept (outlook_of l.needs) l.atoms l.networks l.self;
-  goal : l.self.goal ≡ l.initial.self.goal;
+  same_goal : l.self.goal ≡ l.initial.self.goal;
   count : length l.self.needs.items ≡ l.number;
 }

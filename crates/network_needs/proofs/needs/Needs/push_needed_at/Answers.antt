@@ -20,4 +20,4 @@ returns c = λ n are order.
     let test = is_ungiven (outlook_of c.args.self.now) n c.args.at in
     c.loop-literal.invariant n are order
     ∙ ap (λ (l : List Literal). first ++ filter test (literals_of l)) (take_all c.loop-literal.literal-index c.wants_at-literal-items.result.now c.loop-literal-test.false)
-    ∙ ap (λ l. first ++ filter test l) (c.wants_at-literal-items.ensures ∙ ap wants_by (row_there c.args.self.now c.args.places.now n are c.args.at c.index-places-at.result c.requires c.index-places-at.is))
+    ∙ ap (λ l. first ++ filter test l) (c.wants_at-literal-items.ensures ∙ ap wants_by (row_there c.args.self.now c.args.places.now n are c.args.at c.requires))
