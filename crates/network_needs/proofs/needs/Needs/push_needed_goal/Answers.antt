@@ -3,7 +3,7 @@ use Rattle.std.specs.List.{list_any}
 use Rattle.std.proofs.lemmas.List.{take_all}
 use Rattle.htn_model.specs.Literal.{Literal}
 use Rattle.htn_model.specs.Problem.{Network}
-use Rattle.htn_state.specs.Views.{literal_of, literals_of}
+use Rattle.htn_state.specs.Views.{literals_of}
 use Rattle.htn_state.specs.declared.literal.Literal.{Literal as Written}
 use Rattle.network_needs.specs.Rows.{gives_by, outlook_of, row_of}
 use Rattle.network_needs.specs.declared.needs.Needs.{Needs}
