@@ -1,6 +1,5 @@
 -- What is kept of networks stays right, and tells which configurations may end.
-use Rattle.std.proofs.Common.{◌≡◌, ℕ, suc, ◌+◌, ◌<◌, ◌≤◌, Bool, true, false, not, ◌&&◌, List, [], ◌∷◌, ◌++◌, ◌⊎◌, inl, inr, length, get_or, map, take, Option, None, Some, slice_get, refl, sym, ap, ap₂, ◌∙◌, subst, arith, length-append}
-use Rattle.std.specs.List.{list_all}
+use Rattle.std.proofs.Common.{◌≡◌, ℕ, suc, ◌+◌, ◌<◌, Bool, true, false, not, ◌&&◌, List, [], ◌∷◌, ◌++◌, inl, inr, length, get_or, map, take, Option, None, Some, slice_get, refl, sym, ap, ap₂, ◌∙◌, subst, arith, length-append}
 use Rattle.std.proofs.Math.Seq.{take-suc}
 use Rattle.std.proofs.lemmas.List.{get_or_read, map_push}
 use Rattle.std.proofs.lemmas.List.Folds.{list_all-append}
@@ -8,11 +7,10 @@ use Rattle.std.proofs.lemmas.Option.{none-some, slice_get_read, slice_get_within
 use Rattle.htn_model.specs.Literal.{Literal, holds, literal_holds}
 use Rattle.htn_model.specs.Problem.{Network, Problem}
 use Rattle.htn_model.specs.State.{State}
-use Rattle.network_table.specs.Networks.{IsGrown, IsWhole, Knows, network_at, numbered_at, nothing}
+use Rattle.network_table.specs.Networks.{IsGrown, IsWhole, network_at, numbered_at, nothing}
 use Rattle.network_table.specs.Numbered.{config_at, Numbered}
 use Rattle.network_table.specs.declared.table.NetworkTable.{NetworkTable}
 use Rattle.network_table.proofs.Growing.{numbers_stay}
-use Rattle.state_table.specs.Compiled.{AreCompiled}
 use Rattle.state_table.specs.Table.{IsLater, Table}
 use Rattle.state_table.specs.declared.compiled.CompiledLiterals.{CompiledLiterals}
 use Rattle.state_table.proofs.Keys.{at_push}

@@ -1,6 +1,6 @@
-use Rattle.std.proofs.Common.{◌≡◌, ◌∙◌, ◌+◌, ◌∷◌, [], ◌<◌, ℕ, List, length, length-append, get_or, ap, sym, subst, refl, arith}
+use Rattle.std.proofs.Common.{◌∙◌, ◌∷◌, [], ◌<◌, List, length, length-append, get_or, ap, sym, subst, refl, arith}
 use Rattle.network_needs.specs.Rows.{outlook_of}
-use Rattle.network_table.specs.Networks.{children, network_at, numbered_at}
+use Rattle.network_table.specs.Networks.{children, network_at}
 use Rattle.network_table.specs.Numbered.{IsWithin, Numbered, network_of}
 use Rattle.network_table.proofs.Expanding.{within_at}
 use Rattle.state_table.proofs.States.{later_itself, later_more}
@@ -10,7 +10,7 @@ use Rattle.needs_table.proofs.table.NeedsTable.keep_up.Goals as goal
 
 pub loop-number-init : goal.loop-number-init
 loop-number-init c = record {
-  later = later_itself c.args.atoms.now c.len-_count.ensures.table;
+  later = later_itself c.args.atoms.now c.len-count.ensures.table;
   kept = c.requires.kept;
   same_goal = refl;
   count = sym (c.len-first.ensures ∙ c.args.self.now.needs.ok.0);

@@ -12,7 +12,7 @@ use Rattle.state_table.proofs.States.{later_itself}
 use Rattle.needs_table.proofs.table.NeedsTable.needed_by.Goals as goal
 
 pub returns-then-has_blocked_place-clause-later : goal.returns-then-has_blocked_place-clause-later
-returns-then-has_blocked_place-clause-later c = later_itself c.args.atoms.now c.len-_count.ensures.table
+returns-then-has_blocked_place-clause-later c = later_itself c.args.atoms.now c.len-count.ensures.table
 
 pub returns-then-has_blocked_place-clause-kept : goal.returns-then-has_blocked_place-clause-kept
 returns-then-has_blocked_place-clause-kept c =
