@@ -14,13 +14,13 @@ use Rattle.task_machine.specs.declared.tables.Tables.{Tables}
 
 -- the bound where a configuration may end
 pub bound_ending : (least bound : ℕ) (ends told : Bool) → least ≡ bound → ends ≡ told → ends ≡ true → least ≡ max bound (cond (not told) out_of_reach 0)
-bound_ending least bound ends told same tells yes =
-    let none : cond (not told) out_of_reach 0 ≡ 0 = ap (λ b. cond (not b) out_of_reach 0) (sym tells ∙ yes) in
+bound_ending least bound ends told same tells ending =
+    let none : cond (not told) out_of_reach 0 ≡ 0 = ap (λ b. cond (not b) out_of_reach 0) (sym tells ∙ ending) in
     omega (arith, same, none)
 
 -- and where it never does
 pub bound_lost : (least bound : ℕ) (ends told : Bool) → least ≡ bound → ends ≡ told → ends ≡ false → max least out_of_reach ≡ max bound (cond (not told) out_of_reach 0)
-bound_lost least bound ends told same tells no = ap₂ max same (sym (ap (λ b. cond (not b) out_of_reach 0) (sym tells ∙ no)))
+bound_lost least bound ends told same tells lost = ap₂ max same (sym (ap (λ b. cond (not b) out_of_reach 0) (sym tells ∙ lost)))
 
 -- it is kept of each network what it needs
 pub is_needed : (t : Task) (sizes : TreeSizes) (needs : Needs) (tables : Tables) → AreOwned t sizes needs tables → (n : ℕ) → Knows tables.networks n → n < length tables.needs.needs.items

@@ -22,8 +22,8 @@ returns c =
     let o = outlook_of m.needs in
     let size = size_of m.sizes in
     let words =
-    words_at t tables c.requires.own.tables at.state c.states-states.result.now c.index-states-state.result c.requires.known.0
-    c.states-states.ensures.value c.index-states-state.is in
+    words_at t tables c.requires.own.tables at.state c.states-states.result.now c.index-states-at.result c.requires.known.0
+    c.states-states.ensures.value c.index-states-at.is in
     c.lower_bound.ensures t m.sizes m.needs c.requires.own
     ∙ ap (λ w. bound_by (problem_of t) size o (config_in tables w at.network)) words
     ∙ sym (own_bound (problem_of t) m.grounded size o (point tables at) c.requires.belongs)

@@ -18,8 +18,8 @@ lower_bound-requires-clause-needed c =
     let known = subst (allows tables) c.in-Known.is c.requires.allowed in
     is_needed m.task.now m.sizes m.needs tables c.requires.own c.in-Known.at.network known.1
 
-pub lower_bound-requires-2-clause-needed : goal.lower_bound-requires-2-clause-needed
-lower_bound-requires-2-clause-needed c =
+pub lower_bound-requires-in-New-clause-needed : goal.lower_bound-requires-in-New-clause-needed
+lower_bound-requires-in-New-clause-needed c =
     let m = c.args.self.now in
     let tables = c.args.tables.now in
     let allowed = subst (allows tables) c.in-New.is c.requires.allowed in
@@ -36,8 +36,8 @@ returns-in-Known c =
     let known = subst (allows tables) c.in-Known.is c.requires.allowed in
     let belongs = subst (λ (r : Reached). IsOwn (problem_of t) (point_of tables r)) c.in-Known.is c.requires.belongs in
     let words =
-    words_at t tables c.requires.own.tables at.state c.states.result.now c.index-states-state.result known.0
-    c.states.ensures.value c.index-states-state.is in
+    words_at t tables c.requires.own.tables at.state c.states.result.now c.index-states-at.result known.0
+    c.states.ensures.value c.index-states-at.is in
     c.lower_bound.ensures t m.sizes m.needs c.requires.own
     ∙ ap (λ w. bound_by (problem_of t) size o (config_in tables w at.network)) words
     ∙ sym (own_bound (problem_of t) m.grounded size o (point tables at) belongs)
@@ -51,6 +51,6 @@ returns-in-New c =
     let o = outlook_of m.needs in
     let size = size_of m.sizes in
     let belongs = subst (λ (r : Reached). IsOwn (problem_of t) (point_of tables r)) c.in-New.is c.requires.belongs in
-    c.lower_bound-2.ensures t m.sizes m.needs c.requires.own
+    c.lower_bound-in-New.ensures t m.sizes m.needs c.requires.own
     ∙ sym (own_bound (problem_of t) m.grounded size o (config_in tables c.in-New.state c.in-New.network) belongs)
     ∙ ap (λ (r : Reached). needs_bound (problem_of t) size most_steps o (point_of tables r)) (sym c.in-New.is)
