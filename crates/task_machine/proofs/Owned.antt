@@ -1,6 +1,5 @@
 -- The tables stay right as they grow.
 use Rattle.std.proofs.Common.{◌≡◌, ◌∙◌, ◌<◌, ◌&&◌, ◌⊎◌, inl, inr, ℕ, List, [], ◌++◌, All, Option, Some, None, IsSome, unwrap_or, true≢false, not, ap, ap₂, sym, subst, map, length, get_or, slice_get, refl, arith, append-nil, append_assoc, length-append}
-use Rattle.std.specs.Option.{option_map}
 use Rattle.std.proofs.lemmas.List.{get_or_append_left}
 use Rattle.std.proofs.lemmas.Bool.{cases_eq}
 use Rattle.std.proofs.lemmas.Option.{get_or_from_slice_get, same_Some, slice_get-get_or}
@@ -17,8 +16,8 @@ use Rattle.htn_ground.specs.Distinct.{distinct, live_methods}
 use Rattle.htn_net.specs.Listed.{listed_methods}
 use Rattle.htn_net.proofs.Listed.{listed_instances}
 use Rattle.state_table.specs.Compiled.{AreCompiled, IsCompiled}
-use Rattle.state_table.specs.Numberings.{IsExtension, IsNumbering}
-use Rattle.state_table.specs.Table.{Table, IsLater, IsSetOf, is_fluent_by, is_changed, state_of}
+use Rattle.state_table.specs.Numberings.{IsNumbering}
+use Rattle.state_table.specs.Table.{Table, IsLater, IsSetOf, is_fluent_by, is_changed}
 use Rattle.state_table.specs.declared.compiled.CompiledAction.{CompiledAction}
 use Rattle.state_table.specs.declared.compiled.CompiledLiterals.{CompiledLiterals}
 use Rattle.state_table.proofs.Effects.{numbers_later}

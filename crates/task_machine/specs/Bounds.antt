@@ -7,7 +7,7 @@ use Rattle.std.proofs.Math.Nat.{ℕ_set}
 use Rattle.std.proofs.lemmas.Option.{none-some}
 use Rattle.htn_model.specs.Exhaustion.{is_dead, live_step}
 use Rattle.htn_model.specs.Grounding.{problem_of}
-use Rattle.htn_model.specs.Machine.{Choice, choose, Config, result_of}
+use Rattle.htn_model.specs.Machine.{Choice, Config, result_of}
 use Rattle.htn_model.specs.Problem.{Child, IsGrounded, Problem}
 use Rattle.htn_model.specs.Task.{Task}
 use Rattle.htn_answer.specs.Machine.{IsOwn}

@@ -169,7 +169,8 @@ impl Tables {
         ensures later { OnOk result ((t : model.Task) → AreTables t self.old → AreLater self.old self.new) }
         ensures networks { OnOk result (self.new.networks ≡ self.old.networks) }
     {
-        self.needs.keep_up(alloc, needs, &mut self.atoms, &self.networks)?;
+        self.needs
+            .keep_up(alloc, needs, &mut self.atoms, &self.networks)?;
         Ok(())
     }
 }

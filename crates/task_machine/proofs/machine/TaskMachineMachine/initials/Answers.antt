@@ -1,4 +1,4 @@
-use Rattle.std.proofs.Common.{◌≡◌, ◌∙◌, ap, map}
+use Rattle.std.proofs.Common.{◌∙◌, ap}
 use Rattle.needs_table.specs.declared.table.NeedsTable.{NeedsTable}
 use Rattle.task_machine.proofs.Estimates.{kept_still}
 use Rattle.network_table.proofs.Expanding.{all_more, map_all}

@@ -1,4 +1,4 @@
-use Rattle.std.proofs.Common.{◌≡◌, ◌∙◌, ◌&&◌, List, [], ℕ, Some, None, not, ap, sym, subst, slice_get}
+use Rattle.std.proofs.Common.{◌∙◌, ◌&&◌, List, ℕ, not, ap, sym, subst, slice_get}
 use Rattle.std.specs.Option.{option_map}
 use Rattle.std.proofs.lemmas.Option.{none-some}
 use Rattle.htn_model.specs.Literal.{Literal}
@@ -7,9 +7,8 @@ use Rattle.state_table.specs.Compiled.{AreCompiled}
 use Rattle.state_table.specs.Numberings.{IsNumbering}
 use Rattle.state_table.specs.Table.{is_changed, is_fluent}
 use Rattle.state_table.proofs.Keys.{numbering_none}
-use Rattle.network_table.specs.Networks.{expansion_at, Knows}
 use Rattle.task_machine.specs.Steps.{live_networks}
-use Rattle.task_machine.specs.Tables.{instances_at, slot}
+use Rattle.task_machine.specs.Tables.{slot}
 use Rattle.task_machine.proofs.Owned.{atoms_later}
 use Rattle.tree_sizes.specs.Sizes.{size_of}
 use Rattle.task_machine.proofs.tables.Tables.new.Goals as goal
