@@ -79,5 +79,16 @@ parts_sync =
 pub task_sync : IsSync Task.the_row
 task_sync = search (parts_sync, basic) depth 60 fits 20000
 
+-- one fact and another
+pub both : {A B : Type 0} → A → B → A × B
+both a b = (a, b)
+
 -- what the machine of a task has beside it
-pub ruleset kept = (SizesShared.the_send, SizesShared.the_sync, NeedsShared.the_send, NeedsShared.the_sync, basic)
+pub ruleset beside = (
+  GlobalShared.the_field_sync,
+  GlobalShared.the_sync,
+  SizesShared.the_field_sync,
+  SizesShared.the_sync,
+  NeedsShared.the_field_sync,
+  NeedsShared.the_sync,
+)
