@@ -18,6 +18,16 @@ fn node_text(reach: &RelaxedReach, child: &Child) -> &'static str {
     }
 }
 
+// Whether a network may end.
+fn network_text(may_end: bool) -> &'static str {
+    if may_end { "ends" } else { "lost" }
+}
+
+// Whether an atom that is true at first stays so.
+fn atom_text(stays: bool) -> &'static str {
+    if stays { ", stays" } else { ", falls" }
+}
+
 /// For each initial network whether it may end at first, and what is known of its nodes; then the atoms that are true
 /// at first, and which of them stay true; where so much is kept of instances.
 pub fn reach_text(alloc: Global, task: &Task, limit: u64) -> Result<String, Fail> {
@@ -27,14 +37,14 @@ pub fn reach_text(alloc: Global, task: &Task, limit: u64) -> Result<String, Fail
     for initial in &distinct_initials(alloc, task)? {
         let children = initial.children().as_slice();
         let may_end = reach.may_end(task.initial_atoms(), children);
-        text.push_str(if may_end { "ends" } else { "lost" })?;
+        text.push_str(network_text(may_end))?;
         for child in children {
             text.push_str(node_text(&reach, child))?;
         }
     }
     for atom in task.initial_atoms().atoms() {
         let stays = reach.may_hold(atom) && !reach.may_fail(atom);
-        text.push_str(if stays { ", stays" } else { ", falls" })?;
+        text.push_str(atom_text(stays))?;
     }
     Ok(text)
 }
