@@ -16,8 +16,8 @@ pub returns-then-len-places : goal.returns-then-len-places
 returns-then-len-places c = λ signatures table.
     let t : Text = folded c.args.atom.now.name.text in
     let first = take c.args.count signatures in
-    let known = subst (λ (x : Text). IsAmong first x × HasPlaces signatures x c.in-Some.places.now) (c.deref.ensures.value ∙ c.in_ok-text.ensures ∙ ap folded c.text.ensures.value)
-    (subst (λ (o : Option (Bor (List Variable))). MatchOption o (IsAmong first c.deref.result.now → ⊥) (λ x. IsAmong first c.deref.result.now × HasPlaces signatures c.deref.result.now x.now)) c.in-Some.is (c.get.ensures signatures table)) in
+    let known = subst (λ (x : Text). IsAmong first x × HasPlaces signatures x c.in-Some.places.now) (c.as_slice.ensures ∙ c.in_ok-text.ensures ∙ ap folded c.text.ensures.value)
+    (subst (λ (o : Option (Bor (List Variable))). MatchOption o (IsAmong first c.as_slice.result.now → ⊥) (λ x. IsAmong first c.as_slice.result.now × HasPlaces signatures c.as_slice.result.now x.now)) c.in-Some.is (c.get.ensures signatures table)) in
     let (among, (s, is, places)) = known in
     let long : length c.in-Some.places.now ≡ length s.places = ap (λ (l : List Variable). length l) places ∙ length-map s.places as_parameter in
     Finds-some (Arity c.at-then-len-places.result)
@@ -28,11 +28,11 @@ returns c = λ signatures table.
     let context = c.args.context.now in
     let t : Text = folded c.args.atom.now.name.text in
     let first = take c.args.count signatures in
-    let known = subst (λ (x : Text). IsAmong first x × HasPlaces signatures x c.in-Some.places.now) (c.deref.ensures.value ∙ c.in_ok-text.ensures ∙ ap folded c.text.ensures.value)
-    (subst (λ (o : Option (Bor (List Variable))). MatchOption o (IsAmong first c.deref.result.now → ⊥) (λ x. IsAmong first c.deref.result.now × HasPlaces signatures c.deref.result.now x.now)) c.in-Some.is (c.get.ensures signatures table)) in
+    let known = subst (λ (x : Text). IsAmong first x × HasPlaces signatures x c.in-Some.places.now) (c.as_slice.ensures ∙ c.in_ok-text.ensures ∙ ap folded c.text.ensures.value)
+    (subst (λ (o : Option (Bor (List Variable))). MatchOption o (IsAmong first c.as_slice.result.now → ⊥) (λ x. IsAmong first c.as_slice.result.now × HasPlaces signatures c.as_slice.result.now x.now)) c.in-Some.is (c.get.ensures signatures table)) in
     let (among, (s, is, places)) = known in
     let long : length c.in-Some.places.now ≡ length s.places = ap (λ (l : List Variable). length l) places ∙ length-map s.places as_parameter in
     use_checked context.domain.now context.problem.now context.source (map (λ s. s.name) first) signatures (record { variables = c.args.scope.now; atom = c.args.atom.now }) s is among
     (sym c.len.ensures ∙ c.if-len-places.false ∙ long)
     (subst (λ (l : List Variable). Finds (AnyArgumentFails context c.args.scope.now (zip c.args.atom.now.terms l)) c.in_ok-found.found) places
-    (subst (λ (l : List Term). Finds (AnyArgumentFails context c.args.scope.now (zip l c.in-Some.places.now)) c.in_ok-found.found) c.as_slice.ensures c.in_ok-found.ensures))
+    (subst (λ (l : List Term). Finds (AnyArgumentFails context c.args.scope.now (zip l c.in-Some.places.now)) c.in_ok-found.found) c.as_slice-2.ensures c.in_ok-found.ensures))
