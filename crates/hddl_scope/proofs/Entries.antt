@@ -1,7 +1,8 @@
 -- Numbers of texts, in a map and in the list that contracts see.
-use Rattle.std.proofs.Common.{◌≡◌, ◌∙◌, ◌<◌, ◌+◌, ◌-◌, ℕ, zero, suc, Bool, true, false, List, [], ◌∷◌, ◌++◌, Vec, Some, None, cond, is_some, refl, ap, sym, subst, take, get_or, length, arith}
+use Rattle.std.proofs.Common.{◌≡◌, ◌∙◌, ◌<◌, ◌≤◌, ◌+◌, ◌-◌, ℕ, zero, suc, Bool, true, false, List, [], ◌∷◌, ◌++◌, Vec, Option, Some, None, cond, is_some, inl, inr, refl, ap, sym, subst, take, get_or, length, append_assoc, arith}
 use Rattle.std.specs.Map.{lookup}
-use Rattle.std.proofs.lemmas.List.{map-append, take-map, take_more}
+use Rattle.std.proofs.lemmas.Bool.{cases_lt}
+use Rattle.std.proofs.lemmas.List.{append-nil, length-map, length-take, map-append, take-map, take_all, take_more}
 use Rattle.hddl_meaning.specs.Mentions.{Text}
 use Rattle.hddl_meaning.specs.Names.{is_same_text}
 use Rattle.hddl_scope.specs.Numbers.{Entries, number_at, entries_of, numbered}
@@ -65,3 +66,43 @@ first_of_few (m ∷ ns) t (suc k) n lt is none same = by (is_same_text t m.text.
         → cond b (Some m.number) (number_at (numbered ns) t) ≡ Some n.number
     by true e rest = cc
     by false e rest = rest e same
+
+-- ## The first few, and the others
+
+-- a text that none of two lists has isn't in the second
+pub absent_after : (es fs : Entries) (t : Text) → number_at (es ++ fs) t ≡ None → number_at fs t ≡ None
+absent_after es fs t none = by (number_at es t) (sym (number_at-append es fs t) ∙ none)
+  where
+    by : (o : Option ℕ) → cond (is_some o) o (number_at fs t) ≡ None → number_at fs t ≡ None
+    by (Some n) e = cc
+    by None e = e
+
+-- one more of the first few is the last of all, where there are no others
+pub added_first : {A : Type 0} (few : List Numbered) (rest : List (Vec ℕ A × ℕ)) (n : Numbered) → rest ≡ []
+    → numbered (few ++ n ∷ []) ++ entries_of rest ≡ (numbered few ++ entries_of rest) ++ (n.text.items, n.number) ∷ []
+added_first {A} few rest n none =
+    let entry : Numbered → Text × ℕ = λ n. (n.text.items, n.number) in
+    subst (λ (r : List (Vec ℕ A × ℕ)). numbered (few ++ n ∷ []) ++ entries_of r ≡ (numbered few ++ entries_of r) ++ entry n ∷ []) (sym none)
+    (append-nil (numbered (few ++ n ∷ [])) ∙ map-append entry few (n ∷ []) ∙ ap (λ l. l ++ entry n ∷ []) (sym (append-nil (numbered few))))
+
+-- one more of the others is the last of all
+pub added_later : {A : Type 0} (es : Entries) (rest : List (Vec ℕ A × ℕ)) (k : Vec ℕ A) (n : ℕ)
+    → es ++ entries_of (rest ++ (k, n) ∷ []) ≡ (es ++ entries_of rest) ++ (k.items, n) ∷ []
+added_later es rest k n = ap (λ l. es ++ l) (entries_of-added rest k n) ∙ sym (append_assoc es (entries_of rest) ((k.items, n) ∷ []))
+
+-- the first of all are the first of the few, and of the others those that are left over
+pub first_of_all : {A : Type 0} (n : ℕ) (few : List Numbered) (rest : List (Vec ℕ A × ℕ))
+    → numbered (take n few) ++ entries_of (take (n - length few) rest) ≡ take n (numbered few ++ entries_of rest)
+first_of_all n few rest =
+    let entry : Numbered → Text × ℕ = λ n. (n.text.items, n.number) in
+    (λ i. sym (take-map entry n few) i ++ entries_of-take (n - length few) rest i)
+    ∙ ap (λ k. take n (numbered few) ++ take (n - k) (entries_of rest)) (sym (length-map few entry))
+    ∙ sym (take-append n (numbered few) (entries_of rest))
+
+-- where fewer than eight are left of the few, none of the others is
+pub few_left : {X Y : Type 0} (n : ℕ) (few : List X) (rest : List Y) → (length few < 8 → rest ≡ []) → length (take n few) < 8
+    → take (n - length few) rest ≡ []
+few_left n few rest none lt = elim (cases_lt (length few) 8) [
+  | inl less ↦ ap (λ r. take (n - length few) r) (none less) ∙ take_all (n - length few) [] (omega arith)
+  | inr full ↦ let over : n - length few ≡ 0 = omega (arith, length-take n few, lt, full) in ap (λ k. take k rest) over
+]
