@@ -89,8 +89,8 @@ impl Numbers {
             self.few.push(Numbered { text, number })?;
             return Ok(());
         }
-        let text = Vec::from_slice(alloc, text)?;
-        let _ = self.rest.insert(text, number)?;
+        let key = Vec::from_slice(alloc, text)?;
+        let _ = self.rest.insert(key, number)?;
         Ok(())
     }
 

@@ -20,11 +20,11 @@ pub returns-clause-ok : goal.returns-clause-ok
 returns-clause-ok c =
     let few = numbered c.self.inside.few.items in
     let rest = c.self.inside.rest.entries in
-    let key = c.in_ok-text-2.text in
-    let text : key.items ≡ c.args.text.now = c.in_ok-text-2.ensures in
+    let key = c.in_ok-key.key in
+    let text : key.items ≡ c.args.text.now = c.in_ok-key.ensures.items in
     let none : number_at (entries_of rest) key.items ≡ None =
     ap (number_at (entries_of rest)) text ∙ absent_after few (entries_of rest) c.args.text.now (ap (λ es. number_at es c.args.text.now) c.self.view_is ∙ c.requires) in
     let absent = number_at-entries rest key.items ∙ none in
-    ap (λ es. few ++ entries_of es) (c.in_ok-insert.ensures.entries ∙ insert_entry-new (λ a b. is_same_text a.items b.items) rest key c.args.number absent)
+    ap (λ es. few ++ entries_of es) (c.in_ok-insert.ensures.entries ∙ insert_entry-new (λ a b. is_same_text a.items b.items) c.self.inside.rest key c.args.number absent)
     ∙ added_later few rest key c.args.number
     ∙ (λ i. c.self.view_is i ++ (text i, c.args.number) ∷ [])
