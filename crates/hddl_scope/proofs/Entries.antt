@@ -35,9 +35,11 @@ number_at-append (e ∷ es) fs t = by (is_same_text t e.0) (number_at-append es 
 -- the first of two lists, and of the second those that are left over
 pub take-append : {X : Type 0} (n : ℕ) (xs ys : List X) → take n (xs ++ ys) ≡ take n xs ++ take (n - length xs) ys
 take-append zero [] ys = refl
-take-append zero (x ∷ xs) ys = refl
-take-append (suc n) [] ys = refl
-take-append (suc n) (x ∷ xs) ys = ap (λ l. x ∷ l) (take-append n xs ys)
+take-append zero (x ∷ xs) ys = let none : 0 ≡ 0 - length (x ∷ xs) = omega arith in ap (λ k. take k ys) none
+take-append (suc n) [] ys = let all : suc n ≡ suc n - 0 = omega arith in ap (λ k. take k ys) all
+take-append (suc n) (x ∷ xs) ys =
+    let left : n - length xs ≡ suc n - length (x ∷ xs) = omega arith in
+    ap (λ l. x ∷ l) (take-append n xs ys) ∙ ap (λ k. x ∷ (take n xs ++ take k ys)) left
 
 -- ## A few texts, one after the other
 
