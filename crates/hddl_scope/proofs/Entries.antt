@@ -1,5 +1,5 @@
 -- Numbers of texts, in a map and in the list that contracts see.
-use Rattle.std.proofs.Common.{◌≡◌, ◌∙◌, ◌<◌, ◌≤◌, ◌+◌, ◌-◌, ℕ, zero, suc, Bool, true, false, List, [], ◌∷◌, ◌++◌, Vec, Option, Some, None, cond, is_some, inl, inr, refl, ap, sym, subst, take, get_or, length, append_assoc, arith}
+use Rattle.std.proofs.Common.{◌≡◌, ◌∙◌, ◌<◌, ◌+◌, ◌-◌, ℕ, zero, suc, Bool, true, false, List, [], ◌∷◌, ◌++◌, Vec, Option, Some, None, cond, is_some, inl, inr, refl, ap, sym, subst, take, get_or, length, append_assoc, arith}
 use Rattle.std.specs.Map.{lookup}
 use Rattle.std.proofs.lemmas.Bool.{cases_lt}
 use Rattle.std.proofs.lemmas.List.{append-nil, length-map, length-take, map-append, take-map, take_all, take_more}

@@ -1,4 +1,4 @@
-use Rattle.std.proofs.Common.{◌≡◌, ◌∙◌, true, false, None, ap, sym, take}
+use Rattle.std.proofs.Common.{◌≡◌, ◌∙◌, true, false, ap, sym}
 use Rattle.std.proofs.lemmas.List.{take_all}
 use Rattle.hddl_meaning.specs.Names.{is_same_text}
 use Rattle.hddl_scope.specs.Numbers.{number_at, numbered}
