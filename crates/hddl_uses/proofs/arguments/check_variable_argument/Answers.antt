@@ -1,5 +1,4 @@
 use Rattle.std.proofs.Common.{◌≡◌, ◌∙◌, Some, None, ap, is_some, option_map, subst, sym, true≢false}
-use Rattle.core.proofs.iter.runs.Lists.{same_Some}
 use Rattle.hddl_tree.specs.declared.term.Term.TheVariants as term
 use Rattle.hddl_meaning.specs.Mentions.{folded}
 use Rattle.hddl_meaning.specs.Names.{object_names}
@@ -52,6 +51,7 @@ returns c =
     (none_at TypeClash context.source {P = IsKnownClash d context.problem.now scope (term.Variable c.args.variable.now) place.typed}
     (Finds-none (λ at k.
       let (w, found, typed, cannot, _) = k.clash.1 in
-      let same = same_Some w v (sym found ∙ is) in
+      let both : Some w ≡ Some v = sym found ∙ is in
+      let same : w ≡ v = cc in
       let some = c.in_ok-is_barred.ensures.1 (subst (λ (x : Variable). IsBarred d x place) same (typed, k.clash.0, cannot)) in
       let none = c.if-branch.false in cc)))

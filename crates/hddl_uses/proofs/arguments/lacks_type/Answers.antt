@@ -1,4 +1,4 @@
-use Rattle.std.proofs.Common.{◌≡◌, ◌∙◌, ◌<◌, ◌↔◌, IsTrue, ℕ, [], All, Contains, List, get_or, length, subst, sym, MatchOption, Option, Some, Bor}
+use Rattle.std.proofs.Common.{◌≡◌, ◌∙◌, ◌<◌, ◌↔◌, IsTrue, ℕ, [], All, Contains, get_or, length, subst, sym, MatchOption, Option, Some, Bor}
 use Rattle.std.proofs.Math.Logic.{∥∥₁_elim}
 use Rattle.hddl_tree.specs.declared.domain.DomainText.{DomainText}
 use Rattle.hddl_tree.specs.declared.problem.ProblemText.{ProblemText}

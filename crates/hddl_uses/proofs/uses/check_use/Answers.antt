@@ -4,13 +4,22 @@ use Rattle.std.proofs.lemmas.List.{length-map}
 use Rattle.hddl_tree.specs.declared.term.Term.{Term}
 use Rattle.hddl_meaning.specs.Mentions.{Text, folded}
 use Rattle.hddl_meaning.specs.Uses.{Variable}
-use Rattle.hddl_meaning.specs.declared.fault.CheckFault.TheVariants.{Arity}
+use Rattle.hddl_meaning.specs.declared.fault.CheckFault.TheVariants.{Arity, UnknownName}
 use Rattle.hddl_uses.specs.Contexts.{AnyArgumentFails}
 use Rattle.hddl_scope.specs.Findings.{Finds}
 use Rattle.hddl_uses.specs.Tables.{HasPlaces, IsAmong, as_parameter}
 use Rattle.hddl_scope.proofs.Finding.{Finds-some}
 use Rattle.hddl_uses.proofs.Using.{use_checked}
 use Rattle.hddl_uses.proofs.uses.check_use.Goals as goal
+
+pub returns-in_default : goal.returns-in_default
+returns-in_default c = λ signatures table.
+    let t : Text = folded c.args.atom.now.name.text in
+    let first = take c.args.count signatures in
+    let missing : IsAmong first t → ⊥ =
+    subst (λ (x : Text). IsAmong first x → ⊥) (c.as_slice.ensures ∙ c.in_ok-text.ensures ∙ ap folded c.text.ensures.value)
+    (subst (λ (o : Option (Bor (List Variable))). MatchOption o (IsAmong first c.as_slice.result.now → ⊥) (λ x. IsAmong first c.as_slice.result.now × HasPlaces signatures c.as_slice.result.now x.now)) c.in_default.is (c.get.ensures signatures table)) in
+    Finds-some (UnknownName c.at.result) (inl (c.place.result, ap UnknownName c.at.ensures, (missing, c.place.ensures)))
 
 pub returns-then-len-places : goal.returns-then-len-places
 returns-then-len-places c = λ signatures table.
