@@ -39,7 +39,12 @@ fn check_object(context: &Context<'_>, name: &Name) -> Result<Option<CheckFault>
     ensures { IfOk result (Finds (IsUnknownObject context.now name.now)) }
 {
     let text = fold(context.alloc, name.text())?;
-    if context.vocabulary.objects().number_of(text.as_slice()).is_some() {
+    if context
+        .vocabulary
+        .objects()
+        .number_of(text.as_slice())
+        .is_some()
+    {
         return Ok(None);
     }
     Ok(Some(CheckFault::UnknownName(context.at(name.place()))))

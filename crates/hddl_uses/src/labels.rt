@@ -76,7 +76,10 @@ fn push_pair(
 {
     let before = fold(alloc, ordering.before.text())?;
     let after = fold(alloc, ordering.after.text())?;
-    if let (Some(first), Some(second)) = (numbers.get(before.as_slice()), numbers.get(after.as_slice())) {
+    if let (Some(first), Some(second)) = (
+        numbers.get(before.as_slice()),
+        numbers.get(after.as_slice()),
+    ) {
         pairs.push((first, second))?;
     }
     Ok(())

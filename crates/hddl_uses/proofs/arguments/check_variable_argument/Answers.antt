@@ -50,8 +50,8 @@ returns c =
     (Finds-none (λ at h. h.0 (in_force_to scope t (ap is_some is)))))
     (none_at TypeClash context.source {P = IsKnownClash d context.problem.now scope (term.Variable c.args.variable.now) place.typed}
     (Finds-none (λ at k.
-      let (w, found, typed, cannot, _) = k.clash.1 in
-      let both : Some w ≡ Some v = sym found ∙ is in
-      let same : w ≡ v = cc in
-      let some = c.in_ok-is_barred.ensures.1 (subst (λ (x : Variable). IsBarred d x place) same (typed, k.clash.0, cannot)) in
-      let none = c.if-branch.false in cc)))
+    let (w, found, typed, cannot, _) = k.clash.1 in
+    let both : Some w ≡ Some v = sym found ∙ is in
+    let same : w ≡ v = cc in
+    let some = c.in_ok-is_barred.ensures.1 (subst (λ (x : Variable). IsBarred d x place) same (typed, k.clash.0, cannot)) in
+    let none = c.if-branch.false in cc)))
