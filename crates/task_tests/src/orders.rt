@@ -155,7 +155,13 @@ fn predecessors_are_counted(rt: HostRuntime) -> Result<(), Fail> {
     }
     let counts = closed(alloc, 100, &pairs)?.predecessor_counts(alloc)?;
     assert_eq!(rt; counts.len(), 100);
-    assert!(rt; counts.iter().rev().enumerate().all(|(k, count)| *count == k));
+    assert!(rt;
+        counts
+            .iter()
+            .rev()
+            .enumerate()
+            .all(|(k, count)| *count == k)
+    );
     Ok(())
 }
 
