@@ -38,13 +38,13 @@ keeps_later o goal atoms later old new needs grown whole networks keeps = record
 }
 
 -- one more network
-pub keeps_push : (o : Outlook) (goal : List Literal) (atoms later : Table) (networks : NetworkTable) (old new : List (Option CompiledLiterals)) (needed : Option CompiledLiterals) → IsLater atoms later
-    → length old < length networks.networks.keys → IsKept o goal later (network_at networks (length old)) needed → new ≡ old ++ needed ∷ [] → Keeps o goal atoms networks old → Keeps o goal later networks new
-keeps_push o goal atoms later networks old new needed grown low right pushed keeps = record {
+pub keeps_push : (o : Outlook) (goal : List Literal) (atoms : Table) (networks : NetworkTable) (old new : List (Option CompiledLiterals)) (needed : Option CompiledLiterals)
+    → length old < length networks.networks.keys → IsKept o goal atoms (network_at networks (length old)) needed → new ≡ old ++ needed ∷ [] → Keeps o goal atoms networks old → Keeps o goal atoms networks new
+keeps_push o goal atoms networks old new needed low right pushed keeps = record {
   within = (let long = length-append old (needed ∷ []) in let is = ap length pushed in omega (arith, low, long, is));
   each = λ n other at. elim (at_push old needed n other (sym (ap (λ l. slice_get l n) pushed) ∙ at)) [
-    | inl before ↦ kept_later o goal atoms later (network_at networks n) other grown (keeps.each n other before)
-    | inr here ↦ subst (λ k. IsKept o goal later (network_at networks k) other) (sym here.0) (subst (IsKept o goal later (network_at networks (length old))) here.1 right)
+    | inl before ↦ keeps.each n other before
+    | inr here ↦ subst (λ k. IsKept o goal atoms (network_at networks k) other) (sym here.0) (subst (IsKept o goal atoms (network_at networks (length old))) here.1 right)
   ];
 }
 

@@ -84,7 +84,7 @@ impl Needs {
     }
 
     /// What the node of a place wants.
-    pub(crate) fn wants_at(&self, place: Place) -> &[Literal]
+    pub fn wants_at(&self, place: Place) -> &[Literal]
         ensures { literals_of result.now ≡ wants_by (row_at self.now place.spot) }
     {
         match self.row_at(place) {
@@ -94,7 +94,7 @@ impl Needs {
     }
 
     /// The number of a literal.
-    pub(crate) fn number_of(&self, literal: &Literal) -> Option<usize>
+    pub fn number_of(&self, literal: &Literal) -> Option<usize>
         ensures { result ≡ literal_number self.now (literal_of literal.now) }
     {
         self.rows.literals.get_index_of(literal)

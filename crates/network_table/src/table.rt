@@ -75,6 +75,13 @@ impl NetworkTable {
         self.networks.as_slice()
     }
 
+    /// The nodes in the order of their numbers.
+    pub fn children(&self) -> &[Child]
+        ensures { children_of result.now ≡ children self.now }
+    {
+        self.children.children()
+    }
+
     /// The node of a number.
     pub fn child(&self, id: u32) -> &Child
         requires { id < length (children self.now) }

@@ -1,8 +1,9 @@
 -- What the machine's bound from below is by its tables.
 use Rattle.std.proofs.Common.{◌≡◌, ◌∙◌, ◌<◌, ℕ, Bool, true, false, not, cond, length, max, sym, ap, ap₂, subst, arith}
 use Rattle.htn_model.specs.Task.{Task}
-use Rattle.needs_table.specs.Kept.{AreKept}
+use Rattle.needs_table.specs.Kept.{AreKept, AreNoted}
 use Rattle.needs_table.proofs.Kept.{keeps_later}
+use Rattle.needs_table.proofs.Noted.{noted_later}
 use Rattle.network_needs.specs.Rows.{outlook_of}
 use Rattle.network_needs.specs.declared.needs.Needs.{Needs}
 use Rattle.network_table.specs.Networks.{IsWhole, Knows}
@@ -32,3 +33,8 @@ pub kept_still : (needs : Needs) (old new : Tables) → AreLater old new → new
 kept_still needs old new later same whole kept =
     subst (AreKept (outlook_of needs) new.atoms new.networks) (sym same)
     (keeps_later (outlook_of needs) old.needs.goal old.atoms new.atoms old.networks new.networks old.needs.needs.items later.atoms whole later.networks kept)
+
+-- and so does what is found once for nodes and the goal
+pub noted_still : (needs : Needs) (old new : Tables) → AreLater old new → new.needs ≡ old.needs → AreNoted needs old.atoms old.networks old.needs → AreNoted needs new.atoms new.networks new.needs
+noted_still needs old new later same noted =
+    subst (AreNoted needs new.atoms new.networks) (sym same) (noted_later needs old.atoms new.atoms old.networks new.networks old.needs later.atoms later.networks noted)

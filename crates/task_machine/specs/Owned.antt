@@ -2,7 +2,7 @@
 use Rattle.std.specs.Prelude.{◌≡◌}
 use Rattle.htn_model.specs.Grounding.{problem_of}
 use Rattle.htn_model.specs.Task.{Task}
-use Rattle.needs_table.specs.Kept.{AreAllKept}
+use Rattle.needs_table.specs.Kept.{AreAllKept, AreNoted}
 use Rattle.network_needs.specs.Rows.{outlook_of}
 use Rattle.network_needs.specs.declared.needs.Needs.{Needs}
 use Rattle.network_table.specs.Children.{AreBounds}
@@ -22,3 +22,4 @@ pub record AreOwned (t : Task) (sizes : TreeSizes) (needs : Needs) (found : Tabl
   pub sized : HasSizes sizes found.networks
   pub goal : found.needs.goal ≡ (problem_of t).goal
   pub needed : AreAllKept (outlook_of needs) found.atoms found.networks found.needs
+  pub noted : AreNoted needs found.atoms found.networks found.needs

@@ -3,7 +3,7 @@ ghost use Rattle.std.specs.Prelude.{◌≡◌, ◌<◌, ℕ, [], All, IfOk, IfNo
 ghost use Rattle.std.specs.Option.{option_map};
 ghost use Rattle.htn_model.specs.Grounding.{problem_of};
 ghost use Rattle.htn_model.specs.Task as model;
-ghost use Rattle.needs_table.specs.Kept.{AreKept};
+ghost use Rattle.needs_table.specs.Kept.{AreKept, AreNoted};
 ghost use Rattle.network_needs.specs.Rows.{outlook_of};
 ghost use Rattle.network_table.specs.Expansions.{first_free};
 ghost use Rattle.network_table.specs.Networks.{children, expansion_at, IsWhole, Knows, network_at};
@@ -163,6 +163,7 @@ impl Tables {
     pub(crate) fn prepare_needs(&mut self, alloc: Global, needs: &Needs) -> Result<(), AllocError>
         requires whole { IsWhole self.old.networks }
         requires kept { AreKept (outlook_of needs.now) self.old.atoms self.old.networks self.old.needs }
+        requires noted { AreNoted needs.now self.old.atoms self.old.networks self.old.needs }
         ensures owned { OnOk result ((t : model.Task) (sizes : TreeSizes) → AreTables t self.old
             → HasSizes sizes self.old.networks → self.old.needs.goal ≡ (problem_of t).goal
             → AreOwned t sizes needs.now self.new) }

@@ -1,58 +1,72 @@
-use Rattle.std.proofs.Common.{◌∙◌, ◌∷◌, [], ◌<◌, List, length, length-append, get_or, ap, sym, subst, refl, arith}
+use Rattle.std.proofs.Common.{◌≡◌, ◌∙◌, List, ap, subst, sym}
+use Rattle.htn_model.specs.Literal.{Literal}
 use Rattle.network_needs.specs.Rows.{outlook_of}
-use Rattle.network_table.specs.Networks.{children, network_at}
-use Rattle.network_table.specs.Numbered.{IsWithin, Numbered, network_of}
-use Rattle.network_table.proofs.Expanding.{within_at}
-use Rattle.state_table.proofs.States.{later_itself, later_more}
-use Rattle.needs_table.specs.Kept.{IsKept}
-use Rattle.needs_table.proofs.Kept.{keeps_push, network_of_number}
+use Rattle.network_table.proofs.Expanding.{grown_itself}
+use Rattle.state_table.specs.Table.{IsLater}
+use Rattle.state_table.proofs.States.{later_more}
+use Rattle.needs_table.specs.Kept.{AreFirstWants, AreNodes, AreWants, Keeps}
+use Rattle.needs_table.specs.declared.node.Node.{Node}
+use Rattle.needs_table.specs.declared.wants.Want.{Want}
+use Rattle.needs_table.proofs.Kept.{keeps_later}
+use Rattle.needs_table.proofs.Noted.{first_wants, nodes_more_atoms, wants_later}
 use Rattle.needs_table.proofs.table.NeedsTable.keep_up.Goals as goal
 
-pub loop-number-init : goal.loop-number-init
-loop-number-init c = record {
-  later = later_itself c.args.atoms.now c.len-count.ensures.table;
-  kept = c.requires.kept;
-  same_goal = refl;
-  count = sym (c.len-first.ensures ∙ c.args.self.now.needs.ok.0);
-}
+pub keep_goal-requires : goal.keep_goal-requires
+keep_goal-requires c = c.requires.noted.goals
 
-pub needed_by-requires : goal.needed_by-requires
-needed_by-requires c =
+pub keep_nodes-requires : goal.keep_nodes-requires
+keep_nodes-requires c =
+    let n = c.args.needs.now in
     let t = c.args.networks.now in
-    let n = c.loop-number.number in
-    let x = c.index-all-number.result in
-    let low : n < length t.networks.keys = omega (arith, c.loop-number-test.true, ap length c.networks-all.ensures) in
-    let same = network_of_number t n x low (c.index-all-number.is ∙ ap (λ (l : List Numbered). get_or l n x) c.networks-all.ensures) in
-    subst (IsWithin (children t)) (sym same) (within_at t n c.requires.whole low)
+    let did = c.in_ok-keep_goal.ensures in
+    subst (λ (ns : List Node). AreNodes n c.keep_goal.new.atoms t ns) (ap (λ v. v.items) (sym did.nodes))
+    (nodes_more_atoms n c.args.atoms.now c.keep_goal.new.atoms t c.args.self.now.nodes.items did.later c.requires.noted.nodes)
 
-pub loop-number-preserved : goal.loop-number-preserved
-loop-number-preserved c =
-    let t = c.args.networks.now in
-    let o = outlook_of c.args.needs.now in
-    let i = c.loop-number.invariant in
-    let did = c.in_ok-needed.ensures in
-    let n = c.loop-number.number in
-    let x = c.index-all-number.result in
-    let s = c.loop-number.self in
-    let needed = c.in_ok-needed.needed in
-    let atoms = c.needed_by.new.atoms in
-    let low : n < length t.networks.keys = omega (arith, c.loop-number-test.true, ap length c.networks-all.ensures) in
-    let same = network_of_number t n x low (c.index-all-number.is ∙ ap (λ (l : List Numbered). get_or l n x) c.networks-all.ensures) in
-    let right =
-    subst (λ k. IsKept o s.goal atoms (network_at t k) needed) (sym i.count)
-    (subst (λ (y : Numbered). IsKept o s.goal atoms (network_of (children t) y) needed) same did.kept) in
-    let long = length-append s.needs.items (needed ∷ []) in
-    let pushed = ap length c.in_ok-push.ensures.items in
-    record {
-      later = later_more c.args.atoms.now c.loop-number.atoms atoms i.later did.later;
-      kept = keeps_push o s.goal c.loop-number.atoms atoms t s.needs.items _ needed did.later (subst (λ k. k < length t.networks.keys) (sym i.count) low) right c.in_ok-push.ensures.items i.kept;
-      same_goal = i.same_goal;
-      count = omega (arith, long, pushed, i.count);
-    }
+pub returns-clause-later : goal.returns-clause-later
+returns-clause-later c = later_more c.args.atoms.now c.keep_goal.new.atoms c.keep_nodes.new.atoms c.in_ok-keep_goal.ensures.later c.in_ok-keep_nodes.ensures.later
+
+-- the goal's literals by numbers, once the nodes are there
+wanted : (c : goal.Returns) → AreWants c.args.needs.now c.keep_nodes.new.atoms c.keep_nodes.new.self.goals.items c.args.self.now.goal
+wanted c =
+    let n = c.args.needs.now in
+    let did = c.in_ok-keep_goal.ensures in
+    let then = c.in_ok-keep_nodes.ensures in
+    subst (λ (ws : List Want). AreWants n c.keep_nodes.new.atoms ws c.args.self.now.goal) (ap (λ v. v.items) (sym then.goals))
+    (wants_later n c.keep_goal.new.atoms c.keep_nodes.new.atoms c.keep_goal.new.self.goals.items c.args.self.now.goal then.later did.goals)
 
 pub returns-clause-kept : goal.returns-clause-kept
 returns-clause-kept c =
-    let i = c.loop-number.invariant in record {
-      kept = i.kept;
-      all = omega (arith, i.count, i.kept.within, c.loop-number-test.false, ap length c.networks-all.ensures);
+    let o = outlook_of c.args.needs.now in
+    let t = c.args.networks.now in
+    let s = c.args.self.now in
+    let u = c.keep_nodes.new.self in
+    let atoms = c.keep_nodes.new.atoms in
+    let did = c.in_ok-keep_goal.ensures in
+    let then = c.in_ok-keep_nodes.ensures in
+    let goals : u.goal ≡ s.goal = then.goal ∙ did.goal in
+    let needs = then.needs ∙ did.needs in
+    let grown : IsLater c.args.atoms.now atoms = later_more c.args.atoms.now c.keep_goal.new.atoms atoms did.later then.later in
+    let before = keeps_later o s.goal c.args.atoms.now atoms t t s.needs.items grown c.requires.whole (grown_itself t) c.requires.kept in
+    let kept =
+    subst (λ (g : List Literal). Keeps o g atoms t u.needs.items) (sym goals)
+    (subst (λ ns. Keeps o s.goal atoms t ns) (ap (λ v. v.items) (sym needs)) before) in
+    c.in_ok-keep_networks.ensures.kept atoms kept then.nodes (subst (λ (g : List Literal). AreWants c.args.needs.now atoms u.goals.items g) (sym goals) (wanted c))
+
+pub returns-clause-noted : goal.returns-clause-noted
+returns-clause-noted c =
+    let n = c.args.needs.now in
+    let t = c.args.networks.now in
+    let atoms = c.keep_nodes.new.atoms in
+    let u = c.keep_nodes.new.self in
+    let v = c.keep_networks.new.self in
+    let did = c.in_ok-keep_networks.ensures in
+    let goals : v.goal ≡ c.args.self.now.goal = did.goal ∙ c.in_ok-keep_nodes.ensures.goal ∙ c.in_ok-keep_goal.ensures.goal in
+    record {
+      nodes = subst (λ (ns : List Node). AreNodes n atoms t ns) (ap (λ w. w.items) (sym did.nodes)) c.in_ok-keep_nodes.ensures.nodes;
+      goals = subst (λ (g : List Literal). AreFirstWants n atoms v.goals.items g) (sym goals)
+          (subst (λ (ws : List Want). AreFirstWants n atoms ws c.args.self.now.goal) (ap (λ w. w.items) (sym did.goals))
+          (first_wants n atoms u.goals.items c.args.self.now.goal (wanted c)));
     }
+
+pub returns-clause-goal : goal.returns-clause-goal
+returns-clause-goal c = c.in_ok-keep_networks.ensures.goal ∙ c.in_ok-keep_nodes.ensures.goal ∙ c.in_ok-keep_goal.ensures.goal

@@ -1,38 +1,42 @@
-use Rattle.std.proofs.Common.{◌∙◌, List, ap, sym, subst}
-use Rattle.htn_model.specs.Literal.{Literal}
-use Rattle.htn_state.specs.Views.{literals_of}
-use Rattle.network_needs.specs.Places.{all_needed, ArePlaces}
+use Rattle.std.proofs.Common.{◌∙◌, ◌&&◌, List, ap, subst, sym}
+use Rattle.std.proofs.lemmas.List.Folds.{list_all-append}
+use Rattle.htn_model.specs.Literal.{holds, literal_holds}
+use Rattle.network_needs.specs.Needs.{needed, needed_goal}
+use Rattle.network_needs.specs.Places.{ArePlaces}
 use Rattle.network_needs.specs.Rows.{outlook_of}
 use Rattle.network_needs.specs.declared.places.Place.{Place}
 use Rattle.network_needs.proofs.RowsThere.{blocked_there}
 use Rattle.network_table.specs.Networks.{children}
 use Rattle.network_table.specs.Numbered.{network_of}
-use Rattle.state_table.specs.Compiled.{AreCompiled}
-use Rattle.state_table.proofs.States.{later_itself}
+use Rattle.state_table.specs.Table.{state_of}
+use Rattle.needs_table.specs.Kept.{AreNodes, AreWants}
+use Rattle.needs_table.specs.declared.node.Node.{Node}
+use Rattle.needs_table.specs.declared.wants.Want.{Want}
 use Rattle.needs_table.proofs.table.NeedsTable.needed_by.Goals as goal
 
-pub returns-then-has_blocked_place-clause-later : goal.returns-then-has_blocked_place-clause-later
-returns-then-has_blocked_place-clause-later c = later_itself c.args.atoms.now c.len-count.ensures.table
-
-pub returns-then-has_blocked_place-clause-kept : goal.returns-then-has_blocked_place-clause-kept
-returns-then-has_blocked_place-clause-kept c =
+pub returns-then-has_blocked_place : goal.returns-then-has_blocked_place
+returns-then-has_blocked_place c = λ atoms networks nodes goals.
     let needs = c.args.needs.now in
-    let network = network_of (children c.args.networks.now) c.args.network.now in
+    let network = network_of (children networks) c.args.network.now in
     let places = c.as_slice-places.result.now in
-    let are = subst (λ (ps : List Place). ArePlaces needs ps network) (sym c.as_slice-places.ensures.value) c.in_ok-kept.ensures in
+    let noted = subst (λ (ns : List Node). AreNodes needs atoms networks ns) (sym c.as_slice-nodes.ensures.value) nodes in
+    let are = subst (λ (ps : List Place). ArePlaces needs ps network) (sym c.as_slice-places.ensures.value) (c.in_ok-kept.ensures.places needs atoms networks noted) in
     sym (blocked_there needs places network are) ∙ sym c.has_blocked_place.ensures ∙ c.if-has_blocked_place.true
 
-pub returns-clause-kept : goal.returns-clause-kept
-returns-clause-kept c =
+pub returns : goal.returns
+returns c = λ atoms networks nodes goals.
     let needs = c.args.needs.now in
     let o = outlook_of needs in
-    let network = network_of (children c.args.networks.now) c.args.network.now in
+    let network = network_of (children networks) c.args.network.now in
     let places = c.as_slice-places.result.now in
-    let are = subst (λ (ps : List Place). ArePlaces needs ps network) (sym c.as_slice-places.ensures.value) c.in_ok-kept.ensures in
-    let literals =
-    ap literals_of c.deref.ensures.value
-    ∙ c.in_ok-literals.ensures network are c.order.ensures.value
-    ∙ ap (λ (g : List Literal). all_needed o g network) c.as_slice-goal.ensures in (
+    let noted = subst (λ (ns : List Node). AreNodes needs atoms networks ns) (sym c.as_slice-nodes.ensures.value) nodes in
+    let wanted = subst (λ (ws : List Want). AreWants needs atoms ws c.args.self.now.goal) (sym c.as_slice.ensures.value) goals in
+    let are = subst (λ (ps : List Place). ArePlaces needs ps network) (sym c.as_slice-places.ensures.value) (c.in_ok-kept.ensures.places needs atoms networks noted) in (
       sym (blocked_there needs places network are) ∙ sym c.has_blocked_place.ensures ∙ c.if-has_blocked_place.false,
-      subst (AreCompiled c.of.new.table c.in_ok-compiled.compiled) literals c.in_ok-compiled.ensures.compiled,
+      λ later grown words.
+          c.drop_repeats.ensures words
+          ∙ c.in_ok-push_needed_goal.ensures network c.args.self.now.goal atoms later words are wanted grown
+          ∙ ap (λ b. b && holds (state_of later words) (needed_goal o c.args.self.now.goal network))
+          (c.in_ok-push_needed.ensures networks atoms later words are noted grown ∙ ap (λ b. b && holds (state_of later words) (needed o network)) (c.none-found.ensures words))
+          ∙ sym (list_all-append (literal_holds (state_of later words)) (needed o network) (needed_goal o c.args.self.now.goal network)),
     )

@@ -1,6 +1,6 @@
 use Rattle.std.proofs.Common.{◌∙◌, ap}
 use Rattle.needs_table.specs.declared.table.NeedsTable.{NeedsTable}
-use Rattle.task_machine.proofs.Estimates.{kept_still}
+use Rattle.task_machine.proofs.Estimates.{kept_still, noted_still}
 use Rattle.network_table.proofs.Expanding.{all_more, map_all}
 use Rattle.task_machine.specs.Meaning.{knows, point}
 use Rattle.task_machine.proofs.Owned.{later_tables_then, meaning_grown}
@@ -13,6 +13,10 @@ prepare_needs-requires-clause-kept c =
     let u = c.initials.new.self in
     let later = c.in_ok-initials.ensures.later in
     kept_still m.needs s u later c.in_ok-initials.ensures.needs c.requires.own.tables.networks c.requires.own.needed.kept
+
+pub prepare_needs-requires-clause-noted : goal.prepare_needs-requires-clause-noted
+prepare_needs-requires-clause-noted c =
+    noted_still c.args.self.now.needs c.args.tables.now c.initials.new.self c.in_ok-initials.ensures.later c.in_ok-initials.ensures.needs c.requires.own.noted
 
 pub returns-clause-owned : goal.returns-clause-owned
 returns-clause-owned c =

@@ -13,6 +13,7 @@ returns-in_ok-state-in-New-clause-owned c =
       sized = c.requires.own.sized;
       goal = c.requires.own.goal;
       needed = c.requires.own.needed;
+      noted = c.requires.own.noted;
     }
 
 pub returns-in_ok-state-in-New-clause-known : goal.returns-in_ok-state-in-New-clause-known

@@ -1,6 +1,7 @@
 use Rattle.std.proofs.Common.{◌∙◌, ap, length, sym}
 use Rattle.network_needs.specs.Rows.{outlook_of}
 use Rattle.needs_table.proofs.Kept.{keeps_none}
+use Rattle.needs_table.proofs.Noted.{noted_none}
 use Rattle.task_machine.proofs.machine.TaskMachineMachine.new_tables.Goals as goal
 
 pub returns : goal.returns
@@ -16,4 +17,5 @@ returns c =
         kept = keeps_none (outlook_of m.needs) found.needs.goal found.atoms found.networks found.needs.needs.items did.none.0;
         all = ap length did.none.0 ∙ sym (ap length did.none.1);
       };
+      noted = noted_none m.needs found.atoms found.networks found.needs did.nothing_noted.0 did.nothing_noted.1;
     }

@@ -1,6 +1,6 @@
 use Rattle.std.proofs.Common.{◌∙◌, ap}
 use Rattle.needs_table.specs.declared.table.NeedsTable.{NeedsTable}
-use Rattle.task_machine.proofs.Estimates.{kept_still}
+use Rattle.task_machine.proofs.Estimates.{kept_still, noted_still}
 use Rattle.task_machine.proofs.Owned.{later_tables_then, meaning_grown}
 use Rattle.task_machine.proofs.machine.TaskMachineMachine.prepare.Goals as goal
 
@@ -10,6 +10,10 @@ prepare_needs-requires-clause-kept c =
     let s = c.args.tables.now in
     let u = c.prepare.new.self in
     kept_still m.needs s u c.in_ok-prepare.ensures.later c.in_ok-prepare.ensures.needs c.requires.own.tables.networks c.requires.own.needed.kept
+
+pub prepare_needs-requires-clause-noted : goal.prepare_needs-requires-clause-noted
+prepare_needs-requires-clause-noted c =
+    noted_still c.args.self.now.needs c.args.tables.now c.prepare.new.self c.in_ok-prepare.ensures.later c.in_ok-prepare.ensures.needs c.requires.own.noted
 
 pub returns-clause-owned : goal.returns-clause-owned
 returns-clause-owned c =

@@ -13,6 +13,7 @@ returns-clause-owned c = λ t sizes own sized goals.
       sized = sized;
       goal = did.goal ∙ goals;
       needed = did.kept;
+      noted = did.noted;
     }
 
 pub returns-clause-later : goal.returns-clause-later
