@@ -34,7 +34,8 @@ fn push_if(
     if !is_kept {
         return Ok(());
     }
-    found.push(literal)
+    found.push(literal)?;
+    Ok(())
 }
 
 /// Adds what a network needs for the node at a position: what it wants and no other node gives that isn't after it.

@@ -62,10 +62,13 @@ impl NeedsTable {
     {
         let _count = atoms.len();
         let goal = self.goal.as_slice();
-        if self.goals.len() < goal.len() {
-            let wants = wants_of(alloc, needs, atoms, goal)?;
-            self.goals = wants;
+        let wanted = goal.len();
+        let known = self.goals.len();
+        if known >= wanted {
+            return Ok(());
         }
+        let wants = wants_of(alloc, needs, atoms, goal)?;
+        self.goals = wants;
         Ok(())
     }
 

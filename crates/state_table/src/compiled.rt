@@ -34,7 +34,7 @@ pub struct CompiledAction {
 }
 
 /// Sorts numbers, and keeps each once.
-fn drop_repeats(numbers: &mut Vec<u32>)
+fn keep_once(numbers: &mut Vec<u32>)
     ensures { (test : ℕ → Bool) → list_all test numbers.new.items ≡ list_all test numbers.old.items }
 {
     numbers.sort_unstable();
@@ -97,8 +97,8 @@ impl CompiledLiterals {
     pub fn drop_repeats(&mut self)
         ensures { (words : List ℕ) → all_hold words self.new ≡ all_hold words self.old }
     {
-        drop_repeats(&mut self.positives);
-        drop_repeats(&mut self.negatives);
+        keep_once(&mut self.positives);
+        keep_once(&mut self.negatives);
     }
 
     /// Compiles a conjunction, and numbers its fluent atoms.

@@ -59,8 +59,14 @@ impl CompiledLiteral {
     {
         let _count = table.len();
         match literal {
-            Literal::Positive(atom) => CompiledLiteral::of_atom(table, atom, true),
-            Literal::Negative(atom) => CompiledLiteral::of_atom(table, atom, false),
+            Literal::Positive(atom) => {
+                let compiled = CompiledLiteral::of_atom(table, atom, true)?;
+                Ok(compiled)
+            }
+            Literal::Negative(atom) => {
+                let compiled = CompiledLiteral::of_atom(table, atom, false)?;
+                Ok(compiled)
+            }
             Literal::Same(x, y) => Ok(CompiledLiteral::Decided(x == y)),
             Literal::Different(x, y) => Ok(CompiledLiteral::Decided(x != y)),
         }

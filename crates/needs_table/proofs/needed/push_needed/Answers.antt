@@ -23,8 +23,8 @@ loop-at-init c = λ networks atoms later words are nodes grown. and_nothing (all
 pub index-node-requires : goal.index-node-requires
 index-node-requires c =
     let ids = c.nodes-ids.result.now in
-    subst (λ (id : ℕ). id < length c.args.nodes.now) (sym (c.index-id.ensures ∙ ap (λ (l : List ℕ). get_or l c.loop-at.at c.index-id.result) c.nodes-ids.ensures))
-    (c.requires.within c.loop-at.at c.index-id.result (let count = ap length c.nodes-ids.ensures in let low = c.loop-at-test.true in omega (arith, count, low)))
+    subst (λ (id : ℕ). id < length c.args.nodes.now) (sym (c.index-id.ensures ∙ ap (λ (l : List ℕ). get_or l c.loop-at.at c.index-id.result.now) c.nodes-ids.ensures))
+    (c.requires.within c.loop-at.at c.index-id.result.now (let count = ap length c.nodes-ids.ensures in let low = c.loop-at-test.true in omega (arith, count, low)))
 
 pub push_needed_at-requires : goal.push_needed_at-requires
 push_needed_at-requires c = let count = ap length c.nodes-ids.ensures in let low = c.loop-at-test.true in let as_many = c.requires.places in omega (arith, count, low, as_many)
@@ -33,7 +33,7 @@ pub loop-at-preserved : goal.loop-at-preserved
 loop-at-preserved c = λ networks atoms later words are nodes grown.
     let needs = c.args.needs.now in
     let at = c.loop-at.at in
-    let id = c.index-id.result in
+    let id = c.index-id.result.now in
     let numbered = c.args.network.now in
     let n = network_of (children networks) numbered in
     let node = c.index-node.result.now in

@@ -1,4 +1,4 @@
-use Rattle.std.proofs.Common.{◌≡◌, ◌∙◌, List, ap, arith, length, subst, sym}
+use Rattle.std.proofs.Common.{◌∙◌, List, ap, arith, length, subst, sym}
 use Rattle.std.proofs.lemmas.List.{length-map}
 use Rattle.htn_model.specs.Literal.{Literal}
 use Rattle.htn_state.specs.Views.{literal_of}
@@ -6,23 +6,17 @@ use Rattle.state_table.proofs.States.{later_itself}
 use Rattle.needs_table.specs.Kept.{AreWants}
 use Rattle.needs_table.proofs.Noted.{all_wants}
 use Rattle.needs_table.proofs.table.NeedsTable.keep_goal.Goals as goal
-use Rattle.needs_table.proofs.table.NeedsTable.keep_goal.Goals.{then-lt+in_ok-wants, else-lt}
 
--- how many literals the goal has
-count_of : (c : goal.In-Ok) → length c.as_slice-goal.result.now ≡ length c.args.self.now.goal
-count_of c = sym (length-map c.as_slice-goal.result.now literal_of) ∙ ap length c.as_slice-goal.ensures
+pub returns-then-known-wanted-clause-later : goal.returns-then-known-wanted-clause-later
+returns-then-known-wanted-clause-later c = later_itself c.args.atoms.now c.len-count.ensures.table
 
-pub returns-clause-later : goal.returns-clause-later
-returns-clause-later c = elim c.if-lt.branch [
-  | then-lt+in_ok-wants w ↦ w.in_ok-wants.ensures.later
-  | else-lt w ↦ later_itself c.args.atoms.now c.len-count.ensures.table
-]
+pub returns-then-known-wanted-clause-goals : goal.returns-then-known-wanted-clause-goals
+returns-then-known-wanted-clause-goals c =
+    let s = c.args.self.now in
+    let count = sym (length-map c.as_slice-goal.result.now literal_of) ∙ ap length c.as_slice-goal.ensures in
+    let all = c.len-known.ensures ∙ s.goals.ok.0 in
+    all_wants c.args.needs.now c.args.atoms.now s.goals.items s.goal (omega (arith, count, all, c.len-wanted.ensures, c.if-known-wanted.true)) c.requires
 
 pub returns-clause-goals : goal.returns-clause-goals
-returns-clause-goals c = elim c.if-lt.branch [
-  | then-lt+in_ok-wants w ↦ subst (λ (l : List Literal). AreWants c.args.needs.now c.if-lt.atoms w.in_ok-wants.wants.items l) c.as_slice-goal.ensures w.in_ok-wants.ensures.wants
-  | else-lt w ↦
-      (let count = count_of c in
-      let few = w.if-lt.false in
-      all_wants c.args.needs.now c.args.atoms.now c.args.self.now.goals.items c.args.self.now.goal (omega (arith, count, few)) c.requires)
-]
+returns-clause-goals c =
+    subst (λ (l : List Literal). AreWants c.args.needs.now c.wants_of-wants.new.atoms c.in_ok-wants.wants.items l) c.as_slice-goal.ensures c.in_ok-wants.ensures.wants

@@ -4,4 +4,4 @@ use Rattle.state_table.proofs.compiled.CompiledLiterals.drop_repeats.Goals as go
 
 pub returns : goal.returns
 returns c = λ words.
-    ap₂ (λ a b. not c.args.self.now.is_never && (a && b)) (c.drop_repeats.ensures (has words)) (c.drop_repeats-2.ensures (λ x. not (has words x)))
+    ap₂ (λ a b. not c.args.self.now.is_never && (a && b)) (c.keep_once.ensures (has words)) (c.keep_once-2.ensures (λ x. not (has words x)))
