@@ -1,5 +1,5 @@
 -- The texts of variables in force.
-use Rattle.std.proofs.Common.{◌≡◌, ℕ, ◌+◌, ◌++◌, Bool, true, false, not, zero, suc, List, [], ◌∷◌, map, Some, None, refl, sym, ap, ap₂, ◌∙◌, cond, nat_lt, length, take}
+use Rattle.std.proofs.Common.{◌≡◌, ℕ, ◌+◌, ◌++◌, Bool, true, false, not, zero, suc, List, [], ◌∷◌, map, Some, None, refl, sym, ap, ap₂, ◌∙◌, cond, nat_lt, take}
 use Rattle.std.specs.List.{position, position_or_len}
 use Rattle.std.proofs.lemmas.List.{map-append, length-map}
 use Rattle.hddl_tree.specs.declared.term.VariableGroup.{VariableGroup}

@@ -5,7 +5,7 @@ ghost use Rattle.hddl_meaning.specs.Names.{is_same_text};
 ghost use Rattle.hddl_meaning.specs.Networks.{is_text};
 ghost use Rattle.hddl_build.specs.Labels.{AreLabelsOf, first_of, position_in};
 
-use hddl_names::fold;
+use hddl_names::{fold, fold_to_vec};
 use hddl_tree::{Name, SubtaskText};
 use indexmap::IndexMap;
 use std::alloc::{AllocError, Global};
@@ -52,7 +52,7 @@ impl Labels {
         ensures { OnOk result ((text : Text)
             → position_in self.new text ≡ first_of (position_in self.old text) (cond (is_same_text text (folded label.now.text)) (Some position) None)) }
     {
-        let text = fold(alloc, label.text())?;
+        let text = fold_to_vec(alloc, label.text())?;
         if self.positions.contains_key(text.as_slice()) {
             return Ok(());
         }

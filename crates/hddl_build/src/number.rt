@@ -27,7 +27,7 @@ pub(crate) fn number_of(alloc: Global, names: &Names, name: &Name) -> Result<u16
     ensures { IfOk result (λ n. n ≡ number_in names.now (folded name.now.text)) }
 {
     let text = fold(alloc, name.text())?;
-    Ok(number_of_text(names, &text))
+    Ok(number_of_text(names, text.as_slice()))
 }
 
 /// The number of a compound task or an action, or 0 where it isn't declared.
@@ -36,7 +36,7 @@ pub(crate) fn number_of_task(alloc: Global, names: &Names, name: &Name) -> Resul
     ensures { IfOk result (λ n. n ≡ number_in names.now (folded name.now.text)) }
 {
     let text = fold(alloc, name.text())?;
-    match names.number_of(&text) {
+    match names.number_of(text.as_slice()) {
         Some(number) => Ok(number as u32),
         None => Ok(0),
     }

@@ -25,7 +25,7 @@ pub(crate) fn name_of(alloc: Global, name: &hddl_tree::Name) -> Result<Name, All
     ensures { IfOk result (λ n. n ≡ folded name.now.text) }
 {
     let text = fold(alloc, name.text())?;
-    let name = Name::new(alloc, &text)?;
+    let name = Name::new(alloc, text.as_slice())?;
     Ok(name)
 }
 

@@ -77,7 +77,7 @@ impl Scope {
         ensures { IfOk result (λ number. number ≡ number_in self.now (folded variable.now.text)) }
     {
         let text = fold(alloc, variable.text())?;
-        match self.variables.position(&text) {
+        match self.variables.position(text.as_slice()) {
             Some(position) => Ok(position as u16),
             None => Ok(0),
         }

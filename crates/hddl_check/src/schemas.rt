@@ -1,32 +1,31 @@
 //! What schemas declare and use: methods, actions, the initial network, and the initial atoms with the goal.
 ghost use Rattle.std.specs.Prelude.{◌≡◌, IfOk};
 ghost use Rattle.std.specs.List.{flat_map};
-ghost use Rattle.hddl_meaning.specs.Mentions.{mentions_of, typed_variables};
-ghost use Rattle.hddl_meaning.specs.Uses.{schema_of_network, schema_of_states};
+ghost use Rattle.hddl_meaning.specs.Uses.{parameters_of, schema_of_network, schema_of_states};
 ghost use Rattle.hddl_uses.specs.Contexts.{AnyFails};
 ghost use Rattle.hddl_scope.specs.Findings.{Finds};
 ghost use Rattle.hddl_check.specs.TextParts.{action_parts, method_network_parts, method_parts, parameter_parts, schema_parts};
 
 use hddl_meaning::CheckFault;
-use hddl_scope::{MOST_PARAMETERS, Mention, Scope, first_of, variables_in};
+use hddl_scope::{MOST_PARAMETERS, Scope, first_of};
 use hddl_tree::{ActionText, MethodText, ProblemText, VariableGroup};
 use hddl_uses::{
-    Context, check_atoms, check_conditions, check_constraints, check_decomposed, check_different,
-    check_effects, check_limit, check_network, check_tasks_used, check_variable_types,
+    Context, check_atoms, check_conditions, check_constraints, check_count, check_decomposed,
+    check_effects, check_network, check_repeat, check_tasks_used, check_variable_types,
 };
 use std::alloc::AllocError;
 
-/// A fault of parameters, of which these are the names.
+/// A fault of parameters, which are the variables in force.
 fn check_parameters(
     context: &Context<'_>,
     groups: &[VariableGroup],
-    mentions: &[Mention],
+    scope: &Scope,
 ) -> Result<Option<CheckFault>, AllocError>
-    requires { mentions.now ≡ mentions_of (typed_variables groups.now) }
+    requires { scope.now ≡ parameters_of groups.now }
     ensures { IfOk result (Finds (AnyFails context.now (parameter_parts groups.now))) }
 {
-    let repeated = check_different(context, mentions)?;
-    let limit = check_limit(context, MOST_PARAMETERS, mentions);
+    let repeated = check_repeat(context, scope);
+    let limit = check_count(context, MOST_PARAMETERS, scope);
     let types = check_variable_types(context, groups)?;
     Ok(first_of(repeated, first_of(limit, types)))
 }
@@ -39,12 +38,11 @@ fn check_method(
     ensures { IfOk result (Finds (AnyFails context.now (method_parts method.now))) }
 {
     let groups = method.parameters.as_slice();
-    let mentions = variables_in(context.alloc, groups)?;
-    let own = check_parameters(context, groups, &mentions)?;
-    if check_limit(context, MOST_PARAMETERS, &mentions).is_some() {
+    let mut scope = Scope::of(context.alloc, groups)?;
+    let own = check_parameters(context, groups, &scope)?;
+    if check_count(context, MOST_PARAMETERS, &scope).is_some() {
         return Ok(own);
     }
-    let mut scope = Scope::of(context.alloc, groups)?;
     let network = &method.network;
     let conditions = check_conditions(context, &mut scope, method.precondition.as_slice())?;
     let constraints = check_constraints(context, &scope, network.constraints.as_slice())?;
@@ -62,12 +60,11 @@ fn check_action(
     ensures { IfOk result (Finds (AnyFails context.now (action_parts action.now))) }
 {
     let groups = action.parameters.as_slice();
-    let mentions = variables_in(context.alloc, groups)?;
-    let own = check_parameters(context, groups, &mentions)?;
-    if check_limit(context, MOST_PARAMETERS, &mentions).is_some() {
+    let mut scope = Scope::of(context.alloc, groups)?;
+    let own = check_parameters(context, groups, &scope)?;
+    if check_count(context, MOST_PARAMETERS, &scope).is_some() {
         return Ok(own);
     }
-    let mut scope = Scope::of(context.alloc, groups)?;
     let conditions = check_conditions(context, &mut scope, action.precondition.as_slice())?;
     let effects = check_effects(context, &scope, action.effect.as_slice())?;
     Ok(first_of(own, first_of(conditions, effects)))
@@ -82,12 +79,11 @@ pub(crate) fn check_initial(
 {
     let groups = problem.htn.parameters.as_slice();
     let network = &problem.htn.network;
-    let mentions = variables_in(context.alloc, groups)?;
-    let own = check_parameters(context, groups, &mentions)?;
-    if check_limit(context, MOST_PARAMETERS, &mentions).is_some() {
+    let scope = Scope::of(context.alloc, groups)?;
+    let own = check_parameters(context, groups, &scope)?;
+    if check_count(context, MOST_PARAMETERS, &scope).is_some() {
         return Ok(own);
     }
-    let scope = Scope::of(context.alloc, groups)?;
     let constraints = check_constraints(context, &scope, network.constraints.as_slice())?;
     let subtasks = check_tasks_used(context, &scope, network.subtasks.as_slice())?;
     Ok(first_of(own, first_of(constraints, subtasks)))
@@ -100,8 +96,8 @@ pub(crate) fn check_states(
 ) -> Result<Option<CheckFault>, AllocError>
     ensures { IfOk result (Finds (AnyFails context.now (schema_parts (schema_of_states problem.now)))) }
 {
-    let none = check_parameters(context, &[], &[])?;
     let mut scope = Scope::new(context.alloc);
+    let none = check_parameters(context, &[], &scope)?;
     let atoms = check_atoms(context, &scope, problem.init.as_slice())?;
     let goal = check_conditions(context, &mut scope, problem.goal.as_slice())?;
     Ok(first_of(none, first_of(atoms, goal)))

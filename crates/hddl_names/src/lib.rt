@@ -21,5 +21,5 @@ pub use declared_types::DeclaredTypes;
 pub use hierarchy::TypeHierarchy;
 pub use members::ObjectsByType;
 pub use names::Names;
-pub use text::{fold, fold_into};
+pub use text::{Folded, fold, fold_into, fold_to_vec};
 pub use vocabulary::Vocabulary;

@@ -6,7 +6,7 @@ ghost use Rattle.hddl_meaning.specs.Building.{vocabulary_of};
 ghost use Rattle.hddl_names.specs.Texts.{mentions_in};
 
 use crate::names::Names;
-use crate::text::fold;
+use crate::text::fold_to_vec;
 use hddl_tree::{ActionText, DomainText, Name, NameGroup, PredicateText, ProblemText, TaskText};
 use std::alloc::{AllocError, Global};
 use std::marker::Model;
@@ -30,7 +30,7 @@ impl Model for Vocabulary {
 fn declare_name(alloc: Global, names: &mut Names, name: &Name) -> Result<(), AllocError>
     ensures { OnOk result (names.new ≡ with_name names.old (folded name.now.text)) }
 {
-    let text = fold(alloc, name.text())?;
+    let text = fold_to_vec(alloc, name.text())?;
     names.declare(text)?;
     Ok(())
 }
@@ -80,7 +80,7 @@ fn types_of(alloc: Global, domain: &DomainText) -> Result<Names, AllocError>
     ensures { IfOk result (λ names. names ≡ type_names domain.now) }
 {
     let mut names = Names::new(alloc);
-    names.declare(fold(alloc, b"object")?)?;
+    names.declare(fold_to_vec(alloc, b"object")?)?;
     declare_types(alloc, &mut names, domain.types.as_slice())?;
     Ok(names)
 }

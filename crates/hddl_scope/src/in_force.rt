@@ -64,8 +64,7 @@ fn number_text(
     ensures err { OnErr result (positions.new ≡ positions.old) }
 {
     if positions.get(text).is_none() {
-        let own = Vec::from_slice(alloc, text)?;
-        positions.add(own, number)?;
+        positions.add(alloc, text, number)?;
     }
     Ok(())
 }

@@ -2,7 +2,7 @@
 ghost use Rattle.std.specs.Prelude.{◌≡◌, IfOk};
 ghost use Rattle.hddl_meaning.specs.Mentions.{mention_of, variable_mention};
 
-use hddl_names::fold;
+use hddl_names::{Folded, fold};
 use hddl_tree::{Name, Variable};
 use std::alloc::{AllocError, Global};
 use std::marker::Model;
@@ -10,7 +10,7 @@ use std::marker::Model;
 /// A name or a variable in lower case, with its place. Contracts see the text with the place.
 #[derive(Drop)]
 pub struct Mention {
-    text: Vec<u8>,
+    text: Folded,
     place: usize,
 }
 
@@ -47,7 +47,7 @@ impl Mention {
     pub fn text(&self) -> &[u8]
         ensures { result.now ≡ self.now.text }
     {
-        &self.text
+        self.text.as_slice()
     }
 
     /// The byte offset of its first byte in the text.

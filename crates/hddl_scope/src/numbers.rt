@@ -1,23 +1,53 @@
 //! Texts with numbers.
 ghost use Rattle.std.specs.Prelude.{◌≡◌, [], ◌∷◌, ◌++◌, None, OnOk, OnErr, length, take};
-ghost use Rattle.hddl_scope.specs.Numbers.{number_at};
+ghost use Rattle.hddl_scope.specs.Numbers.{number_at, numbered};
 
+use hddl_names::Folded;
 use indexmap::IndexMap;
-use std::alloc::{AllocFailed, Global};
+use smallvec::SmallVec;
+use std::alloc::{AllocError, Global};
 use std::marker::Model;
+
+/// So many texts are looked through one by one, which takes less than a table of them.
+const FEW: usize = 8;
+
+/// A text with its number.
+#[derive(Drop)]
+struct Numbered {
+    text: Folded,
+    number: usize,
+}
 
 /// Texts, each with a number: the first that was given. Contracts see the list of the texts with their numbers.
 #[derive(Drop)]
 pub struct Numbers {
-    entries: IndexMap<Vec<u8>, usize>,
+    /// The first texts: in most lists all.
+    few: Vec<Numbered>,
+    /// The others.
+    rest: IndexMap<Vec<u8>, usize>,
 }
 
 impl Model for Numbers {
-    ghost use Rattle.hddl_scope.specs.Numbers.{Entries, entries_of};
+    ghost use Rattle.std.specs.Prelude.{◌≡◌, ◌<◌, ◌≤◌, ◌++◌, [], length};
+    ghost use Rattle.hddl_scope.specs.Numbers.{Entries, entries_of, numbered};
 
     ghost Value = { Entries };
 
-    ghost view = { λ numbers. entries_of numbers.entries.entries };
+    ghost view = { λ numbers. numbered numbers.few.items ++ entries_of numbers.rest.entries };
+
+    ghost invariant = { λ numbers. (length numbers.few.items ≤ 8) × (length numbers.few.items < 8 → numbers.rest.entries ≡ []) };
+}
+
+/// The number of a text among these.
+fn number_among(few: &[Numbered], text: &[u8]) -> Option<usize>
+    ensures { result ≡ number_at (numbered few.now) text.now }
+{
+    for one in few {
+        if text == one.text.as_slice() {
+            return Some(one.number);
+        }
+    }
+    None
 }
 
 impl Numbers {
@@ -26,7 +56,8 @@ impl Numbers {
         ensures { result ≡ [] }
     {
         Numbers {
-            entries: IndexMap::new(alloc),
+            few: Vec::new(alloc),
+            rest: IndexMap::new(alloc),
         }
     }
 
@@ -34,23 +65,32 @@ impl Numbers {
     pub(crate) fn len(&self) -> usize
         ensures { result ≡ length self.now }
     {
-        self.entries.len()
+        self.few.len() + self.rest.len()
     }
 
     /// The number of a text.
     pub fn get(&self, text: &[u8]) -> Option<usize>
         ensures { result ≡ number_at self.now text.now }
     {
-        self.entries.get(text).copied()
+        match number_among(&self.few, text) {
+            Some(number) => Some(number),
+            None => self.rest.get(text).copied(),
+        }
     }
 
     /// Gives a number to a text that has none. Where memory is refused, the numbers are as they were.
-    pub fn add(&mut self, text: Vec<u8>, number: usize) -> Result<(), AllocFailed<(Vec<u8>, usize)>>
-        requires { number_at self.old text.items ≡ None }
-        ensures ok { OnOk result (self.new ≡ self.old ++ (text.items, number) ∷ []) }
+    pub fn add(&mut self, alloc: Global, text: &[u8], number: usize) -> Result<(), AllocError>
+        requires { number_at self.old text.now ≡ None }
+        ensures ok { OnOk result (self.new ≡ self.old ++ (text.now, number) ∷ []) }
         ensures err { OnErr result (self.new ≡ self.old) }
     {
-        let _ = self.entries.insert(text, number)?;
+        if self.few.len() < FEW {
+            let text = SmallVec::from_slice(alloc, text)?;
+            self.few.push(Numbered { text, number })?;
+            return Ok(());
+        }
+        let key = Vec::from_slice(alloc, text)?;
+        let _ = self.rest.insert(key, number)?;
         Ok(())
     }
 
@@ -58,6 +98,7 @@ impl Numbers {
     pub(crate) fn truncate(&mut self, len: usize)
         ensures { self.new ≡ take len self.old }
     {
-        self.entries.truncate(len);
+        self.rest.truncate(len.saturating_sub(self.few.len()));
+        self.few.truncate(len);
     }
 }

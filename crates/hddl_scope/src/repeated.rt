@@ -33,8 +33,7 @@ pub(crate) fn note(alloc: Global, known: &mut Numbers, mention: &Mention) -> Res
     ensures { OnOk result (known.new ≡ noted known.old mention.now) }
 {
     if known.get(mention.text()).is_none() {
-        let text = Vec::from_slice(alloc, mention.text())?;
-        known.add(text, mention.place())?;
+        known.add(alloc, mention.text(), mention.place())?;
     }
     Ok(())
 }

@@ -1,5 +1,5 @@
 -- When an argument fits its place.
-use Rattle.std.proofs.Common.{◌≡◌, ℕ, ◌+◌, ◌<◌, ◌||◌, ◌↔◌, IsTrue, Bool, true, false, not, cond, nat_lt, suc, List, [], ◌∷◌, Option, Some, None, is_some, refl, sym, ap, subst, ◌∙◌, get_or, length, arith, true≢false, Contains}
+use Rattle.std.proofs.Common.{◌≡◌, ℕ, ◌+◌, ◌<◌, ◌||◌, ◌↔◌, IsTrue, Bool, true, false, not, cond, nat_lt, suc, List, [], ◌∷◌, Option, Some, None, is_some, inl, refl, sym, ap, subst, ◌∙◌, get_or, length, arith, true≢false, Contains}
 use Rattle.std.specs.List.{All, list_any, position, position_or_len}
 use Rattle.std.proofs.lemmas.Bool.Decides.{Decides-ltb}
 use Rattle.std.proofs.lemmas.List.Elements.{All-get_or, All-from_get_or}
@@ -107,6 +107,14 @@ barred d v place t u stands own wanted is = (
 -- a variable that isn't barred is told so
 pub not_barred : (d : DomainText) (v place : Variable) → (IsBarred d v place → ⊥) → IsTrue false ↔ IsBarred d v place
 not_barred d v place never = (λ h. absurd (true≢false (sym h)), λ h. absurd (never h))
+
+-- a variable of a declared type may stand in a place of the same type
+pub same_stands : (d : DomainText) (v place : Variable) → type_text v ≡ type_text place → IsTyped d v.typed → MayStand d v (type_text place)
+same_stands d v place same typed = by v.is_quantified refl
+  where
+    by : (b : Bool) → v.is_quantified ≡ b → MayStand d v (type_text place)
+    by true e = (quantified d v (type_text place) e).1 (inl same)
+    by false e = (unquantified d v (type_text place) e).1 (type_text v, typed, inl refl, inl same)
 
 module _ (d : DomainText) (v place : Variable) (t u : ℕ) (own : type_position d v ≡ Some t) (wanted : type_position d place ≡ Some u) where
   -- the type at the variable's position is the variable's

@@ -1,10 +1,8 @@
 -- When an atom or a task fails, by its name and its arguments.
-use Rattle.std.proofs.Common.{◌≡◌, ℕ, zero, suc, ◌+◌, ◌<◌, ◌≤◌, List, [], ◌∷◌, ◌++◌, map, Option, Some, refl, sym, ap, subst, ◌∙◌, inl, inr, take, get_or, length, arith}
+use Rattle.std.proofs.Common.{◌≡◌, ◌⊎◌, ℕ, zero, suc, ◌+◌, ◌<◌, ◌≤◌, List, [], ◌∷◌, ◌++◌, map, Option, Some, None, refl, sym, ap, subst, ◌∙◌, inl, inr, take, get_or, length, arith}
 use Rattle.std.specs.List.{zip}
 use Rattle.std.proofs.lemmas.List.{take_more, length-map}
-use Rattle.hddl_words.specs.Names.{Name}
 use Rattle.hddl_tree.specs.declared.term.Term.{Term}
-use Rattle.hddl_tree.specs.declared.term.Term.TheVariants as term
 use Rattle.hddl_tree.specs.declared.domain.DomainText.{DomainText}
 use Rattle.hddl_tree.specs.declared.problem.ProblemText.{ProblemText}
 use Rattle.hddl_meaning.specs.Mentions.{Text, Typed, IsIn, folded}
@@ -16,17 +14,23 @@ use Rattle.hddl_meaning.specs.declared.fault.CheckFault.{CheckFault}
 use Rattle.hddl_meaning.proofs.Listed.{at_head, at_tail, in_cases, in_nothing, in_map}
 use Rattle.hddl_scope.specs.Findings.{AnyOf, Finds, IsOneOf}
 use Rattle.hddl_uses.specs.Parts.{ArgumentFailsIn, UseFails}
-use Rattle.hddl_uses.specs.Contexts.{Clashes}
 use Rattle.hddl_uses.specs.Tables.{as_parameter}
-use Rattle.hddl_uses.specs.declared.context.Context.{Context}
-use Rattle.hddl_scope.proofs.Finding.{Finds-append, Finds-list, Finds-same, Finds-single, mapped}
+use Rattle.hddl_scope.proofs.Finding.{Finds-append, Finds-list, Finds-none, Finds-same, Finds-single, Finds-some, mapped}
 
--- ## Constants and objects
+-- ## Findings of one of two properties
 
--- whether one clashes doesn't hang on the variables in force
-pub object_clash : (context : Context) (before after : List Variable) (name : Name) (at_place : Typed) (f : CheckFault)
-    → Clashes context before (term.Object name) at_place f → Clashes context after (term.Object name) at_place f
-object_clash context before after name at_place f (place, is, h) = (place, is, record { clash = h.clash; known = h.known })
+module _ {X : Type 0} {P Q : X → Type 0} where
+  -- what the first property has found is found of either
+  pub found_first : (x : X) → Finds P (Some x) → Finds (λ y. P y ⊎ Q y) (Some x)
+  found_first x h = Finds-some x (inl h.sound)
+
+  -- what the second property has found is found of either
+  pub found_second : (x : X) → Finds Q (Some x) → Finds (λ y. P y ⊎ Q y) (Some x)
+  found_second x h = Finds-some x (inr h.sound)
+
+  -- where neither is found, nothing is found of either
+  pub found_neither : Finds P None → Finds Q None → Finds (λ y. P y ⊎ Q y) None
+  found_neither hp hq = Finds-none (λ x h. elim h [ inl p ↦ hp.complete refl x p | inr q ↦ hq.complete refl x q ])
 
 -- ## Pairs of two lists
 

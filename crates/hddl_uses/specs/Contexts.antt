@@ -3,12 +3,10 @@ use Rattle.std.specs.Prelude.{List, []}
 use Rattle.hddl_words.specs.Names.{Name}
 use Rattle.hddl_tree.specs.declared.term.Term.{Term}
 use Rattle.hddl_tree.specs.declared.term.Term.TheVariants as term
-use Rattle.hddl_meaning.specs.Mentions.{Typed}
 use Rattle.hddl_meaning.specs.Uses.{Variable}
 use Rattle.hddl_meaning.specs.declared.fault.CheckFault.{CheckFault}
-use Rattle.hddl_meaning.specs.declared.fault.CheckFault.TheVariants.{TypeClash}
-use Rattle.hddl_scope.specs.Findings.{AnyOf, Faulted}
-use Rattle.hddl_uses.specs.Parts.{ArgumentFailsIn, ClashesAt, Part, Side, FailsIn}
+use Rattle.hddl_scope.specs.Findings.{AnyOf}
+use Rattle.hddl_uses.specs.Parts.{ArgumentFailsIn, Part, Side, FailsIn}
 use Rattle.hddl_uses.specs.declared.context.Context.{Context}
 
 -- a part of the text that is checked fails with a fault
@@ -19,17 +17,9 @@ Fails c = FailsIn c.domain.now c.problem.now c.source
 abbrev pub AnyFails : Context → List Part → CheckFault → Type 0
 AnyFails c = AnyOf (Fails c)
 
--- an argument can't have the type of its place
-abbrev pub Clashes : Context → List Variable → Term → Typed → CheckFault → Type 0
-Clashes c variables argument at_place = Faulted TypeClash c.source (ClashesAt c.domain.now c.problem.now variables (argument, at_place))
-
 -- a constant or object that isn't declared, whatever the variables in force
 abbrev pub IsUnknownObject : Context → Name → CheckFault → Type 0
 IsUnknownObject c name = Fails c (Side (record { variables = []; term = term.Object name }))
-
--- a constant or object that can't have the type of its place, whatever the variables in force
-abbrev pub ObjectClashes : Context → Name → Typed → CheckFault → Type 0
-ObjectClashes c name = Clashes c [] (term.Object name)
 
 -- an argument isn't known, or can't have the type of its place
 abbrev pub ArgumentFails : Context → List Variable → Term × Variable → CheckFault → Type 0

@@ -1,12 +1,13 @@
 //! Terms where they are used.
-ghost use Rattle.std.specs.Prelude.{◌≡◌, ◌↔◌, IfOk, IsTrue, length};
+ghost use Rattle.std.specs.Prelude.{◌≡◌, ◌↔◌, List, Some, IfOk, IsTrue, length};
 ghost use Rattle.std.specs.List.{position, zip};
 ghost use Rattle.hddl_tree.specs.declared.term.Term.TheVariants as term;
-ghost use Rattle.hddl_meaning.specs.Mentions.{IsIn};
+ghost use Rattle.hddl_meaning.specs.Mentions.{IsIn, Text};
 ghost use Rattle.hddl_meaning.specs.Names.{is_same_text, object_names, type_names};
 ghost use Rattle.hddl_meaning.specs.Types.{text_or_object, HasType};
 ghost use Rattle.hddl_meaning.specs.Items.{MayStand};
-ghost use Rattle.hddl_uses.specs.Contexts.{AnyArgumentFails, ArgumentFails, Clashes, Fails, IsUnknownObject, ObjectClashes};
+ghost use Rattle.hddl_meaning.specs.Uses.{Variable as VariableInForce};
+ghost use Rattle.hddl_uses.specs.Contexts.{AnyArgumentFails, ArgumentFails, Fails, IsUnknownObject};
 ghost use Rattle.hddl_scope.specs.Findings.{Finds};
 ghost use Rattle.hddl_uses.specs.Known.{AreKnown, IsTyped};
 ghost use Rattle.hddl_uses.specs.Parts.{Side};
@@ -27,7 +28,7 @@ fn check_variable(
     ensures { IfOk result (Finds (Fails context.now (Side (record { variables = scope.now; term = term.Variable variable.now })))) }
 {
     let text = fold(context.alloc, variable.text())?;
-    if scope.get(&text).is_some() {
+    if scope.get(text.as_slice()).is_some() {
         return Ok(None);
     }
     Ok(Some(CheckFault::UnknownName(context.at(variable.place()))))
@@ -38,7 +39,12 @@ fn check_object(context: &Context<'_>, name: &Name) -> Result<Option<CheckFault>
     ensures { IfOk result (Finds (IsUnknownObject context.now name.now)) }
 {
     let text = fold(context.alloc, name.text())?;
-    if context.vocabulary.objects().number_of(&text).is_some() {
+    if context
+        .vocabulary
+        .objects()
+        .number_of(text.as_slice())
+        .is_some()
+    {
         return Ok(None);
     }
     Ok(Some(CheckFault::UnknownName(context.at(name.place()))))
@@ -69,6 +75,17 @@ fn type_number(context: &Context<'_>, declared: &Declared) -> Option<usize>
     }
 }
 
+/// Whether the same type is written for two variables or places.
+fn have_same_type(a: &Declared, b: &Declared) -> bool
+    ensures { IsTrue result → text_or_object a.now.typed.of_type ≡ text_or_object b.now.typed.of_type }
+{
+    match (a.of_type(), b.of_type()) {
+        (Some(own), Some(wanted)) => own.text() == wanted.text(),
+        (None, None) => true,
+        _ => false,
+    }
+}
+
 /// Whether a variable can't stand in a place. Not, where one of the types isn't declared.
 fn is_barred(
     context: &Context<'_>,
@@ -78,6 +95,9 @@ fn is_barred(
     ensures { IfOk result (λ barred. IsTrue barred ↔ (IsTyped context.now.domain.now variable.now.typed × IsTyped context.now.domain.now place.now.typed
         × (MayStand context.now.domain.now variable.now (text_or_object place.now.typed.of_type) → ⊥))) }
 {
+    if have_same_type(variable, place) {
+        return Ok(false);
+    }
     match (type_number(context, variable), type_number(context, place)) {
         (Some(own), Some(wanted)) => {
             let types = context.types;
@@ -92,15 +112,15 @@ fn is_barred(
     }
 }
 
-/// Whether a constant or object lacks the type of a place. Not, where it isn't declared, or types aren't.
-fn lacks_type(context: &Context<'_>, text: &[u8], place: &Declared) -> Result<bool, AllocError>
-    ensures { IfOk result (λ lacks. IsTrue lacks ↔ (∥ AreKnown context.now.domain.now context.now.problem.now ∥₁ × IsTyped context.now.domain.now place.now.typed
-        × IsIn text.now (object_names context.now.domain.now context.now.problem.now)
-        × (HasType context.now.domain.now context.now.problem.now text.now (text_or_object place.now.typed.of_type) → ⊥))) }
+/// Whether the constant or object of a number lacks the type of a place. Not, where types aren't declared.
+fn lacks_type(context: &Context<'_>, object: usize, place: &Declared) -> Result<bool, AllocError>
+    ensures { (text : Text) → position (is_same_text text) (object_names context.now.domain.now context.now.problem.now) ≡ Some object
+        → IfOk result (λ lacks. IsTrue lacks ↔ (∥ AreKnown context.now.domain.now context.now.problem.now ∥₁ × IsTyped context.now.domain.now place.now.typed
+        × IsIn text (object_names context.now.domain.now context.now.problem.now)
+        × (HasType context.now.domain.now context.now.problem.now text (text_or_object place.now.typed.of_type) → ⊥))) }
 {
-    let number = context.vocabulary.objects().number_of(text);
-    match (context.objects, number, type_number(context, place)) {
-        (Some(objects), Some(object), Some(wanted)) => {
+    match (context.objects, type_number(context, place)) {
+        (Some(objects), Some(wanted)) => {
             let has = objects.has_type(context.alloc, context.types, object, wanted)?;
             Ok(!has)
         }
@@ -108,52 +128,42 @@ fn lacks_type(context: &Context<'_>, text: &[u8], place: &Declared) -> Result<bo
     }
 }
 
-/// A variable that can't have the type of its place.
-fn check_variable_type(
+/// A variable that isn't in force, or can't have the type of its place.
+fn check_variable_argument(
     context: &Context<'_>,
     scope: &Scope,
     variable: &Variable,
     place: &Declared,
 ) -> Result<Option<CheckFault>, AllocError>
-    ensures { IfOk result (Finds (Clashes context.now scope.now (term.Variable variable.now) place.now.typed)) }
+    ensures { IfOk result (Finds (ArgumentFails context.now scope.now (term.Variable variable.now, place.now))) }
 {
     let text = fold(context.alloc, variable.text())?;
-    if let Some(declared) = scope.get(&text)
-        && is_barred(context, declared, place)?
-    {
+    let Some(declared) = scope.get(text.as_slice()) else {
+        return Ok(Some(CheckFault::UnknownName(context.at(variable.place()))));
+    };
+    if is_barred(context, declared, place)? {
         return Ok(Some(CheckFault::TypeClash(context.at(variable.place()))));
     }
     Ok(None)
 }
 
-/// A constant or object that lacks the type of its place.
-fn check_object_type(
+/// A constant or object that isn't declared, or lacks the type of its place.
+fn check_object_argument(
     context: &Context<'_>,
     name: &Name,
     place: &Declared,
 ) -> Result<Option<CheckFault>, AllocError>
-    ensures { IfOk result (Finds (ObjectClashes context.now name.now place.now.typed)) }
+    ensures { IfOk result (λ found. (variables : List VariableInForce)
+        → Finds (ArgumentFails context.now variables (term.Object name.now, place.now)) found) }
 {
     let text = fold(context.alloc, name.text())?;
-    if lacks_type(context, &text, place)? {
+    let Some(object) = context.vocabulary.objects().number_of(text.as_slice()) else {
+        return Ok(Some(CheckFault::UnknownName(context.at(name.place()))));
+    };
+    if lacks_type(context, object, place)? {
         return Ok(Some(CheckFault::TypeClash(context.at(name.place()))));
     }
     Ok(None)
-}
-
-/// An argument that can't have the type of its place.
-fn check_type(
-    context: &Context<'_>,
-    scope: &Scope,
-    argument: &Term,
-    place: &Declared,
-) -> Result<Option<CheckFault>, AllocError>
-    ensures { IfOk result (Finds (Clashes context.now scope.now argument.now place.now.typed)) }
-{
-    match argument {
-        Term::Variable(variable) => check_variable_type(context, scope, variable, place),
-        Term::Object(name) => check_object_type(context, name, place),
-    }
 }
 
 /// An argument that isn't known, or can't have the type of its place.
@@ -165,9 +175,10 @@ fn check_argument(
 ) -> Result<Option<CheckFault>, AllocError>
     ensures { IfOk result (Finds (ArgumentFails context.now scope.now (argument.now, place.now))) }
 {
-    let unknown = check_term(context, scope, argument)?;
-    let clash = check_type(context, scope, argument, place)?;
-    Ok(first_of(unknown, clash))
+    match argument {
+        Term::Variable(variable) => check_variable_argument(context, scope, variable, place),
+        Term::Object(name) => check_object_argument(context, name, place),
+    }
 }
 
 /// A fault of some argument, where there are as many arguments as places.

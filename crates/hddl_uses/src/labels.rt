@@ -47,8 +47,8 @@ fn number_label(
 {
     if let Some(name) = label {
         let text = fold(alloc, name.text())?;
-        if numbers.get(&text).is_none() {
-            numbers.add(text, number)?;
+        if numbers.get(text.as_slice()).is_none() {
+            numbers.add(alloc, text.as_slice(), number)?;
         }
     }
     Ok(())
@@ -76,7 +76,10 @@ fn push_pair(
 {
     let before = fold(alloc, ordering.before.text())?;
     let after = fold(alloc, ordering.after.text())?;
-    if let (Some(first), Some(second)) = (numbers.get(&before), numbers.get(&after)) {
+    if let (Some(first), Some(second)) = (
+        numbers.get(before.as_slice()),
+        numbers.get(after.as_slice()),
+    ) {
         pairs.push((first, second))?;
     }
     Ok(())

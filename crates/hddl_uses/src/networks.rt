@@ -29,7 +29,7 @@ fn check_label(
     ensures { IfOk result (Finds (IsUnknownLabel context.now.source numbers.now name.now)) }
 {
     let text = fold(context.alloc, name.text())?;
-    if numbers.get(&text).is_some() {
+    if numbers.get(text.as_slice()).is_some() {
         return Ok(None);
     }
     Ok(Some(CheckFault::UnknownSubtask(context.at(name.place()))))

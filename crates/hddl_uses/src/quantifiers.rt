@@ -1,6 +1,6 @@
 //! The variables that a `forall` declares.
 ghost use Rattle.std.specs.Prelude.{◌≡◌, ◌++◌, List, IfOk, OnErr, OnOk};
-ghost use Rattle.hddl_meaning.specs.Items.{most_variables, variable_mentions};
+ghost use Rattle.hddl_meaning.specs.Items.{variable_mentions};
 ghost use Rattle.hddl_meaning.specs.Uses.{Variable, quantified_of};
 ghost use Rattle.hddl_uses.specs.Contexts.{AnyFails, Fails};
 ghost use Rattle.hddl_scope.specs.Findings.{Finds};
@@ -15,7 +15,7 @@ use hddl_tree::VariableGroup;
 use std::alloc::AllocError;
 
 /// A variable in force whose text stood before.
-fn check_repeat(context: &Context<'_>, scope: &Scope) -> Option<CheckFault>
+pub fn check_repeat(context: &Context<'_>, scope: &Scope) -> Option<CheckFault>
     ensures { Finds (Fails context.now (Different (variable_mentions scope.now))) result }
 {
     match scope.repeat() {
@@ -24,11 +24,11 @@ fn check_repeat(context: &Context<'_>, scope: &Scope) -> Option<CheckFault>
     }
 }
 
-/// The first variable past the limit of those in force at once.
-fn check_count(context: &Context<'_>, scope: &Scope) -> Option<CheckFault>
-    ensures { Finds (Fails context.now (Limited most_variables (variable_mentions scope.now))) result }
+/// The first variable in force past a limit.
+pub fn check_count(context: &Context<'_>, limit: usize, scope: &Scope) -> Option<CheckFault>
+    ensures { Finds (Fails context.now (Limited limit (variable_mentions scope.now))) result }
 {
-    match scope.first_past(MOST_DECLARATIONS) {
+    match scope.first_past(limit) {
         Some(place) => Some(CheckFault::TooMany(context.at(place))),
         None => None,
     }
@@ -46,7 +46,7 @@ fn check_quantifier(
     let own = variables_in(context.alloc, groups)?;
     let repeated = check_repeat(context, scope);
     let own_limit = check_limit(context, MOST_PARAMETERS, &own);
-    let limit = check_count(context, scope);
+    let limit = check_count(context, MOST_DECLARATIONS, scope);
     let types = check_variable_types(context, groups)?;
     Ok(first_of(repeated, first_of(own_limit, first_of(limit, types))))
 }

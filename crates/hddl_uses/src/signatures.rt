@@ -43,8 +43,8 @@ impl Signatures {
     {
         let text = fold(alloc, name.text())?;
         let places = parameters(alloc, groups)?;
-        if self.numbers.get(&text).is_none() {
-            self.numbers.add(text, self.places.len())?;
+        if self.numbers.get(text.as_slice()).is_none() {
+            self.numbers.add(alloc, text.as_slice(), self.places.len())?;
         }
         self.places.push(places)?;
         Ok(())

@@ -20,7 +20,7 @@ fn is_declared(context: &Context<'_>, name: &Name) -> Result<bool, AllocError>
 {
     let text = fold(context.alloc, name.text())?;
     let types = context.vocabulary.types();
-    Ok(types.number_of(&text).is_some())
+    Ok(types.number_of(text.as_slice()).is_some())
 }
 
 /// A type that isn't declared.

@@ -30,7 +30,7 @@ fn check_use(
         (record { variables = scope.now; atom = atom.now })) found) }
 {
     let text = fold(context.alloc, atom.name.text())?;
-    let Some(places) = declared.get(count, &text) else {
+    let Some(places) = declared.get(count, text.as_slice()) else {
         return Ok(Some(CheckFault::UnknownName(context.at(atom.name.place()))));
     };
     if atom.terms.len() != places.len() {

@@ -70,6 +70,10 @@ impl<T: Drop> Items<T> {
         ensures ok { OnOk result (self.new ≡ self.old ++ item ∷ []) }
         ensures err { OnErr result (self.new ≡ self.old) }
     {
+        // Most lists of a text have one item.
+        if self.vec.is_empty() {
+            self.vec.reserve_exact(1)?;
+        }
         self.vec.push(item)?;
         Ok(())
     }

@@ -6,8 +6,8 @@ ghost use Rattle.hddl_words.specs.Class.{class_of as class_of_word};
 ghost use Rattle.hddl_words.specs.Names.{is_name, name_of};
 ghost use Rattle.hddl_words.specs.Words.{word_of};
 
-use crate::items::Items;
 use crate::token::Token;
+use smallvec::SmallVec;
 use std::alloc::{AllocError, Global};
 use std::marker::Model;
 
@@ -15,15 +15,16 @@ use std::marker::Model;
 #[derive(Debug, Drop)]
 pub struct Name {
     place: usize,
-    text: Items<u8>,
+    /// Most are short, and need no allocation.
+    text: SmallVec<u8, 16>,
 }
 
 impl Model for Name {
     ghost Value = { Rattle.hddl_words.specs.Names.Name };
 
-    ghost view = { λ name. record { place = name.place; text = name.text } };
+    ghost view = { λ name. record { place = name.place; text = name.text.items } };
 
-    ghost invariant = { λ name. IsTrue (is_name name.text) };
+    ghost invariant = { λ name. IsTrue (is_name name.text.items) };
 }
 
 impl Name {
@@ -32,7 +33,7 @@ impl Name {
         requires { class_of_word (word_of token.now) ≡ class.Name }
         ensures { IfOk result (λ name. name ≡ name_of (word_of token.now)) }
     {
-        let text = Items::from_slice(alloc, token.text)?;
+        let text = SmallVec::from_slice(alloc, token.text)?;
         Ok(Name {
             place: token.place,
             text,

@@ -6,8 +6,8 @@ ghost use Rattle.hddl_words.specs.Class.{class_of as class_of_word};
 ghost use Rattle.hddl_words.specs.Names.{is_variable, variable_of};
 ghost use Rattle.hddl_words.specs.Words.{word_of};
 
-use crate::items::Items;
 use crate::token::Token;
+use smallvec::SmallVec;
 use std::alloc::{AllocError, Global};
 use std::marker::Model;
 
@@ -15,15 +15,16 @@ use std::marker::Model;
 #[derive(Debug, Drop)]
 pub struct Variable {
     place: usize,
-    text: Items<u8>,
+    /// Most are short, and need no allocation.
+    text: SmallVec<u8, 16>,
 }
 
 impl Model for Variable {
     ghost Value = { Rattle.hddl_words.specs.Names.Variable };
 
-    ghost view = { λ variable. record { place = variable.place; text = variable.text } };
+    ghost view = { λ variable. record { place = variable.place; text = variable.text.items } };
 
-    ghost invariant = { λ variable. IsTrue (is_variable variable.text) };
+    ghost invariant = { λ variable. IsTrue (is_variable variable.text.items) };
 }
 
 impl Variable {
@@ -32,7 +33,7 @@ impl Variable {
         requires { class_of_word (word_of token.now) ≡ class.Variable }
         ensures { IfOk result (λ variable. variable ≡ variable_of (word_of token.now)) }
     {
-        let text = Items::from_slice(alloc, token.text)?;
+        let text = SmallVec::from_slice(alloc, token.text)?;
         Ok(Variable {
             place: token.place,
             text,

@@ -6,7 +6,7 @@ use Rattle.std.proofs.lemmas.Nat.Bits.{bit_at-lt, bit_at_or, bit_at_set_same, bi
 use Rattle.htn_order.specs.BitRows.{is_set, number_of}
 
 -- a bit is 0 or 1
-low_bit : (a : ℕ) → a < 2 → (a ≡ 0) ⊎ (a ≡ 1)
+pub low_bit : (a : ℕ) → a < 2 → (a ≡ 0) ⊎ (a ≡ 1)
 low_bit a h = elim (cases_lt a 1) [ inl less ↦ inl (omega arith) | inr more ↦ inr (omega arith) ]
 
 -- the greater of two bits is set exactly where one of them is

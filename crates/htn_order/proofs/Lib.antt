@@ -11,3 +11,5 @@ pub mod TableRows
 pub mod Joining
 pub mod JoinLoop
 pub mod Successors
+pub mod LaneSums
+pub mod Columns

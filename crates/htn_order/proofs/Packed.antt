@@ -102,6 +102,20 @@ united_entries n words new a b first second is =
 
 -- ## A table determines its words
 
+-- a bit of a word is set where its row's position is before the bit's
+pub row_bit : (n : ℕ) (words : List ℕ) → IsPacked n words → (i a k j : ℕ) → a < n → k < words_per_row n → a * words_per_row n + k ≡ i → j < 64
+    → is_set (get_or words i 0) j ≡ is_before (rows_of n words) a (64 * k + j)
+row_bit n words packed i a k j row column place low =
+    let width = words_per_row n in
+    let y = 64 * k + j in
+    let word : y / 64 ≡ k = omega arith in
+    let offset : y % 64 ≡ j = omega arith in
+    let here : is_set (get_or words i 0) j ≡ bit width words a y = ap₂ (λ w o. is_set w o) (ap (λ p. get_or words p 0) (sym (ap (λ m. a * width + m) word ∙ place))) (sym offset) in
+    elim (cases_lt y n) [
+      | inl under ↦ here ∙ sym (table_within n (bit width words) a y row under)
+      | inr past ↦ here ∙ packed.spare a y row past (subst (λ m. m < width) (sym word) column) ∙ sym (table_past_right n (bit width words) a y past)
+    ]
+
 -- each word of the bits is that of its table
 word_from_table : (n : ℕ) (words : List ℕ) → IsPacked n words → (i : ℕ) → i < n * words_per_row n → get_or words i 0 ≡ word_of (rows_of n words) i
 word_from_table n words packed i h =
@@ -117,21 +131,8 @@ word_from_table n words packed i h =
     let is : get_or words i 0 ≡ number_of test 64 =
     same_from_bits_below 64 (get_or words i 0) (number_of test 64) (packed.small i) (number_of_lt test 64)
     (λ j low. bit_from_set (get_or words i 0) (number_of test 64) j j
-    (read n words packed i a k j row column place low ∙ sym (is_set-number_of test 64 j low))) in
+    (row_bit n words packed i a k j row column place low ∙ sym (is_set-number_of test 64 j low))) in
     is ∙ ap (λ m. number_of (λ j. get_or (get_or (rows_of n words) (i / words_per_row m) []) (64 * (i % words_per_row m) + j) false) 64) (sym size)
-  where
-    read : (n : ℕ) (words : List ℕ) → IsPacked n words → (i a k j : ℕ) → a < n → k < words_per_row n → a * words_per_row n + k ≡ i → j < 64
-        → is_set (get_or words i 0) j ≡ is_before (rows_of n words) a (64 * k + j)
-    read n words packed i a k j row column place low =
-        let width = words_per_row n in
-        let y = 64 * k + j in
-        let word : y / 64 ≡ k = omega arith in
-        let offset : y % 64 ≡ j = omega arith in
-        let here : is_set (get_or words i 0) j ≡ bit width words a y = ap₂ (λ w o. is_set w o) (ap (λ p. get_or words p 0) (sym (ap (λ m. a * width + m) word ∙ place))) (sym offset) in
-        elim (cases_lt y n) [
-          | inl under ↦ here ∙ sym (table_within n (bit width words) a y row under)
-          | inr past ↦ here ∙ packed.spare a y row past (subst (λ m. m < width) (sym word) column) ∙ sym (table_past_right n (bit width words) a y past)
-        ]
 
 -- the words are those of their table
 pub words_from_table : (n : ℕ) (words : List ℕ) → IsPacked n words → words ≡ words_of (rows_of n words)

@@ -1,5 +1,5 @@
 -- Rows in one word each.
-use Rattle.std.proofs.Common.{◌≡◌, ℕ, ◌+◌, ◌-◌, ◌*◌, ◌/◌, ◌%◌, ◌^◌, ◌<◌, ◌≤◌, Bool, true, false, cond, eqb, ltb, ◌||◌, ◌&&◌, ◌++◌, ◌∷◌, [], ◌≢◌, max, inl, inr, List, length, get_or, set, refl, sym, ap, ap₂, ◌∙◌, subst, arith, bit_or, get_or-set_same, get_or-set_other}
+use Rattle.std.proofs.Common.{◌≡◌, ℕ, ◌+◌, ◌-◌, ◌*◌, ◌/◌, ◌%◌, ◌^◌, ◌<◌, ◌≤◌, Bool, true, false, cond, eqb, ltb, ◌||◌, ◌&&◌, ◌++◌, ◌∷◌, [], ◌≢◌, max, inl, inr, List, length, get_or, refl, sym, ap, ap₂, ◌∙◌, subst, arith, bit_or, get_or-set_same, get_or-set_other}
 use Rattle.std.specs.Int.{bit_at}
 use Rattle.std.proofs.lemmas.Bool.{both_ways, cases_Bool, cases_lt, cases_eq, eq-eqb, ne_eqb, lt-ltb, le-ltb, eqb-true, ltb-true, and_parts, and_right}
 use Rattle.std.proofs.lemmas.Nat.{mod_below, or_lt, pow_pos}

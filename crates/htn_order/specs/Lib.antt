@@ -7,3 +7,4 @@ pub mod Forms
 pub mod Closure
 pub mod Closing
 pub mod Faults
+pub mod Counts

@@ -1,11 +1,13 @@
 //! Tables of bits, by which a position is before another.
-ghost use Rattle.std.specs.Prelude.{◌+◌, ◌*◌, ◌<◌, ◌^◌, ◌/◌, ◌≡◌, ◌≢◌, ◌&&◌, ◌||◌, ◌↔◌, Bool, IfOk, IsTrue, List, eqb, fold, length, ltb, ℕ};
+ghost use Rattle.std.specs.Prelude.{◌+◌, ◌*◌, ◌<◌, ◌≤◌, ◌^◌, ◌/◌, ◌≡◌, ◌≢◌, ◌&&◌, ◌||◌, ◌↔◌, Bool, IfOk, IsTrue, List, eqb, fold, length, ltb, min, ℕ};
 ghost use Rattle.htn_model.specs.Choice.{is_free};
 ghost use Rattle.htn_model.specs.Problem.{IsClosed, IsSquare, is_before};
 ghost use Rattle.htn_order.specs.Shapes.{chain, unordered};
 ghost use Rattle.htn_order.specs.BitRows.{IsPacked, is_set, rows_of, rows_hash, united, with_bit, word_at, words_per_row};
+ghost use Rattle.htn_order.specs.Counts.{AreColumnCounts, AreCounted, lane};
 ghost use Rattle.htn_order.specs.Words.{AreEntered};
 
+use crate::lanes::{add_to_lanes, lane};
 use crate::words::{add_bits, ones};
 use std::alloc::{AllocError, Global};
 use std::hash::{Hash, Hasher};
@@ -169,6 +171,60 @@ impl BitRows {
             word |= self.row_word(a);
         }
         word
+    }
+
+    /// Counts in lanes, which have 0 each, how many positions are before each of those that share word `k` of a row.
+    fn count_column(&self, lanes: &mut [u64], k: usize)
+        requires column { k < words_per_row (length self.now) }
+        requires wide { length lanes.old ≡ 64 }
+        requires none { (j : ℕ) → lane lanes.old j (length lanes.old) ≡ 0 }
+        ensures { AreColumnCounts self.now (64 * k) (length self.now) lanes.new }
+    {
+        let width = words_per_row(self.size);
+        for a in 0..self.size {
+            let word = self.words[a * width + k];
+            add_to_lanes(lanes, word);
+        }
+    }
+
+    /// How many positions are before each of those that share word `k` of a row, in lanes.
+    fn column_lanes(&self, alloc: Global, k: usize) -> Result<Vec<u64>, AllocError>
+        requires { k < words_per_row (length self.now) }
+        ensures { IfOk result (λ lanes. AreColumnCounts self.now (64 * k) (length self.now) lanes.items) }
+    {
+        let mut lanes = vec![in alloc; 0; 64]?;
+        self.count_column(&mut lanes, k);
+        Ok(lanes)
+    }
+
+    /// Adds the counts of up to 64 positions from one on, which lanes have.
+    fn push_counts(
+        &self,
+        lanes: &[u64],
+        from: usize,
+        counts: &mut Vec<usize>,
+    ) -> Result<(), AllocError>
+        requires lanes { AreColumnCounts self.now from (length self.now) lanes.now }
+        requires from { from ≤ length self.now }
+        requires counts { AreCounted self.now from counts.old.items }
+        ensures { IfOk result (λ _. AreCounted self.now (min (from + 64) (length self.now)) counts.new.items) }
+    {
+        for position in from..self.size().min(from.saturating_add(64)) {
+            counts.push(lane(lanes, position - from))?;
+        }
+        Ok(())
+    }
+
+    /// For each position, how many positions are before it.
+    pub fn predecessor_counts(&self, alloc: Global) -> Result<Vec<usize>, AllocError>
+        ensures { IfOk result (λ counts. AreCounted self.now (length self.now) counts.items) }
+    {
+        let mut counts = Vec::with_capacity(alloc, self.size())?;
+        for k in 0..words_per_row(self.size()) {
+            let lanes = self.column_lanes(alloc, k)?;
+            self.push_counts(&lanes, 64 * k, &mut counts)?;
+        }
+        Ok(counts)
     }
 
     /// Whether two tables are the same.

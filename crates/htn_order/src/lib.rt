@@ -9,6 +9,7 @@
 
 mod bit_rows;
 mod closure;
+mod lanes;
 mod order;
 mod sequence;
 mod words;

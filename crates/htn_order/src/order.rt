@@ -1,10 +1,11 @@
 //! The closed order of a network's nodes.
-ghost use Rattle.std.specs.Prelude.{◌+◌, ◌-◌, ◌<◌, ◌^◌, ◌≤◌, ◌≡◌, ◌&&◌, [], IfOk, IfSome, Result, length, ltb, ℕ};
+ghost use Rattle.std.specs.Prelude.{◌+◌, ◌-◌, ◌<◌, ◌^◌, ◌≤◌, ◌≡◌, ◌&&◌, [], IfOk, IfSome, Result, get_or, length, ltb, ℕ};
 ghost use Rattle.htn_model.specs.Choice as choice;
 ghost use Rattle.htn_model.specs.Machine as machine;
 ghost use Rattle.htn_model.specs.Problem.{IsClosed, IsSquare, order_eq};
 ghost use Rattle.htn_model.specs.Problem as problem;
 ghost use Rattle.htn_order.specs.BitRows.{is_set};
+ghost use Rattle.htn_order.specs.Counts.{AreCounted};
 ghost use Rattle.htn_order.specs.Words.{AreEnteredIn};
 ghost use Rattle.htn_order.specs.Free.{HasNoneFree, IsNextFree};
 ghost use Rattle.htn_order.specs.Shapes as shapes;
@@ -204,6 +205,18 @@ impl Order {
         None
     }
 
+    /// For each position, how many positions are before it.
+    ///
+    /// It adds up whole words of a table, 64 bits in a few steps.
+    pub fn predecessor_counts(&self, alloc: Global) -> Result<Vec<usize>, AllocError>
+        ensures { IfOk result (λ counts. AreCounted self.now (length self.now) counts.items) }
+    {
+        match &self.form {
+            Form::Chain(size) => numbers_below(alloc, *size),
+            Form::Rows(rows) => rows.predecessor_counts(alloc),
+        }
+    }
+
     /// The order with a new position before all others, which keep their order behind it.
     pub fn with_first(&self, alloc: Global) -> Result<Order, AllocError>
         ensures { IfOk result (λ order. order ≡ shapes.with_first self.now) }
@@ -229,6 +242,18 @@ impl Order {
         let rows = replaced_rows(alloc, self, at, inner, size)?;
         Ok(Order::from_rows(rows))
     }
+}
+
+/// The numbers below a size, in their order.
+fn numbers_below(alloc: Global, size: usize) -> Result<Vec<usize>, AllocError>
+    ensures size { IfOk result (λ numbers. length numbers.items ≡ size) }
+    ensures each { IfOk result (λ numbers. (i : ℕ) → i < size → get_or numbers.items i 0 ≡ i) }
+{
+    let mut numbers = Vec::with_capacity(alloc, size)?;
+    for number in 0..size {
+        numbers.push(number)?;
+    }
+    Ok(numbers)
 }
 
 /// The position before the replacement of what stands at a position after it.

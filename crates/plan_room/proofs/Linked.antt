@@ -10,7 +10,7 @@ use Rattle.htn_model.specs.Equality.{ground_task_eq-decides}
 use Rattle.htn_model.specs.Fits.{PlanTree, action_at, decomposition, child_of, Fits}
 use Rattle.htn_ground.specs.Views.{child_view, children_of}
 use Rattle.htn_ground.specs.declared.child.Child.{Child}
-use Rattle.plan_room.specs.Placing.{IsSequence}
+use Rattle.plan_room.specs.Placing.{AreAhead, IsSequence}
 use Rattle.plan_room.specs.Lines.{Lines, AreLines, task_of}
 use Rattle.plan_room.specs.Matching.{AreTwins, IsBlockedBy}
 use Rattle.plan_room.specs.Seats.{is_step_at, seating_of, suits_at}
@@ -331,8 +331,8 @@ module _ (l : Lines) (children : List ℕ) (network : Network) (sequence : List 
   pub linked : AreLines l → (links : Links) (rising : List Bool) → links.first.items ≡ first_list → AreNext (task_at l children) 0 k links.after.items
       → AreRising (task_at l children) children l.actions 0 rising
       → AreFlagged network.order sequence (λ a. get_or links.first.items a 0) rising 0 (λ a. get_or links.fixed.items a false ≡ true)
-      → AreLinked (seating_of l children network sequence gap) k links
-  linked are links rising first_is next rise flagged = record {
+      → AreAhead network.order sequence links.ahead.items → AreLinked (seating_of l children network sequence gap) k links
+  linked are links rising first_is next rise flagged ahead = record {
     firsts = ap length first_is ∙ length-map nodes (λ c. first_of find k (child_view c)) ∙ sym (length-map nodes child_view) ∙ ap length nodes_are ∙ sym square.0;
     first = λ a c low is. elim (suited l children network sequence gap a c is) [
       | inl child ↦ (let e = child_first a c child.1 in let f : get_or links.first.items a 0 ≡ get_or first_list a 0 = ap (λ xs. get_or xs a 0) first_is in
@@ -356,6 +356,7 @@ module _ (l : Lines) (children : List ℕ) (network : Network) (sequence : List 
                 (λ e. let f = is_sequence.once i j (omega arith) small (at ∙ own_step a (get_or sequence j 0) c e (suited l children network sequence gap (get_or sequence j 0) c jc)) in omega arith)),
           )
         ];
+    ahead = ahead;
   }
     where
       -- a step has no other position

@@ -3,6 +3,7 @@ use Rattle.std.specs.Prelude.{◌≡◌, ℕ, ◌≤◌, ◌<◌, ◌⊎◌, Boo
 use Rattle.indexmap.specs.IndexMap.{get}
 use Rattle.htn_model.specs.Problem.{GroundTask, ground_task_eq, Order, is_before, Child, precondition, action, task}
 use Rattle.plan_room.specs.Lines.{Lines, task_of}
+use Rattle.plan_room.specs.Placing.{AreAhead}
 use Rattle.plan_room.specs.Matching.{Seating, AreTwins, IsFixed}
 use Rattle.plan_room.specs.declared.places.Places.{Places}
 use Rattle.plan_room.specs.declared.links.Links.{Links}
@@ -63,3 +64,4 @@ pub record AreLinked (w : Seating) (k : ℕ) (links : Links) : Type 0 where
   pub within : (c : ℕ) → c < k → get_or links.after.items c 0 ≤ k
   pub next : (a c d : ℕ) → c < d → d < k → w.suits a c ≡ true → w.suits a d ≡ true → get_or links.after.items c 0 ≤ d
   pub fixed : (a : ℕ) → get_or links.fixed.items a false ≡ true → IsFixed w a
+  pub ahead : AreAhead w.order w.sequence links.ahead.items

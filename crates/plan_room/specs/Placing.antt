@@ -1,5 +1,5 @@
 -- Where the positions of a network are placed between gaps, each as early as it can be.
-use Rattle.std.specs.Prelude.{◌≡◌, ℕ, ◌≤◌, ◌<◌, List, length, get_or, true, ⊤}
+use Rattle.std.specs.Prelude.{◌≡◌, ℕ, ◌≤◌, ◌<◌, List, length, get_or, true, false, ⊤}
 use Rattle.htn_model.specs.Problem.{Order, is_before}
 use Rattle.htn_model.specs.Fits.{AreSpans}
 use Rattle.plan_room.specs.declared.rooms.Finish.{Finish}
@@ -36,6 +36,18 @@ pub record IsSequence (order : Order) (sequence : List ℕ) : Type 0 where
   pub listed : (a : ℕ) → a < length order → (i : ℕ) × (i < length sequence) × (get_or sequence i 0 ≡ a)
   pub once : (i j : ℕ) → i < length sequence → j < length sequence → get_or sequence i 0 ≡ get_or sequence j 0 → i ≡ j
   pub ordered : (i j : ℕ) → i < length sequence → j < length sequence → is_before order (get_or sequence i 0) (get_or sequence j 0) ≡ true → i < j
+
+-- the first places of a sequence up to one are all before position a, and from another on none is
+pub record IsAhead (order : Order) (sequence : List ℕ) (a sure end : ℕ) : Type 0 where
+  pub low : sure ≤ end
+  pub own : (i : ℕ) → i < length sequence → get_or sequence i 0 ≡ a → end ≤ i
+  pub all : (i : ℕ) → i < sure → is_before order (get_or sequence i 0) a ≡ true
+  pub none : (i : ℕ) → end ≤ i → i < length sequence → is_before order (get_or sequence i 0) a ≡ false
+
+-- for each position, where in the sequence those before it are
+pub record AreAhead (order : Order) (sequence : List ℕ) (ahead : List (ℕ × ℕ)) : Type 0 where
+  pub size : length ahead ≡ length order
+  pub each : (a : ℕ) → a < length order → IsAhead order sequence a (get_or ahead a (0, 0)).0 (get_or ahead a (0, 0)).1
 
 -- the first gap from g on by which all before position a have finished
 pub record IsStart (order : Order) (finishes : List ℕ) (g a start : ℕ) : Type 0 where

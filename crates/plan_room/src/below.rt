@@ -150,6 +150,10 @@ impl<L: PlanLines> Choices for Below<'_, L> {
         self.sequence
     }
 
+    fn ahead(&self, position: usize) -> (usize, usize) {
+        self.links.ahead[position]
+    }
+
     fn gap(&self) -> usize {
         self.gap
     }

@@ -121,8 +121,8 @@ fn work_of<L: PlanLines>(
     requires lower { IsLower (L.lines lines.now) listed.now gap bound.end }
     ensures { IfOk result (λ work. IsWork (L.lines lines.now) listed.now instance.now.network gap (Some work)) }
 {
-    let sequence = sequence(alloc, instance.order())?;
-    let links = links_of(alloc, lines, &children, instance, &sequence)?;
+    let (sequence, ahead) = sequence(alloc, instance.order())?;
+    let links = links_of(alloc, lines, &children, instance, &sequence, ahead)?;
     let below = Below {
         lines,
         memo,

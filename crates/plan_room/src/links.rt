@@ -6,7 +6,7 @@ ghost use Rattle.htn_model.specs.Problem as problem;
 ghost use Rattle.plan_room.specs.Lines.{AreLines};
 ghost use Rattle.plan_room.specs.Links.{AreFlagged, AreLinked, AreNext, AreRising, IsFirstPlace, first_of, place_of, task_at};
 ghost use Rattle.plan_room.specs.Matching.{AreTwins};
-ghost use Rattle.plan_room.specs.Placing.{IsSequence};
+ghost use Rattle.plan_room.specs.Placing.{AreAhead, IsSequence};
 ghost use Rattle.plan_room.specs.Seats.{seating_of};
 
 use crate::lines::PlanLines;
@@ -24,6 +24,8 @@ pub(crate) struct Links {
     pub after: Vec<usize>,
     /// For each position whether the first choice that is free will do.
     pub fixed: Vec<bool>,
+    /// For each position up to which place of the sequence all are before it, and from which on none is.
+    pub ahead: Vec<(usize, usize)>,
 }
 
 /// For each child the next one that has the same task, and where each task comes first.
@@ -193,12 +195,14 @@ pub(crate) fn links_of<L: PlanLines>(
     children: &[usize],
     instance: &Instance,
     sequence: &[usize],
+    ahead: Vec<(usize, usize)>,
 ) -> Result<Links, AllocError>
     requires lines { AreLines (L.lines lines.now) }
     requires low { (i : ℕ) → i < length children.now → get_or children.now i 0 < (L.lines lines.now).count }
     requires few { length children.now + length instance.now.network.children < 2 ^ 64 }
     requires square { IsSquare (length instance.now.network.children) instance.now.network.order }
     requires sequence { IsSequence instance.now.network.order sequence.now }
+    requires ahead { AreAhead instance.now.network.order sequence.now ahead.items }
     ensures { IfOk result (λ links. (gap : ℕ) → AreLinked (seating_of (L.lines lines.now) children.now instance.now.network sequence.now gap) (length children.now) links) }
 {
     let mut places = Places::new(alloc);
@@ -216,5 +220,6 @@ pub(crate) fn links_of<L: PlanLines>(
         first,
         after,
         fixed,
+        ahead,
     })
 }

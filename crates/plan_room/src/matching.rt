@@ -12,6 +12,7 @@ use std::alloc::{AllocError, Global};
 /// its own for a step.
 pub trait Choices {
     ghost use Rattle.plan_room.specs.Matching.{HasMatchedRoom, IsFixed, Seating};
+    ghost use Rattle.plan_room.specs.Placing.{IsAhead};
     ghost use Rattle.plan_room.specs.declared.rooms.Question.{Question};
 
     // The network, and which choices have room where.
@@ -34,6 +35,12 @@ pub trait Choices {
     /// All positions, each after those that are before it.
     fn sequence(&self) -> &[usize]
         ensures { result.now ≡ (seating self.now).sequence };
+
+    /// Two places of the sequence: all up to the first are before the position, and none is from the second on.
+    fn ahead(&self, position: usize) -> (usize, usize)
+        requires sound { is_sound self.now }
+        requires low { position < length (seating self.now).order }
+        ensures { IsAhead (seating self.now).order (seating self.now).sequence position result.0 result.1 };
 
     /// The gap from which on the network may start.
     fn gap(&self) -> usize
@@ -129,9 +136,10 @@ fn start_of<C: Choices>(trial: &Trial, choices: &C, position: usize) -> usize
 {
     let sequence = choices.sequence();
     let _size = choices.size();
-    let mut start = choices.gap();
-    let mut place = trial.depth;
-    while place > 0 && start < trial.highs[place] {
+    let (sure, end) = choices.ahead(position);
+    let mut start = trial.highs[sure];
+    let mut place = end;
+    while place > sure && start < trial.highs[place] {
         place -= 1;
         let before = sequence[place];
         if start < trial.finishes[before] && choices.is_before(before, position) {

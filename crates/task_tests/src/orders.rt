@@ -141,6 +141,31 @@ fn free_positions_ascend(rt: HostRuntime) -> Result<(), Fail> {
 }
 
 #[test]
+fn predecessors_are_counted(rt: HostRuntime) -> Result<(), Fail> {
+    let alloc = rt.alloc();
+    let order = closed(alloc, 5, &[(3, 0), (0, 2), (4, 1)])?;
+    let counts = order.predecessor_counts(alloc)?;
+    assert!(rt; counts.as_slice() == [1, 1, 2, 0, 0].as_slice());
+    let counts = Order::chain(3).predecessor_counts(alloc)?;
+    assert!(rt; counts.as_slice() == [0, 1, 2].as_slice());
+    // 100 positions, each behind all that have a greater number: rows of two words.
+    let mut pairs = Vec::with_capacity(alloc, 99)?;
+    for b in 1..100 {
+        pairs.push((b, b - 1))?;
+    }
+    let counts = closed(alloc, 100, &pairs)?.predecessor_counts(alloc)?;
+    assert_eq!(rt; counts.len(), 100);
+    assert!(rt;
+        counts
+            .iter()
+            .rev()
+            .enumerate()
+            .all(|(k, count)| *count == k)
+    );
+    Ok(())
+}
+
+#[test]
 fn equal_orders_hash_alike(rt: HostRuntime) -> Result<(), Fail> {
     let alloc = rt.alloc();
     let mut seen = HashSet::new(alloc);

@@ -6,4 +6,4 @@ use Rattle.hddl_build.proofs.schema.name_of.Goals as goal
 
 pub new-requires : goal.new-requires
 new-requires c =
-    subst IsName (sym (c.deref.ensures.value ∙ c.in_ok-text.ensures ∙ ap folded c.text.ensures.value)) (folded_name c.args.name.now.text c.text.ensures.name)
+    subst IsName (sym (c.as_slice.ensures ∙ c.in_ok-text.ensures ∙ ap folded c.text.ensures.value)) (folded_name c.args.name.now.text c.text.ensures.name)

@@ -1,7 +1,7 @@
 use Rattle.std.proofs.Common.{◌≡◌, ◌∙◌, ◌++◌, ap, sym, subst, List, map}
 use Rattle.hddl_tree.specs.declared.term.VariableGroup.{VariableGroup}
 use Rattle.hddl_tree.specs.declared.condition.LiteralText.{LiteralText}
-use Rattle.hddl_meaning.specs.Items.{most_parameters}
+use Rattle.hddl_meaning.specs.Items.{most_parameters, variable_mentions}
 use Rattle.hddl_meaning.specs.Mentions.{Mention, mentions_of, typed_variables}
 use Rattle.hddl_meaning.specs.Uses.{Variable, parameters_of, schema_of_action}
 use Rattle.hddl_meaning.proofs.Listed.{in_left}
@@ -10,11 +10,9 @@ use Rattle.hddl_scope.specs.Findings.{Finds}
 use Rattle.hddl_uses.specs.Parts.{Part, Limited, Atom, conditions_parts}
 use Rattle.hddl_check.specs.TextParts.{inner_parts, parameter_parts}
 use Rattle.hddl_scope.proofs.Finding.{Finds-append, Finds-enough, Finds-list, Finds-within, some_among}
+use Rattle.hddl_scope.proofs.ScopeLists.{parameter_mentions}
 use Rattle.hddl_check.proofs.SchemaLists.{limit_in, action_inner, to_action, from_action}
 use Rattle.hddl_check.proofs.schemas.check_action.Goals as goal
-
-pub check_parameters-requires : goal.check_parameters-requires
-check_parameters-requires c = c.deref.ensures.value ∙ c.in_ok-mentions.ensures
 
 pub returns-then-is_some : goal.returns-then-is_some
 returns-then-is_some c =
@@ -24,9 +22,8 @@ returns-then-is_some c =
     let inner : List Part = inner_parts (schema_of_action c.args.action.now) in
     let found = Finds-list P (ap (λ (g : List VariableGroup). parameter_parts g) c.as_slice-groups.ensures) c.in_ok-own.ensures in
     let limit : Part = Limited most_parameters (mentions_of (typed_variables gs)) in
-    let past =
-    subst (λ (ms : List Mention). Finds (P (Limited most_parameters ms)) c.check_limit.result)
-    (c.deref-2.ensures.value ∙ c.in_ok-mentions.ensures ∙ ap (λ (g : List VariableGroup). mentions_of (typed_variables g)) c.as_slice-groups.ensures) c.check_limit.ensures in
+    let mentions = ap variable_mentions (c.in_ok-scope.ensures ∙ ap parameters_of c.as_slice-groups.ensures) ∙ parameter_mentions gs in
+    let past = subst (λ (ms : List Mention). Finds (P (Limited most_parameters ms)) c.check_count.result) mentions c.check_count.ensures in
     Finds-enough P own (own ++ inner) (λ x at. in_left x own inner at) (some_among P limit own (limit_in gs) (sym c.is_some.ensures ∙ c.if-is_some.true) past found) found
 
 pub returns : goal.returns

@@ -2,7 +2,7 @@ use Rattle.std.proofs.Common.{◌≡◌, ◌∙◌, ◌++◌, ◌∷◌, ap, sym
 use Rattle.hddl_tree.specs.declared.term.VariableGroup.{VariableGroup}
 use Rattle.hddl_tree.specs.declared.network.SubtaskText.{SubtaskText}
 use Rattle.std.specs.List.{flat_map}
-use Rattle.hddl_meaning.specs.Items.{most_parameters}
+use Rattle.hddl_meaning.specs.Items.{most_parameters, variable_mentions}
 use Rattle.hddl_meaning.specs.Mentions.{Mention, mentions_of, typed_variables}
 use Rattle.hddl_meaning.specs.Uses.{Variable, parameters_of, sides, subtasks_in, constraints_in, schema_of_method}
 use Rattle.hddl_meaning.proofs.Listed.{in_left}
@@ -11,11 +11,9 @@ use Rattle.hddl_scope.specs.Findings.{Finds}
 use Rattle.hddl_uses.specs.Parts.{Part, Limited, Decomposed, Side, Subtask, conditions_parts}
 use Rattle.hddl_check.specs.TextParts.{inner_parts, parameter_parts}
 use Rattle.hddl_scope.proofs.Finding.{Finds-append, Finds-cons, Finds-enough, Finds-list, some_among}
+use Rattle.hddl_scope.proofs.ScopeLists.{parameter_mentions}
 use Rattle.hddl_check.proofs.SchemaLists.{limit_in, method_is}
 use Rattle.hddl_check.proofs.schemas.check_method.Goals as goal
-
-pub check_parameters-requires : goal.check_parameters-requires
-check_parameters-requires c = c.deref.ensures.value ∙ c.in_ok-mentions.ensures
 
 pub returns-then-is_some : goal.returns-then-is_some
 returns-then-is_some c =
@@ -25,9 +23,8 @@ returns-then-is_some c =
     let inner : List Part = inner_parts (schema_of_method c.args.method.now) in
     let found = Finds-list P (ap (λ (g : List VariableGroup). parameter_parts g) c.as_slice-groups.ensures) c.in_ok-own.ensures in
     let limit : Part = Limited most_parameters (mentions_of (typed_variables gs)) in
-    let past =
-    subst (λ (ms : List Mention). Finds (P (Limited most_parameters ms)) c.check_limit.result)
-    (c.deref-2.ensures.value ∙ c.in_ok-mentions.ensures ∙ ap (λ (g : List VariableGroup). mentions_of (typed_variables g)) c.as_slice-groups.ensures) c.check_limit.ensures in
+    let mentions = ap variable_mentions (c.in_ok-scope.ensures ∙ ap parameters_of c.as_slice-groups.ensures) ∙ parameter_mentions gs in
+    let past = subst (λ (ms : List Mention). Finds (P (Limited most_parameters ms)) c.check_count.result) mentions c.check_count.ensures in
     Finds-enough P own (own ++ inner) (λ x at. in_left x own inner at) (some_among P limit own (limit_in gs) (sym c.is_some.ensures ∙ c.if-is_some.true) past found) found
 
 pub returns : goal.returns

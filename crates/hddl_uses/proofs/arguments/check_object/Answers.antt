@@ -15,7 +15,7 @@ returns-then-is_some c =
     let t = folded c.args.name.now.text in
     let told : is_some (position (is_same_text t) names) ≡ true =
     ap is_some
-    (λ i. position (is_same_text ((sym (c.deref.ensures.value ∙ c.in_ok-text.ensures ∙ ap folded c.text.ensures.value)) i)) ((sym (c.objects.ensures ∙ ap (λ v. v.objects) context.known)) i))
+    (λ i. position (is_same_text ((sym (c.as_slice.ensures ∙ c.in_ok-text.ensures ∙ ap folded c.text.ensures.value)) i)) ((sym (c.objects.ensures ∙ ap (λ v. v.objects) context.known)) i))
     ∙ sym (ap is_some c.number_of.ensures) ∙ sym c.is_some.ensures ∙ c.if-is_some.true in
     none_at UnknownName context.source {P = IsMissing names c.args.name.now} (Finds-none (λ place h. h.0 ((named names t).0 told)))
 
@@ -27,6 +27,6 @@ returns c =
     let told : c.is_some.result ≡ is_some (position (is_same_text t) names) =
     c.is_some.ensures ∙ ap is_some c.number_of.ensures
     ∙ ap is_some
-    (λ i. position (is_same_text ((c.deref.ensures.value ∙ c.in_ok-text.ensures ∙ ap folded c.text.ensures.value) i)) ((c.objects.ensures ∙ ap (λ v. v.objects) context.known) i)) in
+    (λ i. position (is_same_text ((c.as_slice.ensures ∙ c.in_ok-text.ensures ∙ ap folded c.text.ensures.value) i)) ((c.objects.ensures ∙ ap (λ v. v.objects) context.known) i)) in
     found_at UnknownName context.source {P = IsMissing names c.args.name.now} c.at.result
     (Finds-some c.place.result (λ at. let some = (named names t).1 at in let no = c.if-is_some.false in cc, c.place.ensures)) c.at.ensures

@@ -15,7 +15,7 @@ returns-then-is_some c =
     let t = folded c.args.variable.now.text in
     let told : c.is_some.result ≡ is_some (variable_in scope t) =
     c.is_some.ensures ∙ sym (some_mapped (λ v. v.now) c.get.result) ∙ ap is_some c.get.ensures
-    ∙ ap (λ x. is_some (variable_in scope x)) (c.deref.ensures.value ∙ c.in_ok-text.ensures ∙ ap folded c.text.ensures.value) in
+    ∙ ap (λ x. is_some (variable_in scope x)) (c.as_slice.ensures ∙ c.in_ok-text.ensures ∙ ap folded c.text.ensures.value) in
     none_at UnknownName context.source {P = IsUnknownTerm (object_names context.domain.now context.problem.now) (record { variables = scope; term = term.Variable c.args.variable.now })}
     (Finds-none (λ place h. h.0 (in_force_to scope t (sym told ∙ c.if-is_some.true))))
 
@@ -26,6 +26,6 @@ returns c =
     let t = folded c.args.variable.now.text in
     let told : c.is_some.result ≡ is_some (variable_in scope t) =
     c.is_some.ensures ∙ sym (some_mapped (λ v. v.now) c.get.result) ∙ ap is_some c.get.ensures
-    ∙ ap (λ x. is_some (variable_in scope x)) (c.deref.ensures.value ∙ c.in_ok-text.ensures ∙ ap folded c.text.ensures.value) in
+    ∙ ap (λ x. is_some (variable_in scope x)) (c.as_slice.ensures ∙ c.in_ok-text.ensures ∙ ap folded c.text.ensures.value) in
     found_at UnknownName context.source {P = IsUnknownTerm (object_names context.domain.now context.problem.now) (record { variables = scope; term = term.Variable c.args.variable.now })}
     c.at.result (Finds-some c.place.result (λ at. let some = in_force_from scope t at in let no = c.if-is_some.false in cc, c.place.ensures)) c.at.ensures

@@ -3,9 +3,15 @@ use Rattle.hddl_tree.specs.declared.domain.DomainText.{DomainText}
 use Rattle.hddl_meaning.specs.Types.{IsBelow}
 use Rattle.hddl_meaning.specs.Items.{MayStand, ShareSubtype}
 use Rattle.hddl_names.specs.TypeNumbers.{type_at}
-use Rattle.hddl_uses.proofs.Placing.{barred, not_barred, stands_below, stands_sharing, type_text, type_unknown}
+use Rattle.hddl_uses.proofs.Placing.{barred, not_barred, same_stands, stands_below, stands_sharing, type_text, type_unknown}
 use Rattle.hddl_uses.proofs.arguments.is_barred.Goals.{then-is_quantified+in_ok-stands-in-Some-Some, else-is_quantified+in_ok-stands-in-Some-Some-2}
 use Rattle.hddl_uses.proofs.arguments.is_barred.Goals as goal
+
+pub returns-then-have_same_type : goal.returns-then-have_same_type
+returns-then-have_same_type c =
+    let d = c.args.context.now.domain.now in
+    let same = c.have_same_type.ensures c.if-have_same_type.true in
+    not_barred d c.args.variable.now c.args.place.now (λ h. h.2 (same_stands d c.args.variable.now c.args.place.now same h.0))
 
 pub returns-after-is_quantified : goal.returns-after-is_quantified
 returns-after-is_quantified c =

@@ -13,5 +13,5 @@ returns c =
     c.is_some.ensures
     ∙ ap is_some
     (c.number_of.ensures
-    ∙ (λ i. position (is_same_text ((c.deref.ensures.value ∙ c.in_ok-text.ensures ∙ ap folded c.text.ensures.value) i)) ((c.types-types.ensures ∙ ap (λ v. v.types) c.args.context.now.known) i))) in
+    ∙ (λ i. position (is_same_text ((c.as_slice.ensures ∙ c.in_ok-text.ensures ∙ ap folded c.text.ensures.value) i)) ((c.types-types.ensures ∙ ap (λ v. v.types) c.args.context.now.known) i))) in
     (λ h. (is_type_number d t).0 (sym told ∙ h), λ h. told ∙ (is_type_number d t).1 h)

@@ -16,7 +16,7 @@ start-requires-clause-seating g c =
     subst (λ cs. IsSeating (seating_of l cs network c.deref-4.result.now gap)) (sym c.deref-3.ensures.value)
     (subst (λ s. IsSeating (seating_of l c.args.children.items network s gap)) (sym c.deref-4.ensures.value)
     (is_seating l c.args.children.items network c.in_ok-sequence.sequence.items gap c.requires.square c.requires.many
-    (subst (λ o. IsSequence o c.in_ok-sequence.sequence.items) c.order.ensures c.in_ok-sequence.ensures) c.requires.within))
+    (subst (λ o. IsSequence o c.in_ok-sequence.sequence.items) c.order.ensures c.in_ok-sequence.ensures.sequence) c.requires.within))
 
 pub start-requires-clause-sound : goal.start-requires-clause-sound
 start-requires-clause-sound g c =
@@ -42,7 +42,7 @@ returns g c =
       c.requires.same,
       c.requires.lower,
       c.requires.many,
-      subst (λ o. IsSequence o c.in_ok-sequence.sequence.items) c.order.ensures c.in_ok-sequence.ensures,
+      subst (λ o. IsSequence o c.in_ok-sequence.sequence.items) c.order.ensures c.in_ok-sequence.ensures.sequence,
       subst (λ s. AreLinked (seating_of l c.args.children.items network s gap) (length c.args.children.items) links) c.deref-2.ensures.value
           (subst (λ cs. AreLinked (seating_of l cs network c.deref-2.result.now gap) (length cs) links) c.deref.ensures.value (c.in_ok-links.ensures gap)),
       subst (λ s. IsTried (seating_of l c.args.children.items network s gap) c.in_ok-trial.trial) c.deref-4.ensures.value

@@ -15,7 +15,8 @@ returns g c gap =
     let rising = c.in_ok-rising.rising.items in
     linked (g.L.PlanLines.lines c.args.lines.now) c.args.children.now c.args.instance.now.network sequence gap (place_of c.next_places.new.places) c.as_slice.result.now
     (c.as_slice.ensures ∙ c.children.ensures) c.requires.square c.requires.sequence c.in_ok-after.ensures.first c.requires.lines
-    (record { first = c.in_ok-first.first; after = c.in_ok-after.after; fixed = c.in_ok-fixed.fixed }) rising c.in_ok-first.ensures c.in_ok-after.ensures.next c.in_ok-rising.ensures
+    (record { first = c.in_ok-first.first; after = c.in_ok-after.after; fixed = c.in_ok-fixed.fixed; ahead = c.args.ahead }) rising c.in_ok-first.ensures c.in_ok-after.ensures.next c.in_ok-rising.ensures
     (subst (λ o. AreFlagged o sequence (λ a. get_or c.in_ok-first.first.items a 0) rising 0 (λ a. get_or c.in_ok-fixed.fixed.items a false ≡ true)) c.order-order.ensures
     (subst (λ xs. AreFlagged c.order-order.result.now sequence (λ a. get_or xs a 0) rising 0 (λ a. get_or c.in_ok-fixed.fixed.items a false ≡ true)) c.deref-2.ensures.value
     (subst (λ fs. AreFlagged c.order-order.result.now sequence (λ a. get_or c.deref-2.result.now a 0) fs 0 (λ a. get_or c.in_ok-fixed.fixed.items a false ≡ true)) c.deref-3.ensures.value c.in_ok-fixed.ensures)))
+    c.requires.ahead

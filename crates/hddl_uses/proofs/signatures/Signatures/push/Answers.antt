@@ -15,7 +15,7 @@ returns c = λ signatures table.
     let old = c.args.self.now in
     let named = folded c.args.name.now.text in
     let text_is : c.in_ok-text.text.items ≡ named = c.in_ok-text.ensures ∙ ap folded c.text.ensures.value in
-    let known : c.get.result ≡ number_at old.numbers named = c.get.ensures ∙ ap (number_at old.numbers) (c.deref.ensures.value ∙ text_is) in
+    let known : c.get.result ≡ number_at old.numbers named = c.get.ensures ∙ ap (number_at old.numbers) (c.as_slice.ensures ∙ text_is) in
     let long : old.places.len ≡ length old.places.items = old.places.ok.0 in
     let kept : c.if-is_none.self.places.items ≡ old.places.items =
     elim c.if-is_none.branch [ then-is_none+in_ok-add w ↦ ap (λ s. s.places.items) w.self-is | else-is_none w ↦ ap (λ s. s.places.items) w.self-is ] in
@@ -23,8 +23,8 @@ returns c = λ signatures table.
     (elim c.if-is_none.branch [
       | then-is_none+in_ok-add w ↦ λ t.
           ap (λ s. number_at s.numbers t) w.self-is ∙ ap (λ es. number_at es t) w.in_ok-add.ensures.ok
-          ∙ number_at-push old.numbers c.in_ok-text.text.items w.len.result t
-          ∙ (λ i. next_number old.numbers (text_is i) ((w.len.ensures ∙ long) i) t)
+          ∙ number_at-push old.numbers w.as_slice-then-is_none.result.now w.len.result t
+          ∙ (λ i. next_number old.numbers ((w.as_slice-then-is_none.ensures ∙ text_is) i) ((w.len.ensures ∙ long) i) t)
       | else-is_none w ↦ λ t.
           ap (λ s. number_at s.numbers t) w.self-is
           ∙ kept_number old.numbers named (length old.places.items) (ap is_some (sym known) ∙ w.if-is_none.ensures) t

@@ -7,5 +7,5 @@ use Rattle.hddl_words.proofs.name.Name.new.Goals as goal
 pub invariant_of-result : goal.invariant_of-result
 invariant_of-result c =
     let own : IsTrue (is_name c.args.token.now.text.now) = name_self (word_of c.args.token.now) c.args.token.now.is_word c.requires in
-    let same : c.in_ok-text.text ≡ c.args.token.now.text.now = c.in_ok-text.ensures in
+    let same : c.in_ok-text.text.items ≡ c.args.token.now.text.now = c.in_ok-text.ensures.ok in
     rw same own
