@@ -13,7 +13,7 @@ use Rattle.needs_table.proofs.node.places_of.Given as goal
 -- the places of the nodes so far
 abbrev pub invariant-loop-id : goal.invariant-loop-id
 invariant-loop-id l = record {
-  count : map (λ (p : Place). 0) l.places.items ≡ map (λ (x : ℕ). 0) (map (λ (i : ℕ). i) (take l.id-index l.ids));
+  count : length l.places.items ≡ l.id-index;
   rows : (n : Needs) (atoms : Table) (networks : NetworkTable) → AreNodes n atoms networks l.nodes
       → map (λ (p : Place). row_at n p.spot) l.places.items ≡ map (row_of n) (map (child_of (children networks)) (take l.id-index l.ids));
   blocked : (n : Needs) (atoms : Table) (networks : NetworkTable) → AreNodes n atoms networks l.nodes

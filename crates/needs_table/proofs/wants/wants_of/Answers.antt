@@ -23,10 +23,10 @@ loop-literal-preserved c =
     let more = c.in_ok-compiled.ensures.later in
     let w : Want = record { number = c.number_of-number.result; literal = c.in_ok-compiled.compiled } in
     record {
-      later = later_more c.args.atoms.now c.loop-literal.atoms c.of-compiled.new.table i.later more;
-      wants = wants_push n c.of-compiled.new.table c.loop-literal.wants.items c.push.new.self.items w literals at c.literal-item.result c.loop-literal-test.true c.literal-item.is
+      later = later_more c.args.atoms.now c.loop-literal.atoms c.of.new.table i.later more;
+      wants = wants_push n c.of.new.table c.loop-literal.wants.items c.push.new.self.items w literals at c.literal-item.result c.loop-literal-test.true c.literal-item.is
           c.in_ok-push.ensures.items c.number_of-number.ensures c.in_ok-compiled.ensures.compiled
-          (wants_later n c.loop-literal.atoms c.of-compiled.new.table c.loop-literal.wants.items (literals_of (take at literals)) more i.wants);
+          (wants_later n c.loop-literal.atoms c.of.new.table c.loop-literal.wants.items (literals_of (take at literals)) more i.wants);
     }
 
 pub returns-clause-wants : goal.returns-clause-wants

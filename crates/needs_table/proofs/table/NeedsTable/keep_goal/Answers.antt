@@ -19,4 +19,4 @@ returns-then-known-wanted-clause-goals c =
 
 pub returns-clause-goals : goal.returns-clause-goals
 returns-clause-goals c =
-    subst (λ (l : List Literal). AreWants c.args.needs.now c.wants_of-wants.new.atoms c.in_ok-wants.wants.items l) c.as_slice-goal.ensures c.in_ok-wants.ensures.wants
+    subst (λ (l : List Literal). AreWants c.args.needs.now c.wants_of.new.atoms c.in_ok-wants.wants.items l) c.as_slice-goal.ensures c.in_ok-wants.ensures.wants
