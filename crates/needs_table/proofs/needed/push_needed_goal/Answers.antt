@@ -1,4 +1,4 @@
-use Rattle.std.proofs.Common.{◌∙◌, ◌&&◌, ◌<◌, Bool, List, filter, get_or, length, not, ap, arith}
+use Rattle.std.proofs.Common.{refl, ◌∙◌, ◌&&◌, ◌<◌, Bool, List, filter, get_or, length, not, ap, arith}
 use Rattle.std.specs.List.{list_any}
 use Rattle.std.proofs.lemmas.List.{take_all}
 use Rattle.htn_model.specs.Literal.{Literal, holds}
@@ -24,11 +24,11 @@ loop-want-preserved c = λ n literals atoms later words are wants grown.
     let needs = c.args.needs.now in
     let ws = c.args.goals.now in
     let i = c.loop-want.want-index in
-    let w = c.want-item.result in
+    let w = get_or ws i some_want in
     let count = wants_count needs atoms ws literals wants in
     let low : i < length literals = omega (arith, count, c.loop-want-test.true) in
-    let number = want_number needs atoms ws literals wants i w some_literal c.loop-want-test.true c.want-item.is in
-    let met = want_met needs atoms ws literals wants i w some_literal c.loop-want-test.true c.want-item.is later grown words in
+    let number = want_number needs atoms ws literals wants i w some_literal c.loop-want-test.true refl in
+    let met = want_met needs atoms ws literals wants i w some_literal c.loop-want-test.true refl later grown words in
     kept_more (state_of later words) (test_of needs n) literals i some_literal (all_hold words c.args.found.now) (all_hold words c.loop-want.found) (all_hold words c.push_if.new.found)
     (not c.is_given_at-is_kept.result) (is_met words w.literal) low
     (ap not (c.is_given_at-is_kept.ensures ∙ given_there needs c.args.places.now n are w.number ∙ ap (λ k. list_any (λ x. gives_by (row_of needs x) k) n.children) number))
