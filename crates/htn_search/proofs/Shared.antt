@@ -12,6 +12,7 @@ use Rattle.htn_task.proofs.term.EqualitySchema.TheSendSync as EqualityShared
 use Rattle.htn_task.proofs.term.TaskSchema.TheSendSync as TaskSchemaShared
 use Rattle.htn_task.proofs.term.Term.TheSendSync as TermShared
 use Rattle.htn_task.proofs.term.TermList.TheSendSync as TermsShared
+use Rattle.network_needs.proofs.needs.Needs.TheSendSync as NeedsShared
 use Rattle.tree_sizes.proofs.tree_sizes.TreeSizes.TheSendSync as SizesShared
 use Rattle.std.proofs.Crossing.{crosses}
 use Rattle.std.proofs.alloc.Global.TheSendSync as GlobalShared
@@ -78,5 +79,16 @@ parts_sync =
 pub task_sync : IsSync Task.the_row
 task_sync = search (parts_sync, basic) depth 60 fits 20000
 
+-- one fact and another
+pub both : {A B : Type 0} → A → B → A × B
+both a b = (a, b)
+
 -- what the machine of a task has beside it
-pub ruleset kept = (SizesShared.the_send, SizesShared.the_sync, basic)
+pub ruleset beside = (
+  GlobalShared.the_field_sync,
+  GlobalShared.the_sync,
+  SizesShared.the_field_sync,
+  SizesShared.the_sync,
+  NeedsShared.the_field_sync,
+  NeedsShared.the_sync,
+)

@@ -3,4 +3,4 @@ pub mod Lasting
 pub mod Bounded
 pub mod Within
 pub mod Checked
-pub mod NeededLists
+pub mod RowsThere

@@ -1,4 +1,5 @@
 pub mod Needs
 pub mod Bounds
 pub mod Rows
+pub mod Places
 pub mod Checked

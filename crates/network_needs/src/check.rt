@@ -91,13 +91,7 @@ impl Needs {
     }
 
     /// Whether no node may make a literal true for the one at a position: none but itself and those after it gives it.
-    pub(crate) fn is_ungiven(
-        &self,
-        children: &[Child],
-        order: &Order,
-        at: usize,
-        literal: &Literal,
-    ) -> bool
+    fn is_ungiven(&self, children: &[Child], order: &Order, at: usize, literal: &Literal) -> bool
         ensures { result ≡ is_ungiven (outlook_of self.now)
             (record { children = children_of children.now; order = order.now }) at (literal_of literal.now) }
     {

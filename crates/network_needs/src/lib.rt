@@ -14,7 +14,10 @@ mod leaves;
 mod needed;
 mod needs;
 mod of;
+mod places;
 mod rows;
 
 pub use laws::{needs_are_bounds, needs_stay};
+pub use needed::has_blocked_place;
 pub use needs::Needs;
+pub use places::Place;

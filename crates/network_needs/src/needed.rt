@@ -1,95 +1,72 @@
-//! What a network needs from the start.
-ghost use Rattle.std.specs.Prelude.{◌≡◌, ◌<◌, ◌++◌, ◌∷◌, [], cond, length, IfOk, OnOk};
-ghost use Rattle.std.specs.List.{list_any};
-ghost use Rattle.htn_model.specs.Problem as problem;
-ghost use Rattle.htn_ground.specs.Views.{children_of};
-ghost use Rattle.htn_state.specs.Views.{literal_of, literals_of};
-ghost use Rattle.network_needs.specs.Needs.{needed, needed_at, needed_goal};
-ghost use Rattle.network_needs.specs.Rows.{outlook_of};
+//! What the nodes of a network give one another.
+ghost use Rattle.std.specs.Prelude.{◌≡◌, ◌<◌, length};
+ghost use Rattle.htn_model.specs.Literal as model;
+ghost use Rattle.htn_model.specs.Problem.{Network};
+ghost use Rattle.network_needs.specs.Needs.{is_ungiven};
+ghost use Rattle.network_needs.specs.Places.{ArePlaces, is_given_by, may_give_by, some_is_blocked};
+ghost use Rattle.network_needs.specs.Rows.{literal_number, outlook_of};
 
 use crate::needs::Needs;
-use htn_ground::Child;
+use crate::places::Place;
 use htn_order::Order;
-use htn_state::Literal;
-use std::alloc::{AllocError, Global};
 
-/// Adds a literal to others, if it is to be kept.
-fn push_if(found: &mut Vec<Literal>, literal: &Literal, is_kept: bool) -> Result<(), AllocError>
-    ensures { OnOk result (literals_of found.new.items
-        ≡ literals_of found.old.items ++ cond is_kept (literal_of literal.now ∷ []) []) }
+/// Whether one of the nodes of some places never ends.
+pub fn has_blocked_place(places: &[Place]) -> bool
+    ensures { result ≡ some_is_blocked places.now }
 {
-    if !is_kept {
-        return Ok(());
+    for place in places {
+        if place.is_blocked {
+            return true;
+        }
     }
-    found.push(literal.clone()?)?;
-    Ok(())
+    false
 }
 
 impl Needs {
-    /// Whether a literal may become true through one of some nodes.
-    fn is_given(&self, children: &[Child], literal: &Literal) -> bool
-        ensures { result
-            ≡ list_any (λ x. (outlook_of self.now).gives x (literal_of literal.now)) (children_of children.now) }
+    /// Whether the node at a position may make the literal of a number true for another one: it isn't after it, and
+    /// gives it.
+    fn may_give_at(
+        &self,
+        places: &[Place],
+        order: &Order,
+        number: Option<usize>,
+        at: usize,
+        position: usize,
+    ) -> bool
+        requires { position < length places.now }
+        ensures { result ≡ may_give_by self.now places.now order.now number at position }
     {
-        for child in children {
-            if self.gives(child, literal) {
+        at != position && !order.is_before(at, position) && self.gives_at(places[position], number)
+    }
+
+    /// Whether no node may make the literal of a number true for the one at a position.
+    pub fn is_ungiven_at(
+        &self,
+        places: &[Place],
+        order: &Order,
+        number: Option<usize>,
+        at: usize,
+    ) -> bool
+        ensures { (n : Network) (l : model.Literal) → ArePlaces self.now places.now n → order.now ≡ n.order
+            → number ≡ literal_number self.now l → result ≡ is_ungiven (outlook_of self.now) n at l }
+    {
+        for position in 0..places.len() {
+            if self.may_give_at(places, order, number, at, position) {
+                return false;
+            }
+        }
+        true
+    }
+
+    /// Whether the literal of a number may become true through the node of one of some places.
+    pub fn is_given_at(&self, places: &[Place], number: Option<usize>) -> bool
+        ensures { result ≡ is_given_by self.now places.now number }
+    {
+        for place in places {
+            if self.gives_at(*place, number) {
                 return true;
             }
         }
         false
-    }
-
-    /// Adds what a network needs for the node at a position.
-    fn push_needed_at(
-        &self,
-        found: &mut Vec<Literal>,
-        children: &[Child],
-        order: &Order,
-        at: usize,
-    ) -> Result<(), AllocError>
-        requires { at < length children.now }
-        ensures { OnOk result (literals_of found.new.items ≡ literals_of found.old.items
-            ++ needed_at (outlook_of self.now) (record { children = children_of children.now; order = order.now }) at) }
-    {
-        for literal in self.wants(&children[at]) {
-            let is_kept = self.is_ungiven(children, order, at, literal);
-            push_if(found, literal, is_kept)?;
-        }
-        Ok(())
-    }
-
-    /// What a network needs for its nodes: what each wants, and no other one that isn't after it gives.
-    pub fn needed(
-        &self,
-        alloc: Global,
-        children: &[Child],
-        order: &Order,
-    ) -> Result<Vec<Literal>, AllocError>
-        ensures { IfOk result (λ v. literals_of v.items ≡ needed (outlook_of self.now)
-            (record { children = children_of children.now; order = order.now })) }
-    {
-        let mut found = Vec::new(alloc);
-        for at in 0..children.len() {
-            self.push_needed_at(&mut found, children, order, at)?;
-        }
-        Ok(found)
-    }
-
-    /// What a network needs for a goal: those of its literals that no node gives.
-    pub fn needed_goal(
-        &self,
-        alloc: Global,
-        children: &[Child],
-        goal: &[Literal],
-    ) -> Result<Vec<Literal>, AllocError>
-        ensures { IfOk result (λ v. (order : problem.Order) → literals_of v.items ≡ needed_goal (outlook_of self.now)
-            (literals_of goal.now) (record { children = children_of children.now; order = order })) }
-    {
-        let mut found = Vec::new(alloc);
-        for literal in goal {
-            let is_kept = !self.is_given(children, literal);
-            push_if(&mut found, literal, is_kept)?;
-        }
-        Ok(found)
     }
 }

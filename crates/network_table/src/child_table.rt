@@ -2,7 +2,7 @@
 ghost use Rattle.std.specs.Prelude.{◌≡◌, ◌<◌, ◌++◌, ℕ, List, IfOk, OnOk, length, get_or};
 ghost use Rattle.htn_model.specs.Problem as model;
 ghost use Rattle.htn_model.specs.Choice.{child_of};
-ghost use Rattle.htn_ground.specs.Views.{child_view};
+ghost use Rattle.htn_ground.specs.Views.{child_view, children_of};
 ghost use Rattle.network_table.specs.Children.{AreBounds, AreKept, AreWhole, IsNumber, numbered_children};
 
 use htn_ground::Child;
@@ -34,6 +34,13 @@ impl ChildTable {
         ensures { child_view result.now ≡ child_of (numbered_children self.now) id }
     {
         &self.children.as_slice()[id as usize]
+    }
+
+    /// The nodes in the order of their numbers.
+    pub fn children(&self) -> &[Child]
+        ensures { children_of result.now ≡ numbered_children self.now }
+    {
+        self.children.as_slice()
     }
 
     /// The bound of a number.

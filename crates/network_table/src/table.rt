@@ -1,5 +1,5 @@
 //! Networks by numbers.
-ghost use Rattle.std.specs.Prelude.{◌≡◌, ◌<◌, ◌+◌, ◌-◌, ◌^◌, ℕ, List, IfOk, OnOk, length, map, min, set, None, Some};
+ghost use Rattle.std.specs.Prelude.{◌≡◌, ◌<◌, ◌+◌, ◌-◌, ◌^◌, [], ℕ, List, IfOk, OnOk, length, map, min, set, None, Some};
 ghost use Rattle.std.specs.List.{sum_by};
 ghost use Rattle.std.specs.Option.{option_map};
 ghost use Rattle.htn_model.specs.Problem as model;
@@ -49,6 +49,7 @@ impl NetworkTable {
         ensures bounds { (measure : model.Child → ℕ) → AreBounds measure result.children }
         ensures sound { (live : Live) → IsSound live result }
         ensures none { (n : ℕ) → expansion_at result n ≡ None }
+        ensures empty { result.networks.keys ≡ [] }
     {
         NetworkTable {
             children: ChildTable::new(alloc),
@@ -65,6 +66,20 @@ impl NetworkTable {
         ensures { result.now ≡ numbered_at self.now number }
     {
         &self.networks.as_slice()[number as usize]
+    }
+
+    /// The networks in the order of their numbers.
+    pub fn networks(&self) -> &[Network]
+        ensures { result.now ≡ self.now.networks.keys }
+    {
+        self.networks.as_slice()
+    }
+
+    /// The nodes in the order of their numbers.
+    pub fn children(&self) -> &[Child]
+        ensures { children_of result.now ≡ children self.now }
+    {
+        self.children.children()
     }
 
     /// The node of a number.

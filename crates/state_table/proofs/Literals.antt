@@ -1,5 +1,5 @@
 -- Literals one after another.
-use Rattle.std.proofs.Common.{◌≡◌, ℕ, ◌+◌, ◌<◌, Bool, true, false, ◌&&◌, List, length, get_or, take, refl, sym, ap, ◌∙◌}
+use Rattle.std.proofs.Common.{◌≡◌, ℕ, ◌+◌, ◌<◌, Bool, true, false, not, ◌&&◌, List, length, get_or, take, refl, sym, ap, ◌∙◌}
 use Rattle.std.specs.Bool.{beq}
 use Rattle.std.proofs.lemmas.List.Folds.{list_all-map, list_all_more}
 use Rattle.htn_model.specs.State.{State}
@@ -21,3 +21,13 @@ beq_turned true true = refl
 beq_turned true false = refl
 beq_turned false true = refl
 beq_turned false false = refl
+
+-- what equals true is it
+pub beq_true : (b : Bool) → b ≡ beq true b
+beq_true true = refl
+beq_true false = refl
+
+-- what equals false is its opposite
+pub beq_false : (b : Bool) → not b ≡ beq false b
+beq_false true = refl
+beq_false false = refl

@@ -3,11 +3,23 @@ use Rattle.std.specs.Prelude.{◌≡◌, ℕ, Bool, not, ◌&&◌, List, Some, m
 use Rattle.std.specs.List.{list_all}
 use Rattle.htn_model.specs.Atom.{Atom}
 use Rattle.htn_model.specs.State.{atoms_of}
-use Rattle.htn_model.specs.Literal.{Literal, Action, holds}
+use Rattle.htn_model.specs.Literal.{Literal, Action, holds, literal_holds}
 use Rattle.state_table.specs.Bits.{has}
 use Rattle.state_table.specs.Table.{Table, IsLater, state_of}
 use Rattle.state_table.specs.declared.compiled.CompiledLiterals.{CompiledLiterals}
 use Rattle.state_table.specs.declared.compiled.CompiledAction.{CompiledAction}
+use Rattle.state_table.specs.declared.literal.CompiledLiteral.{CompiledLiteral}
+use Rattle.state_table.specs.declared.literal.CompiledLiteral.TheVariants.{Decided, Positive, Negative}
+
+-- whether a compiled literal holds in a set
+abbrev pub is_met : List ℕ → CompiledLiteral → Bool
+is_met words (Decided holds_always) = holds_always
+is_met words (Positive number) = has words number
+is_met words (Negative number) = not (has words number)
+
+-- it holds in a set where the literal holds in the state that it stands for, by this table and later ones
+abbrev pub IsCompiledLiteral : Table → CompiledLiteral → Literal → Type 0
+IsCompiledLiteral t c l = (later : Table) → IsLater t later → (words : List ℕ) → is_met words c ≡ literal_holds (state_of later words) l
 
 -- whether the compiled literals hold in a set
 abbrev pub all_hold : List ℕ → CompiledLiterals → Bool

@@ -1,16 +1,16 @@
 //! Literals and actions by the numbers of their atoms.
-ghost use Rattle.std.specs.Prelude.{◌≡◌, ◌&&◌, ℕ, List, true, All, IfOk, OnOk};
-ghost use Rattle.htn_model.specs.Literal.{literal_holds, holds, after, Literal as ModelLiteral, Action as ModelAction};
+ghost use Rattle.std.specs.Prelude.{◌≡◌, ◌&&◌, not, ℕ, Bool, List, true, All, IfOk, OnOk};
+ghost use Rattle.std.specs.List.{list_all};
+ghost use Rattle.htn_model.specs.Literal.{holds, after, Literal as ModelLiteral, Action as ModelAction};
 ghost use Rattle.htn_model.specs.Problem.{AreChanged};
-ghost use Rattle.htn_model.specs.State.{contains};
-ghost use Rattle.htn_state.specs.Views.{literal_of, literals_of};
-ghost use Rattle.std.specs.Bool.{beq};
+ghost use Rattle.htn_state.specs.Views.{literals_of};
 ghost use Rattle.state_table.specs.Bits.{has};
 ghost use Rattle.state_table.specs.Table.{Table, IsTable, IsLater, IsSetOf, is_changed, is_fluent, state_of};
-ghost use Rattle.state_table.specs.Compiled.{all_hold, AreCompiled, AreNumbers, IsCompiled};
+ghost use Rattle.state_table.specs.Compiled.{all_hold, AreCompiled, AreNumbers, IsCompiled, is_met};
 
 use crate::atom_table::AtomTable;
 use crate::bit_state::BitState;
+use crate::literal::CompiledLiteral;
 use htn_state::{Action, Atom, Literal};
 use std::alloc::{AllocError, Global};
 
@@ -33,7 +33,26 @@ pub struct CompiledAction {
     adds: Vec<u32>,
 }
 
+/// Sorts numbers, and keeps each once.
+fn keep_once(numbers: &mut Vec<u32>)
+    ensures { (test : ℕ → Bool) → list_all test numbers.new.items ≡ list_all test numbers.old.items }
+{
+    numbers.sort_unstable();
+    numbers.dedup();
+}
+
 impl CompiledLiterals {
+    /// No literals, which always hold.
+    pub fn none(alloc: Global) -> Self
+        ensures { (words : List ℕ) → all_hold words result ≡ true }
+    {
+        CompiledLiterals {
+            is_never: false,
+            positives: Vec::new(alloc),
+            negatives: Vec::new(alloc),
+        }
+    }
+
     /// Notes whether a literal of a static atom or an equality holds.
     fn decide(&mut self, holds: bool)
         ensures { (words : List ℕ) → all_hold words self.new ≡ (all_hold words self.old && holds) }
@@ -43,56 +62,43 @@ impl CompiledLiterals {
         }
     }
 
-    /// Adds a literal of a fluent atom, by its number.
-    fn add_fluent(&mut self, number: u32, is_positive: bool) -> Result<(), AllocError>
+    /// Adds that the fluent atom of a number is true.
+    fn add_positive(&mut self, number: u32) -> Result<(), AllocError>
         ensures { OnOk result ((words : List ℕ)
-            → all_hold words self.new ≡ (all_hold words self.old && beq is_positive (has words number))) }
+            → all_hold words self.new ≡ (all_hold words self.old && has words number)) }
     {
-        if is_positive {
-            self.positives.push(number)?;
-        } else {
-            self.negatives.push(number)?;
-        }
+        self.positives.push(number)?;
         Ok(())
     }
 
-    /// Adds a literal of an atom.
-    fn add_atom(
-        &mut self,
-        table: &mut AtomTable,
-        atom: &Atom,
-        is_positive: bool,
-    ) -> Result<(), AllocError>
-        ensures later { OnOk result (IsLater table.old table.new) }
-        ensures holds { OnOk result ((later : Table) → IsLater table.new later → (words : List ℕ)
-            → all_hold words self.new
-            ≡ (all_hold words self.old && beq is_positive (contains (state_of later words) atom.now))) }
+    /// Adds that the fluent atom of a number is false.
+    fn add_negative(&mut self, number: u32) -> Result<(), AllocError>
+        ensures { OnOk result ((words : List ℕ)
+            → all_hold words self.new ≡ (all_hold words self.old && not (has words number))) }
     {
-        let _count = table.len();
-        if table.is_fluent(atom) {
-            let number = table.number(atom)?;
-            self.add_fluent(number, is_positive)?;
-        } else {
-            self.decide(table.is_static(atom) == is_positive);
-        }
+        self.negatives.push(number)?;
         Ok(())
     }
 
     /// Adds a literal.
-    fn add(&mut self, table: &mut AtomTable, literal: &Literal) -> Result<(), AllocError>
-        ensures later { OnOk result (IsLater table.old table.new) }
-        ensures holds { OnOk result ((later : Table) → IsLater table.new later → (words : List ℕ)
-            → all_hold words self.new
-            ≡ (all_hold words self.old && literal_holds (state_of later words) (literal_of literal.now))) }
+    pub fn push(&mut self, literal: CompiledLiteral) -> Result<(), AllocError>
+        ensures { OnOk result ((words : List ℕ)
+            → all_hold words self.new ≡ (all_hold words self.old && is_met words literal)) }
     {
-        let _count = table.len();
         match literal {
-            Literal::Positive(atom) => self.add_atom(table, atom, true)?,
-            Literal::Negative(atom) => self.add_atom(table, atom, false)?,
-            Literal::Same(x, y) => self.decide(x == y),
-            Literal::Different(x, y) => self.decide(x != y),
+            CompiledLiteral::Decided(holds) => self.decide(holds),
+            CompiledLiteral::Positive(number) => self.add_positive(number)?,
+            CompiledLiteral::Negative(number) => self.add_negative(number)?,
         }
         Ok(())
+    }
+
+    /// Drops the repeats, and sorts the numbers. It takes no memory.
+    pub fn drop_repeats(&mut self)
+        ensures { (words : List ℕ) → all_hold words self.new ≡ all_hold words self.old }
+    {
+        keep_once(&mut self.positives);
+        keep_once(&mut self.negatives);
     }
 
     /// Compiles a conjunction, and numbers its fluent atoms.
@@ -105,13 +111,10 @@ impl CompiledLiterals {
         ensures compiled { IfOk result (λ c. AreCompiled table.new c (literals_of literals.now)) }
     {
         let _count = table.len();
-        let mut compiled = CompiledLiterals {
-            is_never: false,
-            positives: Vec::new(alloc),
-            negatives: Vec::new(alloc),
-        };
+        let mut compiled = CompiledLiterals::none(alloc);
         for literal in literals {
-            compiled.add(table, literal)?;
+            let one = CompiledLiteral::of(table, literal)?;
+            compiled.push(one)?;
         }
         Ok(compiled)
     }

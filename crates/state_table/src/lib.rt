@@ -13,6 +13,7 @@ mod bits;
 mod compiled;
 mod initial;
 mod laws;
+mod literal;
 mod numbering;
 
 pub use atom_table::AtomTable;
@@ -20,4 +21,5 @@ pub use bit_state::BitState;
 pub use compiled::{CompiledAction, CompiledLiterals};
 pub use initial::initial_state;
 pub use laws::numbers_stand_for_states;
+pub use literal::CompiledLiteral;
 pub use numbering::StateTable;

@@ -1,25 +1,40 @@
 -- What the machine's bound from below is by its tables.
-use Rattle.std.proofs.Common.{◌≡◌, ◌∙◌, ℕ, sym}
-use Rattle.htn_model.specs.Grounding.{problem_of}
-use Rattle.htn_model.specs.Problem.{Child, IsGrounded}
-use Rattle.htn_model.specs.State.{State}
+use Rattle.std.proofs.Common.{◌≡◌, ◌∙◌, ◌<◌, ℕ, Bool, true, false, not, cond, length, max, sym, ap, ap₂, subst, arith}
 use Rattle.htn_model.specs.Task.{Task}
-use Rattle.htn_answer.specs.Machine.{IsOwn}
-use Rattle.network_table.specs.Networks.{network_at}
-use Rattle.network_table.specs.Numbered.{config_at}
-use Rattle.state_table.specs.Table.{state_of}
-use Rattle.tree_sizes.specs.Measure.{estimate, lower_bound}
-use Rattle.task_machine.specs.Bounds.{most_steps, own_bound}
-use Rattle.task_machine.specs.Meaning.{network_number, point, point_of, config_in, state_at}
-use Rattle.task_machine.specs.declared.configuration.Reached.{Reached}
-use Rattle.task_machine.specs.declared.configuration.Reached.TheVariants.{Known, New}
+use Rattle.needs_table.specs.Kept.{AreKept, AreNoted}
+use Rattle.needs_table.proofs.Kept.{keeps_later}
+use Rattle.needs_table.proofs.Noted.{noted_later}
+use Rattle.network_needs.specs.Rows.{outlook_of}
+use Rattle.network_needs.specs.declared.needs.Needs.{Needs}
+use Rattle.network_table.specs.Networks.{IsWhole, Knows}
+use Rattle.tree_sizes.specs.Sizes.{out_of_reach}
+use Rattle.tree_sizes.specs.declared.tree_sizes.TreeSizes.{TreeSizes}
+use Rattle.task_machine.specs.Owned.{AreOwned}
+use Rattle.task_machine.specs.Tables.{AreLater}
 use Rattle.task_machine.specs.declared.tables.Tables.{Tables}
 
--- what is estimated of a network's nodes is the bound of one's own configuration, whether its state has a number or not
-pub reached_bound : (t : Task) → IsGrounded (problem_of t) → (size : Child → ℕ) (tables : Tables) (reached : Reached) (bound : ℕ)
-    → ((state : State) → bound ≡ estimate size most_steps (config_at state (network_at tables.networks (network_number reached))))
-    → IsOwn (problem_of t) (point_of tables reached) → bound ≡ lower_bound (problem_of t) size most_steps (point_of tables reached)
-reached_bound t grounded size tables (Known c) bound is own =
-    is (state_at tables c.state) ∙ sym (own_bound (problem_of t) grounded size most_steps (point tables c) own)
-reached_bound t grounded size tables (New words network) bound is own =
-    is (state_of tables.atoms words) ∙ sym (own_bound (problem_of t) grounded size most_steps (config_in tables words network) own)
+-- the bound where a configuration may end
+pub bound_ending : (least bound : ℕ) (ends told : Bool) → least ≡ bound → ends ≡ told → ends ≡ true → least ≡ max bound (cond (not told) out_of_reach 0)
+bound_ending least bound ends told same tells ending =
+    let none : cond (not told) out_of_reach 0 ≡ 0 = ap (λ b. cond (not b) out_of_reach 0) (sym tells ∙ ending) in
+    omega (arith, same, none)
+
+-- and where it never does
+pub bound_lost : (least bound : ℕ) (ends told : Bool) → least ≡ bound → ends ≡ told → ends ≡ false → max least out_of_reach ≡ max bound (cond (not told) out_of_reach 0)
+bound_lost least bound ends told same tells lost = ap₂ max same (sym (ap (λ b. cond (not b) out_of_reach 0) (sym tells ∙ lost)))
+
+-- it is kept of each network what it needs
+pub is_needed : (t : Task) (sizes : TreeSizes) (needs : Needs) (tables : Tables) → AreOwned t sizes needs tables → (n : ℕ) → Knows tables.networks n → n < length tables.needs.needs.items
+is_needed t sizes needs tables own n known = subst (λ k. n < k) (sym own.needed.all) known
+
+-- what is kept stays right in later tables
+pub kept_still : (needs : Needs) (old new : Tables) → AreLater old new → new.needs ≡ old.needs → IsWhole old.networks → AreKept (outlook_of needs) old.atoms old.networks old.needs
+    → AreKept (outlook_of needs) new.atoms new.networks new.needs
+kept_still needs old new later same whole kept =
+    subst (AreKept (outlook_of needs) new.atoms new.networks) (sym same)
+    (keeps_later (outlook_of needs) old.needs.goal old.atoms new.atoms old.networks new.networks old.needs.needs.items later.atoms whole later.networks kept)
+
+-- and so does what is found once for nodes and the goal
+pub noted_still : (needs : Needs) (old new : Tables) → AreLater old new → new.needs ≡ old.needs → AreNoted needs old.atoms old.networks old.needs → AreNoted needs new.atoms new.networks new.needs
+noted_still needs old new later same noted =
+    subst (AreNoted needs new.atoms new.networks) (sym same) (noted_later needs old.atoms new.atoms old.networks new.networks old.needs later.atoms later.networks noted)

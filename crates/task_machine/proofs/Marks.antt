@@ -1,5 +1,5 @@
 -- Marks by number, of which those past the last one are not set.
-use Rattle.std.proofs.Common.{◌≡◌, ◌∙◌, ◌||◌, ◌<◌, ◌++◌, ◌∷◌, [], ℕ, zero, suc, nat_eq, Bool, true, false, true≢false, List, length, get_or, set, refl, sym, subst, inl, inr, arith}
+use Rattle.std.proofs.Common.{◌≡◌, ◌∙◌, ◌||◌, ◌<◌, ◌++◌, ◌∷◌, [], ℕ, zero, suc, nat_eq, Bool, true, false, true≢false, List, length, get_or, set, refl, sym, subst, inl, inr}
 use Rattle.std.proofs.lemmas.Bool.{cases_Bool, eq-eqb, eqb-true}
 use Rattle.std.proofs.lemmas.List.{get_or-set_same, get_or-set_other}
 

@@ -1,6 +1,5 @@
 -- The tables stay right as they grow.
 use Rattle.std.proofs.Common.{◌≡◌, ◌∙◌, ◌<◌, ◌&&◌, ◌⊎◌, inl, inr, ℕ, List, [], ◌++◌, All, Option, Some, None, IsSome, unwrap_or, true≢false, not, ap, ap₂, sym, subst, map, length, get_or, slice_get, refl, arith, append-nil, append_assoc, length-append}
-use Rattle.std.specs.Option.{option_map}
 use Rattle.std.proofs.lemmas.List.{get_or_append_left}
 use Rattle.std.proofs.lemmas.Bool.{cases_eq}
 use Rattle.std.proofs.lemmas.Option.{get_or_from_slice_get, same_Some, slice_get-get_or}
@@ -17,8 +16,8 @@ use Rattle.htn_ground.specs.Distinct.{distinct, live_methods}
 use Rattle.htn_net.specs.Listed.{listed_methods}
 use Rattle.htn_net.proofs.Listed.{listed_instances}
 use Rattle.state_table.specs.Compiled.{AreCompiled, IsCompiled}
-use Rattle.state_table.specs.Numberings.{IsExtension, IsNumbering}
-use Rattle.state_table.specs.Table.{Table, IsLater, IsSetOf, is_fluent_by, is_changed, state_of}
+use Rattle.state_table.specs.Numberings.{IsNumbering}
+use Rattle.state_table.specs.Table.{Table, IsLater, IsSetOf, is_fluent_by, is_changed}
 use Rattle.state_table.specs.declared.compiled.CompiledAction.{CompiledAction}
 use Rattle.state_table.specs.declared.compiled.CompiledLiterals.{CompiledLiterals}
 use Rattle.state_table.proofs.Effects.{numbers_later}
@@ -32,6 +31,7 @@ use Rattle.network_table.specs.declared.expansion.Expansion.TheVariants.{Decompo
 use Rattle.network_table.specs.declared.expansion.Removal.{Removal}
 use Rattle.network_table.proofs.Expanding.{all_more, grown_itself}
 use Rattle.network_table.proofs.Growing.{grown_then, numbers_stay}
+use Rattle.needs_table.specs.declared.table.NeedsTable.{NeedsTable}
 use Rattle.word_machine.specs.Meaning.{IsGrown as MeaningGrown}
 use Rattle.task_machine.specs.Growing.{IsWider, StandFor}
 use Rattle.task_machine.specs.Meaning.{allows, config_in, knows, meaning, point, point_of}
@@ -89,6 +89,20 @@ with_atoms t s later grown own = record {
   sound = own.sound;
   goal = literals_later t s.atoms later grown s.goal (problem_of t).goal own.goal;
   performers = performers_later t s.atoms later grown s.networks s.performers.items own.performers;
+  performed = own.performed;
+  instances = own.instances;
+}
+
+-- the tables with other needs
+pub with_needs : (t : Task) (s : Tables) (needs : NeedsTable) → AreTables t s → AreTables t (record s { needs = needs })
+with_needs t s needs own = record {
+  atoms = own.atoms;
+  numbering = own.numbering;
+  sets = own.sets;
+  networks = own.networks;
+  sound = own.sound;
+  goal = own.goal;
+  performers = own.performers;
   performed = own.performed;
   instances = own.instances;
 }
@@ -155,6 +169,14 @@ with_state t s states state numbering set others own = record {
 pub later_tables_itself : (t : Task) (s : Tables) → AreTables t s → AreLater s s
 later_tables_itself t s own = record {
   atoms = later_itself s.atoms own.atoms.table;
+  states = ([], sym (append-nil s.states));
+  networks = grown_itself s.networks;
+}
+
+-- those with more atoms and other needs are later
+pub later_needs : (t : Task) (s : Tables) (atoms : Table) (needs : NeedsTable) → IsLater s.atoms atoms → AreLater s (record s { atoms = atoms; needs = needs })
+later_needs t s atoms needs grown = record {
+  atoms = grown;
   states = ([], sym (append-nil s.states));
   networks = grown_itself s.networks;
 }

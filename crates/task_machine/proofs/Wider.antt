@@ -1,13 +1,13 @@
 -- More nodes and networks get numbers.
-use Rattle.std.proofs.Common.{◌≡◌, ◌∙◌, ◌<◌, ◌+◌, ◌++◌, ◌∷◌, [], ℕ, suc, List, All, ap, ap₂, sym, subst, map, length, take, get_or, refl, arith}
+use Rattle.std.proofs.Common.{◌≡◌, ◌∙◌, ◌<◌, ◌+◌, ◌++◌, ◌∷◌, [], ℕ, suc, List, ap, ap₂, sym, subst, map, length, take, get_or, refl, arith}
 use Rattle.std.proofs.Math.Seq.{take-suc}
 use Rattle.std.proofs.lemmas.List.{map_push}
 use Rattle.std.proofs.lemmas.List.Elements.{All-push}
 use Rattle.htn_model.specs.Choice.{child_of}
 use Rattle.htn_model.specs.Problem.{Child, Network}
-use Rattle.network_table.specs.Children.{AreKept, IsNumber}
+use Rattle.network_table.specs.Children.{AreKept}
 use Rattle.network_table.specs.Expansions.{IsSound, Live}
-use Rattle.network_table.specs.Networks.{children, expansion_at, IsGrown, IsMore, IsWhole, Knows, network_at}
+use Rattle.network_table.specs.Networks.{children, IsGrown, IsMore, IsWhole}
 use Rattle.network_table.specs.Numbered.{IsWithin, Numbered, network_of}
 use Rattle.network_table.specs.declared.child_table.ChildTable.{ChildTable}
 use Rattle.network_table.specs.declared.table.NetworkTable.{NetworkTable}

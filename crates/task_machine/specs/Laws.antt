@@ -1,17 +1,15 @@
 -- What the machine owes: no configuration has two numbers.
-use Rattle.std.specs.Prelude.{◌≡◌, ℕ, ◌<◌, List, [], length, get_or, Some, slice_get}
+use Rattle.std.specs.Prelude.{◌≡◌, ℕ, List, [], get_or, Some, slice_get}
 use Rattle.std.proofs.Common.{ap, ap₂, sym, ◌∙◌}
 use Rattle.std.proofs.lemmas.Option.{slice_get-get_or}
 use Rattle.htn_model.specs.Machine.{Config}
-use Rattle.htn_model.specs.Problem.{Network}
 use Rattle.htn_model.specs.Task.{Task}
 use Rattle.state_table.proofs.Keys.{one_place}
 use Rattle.state_table.proofs.States.{told_apart}
 use Rattle.network_table.proofs.Apart.{numbers_differ}
 use Rattle.word_machine.specs.Meaning.{IsOneToOne}
-use Rattle.task_machine.specs.Meaning.{config_in, knows, meaning, point}
+use Rattle.task_machine.specs.Meaning.{config_in, meaning}
 use Rattle.task_machine.specs.Tables.{AreTables}
-use Rattle.task_machine.specs.declared.configuration.Configuration.{Configuration}
 use Rattle.task_machine.specs.declared.tables.Tables.{Tables}
 
 -- two sets of atoms that stand for one state are the same

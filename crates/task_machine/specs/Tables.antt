@@ -1,5 +1,5 @@
 -- What the tables of a search have, and when they are right.
-use Rattle.std.specs.Prelude.{◌≡◌, ℕ, ◌<◌, ◌&&◌, not, List, length, map, get_or, All, Option, Some, None, IsSome, slice_get}
+use Rattle.std.specs.Prelude.{◌≡◌, ℕ, ◌<◌, ◌&&◌, not, List, length, get_or, All, Option, Some, None, IsSome, slice_get}
 use Rattle.std.specs.Option.{option_map}
 use Rattle.htn_model.specs.Atom.{Atom}
 use Rattle.htn_model.specs.Choice.{child_of}

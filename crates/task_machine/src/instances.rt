@@ -5,7 +5,7 @@ ghost use Rattle.htn_ground.specs.Distinct.{distinct, live_methods};
 ghost use Rattle.htn_ground.specs.Views.{child_view, children_of};
 ghost use Rattle.network_table.specs.Networks.{IsWhole, Knows, network_at};
 ghost use Rattle.task_machine.specs.Growing.{IsAt, IsWider, StandFor, StandsFor};
-ghost use Rattle.task_machine.specs.Sized.{HasSizes};
+ghost use Rattle.task_machine.specs.Owned.{HasSizes};
 ghost use Rattle.tree_sizes.specs.Sizes.{size_of};
 
 use crate::configuration::Configuration;

@@ -3,30 +3,33 @@ ghost use Rattle.std.specs.Prelude.{◌≡◌, IfOk};
 ghost use Rattle.htn_model.specs.Grounding.{problem_of};
 ghost use Rattle.htn_model.specs.Problem.{IsGrounded};
 ghost use Rattle.htn_net.specs.Grounded.{grounded-prop};
-ghost use Rattle.task_machine.specs.Bounds.{measure-prop};
-ghost use Rattle.tree_sizes.specs.Measure.{IsLowerMeasure};
+ghost use Rattle.network_needs.specs.Bounds.{IsEstimate, needs_bound};
+ghost use Rattle.network_needs.specs.Rows.{outlook_of};
+ghost use Rattle.task_machine.specs.Bounds.{estimate-prop, most_steps};
 ghost use Rattle.tree_sizes.specs.Sizes.{size_of};
 
 use crate::configuration::{Configuration, Reached};
 use crate::tables::Tables;
 use htn_task::Task;
+use network_needs::Needs;
 use std::alloc::{AllocError, Global};
-use tree_sizes::TreeSizes;
+use tree_sizes::{TreeSizes, enumerate};
 use word_machine::{Machine, Successor};
 
-/// How much is listed at most to find sizes: ground tasks, their instances, and the nodes of these.
+/// How much is listed at most to find sizes and needs: ground tasks, their instances, and the nodes of these.
 const MOST_LISTED: u64 = 100_000;
 
 /// The word machine of a task as a search takes it: from a configuration a rank leads to the next
 /// one. Of instances with equal networks only the first is listed, and so no number is counted.
-/// By the sizes of open nodes it bounds how many steps are left.
+/// By the sizes of open nodes, and by what their network needs, it bounds how many steps are left.
 #[derive(Drop)]
 pub struct TaskMachine<'a> {
     pub task: &'a Task,
     pub(crate) alloc: Global,
     sizes: TreeSizes,
+    needs: Needs,
     ghost grounded: { IsGrounded (problem_of task.now) } by { grounded-prop (problem_of task.now) },
-    ghost measured: { IsLowerMeasure (problem_of task.now) (size_of sizes) } by { measure-prop (problem_of task.now) (size_of sizes) },
+    ghost estimated: { IsEstimate (problem_of task.now) (needs_bound (problem_of task.now) (size_of sizes) most_steps (outlook_of needs)) } by { estimate-prop (problem_of task.now) (needs_bound (problem_of task.now) (size_of sizes) most_steps (outlook_of needs)) },
 }
 
 impl<'a> TaskMachine<'a> {
@@ -35,8 +38,15 @@ impl<'a> TaskMachine<'a> {
         ensures { IfOk result (λ m. m.task.now ≡ task.now) }
     {
         let _initial = task.initial_atoms();
-        let sizes = TreeSizes::of(alloc, task, MOST_LISTED)?;
-        Ok(TaskMachine { task, alloc, sizes })
+        let found = enumerate(alloc, task, MOST_LISTED)?;
+        let needs = Needs::of(alloc, task, &found)?;
+        let sizes = TreeSizes::of_enumerated(alloc, found)?;
+        Ok(TaskMachine {
+            task,
+            alloc,
+            sizes,
+            needs,
+        })
     }
 }
 
@@ -49,11 +59,12 @@ impl<'a> Machine for TaskMachine<'a> {
     ghost use Rattle.htn_net.specs.Laws.{listing_lawful};
     ghost use Rattle.htn_net.specs.Listed.{listing_machine};
     ghost use Rattle.network_table.specs.Networks.{expansion_at};
+    ghost use Rattle.network_needs.specs.Bounds.{needs_bound};
+    ghost use Rattle.network_needs.specs.Rows.{outlook_of};
     ghost use Rattle.task_machine.specs.Bounds.{bounded, most_steps};
     ghost use Rattle.task_machine.specs.Laws.{one_to_one};
     ghost use Rattle.task_machine.specs.Meaning.{meaning};
-    ghost use Rattle.task_machine.specs.Sized.{AreOwned};
-    ghost use Rattle.tree_sizes.specs.Measure.{lower_bound};
+    ghost use Rattle.task_machine.specs.Owned.{AreOwned};
     ghost use Rattle.tree_sizes.specs.Sizes.{size_of};
 
     type Configuration = Configuration;
@@ -68,11 +79,11 @@ impl<'a> Machine for TaskMachine<'a> {
 
     ghost belongs = { λ m c. IsOwn (problem_of m.task.now) c };
 
-    ghost estimate = { λ m c. lower_bound (problem_of m.task.now) (size_of m.sizes) most_steps c };
+    ghost estimate = { λ m c. needs_bound (problem_of m.task.now) (size_of m.sizes) most_steps (outlook_of m.needs) c };
 
     ghost meaning = { λ m t. meaning t };
 
-    ghost owns = { λ m t. AreOwned m.task.now m.sizes t };
+    ghost owns = { λ m t. AreOwned m.task.now m.sizes m.needs t };
 
     ghost is_ready = { λ m t c. IsSome (expansion_at t.networks c.network) };
 
@@ -82,18 +93,23 @@ impl<'a> Machine for TaskMachine<'a> {
 
     ghost lawful = { λ m. listing_lawful m.task.now m.grounded };
 
-    ghost bounded = { λ m. bounded m.task.now m.grounded (size_of m.sizes) m.measured };
+    ghost bounded = { λ m. bounded m.task.now (needs_bound (problem_of m.task.now) (size_of m.sizes) most_steps (outlook_of m.needs)) m.estimated };
 
     fn new_tables(&self) -> Result<Tables, AllocError> {
-        Tables::new(self.alloc, self.task)
+        let tables = Tables::new(self.alloc, self.task)?;
+        Ok(tables)
     }
 
     fn initials(&self, tables: &mut Tables) -> Result<Vec<Configuration>, AllocError> {
-        tables.initials(self.alloc, self.task, &self.sizes)
+        let initials = tables.initials(self.alloc, self.task, &self.sizes)?;
+        tables.prepare_needs(self.alloc, &self.needs)?;
+        Ok(initials)
     }
 
     fn prepare(&self, tables: &mut Tables, at: Configuration) -> Result<(), AllocError> {
-        tables.prepare(self.alloc, self.task, &self.sizes, at.network)
+        tables.prepare(self.alloc, self.task, &self.sizes, at.network)?;
+        tables.prepare_needs(self.alloc, &self.needs)?;
+        Ok(())
     }
 
     fn expand(
@@ -139,7 +155,8 @@ impl<'a> Machine for TaskMachine<'a> {
     }
 
     fn lower_bound(&self, tables: &Tables, at: Configuration) -> u64 {
-        tables.lower_bound(at.network)
+        let states = tables.states.states();
+        tables.lower_bound(&states[at.state as usize], at.network)
     }
 
     fn open_len_of(&self, tables: &Tables, reached: &Reached) -> u64 {
@@ -147,6 +164,11 @@ impl<'a> Machine for TaskMachine<'a> {
     }
 
     fn lower_bound_of(&self, tables: &Tables, reached: &Reached) -> u64 {
-        tables.lower_bound(reached.network())
+        match reached {
+            Reached::Known(at) => {
+                tables.lower_bound(&tables.states.states()[at.state as usize], at.network)
+            }
+            Reached::New(state, network) => tables.lower_bound(state, *network),
+        }
     }
 }

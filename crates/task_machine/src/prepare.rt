@@ -1,10 +1,15 @@
 //! What the steps at a configuration need.
 ghost use Rattle.std.specs.Prelude.{◌≡◌, ◌<◌, ℕ, [], All, IfOk, IfNone, IfSome, IsSome, None, OnOk, Some, length, map, unwrap_or};
 ghost use Rattle.std.specs.Option.{option_map};
+ghost use Rattle.htn_model.specs.Grounding.{problem_of};
+ghost use Rattle.htn_model.specs.Task as model;
+ghost use Rattle.needs_table.specs.Kept.{AreKept, AreNoted};
+ghost use Rattle.network_needs.specs.Rows.{outlook_of};
 ghost use Rattle.network_table.specs.Expansions.{first_free};
 ghost use Rattle.network_table.specs.Networks.{children, expansion_at, IsWhole, Knows, network_at};
 ghost use Rattle.htn_net.specs.Listed.{listing_machine};
-ghost use Rattle.task_machine.specs.Sized.{HasSizes};
+ghost use Rattle.tree_sizes.specs.declared.tree_sizes.TreeSizes.{TreeSizes};
+ghost use Rattle.task_machine.specs.Owned.{AreOwned, HasSizes};
 ghost use Rattle.task_machine.specs.Meaning.{knows, point};
 ghost use Rattle.task_machine.specs.Tables.{AreExpanded, AreLater, AreTables, instances_at, IsFirstTask, slot};
 
@@ -15,6 +20,7 @@ use crate::slots::{is_taken, put};
 use crate::tables::Tables;
 use htn_ground::distinct_initials;
 use htn_task::Task;
+use network_needs::Needs;
 use network_table::{Network, NetworkTable};
 use state_table::initial_state;
 use std::alloc::{AllocError, Global};
@@ -55,6 +61,7 @@ impl Tables {
         ensures owned { OnOk result (AreTables task.now self.new) }
         ensures sized { OnOk result (HasSizes sizes.now self.new.networks) }
         ensures later { OnOk result (AreLater self.old self.new) }
+        ensures needs { OnOk result (self.new.needs ≡ self.old.needs) }
         ensures known { IfOk result (λ v. All (knows self.new) v.items) }
         ensures points { IfOk result (λ v. map (point self.new) v.items ≡ (listing_machine task.now).initials) }
     {
@@ -80,6 +87,7 @@ impl Tables {
         ensures owned { OnOk result (AreTables task.now self.new) }
         ensures sized { OnOk result (HasSizes sizes.now self.new.networks) }
         ensures later { OnOk result (AreLater self.old self.new) }
+        ensures needs { OnOk result (self.new.needs ≡ self.old.needs) }
         ensures remembered { OnOk result ((n : ℕ) → expansion_at self.new.networks n ≡ expansion_at self.old.networks n) }
         ensures there { OnOk result (IsSome (instances_at self.new node)) }
     {
@@ -106,6 +114,7 @@ impl Tables {
         ensures expanded { OnOk result (AreExpanded task.now self.new network) }
         ensures sized { OnOk result (HasSizes sizes.now self.new.networks) }
         ensures later { OnOk result (AreLater self.old self.new) }
+        ensures needs { OnOk result (self.new.needs ≡ self.old.needs) }
         ensures ready { OnOk result (IsSome (expansion_at self.new.networks network)) }
     {
         let Some(node) = first_task(&self.networks, network) else {
@@ -132,6 +141,7 @@ impl Tables {
         ensures owned { OnOk result (AreTables task.now self.new) }
         ensures sized { OnOk result (HasSizes sizes.now self.new.networks) }
         ensures later { OnOk result (AreLater self.old self.new) }
+        ensures needs { OnOk result (self.new.needs ≡ self.old.needs) }
         ensures ready { OnOk result (IsSome (expansion_at self.new.networks network)) }
     {
         if self.networks.expansion(network).is_some() {
@@ -146,6 +156,22 @@ impl Tables {
             &mut self.performers,
             network,
         )?;
+        Ok(())
+    }
+
+    /// Sees that it is known what each network needs that has a number.
+    pub(crate) fn prepare_needs(&mut self, alloc: Global, needs: &Needs) -> Result<(), AllocError>
+        requires whole { IsWhole self.old.networks }
+        requires kept { AreKept (outlook_of needs.now) self.old.atoms self.old.networks self.old.needs }
+        requires noted { AreNoted needs.now self.old.atoms self.old.networks self.old.needs }
+        ensures owned { OnOk result ((t : model.Task) (sizes : TreeSizes) → AreTables t self.old
+            → HasSizes sizes self.old.networks → self.old.needs.goal ≡ (problem_of t).goal
+            → AreOwned t sizes needs.now self.new) }
+        ensures later { OnOk result ((t : model.Task) → AreTables t self.old → AreLater self.old self.new) }
+        ensures networks { OnOk result (self.new.networks ≡ self.old.networks) }
+    {
+        self.needs
+            .keep_up(alloc, needs, &mut self.atoms, &self.networks)?;
         Ok(())
     }
 }

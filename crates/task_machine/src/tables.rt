@@ -1,13 +1,15 @@
 //! What a search has numbered.
-ghost use Rattle.std.specs.Prelude.{◌≡◌, IfOk};
+ghost use Rattle.std.specs.Prelude.{◌≡◌, ◌<◌, [], IfOk, length};
 ghost use Rattle.htn_model.specs.Grounding.{problem_of};
 ghost use Rattle.htn_model.specs.Levels.{is_done};
 ghost use Rattle.htn_model.specs.Task as model;
 ghost use Rattle.htn_model.specs.State.{State};
+ghost use Rattle.network_needs.specs.Rows.{outlook_of};
+ghost use Rattle.network_needs.specs.declared.needs.Needs.{Needs};
 ghost use Rattle.network_table.specs.Networks.{IsWhole, Knows, network_at};
 ghost use Rattle.network_table.specs.Numbered.{config_at};
-ghost use Rattle.task_machine.specs.Bounds.{most_steps};
-ghost use Rattle.task_machine.specs.Sized.{HasSizes};
+ghost use Rattle.task_machine.specs.Bounds.{bound_by, most_steps};
+ghost use Rattle.task_machine.specs.Owned.{AreOwned, HasSizes};
 ghost use Rattle.task_machine.specs.Meaning.{config_in};
 ghost use Rattle.task_machine.specs.Tables.{AreTables};
 ghost use Rattle.tree_sizes.specs.Measure.{estimate};
@@ -18,12 +20,16 @@ use crate::fluents::fluent_predicates;
 use crate::performer::Performer;
 use htn_ground::goal_literals;
 use htn_task::Task;
+use needs_table::NeedsTable;
 use network_table::{Network, NetworkTable};
 use state_table::{AtomTable, BitState, CompiledLiterals, StateTable};
 use std::alloc::{AllocError, Global};
 
 /// The most steps that a plan may have, and as far as a bound on them goes.
 const MOST_STEPS: u64 = 10_000;
+
+/// More steps than any plan may have.
+const OUT_OF_REACH: u64 = 10_001;
 
 /// The atoms, states and task networks that a search has met, by number, and what it keeps about them.
 #[derive(Drop)]
@@ -37,6 +43,8 @@ pub struct Tables {
     /// By the number of a compound task's node, once it was the first free one: the networks of its
     /// instances that are listed.
     pub(crate) instances: Vec<Option<Vec<Network>>>,
+    /// By the number of a network, what it needs from the start.
+    pub(crate) needs: NeedsTable,
 }
 
 impl Tables {
@@ -44,6 +52,9 @@ impl Tables {
     pub(crate) fn new(alloc: Global, task: &Task) -> Result<Tables, AllocError>
         ensures own { IfOk result (AreTables task.now) }
         ensures sized { IfOk result (λ t. (sizes : TreeSizes) → HasSizes sizes t.networks) }
+        ensures goal { IfOk result (λ t. t.needs.goal ≡ (problem_of task.now).goal) }
+        ensures none { IfOk result (λ t. (t.needs.needs.items ≡ []) × (t.networks.networks.keys ≡ [])) }
+        ensures nothing_noted { IfOk result (λ t. (t.needs.nodes.items ≡ []) × (t.needs.goals.items ≡ [])) }
     {
         let fluents = fluent_predicates(alloc, task)?;
         let mut atoms = AtomTable::new(alloc, fluents, task.initial_atoms())?;
@@ -56,6 +67,7 @@ impl Tables {
             goal,
             performers: Vec::new(alloc),
             instances: Vec::new(alloc),
+            needs: NeedsTable::new(alloc, literals),
         })
     }
 
@@ -70,7 +82,7 @@ impl Tables {
     }
 
     /// How many steps a network takes at least, by the sizes of its nodes: at least one for each.
-    pub(crate) fn lower_bound(&self, network: u32) -> u64
+    fn least_steps(&self, network: u32) -> u64
         requires whole { IsWhole self.now.networks }
         requires known { Knows self.now.networks network }
         ensures { (sizes : TreeSizes) (state : State) → HasSizes sizes self.now.networks
@@ -79,5 +91,21 @@ impl Tables {
         let open_len = self.networks.open_len(network);
         let bound = self.networks.bound(network);
         open_len.max(bound.min(MOST_STEPS))
+    }
+
+    /// How many steps are left at least: what the network takes, and more than any bound where the state lacks what it
+    /// needs.
+    pub(crate) fn lower_bound(&self, state: &BitState, network: u32) -> u64
+        requires whole { IsWhole self.now.networks }
+        requires known { Knows self.now.networks network }
+        requires needed { network < length self.now.needs.needs.items }
+        ensures { (t : model.Task) (sizes : TreeSizes) (needs : Needs) → AreOwned t sizes needs self.now
+            → result ≡ bound_by (problem_of t) (size_of sizes) (outlook_of needs) (config_in self.now state.now network) }
+    {
+        let least = self.least_steps(network);
+        if self.needs.may_end(network, state) {
+            return least;
+        }
+        least.max(OUT_OF_REACH)
     }
 }

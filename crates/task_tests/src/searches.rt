@@ -169,6 +169,51 @@ fn sizes_change_no_answer(rt: HostRuntime) -> Result<(), Fail> {
     Ok(())
 }
 
+const DOORS: &str = "(define (domain d) (:predicates (key) (open)) (:task t)
+  (:action lose :effect (not (key)))
+  (:action unlock :precondition (key) :effect (open))
+  (:method by-losing :task (t) :ordered-subtasks (and (lose) (unlock)))
+  (:method by-care :task (t) :ordered-subtasks (and (unlock) (lose))))";
+
+// Of two ways one first loses what it needs.
+const KEYED: Pair = Pair {
+    domain: DOORS,
+    problem: "(define (problem x) (:domain d) (:init (key)) (:htn :subtasks (t)))",
+};
+
+// Both ways need what is not there, and nothing gives it.
+const KEYLESS: Pair = Pair {
+    domain: DOORS,
+    problem: "(define (problem x) (:domain d) (:htn :subtasks (t)))",
+};
+
+// The goal needs what the one action doesn't give.
+const SHUT: Pair = Pair {
+    domain: DOORS,
+    problem: "(define (problem x) (:domain d) (:init (key)) (:goal (open)) (:htn :subtasks (lose)))",
+};
+
+const CAREFUL_PLAN: &str = "==>\n0 unlock\n1 lose\nroot 2\n2 t -> by-care 0 1\n<==\n";
+
+// What lacks what its network needs is passed over, and the answers are those of the open nodes.
+#[test]
+fn needs_change_no_answer(rt: HostRuntime) -> Result<(), Fail> {
+    let rows = [
+        (KEYED, 2, "none"),
+        (KEYED, 3, CAREFUL_PLAN),
+        (KEYED, 10_000, CAREFUL_PLAN),
+        (KEYLESS, 2, "none"),
+        (KEYLESS, 3, "unsolvable"),
+        (SHUT, 0, "none"),
+        (SHUT, 1, "unsolvable"),
+    ];
+    for (pair, nodes, text) in rows {
+        let found = answer_of(&rt, rt.alloc(), pair, Question::Within(nodes))?;
+        assert_eq!(rt; found.as_str(), text);
+    }
+    Ok(())
+}
+
 #[test]
 fn there_is_no_plan(rt: HostRuntime) -> Result<(), Fail> {
     let rows = [

@@ -1,4 +1,4 @@
-use Rattle.std.proofs.Common.{◌≡◌, ◌∙◌, ◌||◌, ◌++◌, Bool, List, false, get_or, nat_eq, take, sym, ap, ap₂, arith}
+use Rattle.std.proofs.Common.{◌∙◌, ◌||◌, ◌++◌, Bool, List, false, get_or, nat_eq, take, sym, ap, ap₂, arith}
 use Rattle.std.specs.List.{list_any}
 use Rattle.std.proofs.lemmas.List.{take_all}
 use Rattle.std.proofs.lemmas.List.Folds.{list_any-append, list_any_more}

@@ -3,7 +3,7 @@ use Rattle.htn_model.specs.Instance.{Instance}
 use Rattle.network_table.specs.Networks.{Knows, network_at}
 use Rattle.task_machine.specs.Growing.{IsWider}
 use Rattle.task_machine.specs.declared.configuration.Configuration.{Configuration}
-use Rattle.task_machine.specs.Sized.{HasSizes}
+use Rattle.task_machine.specs.Owned.{HasSizes}
 use Rattle.task_machine.proofs.instances.configurations_of.Given as goal
 
 -- the configurations of the instances so far

@@ -1,7 +1,7 @@
 use Rattle.std.proofs.Common.{map, take}
 use Rattle.htn_model.specs.Instance.{Instance}
 use Rattle.task_machine.specs.Growing.{IsWider, StandFor}
-use Rattle.task_machine.specs.Sized.{HasSizes}
+use Rattle.task_machine.specs.Owned.{HasSizes}
 use Rattle.task_machine.proofs.instances.number_networks.Given as goal
 
 -- the networks of the instances so far

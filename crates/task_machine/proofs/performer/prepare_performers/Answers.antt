@@ -1,4 +1,4 @@
-use Rattle.std.proofs.Common.{◌≡◌, ◌∙◌, ◌<◌, All, Some, ap, length, subst, sym}
+use Rattle.std.proofs.Common.{◌∙◌, ◌<◌, All, Some, ap, length, subst, sym}
 use Rattle.network_table.specs.Networks.{children}
 use Rattle.network_table.specs.declared.expansion.Expansion.TheVariants.{Performed}
 use Rattle.network_table.specs.declared.expansion.Removal.{Removal}

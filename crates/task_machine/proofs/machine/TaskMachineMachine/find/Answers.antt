@@ -1,7 +1,6 @@
 use Rattle.std.proofs.Common.{◌∙◌, ap, subst, sym}
 use Rattle.std.proofs.lemmas.Option.{slice_get_within}
 use Rattle.task_machine.specs.Meaning.{allows, config_in, point_of}
-use Rattle.task_machine.specs.declared.configuration.Reached.{Reached}
 use Rattle.task_machine.proofs.Owned.{state_unknown, words_of_number}
 use Rattle.task_machine.proofs.Results.{none_anyway}
 use Rattle.task_machine.proofs.machine.TaskMachineMachine.find.Goals as goal

@@ -11,6 +11,9 @@ returns-in_ok-state-in-New-clause-owned c =
     record {
       tables = with_state c.args.self.now.task.now tables c.keep.new.self c.in-New.state c.in_ok-state-in-New.ensures.numbering allowed.0 c.in_ok-state-in-New.ensures.others c.requires.own.tables;
       sized = c.requires.own.sized;
+      goal = c.requires.own.goal;
+      needed = c.requires.own.needed;
+      noted = c.requires.own.noted;
     }
 
 pub returns-in_ok-state-in-New-clause-known : goal.returns-in_ok-state-in-New-clause-known

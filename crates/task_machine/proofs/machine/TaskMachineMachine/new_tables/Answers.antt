@@ -1,6 +1,21 @@
-use Rattle.task_machine.proofs.Results.{both_if_ok}
+use Rattle.std.proofs.Common.{◌∙◌, ap, length, sym}
+use Rattle.network_needs.specs.Rows.{outlook_of}
+use Rattle.needs_table.proofs.Kept.{keeps_none}
+use Rattle.needs_table.proofs.Noted.{noted_none}
 use Rattle.task_machine.proofs.machine.TaskMachineMachine.new_tables.Goals as goal
 
 pub returns : goal.returns
 returns c =
-    both_if_ok _ _ _ c.new.result (λ _ tables sized. record { tables = tables; sized = sized c.args.self.now.sizes }) c.new.ensures.own c.new.ensures.sized
+    let m = c.args.self.now in
+    let did = c.in_ok-tables.ensures in
+    let found = c.in_ok-tables.tables in
+    record {
+      tables = did.own;
+      sized = did.sized m.sizes;
+      goal = did.goal;
+      needed = record {
+        kept = keeps_none (outlook_of m.needs) found.needs.goal found.atoms found.networks found.needs.needs.items did.none.0;
+        all = ap length did.none.0 ∙ sym (ap length did.none.1);
+      };
+      noted = noted_none m.needs found.atoms found.networks found.needs did.nothing_noted.0 did.nothing_noted.1;
+    }

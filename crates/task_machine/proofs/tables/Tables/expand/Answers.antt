@@ -3,7 +3,6 @@ use Rattle.std.specs.Option.{option_map}
 use Rattle.std.proofs.lemmas.Option.{none-some}
 use Rattle.state_table.proofs.Keys.{if_none}
 use Rattle.network_table.specs.Children.{AreBounds}
-use Rattle.network_table.specs.Expansions.{AreInstances}
 use Rattle.tree_sizes.specs.Sizes.{size_of}
 use Rattle.task_machine.specs.Steps.{live_networks}
 use Rattle.task_machine.specs.Tables.{instances_at, slot}

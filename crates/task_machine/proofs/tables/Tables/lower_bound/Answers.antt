@@ -1,15 +1,29 @@
-use Rattle.std.proofs.Common.{rules, ◌≡◌, ◌-◌, ◌^◌, arith, length, max, min}
-use Rattle.std.specs.List.{sum_by}
-use Rattle.network_table.specs.Networks.{network_at}
-use Rattle.tree_sizes.specs.Sizes.{size_of}
+use Rattle.std.proofs.Common.{rules, ◌≡◌, ◌∙◌, max, sym}
+use Rattle.htn_model.specs.Grounding.{problem_of}
+use Rattle.network_needs.specs.Needs.{may_end}
+use Rattle.network_needs.specs.Rows.{outlook_of}
+use Rattle.state_table.specs.Table.{state_of}
+use Rattle.tree_sizes.specs.Measure.{estimate}
+use Rattle.tree_sizes.specs.Sizes.{out_of_reach, size_of}
 use Rattle.task_machine.specs.Bounds.{most_steps}
+use Rattle.task_machine.specs.Meaning.{config_in}
+use Rattle.task_machine.proofs.Estimates.{bound_ending, bound_lost}
 use Rattle.task_machine.proofs.tables.Tables.lower_bound.Goals as goal
 
+pub returns-then-may_end : goal.returns-then-may_end
+returns-then-may_end c = λ t sizes needs own.
+    let tables = c.args.self.now in
+    let at = config_in tables c.args.state.now c.args.network in
+    bound_ending c.least_steps-least.result (estimate (size_of sizes) most_steps at) c.may_end.result (may_end (problem_of t) (outlook_of needs) at)
+    (c.least_steps-least.ensures sizes (state_of tables.atoms c.args.state.now) own.sized)
+    (c.may_end.ensures (problem_of t) (outlook_of needs) tables.atoms tables.networks own.tables.atoms.table own.needed.kept own.goal) c.if-may_end.true
+
 pub returns : goal.returns
-returns c = λ sizes state sized.
-    let nodes = (network_at c.args.self.now.networks c.args.network).children in
-    let count : c.open_len-open_len.result ≡ length nodes = c.open_len-open_len.ensures in
-    let sum : c.bound-bound.result ≡ min (sum_by (size_of sizes) nodes) (2 ^ 64 - 1) = c.bound-bound.ensures.measured (size_of sizes) sized in
-    let capped : min c.bound-bound.result most_steps ≡ c.min.result = search rules in
-    let most : max c.open_len-open_len.result c.min.result ≡ c.max.result = search rules in
-    omega (arith, count, sum, capped, most)
+returns c = λ t sizes needs own.
+    let tables = c.args.self.now in
+    let at = config_in tables c.args.state.now c.args.network in
+    let most : max c.least_steps-least.result out_of_reach ≡ c.max.result = search rules in
+    sym most
+    ∙ bound_lost c.least_steps-least.result (estimate (size_of sizes) most_steps at) c.may_end.result (may_end (problem_of t) (outlook_of needs) at)
+    (c.least_steps-least.ensures sizes (state_of tables.atoms c.args.state.now) own.sized)
+    (c.may_end.ensures (problem_of t) (outlook_of needs) tables.atoms tables.networks own.tables.atoms.table own.needed.kept own.goal) c.if-may_end.false

@@ -1,4 +1,4 @@
-use Rattle.std.proofs.Common.{◌≡◌, ◌∙◌, ◌&&◌, List, [], ℕ, Some, None, not, ap, sym, subst, slice_get}
+use Rattle.std.proofs.Common.{◌∙◌, ◌&&◌, List, ℕ, not, ap, sym, subst, slice_get}
 use Rattle.std.specs.Option.{option_map}
 use Rattle.std.proofs.lemmas.Option.{none-some}
 use Rattle.htn_model.specs.Literal.{Literal}
@@ -7,9 +7,8 @@ use Rattle.state_table.specs.Compiled.{AreCompiled}
 use Rattle.state_table.specs.Numberings.{IsNumbering}
 use Rattle.state_table.specs.Table.{is_changed, is_fluent}
 use Rattle.state_table.proofs.Keys.{numbering_none}
-use Rattle.network_table.specs.Networks.{expansion_at, Knows}
 use Rattle.task_machine.specs.Steps.{live_networks}
-use Rattle.task_machine.specs.Tables.{instances_at, slot}
+use Rattle.task_machine.specs.Tables.{slot}
 use Rattle.task_machine.proofs.Owned.{atoms_later}
 use Rattle.tree_sizes.specs.Sizes.{size_of}
 use Rattle.task_machine.proofs.tables.Tables.new.Goals as goal
@@ -36,3 +35,12 @@ returns-clause-own c =
 
 pub returns-clause-sized : goal.returns-clause-sized
 returns-clause-sized c = λ sizes. c.new-3.ensures.bounds (size_of sizes)
+
+pub returns-clause-goal : goal.returns-clause-goal
+returns-clause-goal c = c.new-6.ensures.goal ∙ c.in_ok-literals.ensures
+
+pub returns-clause-none : goal.returns-clause-none
+returns-clause-none c = (c.new-6.ensures.none, c.new-3.ensures.empty)
+
+pub returns-clause-nothing_noted : goal.returns-clause-nothing_noted
+returns-clause-nothing_noted c = (c.new-6.ensures.no_nodes, c.new-6.ensures.no_goals)

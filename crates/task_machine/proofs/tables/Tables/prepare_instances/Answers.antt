@@ -1,8 +1,7 @@
-use Rattle.std.proofs.Common.{◌∙◌, ℕ, List, [], Option, append-nil, ap, map, sym, subst}
+use Rattle.std.proofs.Common.{◌∙◌, List, [], append-nil, ap, map, sym, subst}
 use Rattle.std.specs.Option.{option_map}
 use Rattle.htn_model.specs.Instance.{Instance}
 use Rattle.htn_model.specs.Problem.{Network}
-use Rattle.network_table.specs.Numbered.{Numbered}
 use Rattle.state_table.proofs.States.{later_itself}
 use Rattle.task_machine.specs.Growing.{StandFor}
 use Rattle.task_machine.specs.Tables.{instances_at}

@@ -1,0 +1,190 @@
+-- What is found once for nodes and a goal stays right, and is read for each network.
+use Rattle.std.proofs.Common.{◌≡◌, ℕ, suc, ◌+◌, ◌<◌, ◌≤◌, Bool, List, [], ◌∷◌, ◌++◌, inl, inr, length, get_or, map, take, Option, Some, slice_get, refl, sym, ap, ap₂, ◌∙◌, subst, arith, length-append}
+use Rattle.std.proofs.Math.Seq.{take-suc}
+use Rattle.std.proofs.lemmas.List.{get_or-map, length-map, map_push, take_all}
+use Rattle.std.proofs.lemmas.Option.{none-some, slice_get_read, slice_get_within}
+use Rattle.htn_ground.specs.Views.{child_view}
+use Rattle.htn_model.specs.Choice.{child_of}
+use Rattle.htn_model.specs.Literal.{Literal, literal_holds}
+use Rattle.htn_model.specs.Problem.{Child, precondition}
+use Rattle.htn_state.specs.Views.{literal_of, literals_of}
+use Rattle.htn_state.specs.declared.literal.Literal.{Literal as Written}
+use Rattle.network_needs.specs.Rows.{literal_number, row_of, wants_by}
+use Rattle.network_needs.specs.declared.needs.Needs.{Needs}
+use Rattle.network_table.specs.Networks.{children, IsGrown}
+use Rattle.network_table.specs.declared.table.NetworkTable.{NetworkTable}
+use Rattle.network_table.proofs.Growing.{child_kept}
+use Rattle.state_table.specs.Compiled.{IsCompiledLiteral, is_met}
+use Rattle.state_table.specs.Table.{IsLater, state_of, Table}
+use Rattle.state_table.proofs.Keys.{at_push}
+use Rattle.state_table.proofs.States.{later_more}
+use Rattle.needs_table.specs.Kept.{AreFirstWants, AreNodes, AreNoted, AreWants, IsNode}
+use Rattle.needs_table.specs.declared.node.Node.{Node}
+use Rattle.needs_table.specs.declared.table.NeedsTable.{NeedsTable}
+use Rattle.needs_table.specs.declared.wants.Want.{Want}
+
+-- ## Wanted literals
+
+-- they are right by later tables of atoms
+pub wants_later : (n : Needs) (atoms later : Table) (wants : List Want) (literals : List Literal) → IsLater atoms later → AreWants n atoms wants literals → AreWants n later wants literals
+wants_later n atoms later wants literals grown are = record {
+  numbers = are.numbers;
+  met = λ after more words. are.met after (later_more atoms later after grown more) words;
+}
+
+-- none of nothing
+nothing_taken : (literals : List Literal) → take 0 literals ≡ []
+nothing_taken [] = refl
+nothing_taken (l ∷ literals) = refl
+
+-- none are the first ones of any
+pub wants_none : (n : Needs) (atoms : Table) (wants : List Want) (literals : List Literal) → wants ≡ [] → AreFirstWants n atoms wants literals
+wants_none n atoms wants literals none =
+    subst (λ (ws : List Want). AreFirstWants n atoms ws literals) (sym none)
+    (subst (AreWants n atoms []) (sym (nothing_taken literals)) (record { numbers = refl; met = λ later grown words. refl }))
+
+-- what is made of one more, on both sides
+mapped_push : {Y : Type 0} (f : Want → Y) (g : Literal → Y) (old new : List Want) (w : Want) (ls : List Literal) (l : Literal) → new ≡ old ++ w ∷ [] → f w ≡ g l → map f old ≡ map g ls → map f new ≡ map g (ls ++ l ∷ [])
+mapped_push f g old new w ls l pushed same before =
+    ap (map f) pushed ∙ map_push f old w ∙ ap₂ (λ k x. k ++ x ∷ []) before same ∙ sym (map_push g ls l)
+
+-- one more of the written literals
+literals_more : (xs : List Written) (i : ℕ) (x : Written) → i < length xs → x ≡ get_or xs i x → literals_of (take (i + 1) xs) ≡ literals_of (take i xs) ++ literal_of x ∷ []
+literals_more xs i x low is =
+    let e : i + 1 ≡ suc i = omega arith in
+    ap (λ (j : ℕ). literals_of (take j xs)) e
+    ∙ ap literals_of (take-suc xs i x low)
+    ∙ map_push literal_of (take i xs) (get_or xs i x)
+    ∙ ap (λ (y : Written). literals_of (take i xs) ++ literal_of y ∷ []) (sym is)
+
+-- one more wanted literal
+pub wants_push : (n : Needs) (atoms : Table) (old new : List Want) (w : Want) (xs : List Written) (i : ℕ) (x : Written) → i < length xs → x ≡ get_or xs i x → new ≡ old ++ w ∷ []
+    → w.number ≡ literal_number n (literal_of x) → IsCompiledLiteral atoms w.literal (literal_of x) → AreWants n atoms old (literals_of (take i xs)) → AreWants n atoms new (literals_of (take (i + 1) xs))
+wants_push n atoms old new w xs i x low is pushed number compiled are =
+    let ls = literals_of (take i xs) in
+    let l = literal_of x in
+    subst (AreWants n atoms new) (sym (literals_more xs i x low is)) (record {
+      numbers = mapped_push (λ (v : Want). v.number) (literal_number n) old new w ls l pushed number are.numbers;
+      met = λ later grown words.
+          mapped_push (λ (v : Want). is_met words v.literal) (literal_holds (state_of later words)) old new w ls l pushed (compiled later grown words) (are.met later grown words);
+    })
+
+module _ (n : Needs) (atoms : Table) (wants : List Want) (literals : List Literal) (are : AreWants n atoms wants literals) where
+  -- there are as many
+  pub wants_count : length wants ≡ length literals
+  wants_count = sym (length-map wants (λ (w : Want). w.number)) ∙ ap length are.numbers ∙ length-map literals (literal_number n)
+
+  module _ (i : ℕ) (w : Want) (l : Literal) (low : i < length wants) (is : w ≡ get_or wants i w) where
+    -- it has the number of the literal
+    pub want_number : w.number ≡ literal_number n (get_or literals i l)
+    want_number =
+        let count = wants_count in
+        let low_too : i < length literals = omega (arith, count, low) in
+        let d = literal_number n (get_or literals i l) in
+        ap (λ (v : Want). v.number) is
+        ∙ sym (get_or-map (λ (v : Want). v.number) wants i w d low)
+        ∙ ap (λ (k : List (Option ℕ)). get_or k i d) are.numbers
+        ∙ get_or-map (literal_number n) literals i l d low_too
+
+    -- and holds where it does
+    pub want_met : (later : Table) → IsLater atoms later → (words : List ℕ) → is_met words w.literal ≡ literal_holds (state_of later words) (get_or literals i l)
+    want_met later grown words =
+        let count = wants_count in
+        let low_too : i < length literals = omega (arith, count, low) in
+        let d = literal_holds (state_of later words) (get_or literals i l) in
+        ap (λ (v : Want). is_met words v.literal) is
+        ∙ sym (get_or-map (λ (v : Want). is_met words v.literal) wants i w d low)
+        ∙ ap (λ (k : List Bool). get_or k i d) (are.met later grown words)
+        ∙ get_or-map (literal_holds (state_of later words)) literals i l d low_too
+
+-- where there are enough of the first ones they are all
+pub all_wants : (n : Needs) (atoms : Table) (wants : List Want) (literals : List Literal) → length literals ≤ length wants → AreFirstWants n atoms wants literals → AreWants n atoms wants literals
+all_wants n atoms wants literals enough are = subst (AreWants n atoms wants) (take_all (length wants) literals enough) are
+
+-- and all are the first ones
+pub first_wants : (n : Needs) (atoms : Table) (wants : List Want) (literals : List Literal) → AreWants n atoms wants literals → AreFirstWants n atoms wants literals
+first_wants n atoms wants literals are =
+    let count = wants_count n atoms wants literals are in
+    subst (AreWants n atoms wants) (sym (take_all (length wants) literals (omega (arith, count)))) are
+
+-- ## Nodes
+
+-- what is known of a node is right by later tables
+node_later : (n : Needs) (atoms later : Table) (node : Node) (x : Child) → IsLater atoms later → IsNode n atoms node x → IsNode n later node x
+node_later n atoms later node x grown is = record {
+  row = is.row;
+  blocked = is.blocked;
+  wants = wants_later n atoms later node.wants.items (wants_by (row_of n x)) grown is.wants;
+}
+
+-- no fewer nodes have numbers
+longer : (old new : NetworkTable) → IsGrown old new → length (children old) ≤ length (children new)
+longer old new grown =
+    let old_len = length-map old.children.children.keys child_view in
+    let new_len = length-map new.children.children.keys child_view in
+    let kept = ap length grown.children.children in
+    let long = length-append old.children.children.keys grown.children.more in
+    omega (arith, old_len, new_len, kept, long)
+
+-- so is what is known of the first ones, as more get numbers
+pub nodes_later : (n : Needs) (atoms later : Table) (old new : NetworkTable) (nodes : List Node) → IsLater atoms later → IsGrown old new → AreNodes n atoms old nodes → AreNodes n later new nodes
+nodes_later n atoms later old new nodes grown networks are = record {
+  within = (let more = longer old new networks in let low = are.within in omega (arith, more, low));
+  each = λ id node at.
+      (let inside = slice_get_within nodes id node at in
+      let low = are.within in
+      let known : id < length (children old) = omega (arith, inside, low) in
+      subst (IsNode n later node) (sym (child_kept old.children new.children networks.children id known))
+      (node_later n atoms later node (child_of (children old) id) grown (are.each id node at)));
+}
+
+-- the same by more atoms
+pub nodes_more_atoms : (n : Needs) (atoms later : Table) (networks : NetworkTable) (nodes : List Node) → IsLater atoms later → AreNodes n atoms networks nodes → AreNodes n later networks nodes
+nodes_more_atoms n atoms later networks nodes grown are = record {
+  within = are.within;
+  each = λ id node at. node_later n atoms later node (child_of (children networks) id) grown (are.each id node at);
+}
+
+-- one more node
+pub nodes_push : (n : Needs) (atoms later : Table) (networks : NetworkTable) (old new : List Node) (node : Node) → IsLater atoms later → length old < length (children networks)
+    → IsNode n later node (child_of (children networks) (length old)) → new ≡ old ++ node ∷ [] → AreNodes n atoms networks old → AreNodes n later networks new
+nodes_push n atoms later networks old new node grown low right pushed are = record {
+  within = (let long = length-append old (node ∷ []) in let is = ap length pushed in omega (arith, low, long, is));
+  each = λ id other at. elim (at_push old node id other (sym (ap (λ l. slice_get l id) pushed) ∙ at)) [
+    | inl before ↦ node_later n atoms later other (child_of (children networks) id) grown (are.each id other before)
+    | inr here ↦ subst (λ k. IsNode n later other (child_of (children networks) k)) (sym here.0)
+        (subst (λ (x : Node). IsNode n later x (child_of (children networks) (length old))) here.1 right)
+  ];
+}
+
+-- of no node nothing is known
+pub nodes_none : (n : Needs) (atoms : Table) (networks : NetworkTable) (nodes : List Node) → nodes ≡ [] → AreNodes n atoms networks nodes
+nodes_none n atoms networks nodes none = record {
+  within = (let is = ap length none in omega (arith, is));
+  each = λ id node at. absurd (none-some node (sym (ap (λ l. slice_get l id) none) ∙ at));
+}
+
+-- what stands at a number is known of its node
+pub node_at : (n : Needs) (atoms : Table) (networks : NetworkTable) (nodes : List Node) (id : ℕ) (node : Node) → id < length nodes → node ≡ get_or nodes id node → AreNodes n atoms networks nodes
+    → IsNode n atoms node (child_of (children networks) id)
+node_at n atoms networks nodes id node low read are = are.each id node (slice_get_read nodes (length nodes) id node refl low read)
+
+-- the node at a position of a network is that of its number
+pub child_there : (networks : NetworkTable) (ids : List ℕ) (at d : ℕ) → at < length ids → child_of (map (child_of (children networks)) ids) at ≡ child_of (children networks) (get_or ids at d)
+child_there networks ids at d low = get_or-map (child_of (children networks)) ids at d (precondition []) low
+
+-- ## Both
+
+-- it is right by later tables
+pub noted_later : (n : Needs) (atoms later : Table) (old new : NetworkTable) (t : NeedsTable) → IsLater atoms later → IsGrown old new → AreNoted n atoms old t → AreNoted n later new t
+noted_later n atoms later old new t grown networks noted = record {
+  nodes = nodes_later n atoms later old new t.nodes.items grown networks noted.nodes;
+  goals = wants_later n atoms later t.goals.items (take (length t.goals.items) t.goal) grown noted.goals;
+}
+
+-- at first there is nothing of it
+pub noted_none : (n : Needs) (atoms : Table) (networks : NetworkTable) (t : NeedsTable) → t.nodes.items ≡ [] → t.goals.items ≡ [] → AreNoted n atoms networks t
+noted_none n atoms networks t nodes goals = record {
+  nodes = nodes_none n atoms networks t.nodes.items nodes;
+  goals = wants_none n atoms t.goals.items t.goal goals;
+}

@@ -1,0 +1,60 @@
+use Rattle.std.proofs.Common.{◌≡◌, ◌∙◌, ◌&&◌, ◌<◌, List, ℕ, get_or, length, sym, ap, subst, arith}
+use Rattle.std.specs.List.{flat_map, range_with_len}
+use Rattle.std.proofs.lemmas.List.{length-map}
+use Rattle.htn_model.specs.Choice.{child_of}
+use Rattle.htn_model.specs.Literal.{holds}
+use Rattle.htn_model.specs.Problem.{Child}
+use Rattle.network_needs.specs.Needs.{needed_at}
+use Rattle.network_needs.specs.Rows.{outlook_of, row_of, wants_by}
+use Rattle.network_table.specs.Networks.{children}
+use Rattle.network_table.specs.Numbered.{network_of}
+use Rattle.state_table.specs.Compiled.{all_hold}
+use Rattle.state_table.specs.Table.{state_of}
+use Rattle.needs_table.specs.Kept.{AreWants}
+use Rattle.needs_table.specs.declared.wants.Want.{Want}
+use Rattle.needs_table.proofs.NeededLists.{and_nothing, needed_more}
+use Rattle.needs_table.proofs.Noted.{child_there, node_at}
+use Rattle.needs_table.proofs.needed.push_needed.Goals as goal
+
+pub loop-at-init : goal.loop-at-init
+loop-at-init c = λ networks atoms later words are nodes grown. and_nothing (all_hold words c.args.found.now)
+
+-- each number is that of a node of which it is known
+pub index-node-requires : goal.index-node-requires
+index-node-requires c =
+    let ids = c.nodes-ids.result.now in
+    subst (λ (id : ℕ). id < length c.args.nodes.now) (sym (c.index-id.ensures ∙ ap (λ (l : List ℕ). get_or l c.loop-at.at c.index-id.result.now) c.nodes-ids.ensures))
+    (c.requires.within c.loop-at.at c.index-id.result.now (let count = ap length c.nodes-ids.ensures in let low = c.loop-at-test.true in omega (arith, count, low)))
+
+pub push_needed_at-requires : goal.push_needed_at-requires
+push_needed_at-requires c = let count = ap length c.nodes-ids.ensures in let low = c.loop-at-test.true in let as_many = c.requires.places in omega (arith, count, low, as_many)
+
+pub loop-at-preserved : goal.loop-at-preserved
+loop-at-preserved c = λ networks atoms later words are nodes grown.
+    let needs = c.args.needs.now in
+    let at = c.loop-at.at in
+    let id = c.index-id.result.now in
+    let numbered = c.args.network.now in
+    let n = network_of (children networks) numbered in
+    let node = c.index-node.result.now in
+    let count = ap length c.nodes-ids.ensures in
+    let test = c.loop-at-test.true in
+    let low : at < length numbered.nodes = omega (arith, count, test) in
+    let here : id ≡ get_or numbered.nodes at id = c.index-id.ensures ∙ ap (λ (l : List ℕ). get_or l at id) c.nodes-ids.ensures in
+    let known : id < length c.args.nodes.now = subst (λ (k : ℕ). k < length c.args.nodes.now) (sym here) (c.requires.within at id low) in
+    let right = node_at needs atoms networks c.args.nodes.now id node known c.index-node.ensures nodes in
+    let child : child_of n.children at ≡ child_of (children networks) id = child_there networks numbered.nodes at id low ∙ ap (child_of (children networks)) (sym here) in
+    let wants = subst (λ (x : Child). AreWants needs atoms node.wants.items (wants_by (row_of needs x))) (sym child) right.wants in
+    needed_more (state_of later words) (needed_at (outlook_of needs) n) at (all_hold words c.args.found.now) (all_hold words c.loop-at.found) (all_hold words c.push_needed_at.new.found)
+    (c.loop-at.invariant networks atoms later words are nodes grown)
+    (c.in_ok-push_needed_at.ensures n atoms later words are c.order.ensures.value (subst (λ (ws : List Want). AreWants needs atoms ws (wants_by (row_of needs (child_of n.children at)))) (sym c.deref.ensures.value) wants) grown)
+
+pub returns : goal.returns
+returns c = λ networks atoms later words are nodes grown.
+    let numbered = c.args.network.now in
+    let n = network_of (children networks) numbered in
+    let count = ap length c.nodes-ids.ensures in
+    let long = length-map numbered.nodes (child_of (children networks)) in
+    let all : c.loop-at.at ≡ length n.children = omega (arith, count, long, c.loop-at.auto.at-end, c.loop-at-test.false) in
+    c.loop-at.invariant networks atoms later words are nodes grown
+    ∙ ap (λ k. all_hold words c.args.found.now && holds (state_of later words) (flat_map (needed_at (outlook_of c.args.needs.now) n) (range_with_len 0 k))) all

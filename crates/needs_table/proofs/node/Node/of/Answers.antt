@@ -1,0 +1,13 @@
+use Rattle.std.proofs.Common.{◌∙◌, List, ap, subst}
+use Rattle.htn_model.specs.Literal.{Literal}
+use Rattle.network_needs.specs.Rows.{wants_by}
+use Rattle.needs_table.specs.Kept.{AreWants}
+use Rattle.needs_table.proofs.node.Node.of.Goals as goal
+
+pub returns-clause-known : goal.returns-clause-known
+returns-clause-known c = record {
+  row = c.place-place.ensures.row;
+  blocked = c.place-place.ensures.blocked;
+  wants = subst (λ (l : List Literal). AreWants c.args.needs.now c.wants_of.new.atoms c.in_ok-wants.wants.items l)
+      (c.wants_at.ensures ∙ ap wants_by c.place-place.ensures.row) c.in_ok-wants.ensures.wants;
+}

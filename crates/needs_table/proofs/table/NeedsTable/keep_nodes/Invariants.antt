@@ -1,0 +1,15 @@
+use Rattle.std.proofs.Common.{◌≡◌, length}
+use Rattle.state_table.specs.Table.{IsLater}
+use Rattle.needs_table.specs.Kept.{AreNodes}
+use Rattle.needs_table.proofs.table.NeedsTable.keep_nodes.Given as goal
+
+-- what is known of the nodes so far
+abbrev pub invariant-loop-id : goal.invariant-loop-id
+invariant-loop-id l = record {
+  later : IsLater l.initial.atoms l.atoms;
+  nodes : AreNodes l.needs l.atoms l.networks l.self.nodes.items;
+  same_goal : l.self.goal ≡ l.initial.self.goal;
+  same_goals : l.self.goals ≡ l.initial.self.goals;
+  same_needs : l.self.needs ≡ l.initial.self.needs;
+  count : length l.self.nodes.items ≡ l.id;
+}

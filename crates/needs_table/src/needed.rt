@@ -1,0 +1,108 @@
+//! The needs of a network, put together from what its nodes want.
+ghost use Rattle.std.specs.Prelude.{◌≡◌, ◌<◌, ◌&&◌, All, cond, ℕ, List, true, OnOk, length};
+ghost use Rattle.htn_model.specs.Literal as model;
+ghost use Rattle.htn_model.specs.Literal.{holds};
+ghost use Rattle.htn_model.specs.Problem as problem;
+ghost use Rattle.network_needs.specs.Needs.{needed, needed_at, needed_goal};
+ghost use Rattle.network_needs.specs.Places.{ArePlaces};
+ghost use Rattle.network_needs.specs.Rows.{outlook_of, row_of, wants_by};
+ghost use Rattle.htn_model.specs.Choice.{child_of};
+ghost use Rattle.network_table.specs.Networks.{children};
+ghost use Rattle.network_table.specs.Numbered.{network_of};
+ghost use Rattle.network_table.specs.declared.table.NetworkTable.{NetworkTable as Networks};
+ghost use Rattle.state_table.specs.Compiled.{all_hold, is_met};
+ghost use Rattle.state_table.specs.Table.{IsLater, state_of, Table};
+ghost use Rattle.needs_table.specs.Kept.{AreNodes, AreWants};
+
+use crate::node::Node;
+use crate::wants::Want;
+use htn_order::Order;
+use network_needs::{Needs, Place};
+use network_table::Network;
+use state_table::{CompiledLiteral, CompiledLiterals};
+use std::alloc::AllocError;
+
+/// Adds a literal to others, if it is to be kept.
+fn push_if(
+    found: &mut CompiledLiterals,
+    literal: CompiledLiteral,
+    is_kept: bool,
+) -> Result<(), AllocError>
+    ensures { OnOk result ((words : List ℕ)
+        → all_hold words found.new ≡ (all_hold words found.old && cond is_kept (is_met words literal) true)) }
+{
+    if !is_kept {
+        return Ok(());
+    }
+    found.push(literal)?;
+    Ok(())
+}
+
+/// Adds what a network needs for the node at a position: what it wants and no other node gives that isn't after it.
+pub(crate) fn push_needed_at(
+    found: &mut CompiledLiterals,
+    needs: &Needs,
+    places: &[Place],
+    order: &Order,
+    at: usize,
+    wants: &[Want],
+) -> Result<(), AllocError>
+    requires { at < length places.now }
+    ensures { OnOk result ((n : problem.Network) (atoms later : Table) (words : List ℕ)
+        → ArePlaces needs.now places.now n → order.now ≡ n.order
+        → AreWants needs.now atoms wants.now (wants_by (row_of needs.now (child_of n.children at)))
+        → IsLater atoms later
+        → all_hold words found.new
+        ≡ (all_hold words found.old && holds (state_of later words) (needed_at (outlook_of needs.now) n at))) }
+{
+    for want in wants {
+        let is_kept = needs.is_ungiven_at(places, order, want.number, at);
+        push_if(found, want.literal, is_kept)?;
+    }
+    Ok(())
+}
+
+/// Adds what a network needs for its nodes.
+pub(crate) fn push_needed(
+    found: &mut CompiledLiterals,
+    needs: &Needs,
+    nodes: &[Node],
+    places: &[Place],
+    network: &Network,
+) -> Result<(), AllocError>
+    requires within { All (λ id. id < length nodes.now) network.now.nodes }
+    requires places { length places.now ≡ length network.now.nodes }
+    ensures { OnOk result ((networks : Networks) (atoms later : Table) (words : List ℕ)
+        → ArePlaces needs.now places.now (network_of (children networks) network.now)
+        → AreNodes needs.now atoms networks nodes.now → IsLater atoms later
+        → all_hold words found.new
+        ≡ (all_hold words found.old
+        && holds (state_of later words) (needed (outlook_of needs.now) (network_of (children networks) network.now)))) }
+{
+    let ids = network.nodes();
+    for at in 0..ids.len() {
+        let id = ids[at];
+        let node = &nodes[id as usize];
+        push_needed_at(found, needs, places, network.order(), at, &node.wants)?;
+    }
+    Ok(())
+}
+
+/// Adds what a network needs for a goal: those of its literals that no node gives.
+pub(crate) fn push_needed_goal(
+    found: &mut CompiledLiterals,
+    needs: &Needs,
+    places: &[Place],
+    goals: &[Want],
+) -> Result<(), AllocError>
+    ensures { OnOk result ((n : problem.Network) (goal : List model.Literal) (atoms later : Table) (words : List ℕ)
+        → ArePlaces needs.now places.now n → AreWants needs.now atoms goals.now goal → IsLater atoms later
+        → all_hold words found.new
+        ≡ (all_hold words found.old && holds (state_of later words) (needed_goal (outlook_of needs.now) goal n))) }
+{
+    for want in goals {
+        let is_kept = !needs.is_given_at(places, want.number);
+        push_if(found, want.literal, is_kept)?;
+    }
+    Ok(())
+}

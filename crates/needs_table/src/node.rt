@@ -1,0 +1,63 @@
+//! What is known of numbered nodes.
+ghost use Rattle.std.specs.Prelude.{◌≡◌, ◌<◌, All, IfOk, OnOk, length};
+ghost use Rattle.htn_ground.specs.Views.{child_view};
+ghost use Rattle.network_needs.specs.Places.{ArePlaces};
+ghost use Rattle.network_needs.specs.declared.needs.Needs.{Needs as Wanting};
+ghost use Rattle.network_table.specs.Networks.{children};
+ghost use Rattle.network_table.specs.Numbered.{network_of};
+ghost use Rattle.network_table.specs.declared.table.NetworkTable.{NetworkTable as Networks};
+ghost use Rattle.state_table.specs.Table.{IsLater, Table};
+ghost use Rattle.needs_table.specs.Kept.{AreNodes, IsNode};
+
+use crate::wants::{Want, wants_of};
+use htn_ground::Child;
+use network_needs::{Needs, Place};
+use network_table::Network;
+use state_table::AtomTable;
+use std::alloc::{AllocError, Global};
+
+/// What is known of a node, found once for all networks that have it.
+#[derive(Drop)]
+pub(crate) struct Node {
+    pub(crate) place: Place,
+    pub(crate) wants: Vec<Want>,
+}
+
+impl Node {
+    /// What is known of a node, where atoms may get their numbers only now.
+    pub(crate) fn of(
+        alloc: Global,
+        needs: &Needs,
+        atoms: &mut AtomTable,
+        child: &Child,
+    ) -> Result<Node, AllocError>
+        ensures later { OnOk result (IsLater atoms.old atoms.new) }
+        ensures known { IfOk result (λ node. IsNode needs.now atoms.new node (child_view child.now)) }
+    {
+        let _count = atoms.len();
+        let place = needs.place(child);
+        let wants = wants_of(alloc, needs, atoms, needs.wants_at(place))?;
+        Ok(Node { place, wants })
+    }
+}
+
+/// What is known of the nodes of a network, whose numbers are those of places in a list.
+pub(crate) fn places_of(
+    alloc: Global,
+    nodes: &[Node],
+    network: &Network,
+) -> Result<Vec<Place>, AllocError>
+    requires { All (λ id. id < length nodes.now) network.now.nodes }
+    ensures len { IfOk result (λ v. length v.items ≡ length network.now.nodes) }
+    ensures places { IfOk result (λ v. (needs : Wanting) (atoms : Table) (networks : Networks)
+        → AreNodes needs atoms networks nodes.now
+        → ArePlaces needs v.items (network_of (children networks) network.now)) }
+{
+    let ids = network.nodes();
+    let mut places = Vec::with_capacity(alloc, ids.len())?;
+    for id in ids {
+        let node = &nodes[*id as usize];
+        places.push(node.place)?;
+    }
+    Ok(places)
+}

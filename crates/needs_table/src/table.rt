@@ -1,0 +1,188 @@
+//! What networks need, by number.
+ghost use Rattle.std.specs.Prelude.{◌≡◌, ◌<◌, ◌≤◌, [], All, length, IfOk, OnOk};
+ghost use Rattle.htn_model.specs.Problem as model;
+ghost use Rattle.network_needs.specs.Needs.{may_end, Outlook};
+ghost use Rattle.network_needs.specs.Rows.{outlook_of};
+ghost use Rattle.network_table.specs.Networks.{children, IsWhole, network_at};
+ghost use Rattle.network_table.specs.Numbered.{config_at, network_of};
+ghost use Rattle.network_table.specs.declared.table.NetworkTable.{NetworkTable as Networks};
+ghost use Rattle.state_table.specs.Table.{IsLater, IsTable, state_of, Table};
+ghost use Rattle.needs_table.specs.Kept.{AreAllKept, AreFirstWants, AreKept, AreNodes, AreNoted, AreWants, IsKept};
+
+use crate::needed::{push_needed, push_needed_goal};
+use crate::node::{Node, places_of};
+use crate::wants::{Want, wants_of};
+use htn_state::LiteralList;
+use network_needs::{Needs, has_blocked_place};
+use network_table::{Network, NetworkTable};
+use state_table::{AtomTable, BitState, CompiledLiterals};
+use std::alloc::{AllocError, Global};
+
+/// What each network of a table needs from the start, for its nodes and for a goal.
+#[derive(Drop)]
+pub struct NeedsTable {
+    goal: LiteralList,
+    /// The goal's literals by numbers; none before the first network.
+    goals: Vec<Want>,
+    /// By the number of a node, what is known of it.
+    nodes: Vec<Node>,
+    /// By the number of a network; nothing where one of its nodes never ends.
+    needs: Vec<Option<CompiledLiterals>>,
+}
+
+impl NeedsTable {
+    /// Of no network.
+    pub fn new(alloc: Global, goal: LiteralList) -> NeedsTable
+        ensures goal { result.goal ≡ goal }
+        ensures none { result.needs.items ≡ [] }
+        ensures no_goals { result.goals.items ≡ [] }
+        ensures no_nodes { result.nodes.items ≡ [] }
+    {
+        NeedsTable {
+            goal,
+            goals: Vec::new(alloc),
+            nodes: Vec::new(alloc),
+            needs: Vec::new(alloc),
+        }
+    }
+
+    /// Sees that the goal's literals stand there by numbers.
+    fn keep_goal(
+        &mut self,
+        alloc: Global,
+        needs: &Needs,
+        atoms: &mut AtomTable,
+    ) -> Result<(), AllocError>
+        requires { AreFirstWants needs.now atoms.old self.old.goals.items self.old.goal }
+        ensures later { OnOk result (IsLater atoms.old atoms.new) }
+        ensures goals { OnOk result (AreWants needs.now atoms.new self.new.goals.items self.old.goal) }
+        ensures goal { OnOk result (self.new.goal ≡ self.old.goal) }
+        ensures nodes { OnOk result (self.new.nodes ≡ self.old.nodes) }
+        ensures needs { OnOk result (self.new.needs ≡ self.old.needs) }
+    {
+        let _count = atoms.len();
+        let goal = self.goal.as_slice();
+        let wanted = goal.len();
+        let known = self.goals.len();
+        if known >= wanted {
+            return Ok(());
+        }
+        let wants = wants_of(alloc, needs, atoms, goal)?;
+        self.goals = wants;
+        Ok(())
+    }
+
+    /// Sees that it is known of each node that has a number where its row stands and what it wants.
+    fn keep_nodes(
+        &mut self,
+        alloc: Global,
+        needs: &Needs,
+        atoms: &mut AtomTable,
+        networks: &NetworkTable,
+    ) -> Result<(), AllocError>
+        requires { AreNodes needs.now atoms.old networks.now self.old.nodes.items }
+        ensures later { OnOk result (IsLater atoms.old atoms.new) }
+        ensures nodes { OnOk result (AreNodes needs.now atoms.new networks.now self.new.nodes.items) }
+        ensures all { OnOk result (length (children networks.now) ≤ length self.new.nodes.items) }
+        ensures goal { OnOk result (self.new.goal ≡ self.old.goal) }
+        ensures goals { OnOk result (self.new.goals ≡ self.old.goals) }
+        ensures needs { OnOk result (self.new.needs ≡ self.old.needs) }
+    {
+        let _count = atoms.len();
+        let children = networks.children();
+        let first = self.nodes.len();
+        for id in first..children.len() {
+            let node = Node::of(alloc, needs, atoms, &children[id])?;
+            self.nodes.push(node)?;
+        }
+        Ok(())
+    }
+
+    /// What a network needs, from what is known of its nodes.
+    fn needed_by(
+        &self,
+        alloc: Global,
+        needs: &Needs,
+        network: &Network,
+    ) -> Result<Option<CompiledLiterals>, AllocError>
+        requires { All (λ id. id < length self.now.nodes.items) network.now.nodes }
+        ensures { IfOk result (λ needed. (atoms : Table) (networks : Networks)
+            → AreNodes needs.now atoms networks self.now.nodes.items
+            → AreWants needs.now atoms self.now.goals.items self.now.goal
+            → IsKept (outlook_of needs.now) self.now.goal atoms (network_of (children networks) network.now) needed) }
+    {
+        let nodes = self.nodes.as_slice();
+        let kept = places_of(alloc, nodes, network)?;
+        let places = kept.as_slice();
+        if has_blocked_place(places) {
+            return Ok(None);
+        }
+        let mut found = CompiledLiterals::none(alloc);
+        push_needed(&mut found, needs, nodes, places, network)?;
+        push_needed_goal(&mut found, needs, places, self.goals.as_slice())?;
+        found.drop_repeats();
+        Ok(Some(found))
+    }
+
+    /// Sees that each network that has a number has what it needs, where all is known of nodes and the goal.
+    fn keep_networks(
+        &mut self,
+        alloc: Global,
+        needs: &Needs,
+        networks: &NetworkTable,
+    ) -> Result<(), AllocError>
+        requires whole { IsWhole networks.now }
+        requires all { length (children networks.now) ≤ length self.old.nodes.items }
+        ensures kept { OnOk result ((atoms : Table) → AreKept (outlook_of needs.now) atoms networks.now self.old
+            → AreNodes needs.now atoms networks.now self.old.nodes.items
+            → AreWants needs.now atoms self.old.goals.items self.old.goal
+            → AreAllKept (outlook_of needs.now) atoms networks.now self.new) }
+        ensures goal { OnOk result (self.new.goal ≡ self.old.goal) }
+        ensures goals { OnOk result (self.new.goals ≡ self.old.goals) }
+        ensures nodes { OnOk result (self.new.nodes ≡ self.old.nodes) }
+    {
+        let all = networks.networks();
+        let first = self.needs.len();
+        for number in first..all.len() {
+            let needed = self.needed_by(alloc, needs, &all[number])?;
+            self.needs.push(needed)?;
+        }
+        Ok(())
+    }
+
+    /// Sees that each network that has a number has what it needs.
+    pub fn keep_up(
+        &mut self,
+        alloc: Global,
+        needs: &Needs,
+        atoms: &mut AtomTable,
+        networks: &NetworkTable,
+    ) -> Result<(), AllocError>
+        requires whole { IsWhole networks.now }
+        requires kept { AreKept (outlook_of needs.now) atoms.old networks.now self.old }
+        requires noted { AreNoted needs.now atoms.old networks.now self.old }
+        ensures later { OnOk result (IsLater atoms.old atoms.new) }
+        ensures kept { OnOk result (AreAllKept (outlook_of needs.now) atoms.new networks.now self.new) }
+        ensures noted { OnOk result (AreNoted needs.now atoms.new networks.now self.new) }
+        ensures goal { OnOk result (self.new.goal ≡ self.old.goal) }
+    {
+        self.keep_goal(alloc, needs, atoms)?;
+        self.keep_nodes(alloc, needs, atoms, networks)?;
+        self.keep_networks(alloc, needs, networks)?;
+        Ok(())
+    }
+
+    /// Whether a configuration may end: the network of a number has no node that never does, and the state lacks
+    /// nothing that it needs. It takes no memory.
+    pub fn may_end(&self, number: u32, state: &BitState) -> bool
+        requires { number < length self.now.needs.items }
+        ensures { (problem : model.Problem) (o : Outlook) (atoms : Table) (networks : Networks) → IsTable atoms
+            → AreKept o atoms networks self.now → self.now.goal ≡ problem.goal
+            → result ≡ may_end problem o (config_at (state_of atoms state.now) (network_at networks number)) }
+    {
+        match &self.needs[number as usize] {
+            Some(needed) => needed.hold(state),
+            None => false,
+        }
+    }
+}

@@ -1,0 +1,41 @@
+//! Wanted literals by numbers.
+ghost use Rattle.std.specs.Prelude.{◌≡◌, IfOk, OnOk};
+ghost use Rattle.htn_state.specs.Views.{literals_of};
+ghost use Rattle.state_table.specs.Table.{IsLater};
+ghost use Rattle.needs_table.specs.Kept.{AreWants};
+
+use htn_state::Literal;
+use network_needs::Needs;
+use state_table::{AtomTable, CompiledLiteral};
+use std::alloc::{AllocError, Global};
+
+/// A literal that has to hold at some time.
+#[derive(Clone, Copy, Drop)]
+pub(crate) struct Want {
+    /// Its number among those that nodes give.
+    pub(crate) number: Option<usize>,
+    pub(crate) literal: CompiledLiteral,
+}
+
+/// Literals by numbers, where their atoms may get theirs only now.
+pub(crate) fn wants_of(
+    alloc: Global,
+    needs: &Needs,
+    atoms: &mut AtomTable,
+    literals: &[Literal],
+) -> Result<Vec<Want>, AllocError>
+    ensures later { OnOk result (IsLater atoms.old atoms.new) }
+    ensures wants { IfOk result (λ v. AreWants needs.now atoms.new v.items (literals_of literals.now)) }
+{
+    let _count = atoms.len();
+    let mut wants = Vec::with_capacity(alloc, literals.len())?;
+    for literal in literals {
+        let number = needs.number_of(literal);
+        let compiled = CompiledLiteral::of(atoms, literal)?;
+        wants.push(Want {
+            number,
+            literal: compiled,
+        })?;
+    }
+    Ok(wants)
+}

@@ -1,0 +1,25 @@
+-- What the tables of a task's machine keep.
+use Rattle.std.specs.Prelude.{◌≡◌}
+use Rattle.htn_model.specs.Grounding.{problem_of}
+use Rattle.htn_model.specs.Task.{Task}
+use Rattle.needs_table.specs.Kept.{AreAllKept, AreNoted}
+use Rattle.network_needs.specs.Rows.{outlook_of}
+use Rattle.network_needs.specs.declared.needs.Needs.{Needs}
+use Rattle.network_table.specs.Children.{AreBounds}
+use Rattle.network_table.specs.declared.table.NetworkTable.{NetworkTable}
+use Rattle.tree_sizes.specs.Sizes.{size_of}
+use Rattle.tree_sizes.specs.declared.tree_sizes.TreeSizes.{TreeSizes}
+use Rattle.task_machine.specs.Tables.{AreTables}
+use Rattle.task_machine.specs.declared.tables.Tables.{Tables}
+
+-- each node stands there with its size
+abbrev pub HasSizes : TreeSizes → NetworkTable → Type 0
+HasSizes sizes t = AreBounds (size_of sizes) t.children
+
+-- the tables of a task's machine, in which the nodes stand with these sizes, and the networks with what they need by these needs
+pub record AreOwned (t : Task) (sizes : TreeSizes) (needs : Needs) (found : Tables) : Type 0 where
+  pub tables : AreTables t found
+  pub sized : HasSizes sizes found.networks
+  pub goal : found.needs.goal ≡ (problem_of t).goal
+  pub needed : AreAllKept (outlook_of needs) found.atoms found.networks found.needs
+  pub noted : AreNoted needs found.atoms found.networks found.needs
