@@ -35,11 +35,7 @@ fn fluent_literal(number: u32, is_positive: bool) -> CompiledLiteral
 
 impl CompiledLiteral {
     /// Compiles the literal of an atom, and numbers it where it is fluent.
-    fn of_atom(
-        table: &mut AtomTable,
-        atom: &Atom,
-        is_positive: bool,
-    ) -> Result<Self, AllocError>
+    fn of_atom(table: &mut AtomTable, atom: &Atom, is_positive: bool) -> Result<Self, AllocError>
         ensures later { OnOk result (IsLater table.old table.new) }
         ensures compiled { IfOk result (λ c. (later : Table) → IsLater table.new later → (words : List ℕ)
             → is_met words c ≡ beq is_positive (contains (state_of later words) atom.now)) }
