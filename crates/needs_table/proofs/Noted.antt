@@ -1,5 +1,5 @@
 -- What is found once for nodes and a goal stays right, and is read for each network.
-use Rattle.std.proofs.Common.{◌≡◌, ℕ, suc, ◌+◌, ◌<◌, ◌≤◌, Bool, List, [], ◌∷◌, ◌++◌, inl, inr, length, get_or, map, take, Option, Some, slice_get, refl, sym, ap, ap₂, ◌∙◌, subst, arith, length-append}
+use Rattle.std.proofs.Common.{◌≡◌, ℕ, suc, ◌+◌, ◌<◌, ◌≤◌, Bool, List, [], ◌∷◌, ◌++◌, inl, inr, length, get_or, map, take, Option, None, Some, false, slice_get, refl, sym, ap, ap₂, ◌∙◌, subst, arith, length-append}
 use Rattle.std.proofs.Math.Seq.{take-suc}
 use Rattle.std.proofs.lemmas.List.{get_or-map, length-map, map_push, take_all}
 use Rattle.std.proofs.lemmas.Option.{none-some, slice_get_read, slice_get_within}
@@ -16,6 +16,7 @@ use Rattle.network_table.specs.declared.table.NetworkTable.{NetworkTable}
 use Rattle.network_table.proofs.Growing.{child_kept}
 use Rattle.state_table.specs.Compiled.{IsCompiledLiteral, is_met}
 use Rattle.state_table.specs.Table.{IsLater, state_of, Table}
+use Rattle.state_table.specs.declared.literal.CompiledLiteral.TheVariants.{Decided}
 use Rattle.state_table.proofs.Keys.{at_push}
 use Rattle.state_table.proofs.States.{later_more}
 use Rattle.needs_table.specs.Kept.{AreFirstWants, AreNodes, AreNoted, AreWants, IsNode}
@@ -24,6 +25,10 @@ use Rattle.needs_table.specs.declared.table.NeedsTable.{NeedsTable}
 use Rattle.needs_table.specs.declared.wants.Want.{Want}
 
 -- ## Wanted literals
+
+-- what stands for one past the end of a list
+abbrev pub some_want : Want
+some_want = record { number = None; literal = Decided false }
 
 -- they are right by later tables of atoms
 pub wants_later : (n : Needs) (atoms later : Table) (wants : List Want) (literals : List Literal) → IsLater atoms later → AreWants n atoms wants literals → AreWants n later wants literals
@@ -74,26 +79,24 @@ module _ (n : Needs) (atoms : Table) (wants : List Want) (literals : List Litera
   pub wants_count : length wants ≡ length literals
   wants_count = sym (length-map wants (λ (w : Want). w.number)) ∙ ap length are.numbers ∙ length-map literals (literal_number n)
 
-  module _ (i : ℕ) (w : Want) (l : Literal) (low : i < length wants) (is : w ≡ get_or wants i w) where
-    -- it has the number of the literal
-    pub want_number : w.number ≡ literal_number n (get_or literals i l)
+  module _ (i : ℕ) (w : Want) (l : Literal) (low : i < length wants) where
+    -- one of them has the number of its literal
+    pub want_number : (get_or wants i w).number ≡ literal_number n (get_or literals i l)
     want_number =
         let count = wants_count in
         let low_too : i < length literals = omega (arith, count, low) in
         let d = literal_number n (get_or literals i l) in
-        ap (λ (v : Want). v.number) is
-        ∙ sym (get_or-map (λ (v : Want). v.number) wants i w d low)
+        sym (get_or-map (λ (v : Want). v.number) wants i w d low)
         ∙ ap (λ (k : List (Option ℕ)). get_or k i d) are.numbers
         ∙ get_or-map (literal_number n) literals i l d low_too
 
     -- and holds where it does
-    pub want_met : (later : Table) → IsLater atoms later → (words : List ℕ) → is_met words w.literal ≡ literal_holds (state_of later words) (get_or literals i l)
+    pub want_met : (later : Table) → IsLater atoms later → (words : List ℕ) → is_met words (get_or wants i w).literal ≡ literal_holds (state_of later words) (get_or literals i l)
     want_met later grown words =
         let count = wants_count in
         let low_too : i < length literals = omega (arith, count, low) in
         let d = literal_holds (state_of later words) (get_or literals i l) in
-        ap (λ (v : Want). is_met words v.literal) is
-        ∙ sym (get_or-map (λ (v : Want). is_met words v.literal) wants i w d low)
+        sym (get_or-map (λ (v : Want). is_met words v.literal) wants i w d low)
         ∙ ap (λ (k : List Bool). get_or k i d) (are.met later grown words)
         ∙ get_or-map (literal_holds (state_of later words)) literals i l d low_too
 

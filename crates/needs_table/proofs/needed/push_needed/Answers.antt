@@ -1,4 +1,4 @@
-use Rattle.std.proofs.Common.{◌≡◌, ◌∙◌, ◌&&◌, ◌<◌, List, ℕ, get_or, length, sym, ap, subst, arith}
+use Rattle.std.proofs.Common.{◌≡◌, ◌∙◌, ◌&&◌, ◌<◌, All, List, ℕ, get_or, length, sym, ap, subst, arith}
 use Rattle.std.specs.List.{flat_map, range_with_len}
 use Rattle.std.proofs.lemmas.List.{length-map}
 use Rattle.htn_model.specs.Choice.{child_of}
@@ -20,11 +20,9 @@ pub loop-at-init : goal.loop-at-init
 loop-at-init c = λ networks atoms later words are nodes grown. and_nothing (all_hold words c.args.found.now)
 
 -- each number is that of a node of which it is known
-pub index-node-requires : goal.index-node-requires
-index-node-requires c =
-    let ids = c.nodes-ids.result.now in
-    subst (λ (id : ℕ). id < length c.args.nodes.now) (sym (c.index-id.ensures ∙ ap (λ (l : List ℕ). get_or l c.loop-at.at c.index-id.result.now) c.nodes-ids.ensures))
-    (c.requires.within c.loop-at.at c.index-id.result.now (let count = ap length c.nodes-ids.ensures in let low = c.loop-at-test.true in omega (arith, count, low)))
+pub bounds-nodes-id : goal.bounds-nodes-id
+bounds-nodes-id c =
+    subst (λ (l : List ℕ). All (λ id. id < length c.args.nodes.now) l) (sym c.nodes-ids.ensures) c.requires.within c.loop-at.at 0 c.loop-at-test.true
 
 pub push_needed_at-requires : goal.push_needed_at-requires
 push_needed_at-requires c = let count = ap length c.nodes-ids.ensures in let low = c.loop-at-test.true in let as_many = c.requires.places in omega (arith, count, low, as_many)
@@ -33,17 +31,17 @@ pub loop-at-preserved : goal.loop-at-preserved
 loop-at-preserved c = λ networks atoms later words are nodes grown.
     let needs = c.args.needs.now in
     let at = c.loop-at.at in
-    let id = c.index-id.result.now in
+    let id = get_or c.nodes-ids.result.now at 0 in
     let numbered = c.args.network.now in
     let n = network_of (children networks) numbered in
-    let node = c.index-node.result.now in
+    let node = c.index-nodes-id.result in
     let count = ap length c.nodes-ids.ensures in
     let test = c.loop-at-test.true in
     let low : at < length numbered.nodes = omega (arith, count, test) in
-    let here : id ≡ get_or numbered.nodes at id = c.index-id.ensures ∙ ap (λ (l : List ℕ). get_or l at id) c.nodes-ids.ensures in
-    let known : id < length c.args.nodes.now = subst (λ (k : ℕ). k < length c.args.nodes.now) (sym here) (c.requires.within at id low) in
-    let right = node_at needs atoms networks c.args.nodes.now id node known c.index-node.ensures nodes in
-    let child : child_of n.children at ≡ child_of (children networks) id = child_there networks numbered.nodes at id low ∙ ap (child_of (children networks)) (sym here) in
+    let here : id ≡ get_or numbered.nodes at 0 = ap (λ (l : List ℕ). get_or l at 0) c.nodes-ids.ensures in
+    let known : id < length c.args.nodes.now = subst (λ (k : ℕ). k < length c.args.nodes.now) (sym here) (c.requires.within at 0 low) in
+    let right = node_at needs atoms networks c.args.nodes.now id node known c.index-nodes-id.is nodes in
+    let child : child_of n.children at ≡ child_of (children networks) id = child_there networks numbered.nodes at 0 low ∙ ap (child_of (children networks)) (sym here) in
     let wants = subst (λ (x : Child). AreWants needs atoms node.wants.items (wants_by (row_of needs x))) (sym child) right.wants in
     needed_more (state_of later words) (needed_at (outlook_of needs) n) at (all_hold words c.args.found.now) (all_hold words c.loop-at.found) (all_hold words c.push_needed_at.new.found)
     (c.loop-at.invariant networks atoms later words are nodes grown)

@@ -1,4 +1,4 @@
-use Rattle.std.proofs.Common.{refl, ◌∙◌, ◌&&◌, ◌<◌, List, filter, get_or, length, ap, arith}
+use Rattle.std.proofs.Common.{◌∙◌, ◌&&◌, ◌<◌, List, filter, get_or, length, ap, arith}
 use Rattle.std.proofs.lemmas.List.{take_all}
 use Rattle.htn_model.specs.Choice.{child_of}
 use Rattle.htn_model.specs.Literal.{Literal, holds}
@@ -7,7 +7,7 @@ use Rattle.network_needs.specs.Rows.{outlook_of, row_of, wants_by}
 use Rattle.state_table.specs.Compiled.{all_hold, is_met}
 use Rattle.state_table.specs.Table.{state_of}
 use Rattle.needs_table.proofs.NeededLists.{kept_more, nothing_kept, some_literal}
-use Rattle.needs_table.proofs.Noted.{want_met, want_number, wants_count}
+use Rattle.needs_table.proofs.Noted.{some_want, want_met, want_number, wants_count}
 use Rattle.needs_table.proofs.needed.push_needed_at.Goals as goal
 
 pub loop-want-init : goal.loop-want-init
@@ -24,8 +24,8 @@ loop-want-preserved c = λ n atoms later words are order wants grown.
     let count = wants_count needs atoms ws ls wants in
     let low : i < length ls = omega (arith, count, c.loop-want-test.true) in
     let l = get_or ls i some_literal in
-    let number = want_number needs atoms ws ls wants i w some_literal c.loop-want-test.true refl in
-    let met = want_met needs atoms ws ls wants i w some_literal c.loop-want-test.true refl later grown words in
+    let number = want_number needs atoms ws ls wants i some_want some_literal c.loop-want-test.true in
+    let met = want_met needs atoms ws ls wants i some_want some_literal c.loop-want-test.true later grown words in
     kept_more (state_of later words) (is_ungiven (outlook_of needs) n c.args.at) ls i some_literal (all_hold words c.args.found.now) (all_hold words c.loop-want.found) (all_hold words c.push_if.new.found)
     c.is_ungiven_at-is_kept.result (is_met words w.literal) low
     (c.is_ungiven_at-is_kept.ensures n l are order number) met (c.loop-want.invariant n atoms later words are order wants grown) (c.in_ok-push_if.ensures words)

@@ -1,4 +1,4 @@
-use Rattle.std.proofs.Common.{refl, ◌∙◌, ◌&&◌, ◌<◌, Bool, List, filter, get_or, length, not, ap, arith}
+use Rattle.std.proofs.Common.{◌∙◌, ◌&&◌, ◌<◌, Bool, List, filter, get_or, length, not, ap, arith}
 use Rattle.std.specs.List.{list_any}
 use Rattle.std.proofs.lemmas.List.{take_all}
 use Rattle.htn_model.specs.Literal.{Literal, holds}
@@ -9,7 +9,7 @@ use Rattle.network_needs.proofs.RowsThere.{given_there}
 use Rattle.state_table.specs.Compiled.{all_hold, is_met}
 use Rattle.state_table.specs.Table.{state_of}
 use Rattle.needs_table.proofs.NeededLists.{kept_more, nothing_kept, some_literal}
-use Rattle.needs_table.proofs.Noted.{want_met, want_number, wants_count}
+use Rattle.needs_table.proofs.Noted.{some_want, want_met, want_number, wants_count}
 use Rattle.needs_table.proofs.needed.push_needed_goal.Goals as goal
 
 -- whether no node gives a literal
@@ -27,8 +27,8 @@ loop-want-preserved c = λ n literals atoms later words are wants grown.
     let w = get_or ws i some_want in
     let count = wants_count needs atoms ws literals wants in
     let low : i < length literals = omega (arith, count, c.loop-want-test.true) in
-    let number = want_number needs atoms ws literals wants i w some_literal c.loop-want-test.true refl in
-    let met = want_met needs atoms ws literals wants i w some_literal c.loop-want-test.true refl later grown words in
+    let number = want_number needs atoms ws literals wants i some_want some_literal c.loop-want-test.true in
+    let met = want_met needs atoms ws literals wants i some_want some_literal c.loop-want-test.true later grown words in
     kept_more (state_of later words) (test_of needs n) literals i some_literal (all_hold words c.args.found.now) (all_hold words c.loop-want.found) (all_hold words c.push_if.new.found)
     (not c.is_given_at-is_kept.result) (is_met words w.literal) low
     (ap not (c.is_given_at-is_kept.ensures ∙ given_there needs c.args.places.now n are w.number ∙ ap (λ k. list_any (λ x. gives_by (row_of needs x) k) n.children) number))

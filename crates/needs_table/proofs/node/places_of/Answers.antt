@@ -1,5 +1,5 @@
-use Rattle.std.proofs.Common.{◌∙◌, ◌<◌, All, List, ℕ, ap, get_or, length, map, refl, subst, sym}
-use Rattle.std.proofs.lemmas.List.{length-map, take_all}
+use Rattle.std.proofs.Common.{◌∙◌, ◌∷◌, [], ◌<◌, All, List, ℕ, ap, arith, get_or, length, length-append, map, subst, sym}
+use Rattle.std.proofs.lemmas.List.{take_all}
 use Rattle.htn_model.specs.Choice.{child_of}
 use Rattle.network_needs.specs.Places.{row_at}
 use Rattle.network_needs.specs.Rows.{blocks, row_of}
@@ -10,8 +10,8 @@ use Rattle.needs_table.proofs.Noted.{node_at}
 use Rattle.needs_table.proofs.node.places_of.Goals as goal
 
 -- each number is that of a node of which it is known
-pub index-node-requires : goal.index-node-requires
-index-node-requires c =
+pub bounds-nodes-id : goal.bounds-nodes-id
+bounds-nodes-id c =
     subst (λ (l : List ℕ). All (λ id. id < length c.args.nodes.now) l) (sym c.nodes-ids.ensures) c.requires c.loop-id.id-index 0 c.loop-id-test.true
 
 pub loop-id-preserved : goal.loop-id-preserved
@@ -21,28 +21,22 @@ loop-id-preserved c =
     let old = c.loop-id.places.items in
     let new = c.push.new.self.items in
     let nodes = c.args.nodes.now in
-    let node = c.index-node.result.now in
+    let node = c.index-nodes-id.result in
     let p = node.place in
     let within = subst (λ (l : List ℕ). All (λ id. id < length nodes) l) (sym c.nodes-ids.ensures) c.requires in
     let low = within k 0 c.loop-id-test.true in
     record {
-      count = places_more (λ (q : Place). 0) (λ (x : ℕ). 0) (λ (i : ℕ). i) old new p ids k 0 c.loop-id-test.true c.in_ok-push.ensures.items refl c.loop-id.invariant.count;
+      count = (let long = length-append old (p ∷ []) in let is = ap length c.in_ok-push.ensures.items in let before = c.loop-id.invariant.count in omega (arith, long, is, before));
       rows = λ n atoms networks are.
           places_more (λ (q : Place). row_at n q.spot) (row_of n) (child_of (children networks)) old new p ids k 0 c.loop-id-test.true c.in_ok-push.ensures.items
-          (node_at n atoms networks nodes (get_or ids k 0) node low c.index-node.ensures are).row (c.loop-id.invariant.rows n atoms networks are);
+          (node_at n atoms networks nodes (get_or ids k 0) node low c.index-nodes-id.is are).row (c.loop-id.invariant.rows n atoms networks are);
       blocked = λ n atoms networks are.
           places_more (λ (q : Place). q.is_blocked) (blocks n) (child_of (children networks)) old new p ids k 0 c.loop-id-test.true c.in_ok-push.ensures.items
-          (node_at n atoms networks nodes (get_or ids k 0) node low c.index-node.ensures are).blocked (c.loop-id.invariant.blocked n atoms networks are);
+          (node_at n atoms networks nodes (get_or ids k 0) node low c.index-nodes-id.is are).blocked (c.loop-id.invariant.blocked n atoms networks are);
     }
 
 pub returns-clause-len : goal.returns-clause-len
-returns-clause-len c =
-    let places = c.loop-id.places.items in
-    let ids = c.nodes-ids.result.now in
-    let same : ℕ → ℕ = λ i. i in
-    let none : ℕ → ℕ = λ x. 0 in
-    let each = c.loop-id.invariant.count ∙ ap (λ (l : List ℕ). map none (map same l)) (take_all c.loop-id.id-index ids c.loop-id-test.false) in
-    sym (length-map places (λ (q : Place). 0)) ∙ ap length each ∙ length-map (map same ids) none ∙ length-map ids same ∙ ap length c.nodes-ids.ensures
+returns-clause-len c = let same = ap length c.nodes-ids.ensures in omega (arith, same, c.loop-id.invariant.count, c.loop-id.auto.id-index-end, c.loop-id-test.false)
 
 pub returns-clause-places : goal.returns-clause-places
 returns-clause-places c = λ n atoms networks are.

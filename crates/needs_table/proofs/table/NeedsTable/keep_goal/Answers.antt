@@ -15,7 +15,7 @@ returns-then-known-wanted-clause-goals c =
     let s = c.args.self.now in
     let count = sym (length-map c.as_slice-goal.result.now literal_of) ∙ ap length c.as_slice-goal.ensures in
     let all = c.len-known.ensures ∙ s.goals.ok.0 in
-    all_wants c.args.needs.now c.args.atoms.now s.goals.items s.goal (omega (arith, count, all, c.len-wanted.ensures, c.if-known-wanted.true)) c.requires
+    all_wants c.args.needs.now c.args.atoms.now s.goals.items s.goal (omega (arith, count, all, c.if-known-wanted.true)) c.requires
 
 pub returns-clause-goals : goal.returns-clause-goals
 returns-clause-goals c =

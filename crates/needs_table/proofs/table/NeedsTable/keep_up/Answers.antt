@@ -25,15 +25,6 @@ keep_nodes-requires c =
 pub returns-clause-later : goal.returns-clause-later
 returns-clause-later c = later_more c.args.atoms.now c.keep_goal.new.atoms c.keep_nodes.new.atoms c.in_ok-keep_goal.ensures.later c.in_ok-keep_nodes.ensures.later
 
--- the goal's literals by numbers, once the nodes are there
-wanted : (c : goal.Returns) → AreWants c.args.needs.now c.keep_nodes.new.atoms c.keep_nodes.new.self.goals.items c.args.self.now.goal
-wanted c =
-    let n = c.args.needs.now in
-    let did = c.in_ok-keep_goal.ensures in
-    let then = c.in_ok-keep_nodes.ensures in
-    subst (λ (ws : List Want). AreWants n c.keep_nodes.new.atoms ws c.args.self.now.goal) (ap (λ v. v.items) (sym then.goals))
-    (wants_later n c.keep_goal.new.atoms c.keep_nodes.new.atoms c.keep_goal.new.self.goals.items c.args.self.now.goal then.later did.goals)
-
 pub returns-clause-kept : goal.returns-clause-kept
 returns-clause-kept c =
     let o = outlook_of c.args.needs.now in
@@ -47,10 +38,13 @@ returns-clause-kept c =
     let needs = then.needs ∙ did.needs in
     let grown : IsLater c.args.atoms.now atoms = later_more c.args.atoms.now c.keep_goal.new.atoms atoms did.later then.later in
     let before = keeps_later o s.goal c.args.atoms.now atoms t t s.needs.items grown c.requires.whole (grown_itself t) c.requires.kept in
+    let wanted =
+    subst (λ (ws : List Want). AreWants c.args.needs.now c.keep_nodes.new.atoms ws c.args.self.now.goal) (ap (λ v. v.items) (sym c.in_ok-keep_nodes.ensures.goals))
+    (wants_later c.args.needs.now c.keep_goal.new.atoms c.keep_nodes.new.atoms c.keep_goal.new.self.goals.items c.args.self.now.goal c.in_ok-keep_nodes.ensures.later c.in_ok-keep_goal.ensures.goals) in
     let kept =
     subst (λ (g : List Literal). Keeps o g atoms t u.needs.items) (sym goals)
     (subst (λ ns. Keeps o s.goal atoms t ns) (ap (λ v. v.items) (sym needs)) before) in
-    c.in_ok-keep_networks.ensures.kept atoms kept then.nodes (subst (λ (g : List Literal). AreWants c.args.needs.now atoms u.goals.items g) (sym goals) (wanted c))
+    c.in_ok-keep_networks.ensures.kept atoms kept then.nodes (subst (λ (g : List Literal). AreWants c.args.needs.now atoms u.goals.items g) (sym goals) wanted)
 
 pub returns-clause-noted : goal.returns-clause-noted
 returns-clause-noted c =
@@ -61,11 +55,14 @@ returns-clause-noted c =
     let v = c.keep_networks.new.self in
     let did = c.in_ok-keep_networks.ensures in
     let goals : v.goal ≡ c.args.self.now.goal = did.goal ∙ c.in_ok-keep_nodes.ensures.goal ∙ c.in_ok-keep_goal.ensures.goal in
+    let wanted =
+    subst (λ (ws : List Want). AreWants c.args.needs.now c.keep_nodes.new.atoms ws c.args.self.now.goal) (ap (λ v. v.items) (sym c.in_ok-keep_nodes.ensures.goals))
+    (wants_later c.args.needs.now c.keep_goal.new.atoms c.keep_nodes.new.atoms c.keep_goal.new.self.goals.items c.args.self.now.goal c.in_ok-keep_nodes.ensures.later c.in_ok-keep_goal.ensures.goals) in
     record {
       nodes = subst (λ (ns : List Node). AreNodes n atoms t ns) (ap (λ w. w.items) (sym did.nodes)) c.in_ok-keep_nodes.ensures.nodes;
       goals = subst (λ (g : List Literal). AreFirstWants n atoms v.goals.items g) (sym goals)
           (subst (λ (ws : List Want). AreFirstWants n atoms ws c.args.self.now.goal) (ap (λ w. w.items) (sym did.goals))
-          (first_wants n atoms u.goals.items c.args.self.now.goal (wanted c)));
+          (first_wants n atoms u.goals.items c.args.self.now.goal wanted));
     }
 
 pub returns-clause-goal : goal.returns-clause-goal
