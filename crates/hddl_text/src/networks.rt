@@ -81,8 +81,8 @@ fn named_subtask(alloc: Global, cursor: &mut Cursor<'_>, name: Name) -> Result<S
             let first = Term::Object(Name::new(alloc, &word)?);
             unlabelled(alloc, cursor, name, first)
         }
-        Class::Forall | Class::Reserved => Err(cursor.refuse(true)),
-        _ => Err(cursor.refuse(false)),
+        Class::Forall | Class::Reserved => Err(cursor.refuse_unsupported()),
+        _ => Err(cursor.refuse()),
     }
 }
 
@@ -103,7 +103,7 @@ fn subtask(alloc: Global, cursor: &mut Cursor<'_>, word: &Token<'_>) -> Result<S
 {
     match class_of(word) {
         Class::Open => subtask_rest(alloc, cursor),
-        _ => Err(cursor.refuse(false)),
+        _ => Err(cursor.refuse()),
     }
 }
 
@@ -140,8 +140,8 @@ fn net(alloc: Global, cursor: &mut Cursor<'_>) -> Result<Items<SubtaskText>, Sto
             let subtask = named_subtask(alloc, cursor, name)?;
             Ok(only(alloc, subtask)?)
         }
-        Class::Forall | Class::Reserved => Err(cursor.refuse(true)),
-        _ => Err(cursor.refuse(false)),
+        Class::Forall | Class::Reserved => Err(cursor.refuse_unsupported()),
+        _ => Err(cursor.refuse()),
     }
 }
 
@@ -180,8 +180,8 @@ fn pair_body(alloc: Global, cursor: &mut Cursor<'_>, word: &Token<'_>) -> Result
             let before = Name::new(alloc, word)?;
             infix_pair(alloc, cursor, before)
         }
-        Class::Forall | Class::Reserved => Err(cursor.refuse(true)),
-        _ => Err(cursor.refuse(false)),
+        Class::Forall | Class::Reserved => Err(cursor.refuse_unsupported()),
+        _ => Err(cursor.refuse()),
     }
 }
 
@@ -202,7 +202,7 @@ fn pair(alloc: Global, cursor: &mut Cursor<'_>, word: &Token<'_>) -> Result<Orde
 {
     match class_of(word) {
         Class::Open => pair_rest(alloc, cursor),
-        _ => Err(cursor.refuse(false)),
+        _ => Err(cursor.refuse()),
     }
 }
 
@@ -280,7 +280,7 @@ pub fn network_part(
             parts.constraints = Some(constraint(alloc, cursor)?);
             Ok(())
         }
-        Class::Keyword(_) => Err(cursor.refuse(true)),
-        _ => Err(cursor.refuse(false)),
+        Class::Keyword(_) => Err(cursor.refuse_unsupported()),
+        _ => Err(cursor.refuse()),
     }
 }
