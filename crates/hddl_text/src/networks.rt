@@ -24,9 +24,13 @@ fn only<T: Drop>(alloc: Global, item: T) -> Result<Items<T>, AllocError>
 }
 
 /// A subtask with a name, after the second bracket.
-#[tactic(auto, unfolding(crate::specs::Readers::labelled))]
-fn labelled(alloc: Global, cursor: &mut Cursor<'_>, label: Name) -> Result<SubtaskText, Stop>
-    ensures reads { Reads (spec.labelled label cursor.old) result cursor.new }
+#[tactic(auto, unfolding(crate::specs::Readers::labelled_subtask))]
+fn labelled_subtask(
+    alloc: Global,
+    cursor: &mut Cursor<'_>,
+    label: Name,
+) -> Result<SubtaskText, Stop>
+    ensures reads { Reads (spec.labelled_subtask label cursor.old) result cursor.new }
     ensures shorter { OnOk result (length cursor.new ≤ length cursor.old) }
 {
     let name = any_name(alloc, cursor)?;
@@ -65,7 +69,7 @@ fn named_subtask(alloc: Global, cursor: &mut Cursor<'_>, name: Name) -> Result<S
 {
     let word = cursor.next()?;
     match class_of(&word) {
-        Class::Open => labelled(alloc, cursor, name),
+        Class::Open => labelled_subtask(alloc, cursor, name),
         Class::Close => Ok(SubtaskText {
             label: None,
             task: AtomText {
