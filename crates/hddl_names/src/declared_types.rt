@@ -116,8 +116,8 @@ impl DeclaredTypes {
         &self,
         alloc: Global,
         types: &TypeHierarchy,
-        object: usize,
         of_type: usize,
+        object: usize,
     ) -> Result<bool, AllocError>
         requires typed { All (All (λ t. t < length (type_names types.now))) self.now }
         requires of_type { of_type < length (type_names types.now) }

@@ -9,7 +9,7 @@ use Rattle.hddl_words.specs.Names.{name_of, Name}
 use Rattle.hddl_tree.specs.declared.term.Term.{Term}
 use Rattle.hddl_text.specs.declared.parts.NetworkParts.{NetworkParts}
 use Rattle.hddl_text.specs.Grammar.{subtask_of, IsTerm, IsSubtaskTail, IsSubtaskRest, IsNetBody, IsNet, IsPairBody, IsOrderingsBody, IsOrderings, IsNetworkPart}
-use Rattle.hddl_text.specs.Readers.{labelled, unlabelled, subtask_tail, named_subtask, subtask_rest, net_body, net, prefix_pair, infix_pair, pair_body, pair_rest, orderings_body, orderings, network_part}
+use Rattle.hddl_text.specs.Readers.{labelled_subtask, unlabelled, subtask_tail, named_subtask, subtask_rest, net_body, net, prefix_pair, infix_pair, pair_body, pair_rest, orderings_body, orderings, network_part}
 use Rattle.hddl_text.proofs.TermsAgree.{out, opening_agrees, closing_agrees, any_name_agrees, less_agrees, term_agrees, atom_rest_agrees}
 use Rattle.hddl_text.proofs.ConditionsAgree.{constraint_agrees}
 
@@ -21,7 +21,7 @@ module _ (N : ℕ) where
 
   -- the reader of what follows a subtask's first name agrees with its rule
   tail_agrees : (name : Name) → ItemAgrees N suc out (IsSubtaskTail name) (subtask_tail name)
-  unfolding labelled
+  unfolding labelled_subtask
   tail_agrees name class.Open w =
       reads (λ k h. omega arith) (agrees_seq (λ k. omega arith) (any_name_agrees N (λ k. suc (suc k))) (λ task_name. agrees_seq (λ k. omega arith) (agrees_at suc (atom_rest_agrees N task_name))
       (λ task. agrees_map (λ _. record { label = Some name; task = task }) (closing_agrees N out))))

@@ -294,8 +294,8 @@ whole_constraint = opening >> constraint_rest []
 -- ---- networks
 
 -- reads the subtask after its label
-unfoldable pub labelled : Name → Reader SubtaskText
-labelled name = do
+unfoldable pub labelled_subtask : Name → Reader SubtaskText
+labelled_subtask name = do
   task_name ← any_name
   task ← atom_rest task_name
   closing
@@ -307,7 +307,7 @@ unlabelled name first = until (adds term_item) (first ∷ []) >>= (λ ts. pure (
 
 -- takes what follows the first name of a subtask: its end, a term, or the subtask that it labels
 abbrev pub subtask_tail : Name → Item SubtaskText
-subtask_tail name class.Open w = go (labelled name)
+subtask_tail name class.Open w = go (labelled_subtask name)
 subtask_tail name class.Close w = go (pure (subtask_of None name []))
 subtask_tail name class.Variable w = go (unlabelled name (term.Variable (variable_of w)))
 subtask_tail name class.Name w = go (unlabelled name (term.Object (name_of w)))

@@ -31,8 +31,8 @@ fn negated_part(alloc: Global, cursor: &mut Cursor<'_>, word: &Token<'_>) -> Res
             let equality = equality_rest(alloc, cursor, false)?;
             Ok(Condition::Equality(equality))
         }
-        Class::Forall | Class::Reserved => Err(cursor.refuse(true)),
-        _ => Err(cursor.refuse(false)),
+        Class::Forall | Class::Reserved => Err(cursor.refuse_unsupported()),
+        _ => Err(cursor.refuse()),
     }
 }
 
@@ -89,8 +89,8 @@ fn condition_part(
         }
         Class::Not => negated_condition(alloc, cursor),
         Class::Forall => forall_rest(alloc, cursor),
-        Class::Reserved => Err(cursor.refuse(true)),
-        _ => Err(cursor.refuse(false)),
+        Class::Reserved => Err(cursor.refuse_unsupported()),
+        _ => Err(cursor.refuse()),
     }
 }
 
@@ -151,7 +151,7 @@ fn nested_condition(
 {
     match class_of(word) {
         Class::Open => condition_rest(alloc, cursor, parts),
-        _ => Err(cursor.refuse(false)),
+        _ => Err(cursor.refuse()),
     }
 }
 
@@ -224,7 +224,7 @@ fn nested_effect(
 {
     match class_of(word) {
         Class::Open => effect_rest(alloc, cursor, parts),
-        _ => Err(cursor.refuse(false)),
+        _ => Err(cursor.refuse()),
     }
 }
 
@@ -297,7 +297,7 @@ fn nested_constraint(
 {
     match class_of(word) {
         Class::Open => constraint_rest(alloc, cursor, parts),
-        _ => Err(cursor.refuse(false)),
+        _ => Err(cursor.refuse()),
     }
 }
 

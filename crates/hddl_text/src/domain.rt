@@ -62,8 +62,8 @@ fn domain_section_body(
             parts.actions.push(action)?;
             Ok(())
         }
-        Class::Keyword(_) => Err(cursor.refuse(true)),
-        _ => Err(cursor.refuse(false)),
+        Class::Keyword(_) => Err(cursor.refuse_unsupported()),
+        _ => Err(cursor.refuse()),
     }
 }
 
@@ -82,7 +82,7 @@ fn domain_section(
             let first = cursor.next()?;
             domain_section_body(alloc, cursor, &first, word.place, parts)
         }
-        _ => Err(cursor.refuse(false)),
+        _ => Err(cursor.refuse()),
     }
 }
 

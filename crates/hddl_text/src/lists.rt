@@ -22,8 +22,8 @@ fn type_name(alloc: Global, cursor: &mut Cursor<'_>) -> Result<Name, Stop>
     let word = cursor.next()?;
     match class_of(&word) {
         Class::Name => Ok(Name::new(alloc, &word)?),
-        Class::Open | Class::Forall | Class::Reserved => Err(cursor.refuse(true)),
-        _ => Err(cursor.refuse(false)),
+        Class::Open | Class::Forall | Class::Reserved => Err(cursor.refuse_unsupported()),
+        _ => Err(cursor.refuse()),
     }
 }
 
@@ -46,7 +46,7 @@ fn name_item(
         }
         Class::Minus => {
             if parts.names.is_empty() {
-                return Err(cursor.refuse(false));
+                return Err(cursor.refuse());
             }
             let of_type = type_name(alloc, cursor)?;
             let names = std::mem::replace(&mut parts.names, Items::new(alloc));
@@ -56,9 +56,15 @@ fn name_item(
             })?;
             Ok(())
         }
-        Class::Open => Err(cursor.refuse(are_types)),
-        Class::Forall | Class::Reserved => Err(cursor.refuse(true)),
-        _ => Err(cursor.refuse(false)),
+        Class::Open => {
+            if are_types {
+                Err(cursor.refuse_unsupported())
+            } else {
+                Err(cursor.refuse())
+            }
+        }
+        Class::Forall | Class::Reserved => Err(cursor.refuse_unsupported()),
+        _ => Err(cursor.refuse()),
     }
 }
 
@@ -123,7 +129,7 @@ fn variable_item(
         }
         Class::Minus => {
             if parts.variables.is_empty() {
-                return Err(cursor.refuse(false));
+                return Err(cursor.refuse());
             }
             let of_type = type_name(alloc, cursor)?;
             let variables = std::mem::replace(&mut parts.variables, Items::new(alloc));
@@ -133,7 +139,7 @@ fn variable_item(
             })?;
             Ok(())
         }
-        _ => Err(cursor.refuse(false)),
+        _ => Err(cursor.refuse()),
     }
 }
 

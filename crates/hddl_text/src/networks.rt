@@ -24,9 +24,13 @@ fn only<T: Drop>(alloc: Global, item: T) -> Result<Items<T>, AllocError>
 }
 
 /// A subtask with a name, after the second bracket.
-#[tactic(auto, unfolding(crate::specs::Readers::labelled))]
-fn labelled(alloc: Global, cursor: &mut Cursor<'_>, label: Name) -> Result<SubtaskText, Stop>
-    ensures reads { Reads (spec.labelled label cursor.old) result cursor.new }
+#[tactic(auto, unfolding(crate::specs::Readers::labelled_subtask))]
+fn labelled_subtask(
+    alloc: Global,
+    cursor: &mut Cursor<'_>,
+    label: Name,
+) -> Result<SubtaskText, Stop>
+    ensures reads { Reads (spec.labelled_subtask label cursor.old) result cursor.new }
     ensures shorter { OnOk result (length cursor.new ≤ length cursor.old) }
 {
     let name = any_name(alloc, cursor)?;
@@ -65,7 +69,7 @@ fn named_subtask(alloc: Global, cursor: &mut Cursor<'_>, name: Name) -> Result<S
 {
     let word = cursor.next()?;
     match class_of(&word) {
-        Class::Open => labelled(alloc, cursor, name),
+        Class::Open => labelled_subtask(alloc, cursor, name),
         Class::Close => Ok(SubtaskText {
             label: None,
             task: AtomText {
@@ -81,8 +85,8 @@ fn named_subtask(alloc: Global, cursor: &mut Cursor<'_>, name: Name) -> Result<S
             let first = Term::Object(Name::new(alloc, &word)?);
             unlabelled(alloc, cursor, name, first)
         }
-        Class::Forall | Class::Reserved => Err(cursor.refuse(true)),
-        _ => Err(cursor.refuse(false)),
+        Class::Forall | Class::Reserved => Err(cursor.refuse_unsupported()),
+        _ => Err(cursor.refuse()),
     }
 }
 
@@ -103,7 +107,7 @@ fn subtask(alloc: Global, cursor: &mut Cursor<'_>, word: &Token<'_>) -> Result<S
 {
     match class_of(word) {
         Class::Open => subtask_rest(alloc, cursor),
-        _ => Err(cursor.refuse(false)),
+        _ => Err(cursor.refuse()),
     }
 }
 
@@ -140,8 +144,8 @@ fn net(alloc: Global, cursor: &mut Cursor<'_>) -> Result<Items<SubtaskText>, Sto
             let subtask = named_subtask(alloc, cursor, name)?;
             Ok(only(alloc, subtask)?)
         }
-        Class::Forall | Class::Reserved => Err(cursor.refuse(true)),
-        _ => Err(cursor.refuse(false)),
+        Class::Forall | Class::Reserved => Err(cursor.refuse_unsupported()),
+        _ => Err(cursor.refuse()),
     }
 }
 
@@ -180,8 +184,8 @@ fn pair_body(alloc: Global, cursor: &mut Cursor<'_>, word: &Token<'_>) -> Result
             let before = Name::new(alloc, word)?;
             infix_pair(alloc, cursor, before)
         }
-        Class::Forall | Class::Reserved => Err(cursor.refuse(true)),
-        _ => Err(cursor.refuse(false)),
+        Class::Forall | Class::Reserved => Err(cursor.refuse_unsupported()),
+        _ => Err(cursor.refuse()),
     }
 }
 
@@ -202,7 +206,7 @@ fn pair(alloc: Global, cursor: &mut Cursor<'_>, word: &Token<'_>) -> Result<Orde
 {
     match class_of(word) {
         Class::Open => pair_rest(alloc, cursor),
-        _ => Err(cursor.refuse(false)),
+        _ => Err(cursor.refuse()),
     }
 }
 
@@ -280,7 +284,7 @@ pub fn network_part(
             parts.constraints = Some(constraint(alloc, cursor)?);
             Ok(())
         }
-        Class::Keyword(_) => Err(cursor.refuse(true)),
-        _ => Err(cursor.refuse(false)),
+        Class::Keyword(_) => Err(cursor.refuse_unsupported()),
+        _ => Err(cursor.refuse()),
     }
 }

@@ -88,8 +88,10 @@ fn init_name(alloc: Global, cursor: &mut Cursor<'_>) -> Result<Name, Stop>
     let word = cursor.next()?;
     match class_of(&word) {
         Class::Name => Ok(Name::new(alloc, &word)?),
-        Class::Not | Class::Equal | Class::Forall | Class::Reserved => Err(cursor.refuse(true)),
-        _ => Err(cursor.refuse(false)),
+        Class::Not | Class::Equal | Class::Forall | Class::Reserved => {
+            Err(cursor.refuse_unsupported())
+        }
+        _ => Err(cursor.refuse()),
     }
 }
 
@@ -110,7 +112,7 @@ fn init_atom(alloc: Global, cursor: &mut Cursor<'_>, word: &Token<'_>) -> Result
 {
     match class_of(word) {
         Class::Open => init_rest(alloc, cursor),
-        _ => Err(cursor.refuse(false)),
+        _ => Err(cursor.refuse()),
     }
 }
 
@@ -195,8 +197,8 @@ fn problem_section_body(
             parts.htn = Some(htn(alloc, cursor, place)?);
             Ok(())
         }
-        Class::Keyword(_) => Err(cursor.refuse(true)),
-        _ => Err(cursor.refuse(false)),
+        Class::Keyword(_) => Err(cursor.refuse_unsupported()),
+        _ => Err(cursor.refuse()),
     }
 }
 
@@ -215,7 +217,7 @@ fn problem_section(
             let first = cursor.next()?;
             problem_section_body(alloc, cursor, &first, word.place, parts)
         }
-        _ => Err(cursor.refuse(false)),
+        _ => Err(cursor.refuse()),
     }
 }
 
@@ -256,7 +258,7 @@ fn problem_sections(alloc: Global, cursor: &mut Cursor<'_>, name: Name) -> Resul
         if is_close(&word) {
             return match problem_of(alloc, name, parts) {
                 Some(problem) => Ok(problem),
-                None => Err(cursor.refuse(false)),
+                None => Err(cursor.refuse()),
             };
         }
         problem_section(alloc, cursor, &word, &mut parts)?;

@@ -62,7 +62,7 @@ fn requirement(
             place: word.place,
             text: Items::from_slice(alloc, word.text)?,
         }),
-        _ => Err(cursor.refuse(false)),
+        _ => Err(cursor.refuse()),
     }
 }
 
@@ -105,7 +105,7 @@ fn predicate(
 {
     match class_of(word) {
         Class::Open => predicate_rest(alloc, cursor),
-        _ => Err(cursor.refuse(false)),
+        _ => Err(cursor.refuse()),
     }
 }
 
@@ -144,7 +144,7 @@ fn task_part(
         }
         Class::Keyword(Keyword::Precondition) => {
             if parts.has_precondition {
-                return Err(cursor.refuse(false));
+                return Err(cursor.refuse());
             }
             empty(cursor)?;
             parts.has_precondition = true;
@@ -152,14 +152,14 @@ fn task_part(
         }
         Class::Keyword(Keyword::Effect) => {
             if parts.has_effect {
-                return Err(cursor.refuse(false));
+                return Err(cursor.refuse());
             }
             empty(cursor)?;
             parts.has_effect = true;
             Ok(())
         }
-        Class::Keyword(_) => Err(cursor.refuse(true)),
-        _ => Err(cursor.refuse(false)),
+        Class::Keyword(_) => Err(cursor.refuse_unsupported()),
+        _ => Err(cursor.refuse()),
     }
 }
 
@@ -225,8 +225,8 @@ fn action_part(
             parts.effect = Some(effect(alloc, cursor)?);
             Ok(())
         }
-        Class::Keyword(_) => Err(cursor.refuse(true)),
-        _ => Err(cursor.refuse(false)),
+        Class::Keyword(_) => Err(cursor.refuse_unsupported()),
+        _ => Err(cursor.refuse()),
     }
 }
 
@@ -342,7 +342,7 @@ fn named_method(
         if is_close(&word) {
             return match method_of(alloc, place, name, parts) {
                 Some(method) => Ok(method),
-                None => Err(cursor.refuse(false)),
+                None => Err(cursor.refuse()),
             };
         }
         method_part(alloc, cursor, &word, &mut parts)?;

@@ -19,8 +19,8 @@ fn term(alloc: Global, cursor: &mut Cursor<'_>, word: &Token<'_>) -> Result<Term
     match class_of(word) {
         Class::Variable => Ok(Term::Variable(Variable::new(alloc, word)?)),
         Class::Name => Ok(Term::Object(Name::new(alloc, word)?)),
-        Class::Open | Class::Forall | Class::Reserved => Err(cursor.refuse(true)),
-        _ => Err(cursor.refuse(false)),
+        Class::Open | Class::Forall | Class::Reserved => Err(cursor.refuse_unsupported()),
+        _ => Err(cursor.refuse()),
     }
 }
 
@@ -128,8 +128,8 @@ pub fn literal(
             })
         }
         Class::Not => negated_literal(alloc, cursor),
-        Class::Forall | Class::Reserved => Err(cursor.refuse(true)),
-        _ => Err(cursor.refuse(false)),
+        Class::Forall | Class::Reserved => Err(cursor.refuse_unsupported()),
+        _ => Err(cursor.refuse()),
     }
 }
 
@@ -158,7 +158,7 @@ pub fn equality(
     match class_of(word) {
         Class::Equal => equality_rest(alloc, cursor, true),
         Class::Not => negated_equality(alloc, cursor),
-        Class::Forall | Class::Reserved => Err(cursor.refuse(true)),
-        _ => Err(cursor.refuse(false)),
+        Class::Forall | Class::Reserved => Err(cursor.refuse_unsupported()),
+        _ => Err(cursor.refuse()),
     }
 }

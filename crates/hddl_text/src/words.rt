@@ -21,7 +21,7 @@ pub fn once<T>(cursor: &Cursor<'_>, part: &Option<T>) -> Result<(), Stop>
     ensures { MatchResult result (λ _. part.now ≡ None) (λ stop. IsSome part.now × (stop ≡ Refused false (suc (length cursor.now)))) }
 {
     if part.is_some() {
-        Err(cursor.refuse(false))
+        Err(cursor.refuse())
     } else {
         Ok(())
     }
@@ -36,7 +36,7 @@ pub fn opening(cursor: &mut Cursor<'_>) -> Result<(), Stop>
     let word = cursor.next()?;
     match class_of(&word) {
         Class::Open => Ok(()),
-        _ => Err(cursor.refuse(false)),
+        _ => Err(cursor.refuse()),
     }
 }
 
@@ -49,7 +49,7 @@ pub fn closing(cursor: &mut Cursor<'_>) -> Result<(), Stop>
     let word = cursor.next()?;
     match class_of(&word) {
         Class::Close => Ok(()),
-        _ => Err(cursor.refuse(false)),
+        _ => Err(cursor.refuse()),
     }
 }
 
@@ -72,8 +72,8 @@ pub fn any_name(alloc: Global, cursor: &mut Cursor<'_>) -> Result<Name, Stop>
     let word = cursor.next()?;
     match class_of(&word) {
         Class::Name => Ok(Name::new(alloc, &word)?),
-        Class::Forall | Class::Reserved => Err(cursor.refuse(true)),
-        _ => Err(cursor.refuse(false)),
+        Class::Forall | Class::Reserved => Err(cursor.refuse_unsupported()),
+        _ => Err(cursor.refuse()),
     }
 }
 
@@ -89,10 +89,10 @@ pub fn spelled_word(cursor: &mut Cursor<'_>, text: &[u8]) -> Result<(), Stop>
             if is_same(word.text, text) {
                 Ok(())
             } else {
-                Err(cursor.refuse(false))
+                Err(cursor.refuse())
             }
         }
-        _ => Err(cursor.refuse(false)),
+        _ => Err(cursor.refuse()),
     }
 }
 
@@ -105,7 +105,7 @@ pub fn less_sign(cursor: &mut Cursor<'_>) -> Result<(), Stop>
     let word = cursor.next()?;
     match class_of(&word) {
         Class::Less => Ok(()),
-        _ => Err(cursor.refuse(false)),
+        _ => Err(cursor.refuse()),
     }
 }
 
@@ -118,8 +118,8 @@ pub fn equal_sign(cursor: &mut Cursor<'_>) -> Result<(), Stop>
     let word = cursor.next()?;
     match class_of(&word) {
         Class::Equal => Ok(()),
-        Class::Forall | Class::Reserved => Err(cursor.refuse(true)),
-        _ => Err(cursor.refuse(false)),
+        Class::Forall | Class::Reserved => Err(cursor.refuse_unsupported()),
+        _ => Err(cursor.refuse()),
     }
 }
 

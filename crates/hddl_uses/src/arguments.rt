@@ -121,7 +121,7 @@ fn lacks_type(context: &Context<'_>, object: usize, place: &Declared) -> Result<
 {
     match (context.objects, type_number(context, place)) {
         (Some(objects), Some(wanted)) => {
-            let has = objects.has_type(context.alloc, context.types, object, wanted)?;
+            let has = objects.has_type(context.alloc, context.types, wanted, object)?;
             Ok(!has)
         }
         _ => Ok(false),

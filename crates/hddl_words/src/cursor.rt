@@ -1,6 +1,6 @@
 //! A cursor over the words of a text.
 
-ghost use Rattle.std.specs.Prelude.{◌≡◌, ◌+◌, suc, false, length, map, MatchResult, OnOk};
+ghost use Rattle.std.specs.Prelude.{◌≡◌, ◌+◌, suc, true, false, length, map, MatchResult, OnOk};
 ghost use Rattle.hddl_words.specs.Reading as spec;
 ghost use Rattle.hddl_words.specs.Words.{word_of};
 ghost use Rattle.hddl_words.specs.declared.cursor.Stop.TheVariants.{Refused};
@@ -68,11 +68,18 @@ impl<'a> Cursor<'a> {
         }
     }
 
-    /// Refuses the word that was read last.
-    pub fn refuse(&self, unsupported: bool) -> Stop
-        ensures { result ≡ Refused unsupported (suc (length self.now)) }
+    /// Refuses the word that was read last, which isn't what the grammar has there.
+    pub fn refuse(&self) -> Stop
+        ensures { result ≡ Refused false (suc (length self.now)) }
     {
-        Stop::Refused(unsupported, self.words.len() + 1)
+        Stop::Refused(false, self.words.len() + 1)
+    }
+
+    /// Refuses the word that was read last, which is of HDDL that is left out.
+    pub fn refuse_unsupported(&self) -> Stop
+        ensures { result ≡ Refused true (suc (length self.now)) }
+    {
+        Stop::Refused(true, self.words.len() + 1)
     }
 
     /// Whether no word is left; the next one is refused.

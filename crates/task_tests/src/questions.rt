@@ -52,8 +52,13 @@ pub enum Question<'a> {
     Plan(Bounds),
 }
 
-// What is asked of instances and configurations.
-fn answer_of_instances(alloc: Global, task: &Task, question: Question<'_>) -> Result<String, Fail> {
+// The answer to a question about a task that is lent.
+fn answer<R: Threads + Wait + Sync>(
+    rt: &R,
+    alloc: Global,
+    task: &Task,
+    question: Question<'_>,
+) -> Result<String, Fail> {
     match question {
         Question::Instances(objects) => instances_text(alloc, task, 0, objects),
         Question::Initials => initials_text(alloc, task),
@@ -64,18 +69,6 @@ fn answer_of_instances(alloc: Global, task: &Task, question: Question<'_>) -> Re
         Question::Different(word) => different_text(alloc, task, word),
         Question::ChosenByRank(rank) => listed_text(alloc, task, rank),
         Question::ChosenByNumber(number) => numbered_text(alloc, task, number),
-        _ => Err(Fail::new("a question about words")),
-    }
-}
-
-// What is asked of words and searches, and else of instances.
-fn answer<R: Threads + Wait + Sync>(
-    rt: &R,
-    alloc: Global,
-    task: &Task,
-    question: Question<'_>,
-) -> Result<String, Fail> {
-    match question {
         Question::Finishes(word) => finishes_text(alloc, task, word),
         Question::WordPlan(word) => word_text(alloc, task, word),
         Question::Rebuilt(word) => rebuilt_text(alloc, task, word),
@@ -83,7 +76,6 @@ fn answer<R: Threads + Wait + Sync>(
         Question::Within(nodes) => answer_within(rt, alloc, task, nodes),
         Question::LeastWord(bounds) => least_word(rt, alloc, task, bounds),
         Question::Plan(bounds) => plan_text(rt, alloc, task, bounds),
-        _ => answer_of_instances(alloc, task, question),
     }
 }
 

@@ -143,7 +143,8 @@ fn cursor(rt: HostRuntime) -> Result<(), Fail> {
     let tokens = lex(rt.alloc(), b"Road ?x")?;
     let mut cursor = Cursor::new(tokens.as_slice());
     assert!(rt; cursor.next().is_ok());
-    assert!(rt; matches!(cursor.refuse(true), Stop::Refused(true, 2)));
+    assert!(rt; matches!(cursor.refuse(), Stop::Refused(false, 2)));
+    assert!(rt; matches!(cursor.refuse_unsupported(), Stop::Refused(true, 2)));
     assert!(rt; cursor.end().is_err());
     assert!(rt; cursor.next().is_ok());
     assert!(rt; cursor.end().is_ok());
