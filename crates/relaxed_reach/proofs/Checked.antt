@@ -1,24 +1,30 @@
 -- Sets that were checked are a relaxed reach.
-use Rattle.std.proofs.Common.{◌≡◌, ℕ, ◌+◌, ◌<◌, true, false, not, ◌||◌, List, [], ◌∷◌, All, length, get_or, slice_get, Some, None, ◌⊎◌, inl, inr, refl, sym, ap, ap₂, ◌∙◌, subst, arith}
+use Rattle.std.proofs.Common.{◌≡◌, ℕ, ◌+◌, ◌<◌, true, false, not, ◌||◌, List, [], ◌∷◌, All, length, map, get_or, slice_get, Some, None, ◌⊎◌, inl, inr, refl, sym, ap, ap₂, ◌∙◌, subst, arith}
 use Rattle.std.specs.Cmp.Lexicographic.{pointwise}
 use Rattle.std.specs.List.{list_all, list_any}
-use Rattle.std.proofs.lemmas.Bool.{and_from, and_parts, both_ways, cases_Bool, cases_lt, not-true, or_left, or_right}
+use Rattle.std.proofs.lemmas.Bool.{and_from, and_parts, cases_Bool, cases_lt, not-true, or_cases, or_left, or_right}
+use Rattle.std.proofs.lemmas.List.Elements.{All-map}
 use Rattle.std.proofs.lemmas.List.Folds.{Any-from_list_any, list_any_at}
 use Rattle.std.proofs.lemmas.Option.{get_or_from_slice_get, none-some, same_Some, slice_get-get_or, slice_get_within}
 use Rattle.htn_model.specs.Equality.{ground_task_eq-decides}
 use Rattle.htn_model.specs.Exhaustion.{is_dead}
 use Rattle.htn_model.specs.Grounding.{problem_of}
+use Rattle.htn_model.specs.Instance.{Instance}
+use Rattle.htn_model.specs.Instances.{initials}
+use Rattle.htn_model.specs.Machine.{start}
 use Rattle.htn_model.specs.Problem.{Child, action, GroundTask, Network, ground_task_eq}
 use Rattle.htn_model.specs.Task.{Task}
+use Rattle.htn_ground.specs.Distinct.{distinct}
 use Rattle.tree_sizes.specs.Enumerated.{HasParts, IsEnumeration}
 use Rattle.tree_sizes.specs.Numbers.{HasBarred, is_among}
 use Rattle.tree_sizes.specs.declared.enumeration.Enumeration.{Enumeration}
 use Rattle.tree_sizes.specs.declared.parts.Parts.{Parts}
 use Rattle.tree_sizes.proofs.Listed.{listed_of}
 use Rattle.tree_sizes.proofs.Measured.{among_barred}
-use Rattle.relaxed_reach.specs.Checked.{AreEffectsRight, IsBlockedRight, IsChecked, IsExpanded}
-use Rattle.relaxed_reach.specs.Reach.{IsRelaxedReach, Reach, bars, passes}
-use Rattle.relaxed_reach.specs.Tables.{blocks, knows, reach_of}
+use Rattle.relaxed_reach.specs.Checked.{AreEffectsRight, IsBlockedRight, IsChecked, IsExpanded, IsStartKnown}
+use Rattle.relaxed_reach.specs.Facts.{is_within}
+use Rattle.relaxed_reach.specs.Reach.{IsRelaxedReach, Reach, bars, is_reached, passes}
+use Rattle.relaxed_reach.specs.Tables.{blocks, facts_of, knows, reach_of}
 use Rattle.relaxed_reach.specs.declared.reach.RelaxedReach.{RelaxedReach}
 
 -- lists of ground tasks that are equal one by one are the same
@@ -88,20 +94,20 @@ module _ (t : Task) (r : RelaxedReach) (e : Enumeration) (listed : IsEnumeration
     instances = instances;
   }
 
--- nothing is among the elements of an empty list
-among_none : (keys : List GroundTask) (g : GroundTask) → keys ≡ [] → is_among keys g ≡ false
-among_none keys g none = ap (λ xs. is_among xs g) none
+-- where its nodes are such, the configuration of an initial network may be reached
+start_reached : (t : Task) (r : RelaxedReach) (i : Instance) → is_within (facts_of r.facts) t.initial_atoms ≡ true → IsStartKnown r i
+    → is_reached (reach_of r) (start (problem_of t) i.network) ≡ true
+start_reached t r i within known = elim (or_cases (list_any (bars (reach_of r)) i.network.children) (list_all (knows r) i.network.children) known) [
+  | inl barred ↦ or_left _ _ barred
+  | inr all ↦ or_right (list_any (bars (reach_of r)) i.network.children) _ (and_from _ _ within all)
+]
 
--- where nothing is said of any node that is right
-pub empty_reach : (t : Task) (r : RelaxedReach) → r.barred.keys ≡ [] → r.actions.known.keys ≡ [] → r.actions.blocked.keys ≡ [] → r.tasks.known.keys ≡ [] → r.tasks.blocked.keys ≡ []
-    → IsRelaxedReach (problem_of t) (reach_of r)
-empty_reach t r no_barred no_known no_blocked no_tasks no_ended = record {
-  barred = λ g never. absurd (both_ways _ (among_none r.barred.keys g no_barred) never);
-  effects = λ g a is known free. absurd (both_ways _ (among_none r.actions.known.keys g no_known) known);
-  blocked_step = λ literals blocked. not-true _ blocked;
-  blocked_action = λ g a is blocked. absurd (both_ways _ (among_none r.actions.blocked.keys g no_blocked) blocked);
-  instances = λ g number network at live. untold_passes r g network (among_none r.tasks.known.keys g no_tasks) (among_none r.tasks.blocked.keys g no_ended);
-}
+-- so may each that a search begins with
+pub starts_reached : (t : Task) (r : RelaxedReach) → is_within (facts_of r.facts) t.initial_atoms ≡ true → All (IsStartKnown r) (distinct (initials t))
+    → All (λ c. is_reached (reach_of r) c ≡ true) (map (λ i. start (problem_of t) i.network) (distinct (initials t)))
+starts_reached t r within known =
+    All-map (λ c. is_reached (reach_of r) c ≡ true) (λ (i : Instance). start (problem_of t) i.network) (distinct (initials t))
+    (λ k i low. start_reached t r (get_or (distinct (initials t)) k i) within (known k i low))
 
 -- ## Instances in turn
 

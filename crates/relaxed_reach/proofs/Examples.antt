@@ -8,7 +8,7 @@ use Rattle.htn_model.specs.Atom.{Atom, atom_cmp}
 use Rattle.htn_model.specs.State.{contains, set_of}
 use Rattle.htn_model.specs.Examples.{fact}
 use Rattle.htn_model.proofs.Sets.{atoms_of-set_of, contains-set_of, is_same}
-use Rattle.relaxed_reach.specs.Examples.{BlockedNodesStay, FactsAreApart, changes, two_facts}
+use Rattle.relaxed_reach.specs.Examples.{BlockedNodesStay, FactsAreApart, ReachedAreApart, changes, two_facts}
 use Rattle.relaxed_reach.specs.Facts.{has_effects, is_within}
 
 -- no atoms ascend
@@ -77,4 +77,16 @@ blocked_nodes_stay = record {
   elsewhere = λ s outside. ap (λ b. not (b && true)) outside;
   barred = λ s. refl;
   step = λ s within. ap₂ (λ b x. not (b && (not x || false))) within facts_are_apart.never_fails;
+}
+
+-- what may be reached
+pub reached_are_apart : ReachedAreApart
+reached_are_apart = record {
+  known = λ s within. ap (λ b. b && true) within;
+  unknown = λ s. and_right (is_within two_facts s) false refl;
+  elsewhere = λ s outside. ap (λ b. b && true) outside;
+  barred = λ s. refl;
+  lost_blocked = refl;
+  lost_barred = refl;
+  free = refl;
 }

@@ -1,6 +1,5 @@
 -- What holds in a state within the facts is possible, and what keeps to them leads to such a state.
-use Rattle.std.proofs.Common.{◌≡◌, Bool, true, false, not, cond, ◌&&◌, ◌||◌, List, Contains, Option, Some, None, inl, inr, refl, sym, ap, ◌∙◌, subst}
-use Rattle.std.specs.List.{list_all}
+use Rattle.std.proofs.Common.{◌≡◌, Bool, true, false, not, cond, ◌&&◌, ◌||◌, List, Contains, Option, Some, None, inl, inr, refl, sym, ap, ◌∙◌}
 use Rattle.std.proofs.lemmas.Bool.{and_from, and_parts, both_ways, cases_Bool, false_from_ne_true, not-true, not_from_false, or_left, or_right}
 use Rattle.htn_model.specs.Atom.{Atom}
 use Rattle.htn_model.specs.State.{State, atoms_of, contains}
@@ -17,16 +16,6 @@ atom_listed s x has = (set_of-Contains (atoms_of s) x).0 (ap (λ (t : State). co
 -- and the other way round
 pub listed_atom : (s : State) (x : Atom) → Contains (atoms_of s) x → contains s x ≡ true
 listed_atom s x at = sym (ap (λ (t : State). contains t x) (set_of-atoms_of s)) ∙ (set_of-Contains (atoms_of s) x).1 at
-
--- a state has all its atoms
-pub has_itself : (s : State) → list_all (contains s) (atoms_of s) ≡ true
-has_itself s = all_from (contains s) (atoms_of s) (listed_atom s)
-
--- a state is within the facts where nothing ever changes
-pub within_itself : (s possible lasting : State) → possible ≡ s → lasting ≡ s → is_within (record { may_hold = contains possible; lasting = lasting }) s ≡ true
-within_itself s possible lasting rises stays =
-    and_from _ _ (subst (λ (q : State). list_all (contains q) (atoms_of s) ≡ true) (sym rises) (has_itself s))
-    (subst (λ (q : State). list_all (contains s) (atoms_of q) ≡ true) (sym stays) (has_itself s))
 
 -- a test on which a state depends was passed
 pub cond_passed : (b : Bool) (s next : State) → cond b (Some s) None ≡ Some next → (b ≡ true) × (s ≡ next)

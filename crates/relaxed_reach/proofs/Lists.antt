@@ -1,5 +1,5 @@
 -- Tests of the elements of lists, and of lists with others in one element's place.
-use Rattle.std.proofs.Common.{◌≡◌, ℕ, zero, suc, ◌+◌, ◌<◌, ◌≤◌, Bool, true, ◌&&◌, ◌||◌, List, [], ◌∷◌, ◌++◌, length, get_or, take, drop, All, Contains, ◌⊎◌, inl, inr, refl, sym, ap, ◌∙◌, subst, arith}
+use Rattle.std.proofs.Common.{◌≡◌, ℕ, zero, suc, ◌+◌, ◌<◌, ◌≤◌, Bool, true, false, ◌&&◌, ◌||◌, List, [], ◌∷◌, ◌++◌, length, get_or, take, drop, All, Contains, ◌⊎◌, inl, inr, refl, sym, ap, ◌∙◌, subst, arith}
 use Rattle.std.specs.List.{list_all, list_any}
 use Rattle.std.proofs.lemmas.Bool.{and_parts}
 use Rattle.std.proofs.lemmas.List.{take_all}
@@ -24,6 +24,13 @@ contains_first y xs = (0, omega arith, refl)
 -- so is each of the others
 contains_later : {X : Type 0} (y : X) (xs : List X) (x : X) → Contains xs x → Contains (y ∷ xs) x
 contains_later y xs x at = (suc at.0, (let low = at.1 in omega (arith, low)), at.2)
+
+-- four tests in another order
+or_swap : (a b c d : Bool) → ((a || b) || (c || d)) ≡ ((a || c) || (b || d))
+or_swap true b c d = refl
+or_swap false true true d = refl
+or_swap false true false d = refl
+or_swap false false c d = refl
 
 module _ {X : Type 0} (test : X → Bool) where
   -- where all pass each does
@@ -59,6 +66,12 @@ module _ {X : Type 0} (test : X → Bool) where
   pub all_splice : (i : ℕ) (ys xs : List X) → list_all test (splice i ys xs) ≡ (list_all test (take i xs) && (list_all test ys && list_all test (drop (suc i) xs)))
   all_splice i ys xs =
       list_all-append test (take i xs) (ys ++ drop (suc i) xs) ∙ ap (λ b. list_all test (take i xs) && b) (list_all-append test ys (drop (suc i) xs))
+
+-- one passes one of two tests where one passes the first or one the second
+pub any_or : {X : Type 0} (test other : X → Bool) (xs : List X) → list_any (λ x. test x || other x) xs ≡ (list_any test xs || list_any other xs)
+any_or test other [] = refl
+any_or test other (x ∷ xs) =
+    ap (λ b. (test x || other x) || b) (any_or test other xs) ∙ or_swap (test x) (other x) (list_any test xs) (list_any other xs)
 
 -- one more element of which it holds
 pub all_more : {X : Type 0} (P : X → Type 0) (xs : List X) (i : ℕ) (x : X) → i < length xs → x ≡ get_or xs i x → All P (take i xs) → P x → All P (take (i + 1) xs)

@@ -1,16 +1,19 @@
 -- What is checked of the sets.
-use Rattle.std.specs.Prelude.{◌≡◌, ℕ, ◌<◌, true, false, Some, slice_get}
-use Rattle.std.specs.List.{All}
+use Rattle.std.specs.Prelude.{◌≡◌, ℕ, ◌<◌, true, false, ◌||◌, Some, slice_get}
+use Rattle.std.specs.List.{All, list_all, list_any}
 use Rattle.htn_model.specs.Grounding.{problem_of}
+use Rattle.htn_model.specs.Instance.{Instance}
+use Rattle.htn_model.specs.Instances.{initials}
 use Rattle.htn_model.specs.Literal.{Action}
 use Rattle.htn_model.specs.Problem.{GroundTask}
 use Rattle.htn_model.specs.Task.{Task}
+use Rattle.htn_ground.specs.Distinct.{distinct}
 use Rattle.tree_sizes.specs.Numbers.{is_among}
 use Rattle.tree_sizes.specs.declared.enumeration.Enumeration.{Enumeration}
 use Rattle.tree_sizes.specs.declared.parts.Parts.{Parts}
 use Rattle.relaxed_reach.specs.Facts.{are_possible, has_effects, is_within}
-use Rattle.relaxed_reach.specs.Reach.{passes}
-use Rattle.relaxed_reach.specs.Tables.{facts_of, reach_of}
+use Rattle.relaxed_reach.specs.Reach.{bars, passes}
+use Rattle.relaxed_reach.specs.Tables.{facts_of, knows, reach_of}
 use Rattle.relaxed_reach.specs.declared.reach.RelaxedReach.{RelaxedReach}
 
 -- an action's effects are among the facts, unless it never ends
@@ -32,6 +35,10 @@ AreInstancesRight r e =
     (j : ℕ) (p : Parts) (g : GroundTask) → slice_get e.instances.items j ≡ Some p → slice_get e.tasks.keys p.task ≡ Some g
     → passes (reach_of r) g p.children ≡ true
 
+-- an initial network has a barred node, or all its nodes are known
+abbrev pub IsStartKnown : RelaxedReach → Instance → Type 0
+IsStartKnown r i = (list_any (bars (reach_of r)) i.network.children || list_all (knows r) i.network.children) ≡ true
+
 -- what is said of tasks is right
 pub record AreTasksRight (r : RelaxedReach) (e : Enumeration) : Type 0 where
   pub known : All (IsExpanded e) r.tasks.known.keys
@@ -41,6 +48,7 @@ pub record AreTasksRight (r : RelaxedReach) (e : Enumeration) : Type 0 where
 -- all that is checked
 pub record IsChecked (t : Task) (r : RelaxedReach) (e : Enumeration) : Type 0 where
   pub first : is_within (facts_of r.facts) t.initial_atoms ≡ true
+  pub starts : All (IsStartKnown r) (distinct (initials t))
   pub barred : r.barred.keys ≡ e.actions.barred.keys
   pub tasks : AreTasksRight r e
   pub effects : All (AreEffectsRight t r) r.actions.known.keys

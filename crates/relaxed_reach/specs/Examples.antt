@@ -7,7 +7,7 @@ use Rattle.htn_model.specs.Problem.{Child, precondition, action, task, ground_ta
 use Rattle.htn_model.specs.Machine.{Config}
 use Rattle.htn_model.specs.Examples.{fact, named}
 use Rattle.relaxed_reach.specs.Facts.{Facts, are_possible, has_effects, is_within}
-use Rattle.relaxed_reach.specs.Reach.{Reach, may_end_by, passes}
+use Rattle.relaxed_reach.specs.Reach.{Reach, is_lost_node, is_reached, may_end_by, passes}
 
 -- ## Facts: 1 is true and stays so, 0 may become true
 
@@ -68,3 +68,14 @@ pub record BlockedNodesStay : Type 0 where
   pub elsewhere : (s : State) → is_within two_facts s ≡ false → may_end_by chain_reach (standing s (action (named 0) ∷ [])) ≡ true
   pub barred : (s : State) → may_end_by chain_reach (standing s (action (named 2) ∷ task (named 4) ∷ [])) ≡ false
   pub step : (s : State) → is_within two_facts s ≡ true → may_end_by chain_reach (standing s (precondition (atom false (fact 1) ∷ []) ∷ [])) ≡ false
+
+-- known nodes in a state within the facts may be reached, and so may a barred action beside any others; an unknown node
+-- without one may not, and nothing else in another state; and of the nodes never end those that are blocked or barred
+pub record ReachedAreApart : Type 0 where
+  pub known : (s : State) → is_within two_facts s ≡ true → is_reached chain_reach (standing s (action (named 5) ∷ task (named 3) ∷ [])) ≡ true
+  pub unknown : (s : State) → is_reached chain_reach (standing s (action (named 0) ∷ task (named 4) ∷ [])) ≡ false
+  pub elsewhere : (s : State) → is_within two_facts s ≡ false → is_reached chain_reach (standing s (action (named 5) ∷ [])) ≡ false
+  pub barred : (s : State) → is_reached chain_reach (standing s (action (named 2) ∷ task (named 4) ∷ [])) ≡ true
+  pub lost_blocked : is_lost_node chain_reach (task (named 3)) ≡ true
+  pub lost_barred : is_lost_node chain_reach (action (named 2)) ≡ true
+  pub free : is_lost_node chain_reach (action (named 5)) ≡ false

@@ -48,6 +48,14 @@ may_end_by r c =
     not (list_any (bars r) c.open_nodes)
     && not (is_within r.facts c.state && (list_all r.is_known c.open_nodes && list_any r.is_blocked c.open_nodes))
 
+-- whether a configuration may be one that is reached: one of its nodes is barred, or its state is within the facts and all its nodes are known
+abbrev pub is_reached : Reach → Config → Bool
+is_reached r c = list_any (bars r) c.open_nodes || (is_within r.facts c.state && list_all r.is_known c.open_nodes)
+
+-- whether nothing ever ends a node of such a configuration
+abbrev pub is_lost_node : Reach → Child → Bool
+is_lost_node r x = r.is_blocked x || bars r x
+
 -- where what no effect names is as at first: what may end after a live step might before it, what is done may end, and
 -- so might all that leads there
 pub record ReachLasts (problem : Problem) (r : Reach) : Type 0 where
@@ -60,3 +68,14 @@ pub record ReachLasts (problem : Problem) (r : Reach) : Type 0 where
 -- so it is with every relaxed reach
 abbrev pub ReachStays : Type 0
 ReachStays = (problem : Problem) (r : Reach) → IsGrounded problem → IsRelaxedReach problem r → ReachLasts problem r
+
+-- where what no effect names is as at first: a live step leads from what may be reached to what may be; and such a
+-- configuration may end just where none of its nodes is one that never does
+pub record ReachedStay (problem : Problem) (r : Reach) : Type 0 where
+  pub stays : (c d : Config) (number : ℕ) → live_step problem c number ≡ Some d → is_as_at_first problem c.state ≡ true
+      → is_reached r c ≡ true → is_reached r d ≡ true
+  pub told : (c : Config) → is_reached r c ≡ true → may_end_by r c ≡ not (list_any (is_lost_node r) c.open_nodes)
+
+-- so it is with every relaxed reach
+abbrev pub ReachedStays : Type 0
+ReachedStays = (problem : Problem) (r : Reach) → IsGrounded problem → IsRelaxedReach problem r → ReachedStay problem r

@@ -1,12 +1,15 @@
 //! Whether what is reached is right.
 ghost use Rattle.std.specs.Prelude.{◌≡◌, All, IfOk, IsTrue};
+ghost use Rattle.htn_model.specs.Instances.{initials};
+ghost use Rattle.htn_ground.specs.Distinct.{distinct};
 ghost use Rattle.htn_ground.specs.Views.{children_of};
-ghost use Rattle.relaxed_reach.specs.Checked.{AreEffectsRight, AreInstancesRight, IsBlockedRight, IsExpanded};
+ghost use Rattle.relaxed_reach.specs.Checked.{AreEffectsRight, AreInstancesRight, IsBlockedRight};
+ghost use Rattle.relaxed_reach.specs.Checked.{IsExpanded, IsStartKnown};
 ghost use Rattle.relaxed_reach.specs.Reach.{passes};
 ghost use Rattle.relaxed_reach.specs.Tables.{reach_of};
 
 use crate::reach::RelaxedReach;
-use htn_ground::{Child, GroundTask, action_of};
+use htn_ground::{Child, GroundTask, Instance, action_of, distinct_initials};
 use htn_task::Task;
 use std::alloc::{AllocError, Global};
 use tree_sizes::Enumeration;
@@ -34,6 +37,27 @@ pub(crate) fn are_expanded(found: &Enumeration, goals: &[GroundTask]) -> bool
 }
 
 impl RelaxedReach {
+    /// Whether an instance of the initial network has a barred node, or all its nodes are known.
+    fn is_start_known(&self, instance: &Instance) -> bool
+        ensures { IsTrue result → IsStartKnown self.now instance.now }
+    {
+        let children = instance.children().as_slice();
+        self.has_barred(children) || self.are_known(children)
+    }
+
+    /// Whether that is so of each initial network.
+    pub(crate) fn are_starts_known(&self, alloc: Global, task: &Task) -> Result<bool, AllocError>
+        ensures { IfOk result (λ b. IsTrue b → All (IsStartKnown self.now) (distinct (initials task.now))) }
+    {
+        let instances = distinct_initials(alloc, task)?;
+        for instance in &instances {
+            if !self.is_start_known(instance) {
+                return Ok(false);
+            }
+        }
+        Ok(true)
+    }
+
     /// Whether the effects of an action are among the facts, unless it never ends.
     fn are_effects_right(
         &self,

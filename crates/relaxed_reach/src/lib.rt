@@ -2,8 +2,10 @@
 //!
 //! Each fact is on its own: an action whose literals all may be true makes its effects possible, and what becomes false
 //! may still be true. An action or a step that needs what is never so is never carried out, and a compound task each of
-//! whose instances has such a node never ends ([`reach_stays`]). [`RelaxedReach`] is what is reached from the initial
-//! state of a task by the nodes of its enumerated instances. How it is found is not proved: it is checked.
+//! whose instances has such a node never ends ([`reach_stays`]). What a search keeps in mind is one invariant of its own
+//! configurations; then their nodes alone tell whether they may end ([`reached_stays`]). [`RelaxedReach`] is what is
+//! reached from the initial state of a task by the nodes of its enumerated instances. How it is found is not proved: it
+//! is checked.
 #![tactic(auto)]
 
 mod check;
@@ -14,5 +16,5 @@ mod of;
 mod reach;
 mod tasks;
 
-pub use laws::{reach_examples_hold, reach_stays};
+pub use laws::{reach_examples_hold, reach_stays, reached_stays};
 pub use reach::RelaxedReach;

@@ -1,16 +1,17 @@
 //! What a task's networks reach.
-ghost use Rattle.std.specs.Prelude.{◌≡◌, IfOk, IsTrue, true};
+ghost use Rattle.std.specs.Prelude.{◌≡◌, All, IfOk, IfSome, IsTrue, map, true};
 ghost use Rattle.htn_model.specs.Grounding.{problem_of};
+ghost use Rattle.htn_model.specs.Instances.{initials};
+ghost use Rattle.htn_model.specs.Machine.{start};
+ghost use Rattle.htn_ground.specs.Distinct.{distinct};
 ghost use Rattle.tree_sizes.specs.Enumerated.{IsEnumeration};
 ghost use Rattle.relaxed_reach.specs.Checked.{AreTasksRight, IsChecked};
-ghost use Rattle.relaxed_reach.specs.Facts.{is_within};
-ghost use Rattle.relaxed_reach.specs.Reach.{IsRelaxedReach};
+ghost use Rattle.relaxed_reach.specs.Reach.{IsRelaxedReach, is_reached};
 ghost use Rattle.relaxed_reach.specs.Tables.{reach_of};
 
 use crate::check::are_expanded;
-use crate::facts::FactSets;
 use crate::find::find_actions;
-use crate::reach::{Marks, RelaxedReach};
+use crate::reach::RelaxedReach;
 use crate::tasks::task_marks;
 use htn_ground::GroundTask;
 use htn_task::Task;
@@ -77,6 +78,10 @@ impl RelaxedReach {
         if !self.are_tasks_right(found) {
             return Ok(false);
         }
+        let are_starts_known = self.are_starts_known(alloc, task)?;
+        if !are_starts_known {
+            return Ok(false);
+        }
         let known = self.actions.known.as_slice();
         let are_effects_right = self.are_all_effects_right(alloc, task, known)?;
         if !are_effects_right {
@@ -91,27 +96,23 @@ impl RelaxedReach {
     }
 
     /// What is reached from a task's initial state by the nodes of enumerated instances. A task that wasn't expanded is
-    /// not known, nor is one with an instance that has a node that isn't known.
-    pub fn of(alloc: Global, task: &Task, found: &Enumeration) -> Result<RelaxedReach, AllocError>
-        ensures reach { IfOk result (λ r. IsEnumeration task.now found.now
-            → IsRelaxedReach (problem_of task.now) (reach_of r)) }
-        ensures first { IfOk result (λ r. is_within (reach_of r).facts (problem_of task.now).initial_state ≡ true) }
+    /// not known, nor is one with an instance that has a node that isn't known; and nothing is said at all where an
+    /// initial network has such a node and no barred one.
+    pub fn of(
+        alloc: Global,
+        task: &Task,
+        found: &Enumeration,
+    ) -> Result<Option<RelaxedReach>, AllocError>
+        ensures reach { IfOk result (λ o. IfSome o (λ r. IsEnumeration task.now found.now
+            → IsRelaxedReach (problem_of task.now) (reach_of r))) }
+        ensures starts { IfOk result (λ o. IfSome o (λ r. All (λ c. is_reached (reach_of r) c ≡ true)
+            (map (λ i. start (problem_of task.now) i.network) (distinct (initials task.now))))) }
     {
         let reach = find_reach(alloc, task, found)?;
         let is_right = reach.is_right(alloc, task, found)?;
         if is_right {
-            return Ok(reach);
+            return Ok(Some(reach));
         }
-        let initial = task.initial_atoms();
-        let facts = FactSets {
-            possible: initial.clone()?,
-            lasting: initial.clone()?,
-        };
-        Ok(RelaxedReach {
-            facts,
-            actions: Marks::none(alloc),
-            tasks: Marks::none(alloc),
-            barred: IndexSet::new(alloc),
-        })
+        Ok(None)
     }
 }

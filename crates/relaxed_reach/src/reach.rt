@@ -1,15 +1,12 @@
 //! What is reached from the initial state.
 ghost use Rattle.std.specs.Prelude.{◌≡◌, []};
 ghost use Rattle.std.specs.List.{list_all, list_any};
-ghost use Rattle.htn_model.specs.Problem as problem;
 ghost use Rattle.htn_ground.specs.Views.{child_view, children_of};
-ghost use Rattle.relaxed_reach.specs.Facts.{is_within, may_fail};
-ghost use Rattle.relaxed_reach.specs.Reach.{bars, may_end_by};
+ghost use Rattle.relaxed_reach.specs.Reach.{bars, is_lost_node};
 ghost use Rattle.relaxed_reach.specs.Tables.{reach_of};
 
 use crate::facts::FactSets;
 use htn_ground::{Child, GroundTask};
-use htn_state::{Atom, State};
 use indexmap::IndexSet;
 use std::alloc::Global;
 
@@ -45,29 +42,8 @@ pub struct RelaxedReach {
 }
 
 impl RelaxedReach {
-    /// Whether an atom may become true.
-    pub fn may_hold(&self, atom: &Atom) -> bool
-        ensures { result ≡ (reach_of self.now).facts.may_hold atom.now }
-    {
-        self.facts.possible.contains(atom)
-    }
-
-    /// Whether an atom may become false.
-    pub fn may_fail(&self, atom: &Atom) -> bool
-        ensures { result ≡ may_fail (reach_of self.now).facts atom.now }
-    {
-        !self.facts.lasting.contains(atom)
-    }
-
-    /// Whether a state has only atoms that may become true, and all that never become false.
-    pub fn is_within(&self, state: &State) -> bool
-        ensures { result ≡ is_within (reach_of self.now).facts state.now }
-    {
-        self.facts.is_within(state)
-    }
-
     /// Whether all that may become of a node is known.
-    pub fn is_known(&self, child: &Child) -> bool
+    fn is_known(&self, child: &Child) -> bool
         ensures { result ≡ (reach_of self.now).is_known (child_view child.now) }
     {
         match child {
@@ -78,7 +54,7 @@ impl RelaxedReach {
     }
 
     /// Whether nothing ever ends a node.
-    pub fn is_blocked(&self, child: &Child) -> bool
+    fn is_blocked(&self, child: &Child) -> bool
         ensures { result ≡ (reach_of self.now).is_blocked (child_view child.now) }
     {
         match child {
@@ -89,7 +65,7 @@ impl RelaxedReach {
     }
 
     /// Whether a node is an action that is never carried out, whatever is reached.
-    pub fn is_barred(&self, child: &Child) -> bool
+    fn is_barred(&self, child: &Child) -> bool
         ensures { result ≡ bars (reach_of self.now) (child_view child.now) }
     {
         match child {
@@ -99,7 +75,7 @@ impl RelaxedReach {
     }
 
     /// Whether all of some nodes are known.
-    pub fn are_known(&self, children: &[Child]) -> bool
+    pub(crate) fn are_known(&self, children: &[Child]) -> bool
         ensures { result ≡ list_all (reach_of self.now).is_known (children_of children.now) }
     {
         for child in children {
@@ -111,7 +87,7 @@ impl RelaxedReach {
     }
 
     /// Whether nothing ever ends one of some nodes.
-    pub fn has_blocked(&self, children: &[Child]) -> bool
+    pub(crate) fn has_blocked(&self, children: &[Child]) -> bool
         ensures { result ≡ list_any (reach_of self.now).is_blocked (children_of children.now) }
     {
         for child in children {
@@ -123,7 +99,7 @@ impl RelaxedReach {
     }
 
     /// Whether one of some nodes is an action that is never carried out, whatever is reached.
-    pub fn has_barred(&self, children: &[Child]) -> bool
+    pub(crate) fn has_barred(&self, children: &[Child]) -> bool
         ensures { result ≡ list_any (bars (reach_of self.now)) (children_of children.now) }
     {
         for child in children {
@@ -134,17 +110,10 @@ impl RelaxedReach {
         false
     }
 
-    /// Whether a configuration of this state and these open nodes may end, whatever their order.
-    pub fn may_end(&self, state: &State, children: &[Child]) -> bool
-        ensures { (order : problem.Order) → result ≡ may_end_by (reach_of self.now)
-            (record { state = state.now; open_nodes = children_of children.now; order = order }) }
+    /// Whether nothing ever ends a node of a configuration that may be reached.
+    pub fn is_lost_node(&self, child: &Child) -> bool
+        ensures { result ≡ is_lost_node (reach_of self.now) (child_view child.now) }
     {
-        if self.has_barred(children) {
-            return false;
-        }
-        let is_lost = self.has_blocked(children)
-            && self.are_known(children)
-            && self.is_within(state);
-        !is_lost
+        self.is_blocked(child) || self.is_barred(child)
     }
 }

@@ -9,42 +9,29 @@ use std::alloc::Global;
 use std::test::Fail;
 use tree_sizes::enumerate;
 
-// What is known of a node.
+// Whether anything ends a node.
 fn node_text(reach: &RelaxedReach, child: &Child) -> &'static str {
-    match (reach.is_known(child), reach.is_blocked(child)) {
-        (true, true) => " never",
-        (true, false) => " known",
-        (false, _) => " unknown",
+    if reach.is_lost_node(child) {
+        " never"
+    } else {
+        " ends"
     }
 }
 
-// Whether a network may end.
-fn network_text(may_end: bool) -> &'static str {
-    if may_end { "ends" } else { "lost" }
-}
-
-// Whether an atom that is true at first stays so.
-fn atom_text(stays: bool) -> &'static str {
-    if stays { ", stays" } else { ", falls" }
-}
-
-/// For each initial network whether it may end at first, and what is known of its nodes; then the atoms that are true
-/// at first, and which of them stay true; where so much is kept of instances.
+/// Whether it is known what is reached, where so much is kept of instances; and which nodes of the initial networks
+/// never end by that.
 pub fn reach_text(alloc: Global, task: &Task, limit: u64) -> Result<String, Fail> {
     let found = enumerate(alloc, task, limit)?;
-    let reach = RelaxedReach::of(alloc, task, &found)?;
     let mut text = String::new(alloc);
+    let Some(reach) = RelaxedReach::of(alloc, task, &found)? else {
+        text.push_str("unknown")?;
+        return Ok(text);
+    };
+    text.push_str("known")?;
     for initial in &distinct_initials(alloc, task)? {
-        let children = initial.children().as_slice();
-        let may_end = reach.may_end(task.initial_atoms(), children);
-        text.push_str(network_text(may_end))?;
-        for child in children {
+        for child in initial.children().as_slice() {
             text.push_str(node_text(&reach, child))?;
         }
-    }
-    for atom in task.initial_atoms().atoms() {
-        let stays = reach.may_hold(atom) && !reach.may_fail(atom);
-        text.push_str(atom_text(stays))?;
     }
     Ok(text)
 }
@@ -54,11 +41,11 @@ pub fn reach_text(alloc: Global, task: &Task, limit: u64) -> Result<String, Fail
 #[test]
 fn reached_nodes_end_or_never_do(rt: HostRuntime) -> Result<(), Fail> {
     let rows: [(Pair, u64, &str); 5] = [
-        (ROAD, 1_000, "ends known, stays, stays, falls"),
-        (CIRCLE, 1_000, "lost never known, falls, stays"),
-        (ENDLESS, 1_000, "lost never"),
-        (ENDING, 1_000, "ends known"),
-        (CIRCLE, 0, "ends unknown known, falls, stays"),
+        (ROAD, 1_000, "known ends"),
+        (CIRCLE, 1_000, "known never ends"),
+        (ENDLESS, 1_000, "known never"),
+        (ENDING, 1_000, "known ends"),
+        (CIRCLE, 0, "unknown"),
     ];
     for (pair, limit, expected) in rows {
         let found = answer_of(&rt, rt.alloc(), pair, Question::Reach(limit))?;
