@@ -16,6 +16,8 @@ mod plans;
 #[cfg(test)]
 mod questions;
 #[cfg(test)]
+mod reach;
+#[cfg(test)]
 mod searches;
 #[cfg(test)]
 mod steps;

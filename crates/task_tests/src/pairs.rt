@@ -114,6 +114,16 @@ pub const ENDING: Pair = Pair {
     problem: ONE_TASK,
 };
 
+/// A task each of whose methods has an action that needs what the other's makes, beside an action that deletes what is
+/// true at first, but for an atom that it adds again.
+pub const CIRCLE: Pair = Pair {
+    domain: "(define (domain d) (:predicates (p) (q) (r) (s)) (:task t)
+  (:method m1 :task (t) :subtasks (make-p)) (:method m2 :task (t) :subtasks (make-q))
+  (:action make-p :precondition (q) :effect (p)) (:action make-q :precondition (p) :effect (q))
+  (:action change :precondition (and (r) (s)) :effect (and (not (r)) (not (s)) (s))))",
+    problem: "(define (problem x) (:domain d) (:init (r) (s)) (:htn :subtasks (and (t) (change))))",
+};
+
 /// The doubling task, whose method needs what is never true.
 pub const DEAD: Pair = Pair {
     domain: "(define (domain d) (:predicates (q)) (:task t)

@@ -6,6 +6,7 @@ use crate::instances::{
 };
 use crate::pairs::{Pair, task_between};
 use crate::plans::answer_within;
+use crate::reach::reach_text;
 use crate::searches::{depth_text, finishes_text, least_word, plan_text, rebuilt_text, word_text};
 use crate::steps::{different_text, listed_text, numbered_text, walk};
 use htn_search::Bounds;
@@ -28,6 +29,8 @@ pub enum Question<'a> {
     DistinctInstances,
     /// The same of the initial network.
     DistinctInitials,
+    /// What is reached, where so much is kept of instances.
+    Reach(u64),
     /// A line for each configuration along a word.
     Walk(&'a [u64]),
     /// How many configurations along a word differ.
@@ -65,6 +68,7 @@ fn answer<R: Threads + Wait + Sync>(
         Question::Action(name, objects) => ground_action_text(alloc, task, name, objects),
         Question::DistinctInstances => distinct_text(alloc, task),
         Question::DistinctInitials => distinct_initials_text(alloc, task),
+        Question::Reach(limit) => reach_text(alloc, task, limit),
         Question::Walk(word) => walk(alloc, task, word),
         Question::Different(word) => different_text(alloc, task, word),
         Question::ChosenByRank(rank) => listed_text(alloc, task, rank),

@@ -1,0 +1,6 @@
+use Rattle.std.proofs.Common.{All, take}
+use Rattle.relaxed_reach.specs.Checked.{AreEffectsRight}
+use Rattle.relaxed_reach.proofs.reach.RelaxedReach.are_all_effects_right.Given as goal
+
+abbrev pub invariant-loop-goal : goal.invariant-loop-goal
+invariant-loop-goal l = All (AreEffectsRight l.task l.self) (take l.goal-index l.goals)

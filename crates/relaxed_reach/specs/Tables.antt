@@ -1,0 +1,29 @@
+-- What is reached, by sets of atoms and of ground tasks.
+use Rattle.std.specs.Prelude.{Bool, true, not}
+use Rattle.htn_model.specs.State.{contains}
+use Rattle.htn_model.specs.Problem.{Child, precondition, action, task}
+use Rattle.tree_sizes.specs.Numbers.{is_among}
+use Rattle.relaxed_reach.specs.Facts.{Facts, are_possible}
+use Rattle.relaxed_reach.specs.Reach.{Reach}
+use Rattle.relaxed_reach.specs.declared.facts.FactSets.{FactSets}
+use Rattle.relaxed_reach.specs.declared.reach.RelaxedReach.{RelaxedReach}
+
+-- the facts by two sets of atoms
+abbrev pub facts_of : FactSets → Facts
+facts_of f = record { may_hold = contains f.possible; lasting = f.lasting }
+
+-- whether a node is known: each step is, and the actions and tasks of the sets
+abbrev pub knows : RelaxedReach → Child → Bool
+knows r (precondition literals) = true
+knows r (action g) = is_among r.actions.known.keys g
+knows r (task g) = is_among r.tasks.known.keys g
+
+-- whether a node never ends: a step with a literal that never holds, and the actions and tasks of the sets
+abbrev pub blocks : RelaxedReach → Child → Bool
+blocks r (precondition literals) = not (are_possible (facts_of r.facts) literals)
+blocks r (action g) = is_among r.actions.blocked.keys g
+blocks r (task g) = is_among r.tasks.blocked.keys g
+
+-- what is reached by the sets
+abbrev pub reach_of : RelaxedReach → Reach
+reach_of r = record { facts = facts_of r.facts; is_known = knows r; is_blocked = blocks r; is_barred = is_among r.barred.keys }

@@ -1,0 +1,153 @@
+//! Whether what is reached is right.
+ghost use Rattle.std.specs.Prelude.{◌≡◌, All, IfOk, IsTrue};
+ghost use Rattle.htn_model.specs.Instances.{initials};
+ghost use Rattle.htn_ground.specs.Distinct.{distinct};
+ghost use Rattle.htn_ground.specs.Views.{children_of};
+ghost use Rattle.relaxed_reach.specs.Checked.{AreEffectsRight, AreInstancesRight, IsBlockedRight};
+ghost use Rattle.relaxed_reach.specs.Checked.{IsExpanded, IsStartKnown};
+ghost use Rattle.relaxed_reach.specs.Reach.{passes};
+ghost use Rattle.relaxed_reach.specs.Tables.{reach_of};
+
+use crate::reach::RelaxedReach;
+use htn_ground::{Child, GroundTask, Instance, action_of, distinct_initials};
+use htn_task::Task;
+use std::alloc::{AllocError, Global};
+use tree_sizes::Enumeration;
+
+/// Whether the instances of a task are listed.
+fn is_expanded(found: &Enumeration, goal: &GroundTask) -> bool
+    ensures { IsTrue result → IsExpanded found.now goal.now }
+{
+    match found.tasks().get_index_of(goal) {
+        Some(number) => number < found.expanded(),
+        None => false,
+    }
+}
+
+/// Whether the instances of each of some tasks are listed.
+pub(crate) fn are_expanded(found: &Enumeration, goals: &[GroundTask]) -> bool
+    ensures { IsTrue result → All (IsExpanded found.now) goals.now }
+{
+    for goal in goals {
+        if !is_expanded(found, goal) {
+            return false;
+        }
+    }
+    true
+}
+
+impl RelaxedReach {
+    /// Whether an instance of the initial network has a barred node, or all its nodes are known.
+    fn is_start_known(&self, instance: &Instance) -> bool
+        ensures { IsTrue result → IsStartKnown self.now instance.now }
+    {
+        let children = instance.children().as_slice();
+        self.has_barred(children) || self.are_known(children)
+    }
+
+    /// Whether that is so of each initial network.
+    pub(crate) fn are_starts_known(&self, alloc: Global, task: &Task) -> Result<bool, AllocError>
+        ensures { IfOk result (λ b. IsTrue b → All (IsStartKnown self.now) (distinct (initials task.now))) }
+    {
+        let instances = distinct_initials(alloc, task)?;
+        for instance in &instances {
+            if !self.is_start_known(instance) {
+                return Ok(false);
+            }
+        }
+        Ok(true)
+    }
+
+    /// Whether the effects of an action are among the facts, unless it never ends.
+    fn are_effects_right(
+        &self,
+        alloc: Global,
+        task: &Task,
+        goal: &GroundTask,
+    ) -> Result<bool, AllocError>
+        ensures { IfOk result (λ b. IsTrue b → AreEffectsRight task.now self.now goal.now) }
+    {
+        if self.actions.blocked.contains(goal) {
+            return Ok(true);
+        }
+        match action_of(alloc, task, goal)? {
+            Some(action) => Ok(self.facts.has_effects(&action)),
+            None => Ok(true),
+        }
+    }
+
+    /// Whether that is so of each of some actions.
+    pub(crate) fn are_all_effects_right(
+        &self,
+        alloc: Global,
+        task: &Task,
+        goals: &[GroundTask],
+    ) -> Result<bool, AllocError>
+        ensures { IfOk result (λ b. IsTrue b → All (AreEffectsRight task.now self.now) goals.now) }
+    {
+        for goal in goals {
+            let is_right = self.are_effects_right(alloc, task, goal)?;
+            if !is_right {
+                return Ok(false);
+            }
+        }
+        Ok(true)
+    }
+
+    /// Whether an action needs a literal that never holds.
+    fn is_blocked_right(
+        &self,
+        alloc: Global,
+        task: &Task,
+        goal: &GroundTask,
+    ) -> Result<bool, AllocError>
+        ensures { IfOk result (λ b. IsTrue b → IsBlockedRight task.now self.now goal.now) }
+    {
+        match action_of(alloc, task, goal)? {
+            Some(action) => Ok(!self.facts.are_possible(action.precondition.as_slice())),
+            None => Ok(true),
+        }
+    }
+
+    /// Whether each of some actions does.
+    pub(crate) fn are_blocked_right(
+        &self,
+        alloc: Global,
+        task: &Task,
+        goals: &[GroundTask],
+    ) -> Result<bool, AllocError>
+        ensures { IfOk result (λ b. IsTrue b → All (IsBlockedRight task.now self.now) goals.now) }
+    {
+        for goal in goals {
+            let is_right = self.is_blocked_right(alloc, task, goal)?;
+            if !is_right {
+                return Ok(false);
+            }
+        }
+        Ok(true)
+    }
+
+    /// Whether the nodes of an instance are such as its task says.
+    fn passes(&self, goal: &GroundTask, children: &[Child]) -> bool
+        ensures { result ≡ passes (reach_of self.now) goal.now (children_of children.now) }
+    {
+        (!self.tasks.known.contains(goal) || self.are_known(children))
+            && (!self.tasks.blocked.contains(goal) || self.has_blocked(children))
+    }
+
+    /// Whether that is so of each instance that was listed.
+    pub(crate) fn are_instances_right(&self, found: &Enumeration) -> bool
+        ensures { IsTrue result → AreInstancesRight self.now found.now }
+    {
+        let tasks = found.tasks();
+        for parts in found.instances() {
+            let Some(goal) = tasks.get_index(parts.task() as usize) else {
+                continue;
+            };
+            if !self.passes(goal, parts.children()) {
+                return false;
+            }
+        }
+        true
+    }
+}
