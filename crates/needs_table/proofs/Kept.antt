@@ -1,6 +1,8 @@
 -- What is kept of networks stays right, and tells which configurations may end.
-use Rattle.std.proofs.Common.{◌≡◌, ℕ, suc, ◌+◌, ◌<◌, Bool, true, false, not, ◌&&◌, List, [], ◌∷◌, ◌++◌, inl, inr, length, get_or, map, take, Option, None, Some, slice_get, refl, sym, ap, ap₂, ◌∙◌, subst, arith, length-append}
+use Rattle.std.proofs.Common.{◌≡◌, ℕ, zero, suc, ◌+◌, ◌<◌, Bool, true, false, not, ◌&&◌, ◌||◌, List, [], ◌∷◌, ◌++◌, inl, inr, length, get_or, map, take, Option, None, Some, slice_get, refl, sym, ap, ap₂, ◌∙◌, subst, arith, length-append}
 use Rattle.std.proofs.Math.Seq.{take-suc}
+use Rattle.std.specs.List.{list_any}
+use Rattle.std.proofs.lemmas.Bool.{or_parts, or_right}
 use Rattle.std.proofs.lemmas.List.{get_or_read, map_push}
 use Rattle.std.proofs.lemmas.List.Folds.{list_all-append}
 use Rattle.std.proofs.lemmas.Option.{none-some, slice_get_read, slice_get_within}
@@ -92,3 +94,23 @@ pub kept_at : (o : Outlook) (goal : List Literal) (atoms : Table) (networks : Ne
     → n < length needs → found ≡ get_or needs n found → found ≡ needed → Keeps o goal atoms networks needs → IsKept o goal atoms (network_at networks n) needed
 kept_at o goal atoms networks needs n found needed low read is keeps =
     subst (IsKept o goal atoms (network_at networks n)) is (keeps.each n found (slice_get_read needs (length needs) n found refl low read))
+
+-- none of nothing passes
+pub any_none : {X : Type 0} (test : X → Bool) (h : ℕ → X) (ids : List ℕ) → list_any test (map h (take 0 ids)) ≡ false
+any_none test h [] = refl
+any_none test h (id ∷ ids) = refl
+
+-- neither does one of one more, where that one doesn't
+pub any_more : {X : Type 0} (test : X → Bool) (h : ℕ → X) (ids : List ℕ) (k d : ℕ) → k < length ids → test (h (get_or ids k d)) ≡ false → list_any test (map h (take k ids)) ≡ false
+    → list_any test (map h (take (k + 1) ids)) ≡ false
+any_more test h [] k d low here before = absurd (omega (arith, low))
+any_more test h (id ∷ ids) zero d low here before = ap (λ b. b || list_any test (map h (take 0 ids))) here ∙ any_none test h ids
+any_more test h (id ∷ ids) (suc k) d low here before =
+    let parts = or_parts (test (h id)) (list_any test (map h (take k ids))) before in
+    ap (λ b. b || list_any test (map h (take (k + 1) ids))) parts.0 ∙ any_more test h ids k d (omega (arith, low)) here parts.1
+
+-- where one passes one of all does
+pub any_at : {X : Type 0} (test : X → Bool) (h : ℕ → X) (ids : List ℕ) (k d : ℕ) → k < length ids → test (h (get_or ids k d)) ≡ true → list_any test (map h ids) ≡ true
+any_at test h [] k d low here = absurd (omega (arith, low))
+any_at test h (id ∷ ids) zero d low here = ap (λ b. b || list_any test (map h ids)) here
+any_at test h (id ∷ ids) (suc k) d low here = or_right (test (h id)) (list_any test (map h ids)) (any_at test h ids k d (omega (arith, low)) here)

@@ -1,3 +1,4 @@
 pub mod Kept
 pub mod NeededLists
 pub mod Noted
+pub mod Prospects

@@ -21,6 +21,7 @@ use Rattle.state_table.proofs.Keys.{at_push}
 use Rattle.state_table.proofs.States.{later_more}
 use Rattle.needs_table.specs.Kept.{AreFirstWants, AreNodes, AreNoted, AreWants, IsNode}
 use Rattle.needs_table.specs.declared.node.Node.{Node}
+use Rattle.needs_table.specs.declared.prospects.Prospects.{Prospects}
 use Rattle.needs_table.specs.declared.table.NeedsTable.{NeedsTable}
 use Rattle.needs_table.specs.declared.wants.Want.{Want}
 
@@ -113,11 +114,12 @@ first_wants n atoms wants literals are =
 -- ## Nodes
 
 -- what is known of a node is right by later tables
-node_later : (n : Needs) (atoms later : Table) (node : Node) (x : Child) → IsLater atoms later → IsNode n atoms node x → IsNode n later node x
-node_later n atoms later node x grown is = record {
+node_later : (p : Prospects) (atoms later : Table) (node : Node) (x : Child) → IsLater atoms later → IsNode p atoms node x → IsNode p later node x
+node_later p atoms later node x grown is = record {
   row = is.row;
   blocked = is.blocked;
-  wants = wants_later n atoms later node.wants.items (wants_by (row_of n x)) grown is.wants;
+  lost = is.lost;
+  wants = wants_later p.needs atoms later node.wants.items (wants_by (row_of p.needs x)) grown is.wants;
 }
 
 -- no fewer nodes have numbers
@@ -130,47 +132,47 @@ longer old new grown =
     omega (arith, old_len, new_len, kept, long)
 
 -- so is what is known of the first ones, as more get numbers
-pub nodes_later : (n : Needs) (atoms later : Table) (old new : NetworkTable) (nodes : List Node) → IsLater atoms later → IsGrown old new → AreNodes n atoms old nodes → AreNodes n later new nodes
-nodes_later n atoms later old new nodes grown networks are = record {
+pub nodes_later : (p : Prospects) (atoms later : Table) (old new : NetworkTable) (nodes : List Node) → IsLater atoms later → IsGrown old new → AreNodes p atoms old nodes → AreNodes p later new nodes
+nodes_later p atoms later old new nodes grown networks are = record {
   within = (let more = longer old new networks in let low = are.within in omega (arith, more, low));
   each = λ id node at.
       (let inside = slice_get_within nodes id node at in
       let low = are.within in
       let known : id < length (children old) = omega (arith, inside, low) in
-      subst (IsNode n later node) (sym (child_kept old.children new.children networks.children id known))
-      (node_later n atoms later node (child_of (children old) id) grown (are.each id node at)));
+      subst (IsNode p later node) (sym (child_kept old.children new.children networks.children id known))
+      (node_later p atoms later node (child_of (children old) id) grown (are.each id node at)));
 }
 
 -- the same by more atoms
-pub nodes_more_atoms : (n : Needs) (atoms later : Table) (networks : NetworkTable) (nodes : List Node) → IsLater atoms later → AreNodes n atoms networks nodes → AreNodes n later networks nodes
-nodes_more_atoms n atoms later networks nodes grown are = record {
+pub nodes_more_atoms : (p : Prospects) (atoms later : Table) (networks : NetworkTable) (nodes : List Node) → IsLater atoms later → AreNodes p atoms networks nodes → AreNodes p later networks nodes
+nodes_more_atoms p atoms later networks nodes grown are = record {
   within = are.within;
-  each = λ id node at. node_later n atoms later node (child_of (children networks) id) grown (are.each id node at);
+  each = λ id node at. node_later p atoms later node (child_of (children networks) id) grown (are.each id node at);
 }
 
 -- one more node
-pub nodes_push : (n : Needs) (atoms later : Table) (networks : NetworkTable) (old new : List Node) (node : Node) → IsLater atoms later → length old < length (children networks)
-    → IsNode n later node (child_of (children networks) (length old)) → new ≡ old ++ node ∷ [] → AreNodes n atoms networks old → AreNodes n later networks new
-nodes_push n atoms later networks old new node grown low right pushed are = record {
+pub nodes_push : (p : Prospects) (atoms later : Table) (networks : NetworkTable) (old new : List Node) (node : Node) → IsLater atoms later → length old < length (children networks)
+    → IsNode p later node (child_of (children networks) (length old)) → new ≡ old ++ node ∷ [] → AreNodes p atoms networks old → AreNodes p later networks new
+nodes_push p atoms later networks old new node grown low right pushed are = record {
   within = (let long = length-append old (node ∷ []) in let is = ap length pushed in omega (arith, low, long, is));
   each = λ id other at. elim (at_push old node id other (sym (ap (λ l. slice_get l id) pushed) ∙ at)) [
-    | inl before ↦ node_later n atoms later other (child_of (children networks) id) grown (are.each id other before)
-    | inr here ↦ subst (λ k. IsNode n later other (child_of (children networks) k)) (sym here.0)
-        (subst (λ (x : Node). IsNode n later x (child_of (children networks) (length old))) here.1 right)
+    | inl before ↦ node_later p atoms later other (child_of (children networks) id) grown (are.each id other before)
+    | inr here ↦ subst (λ k. IsNode p later other (child_of (children networks) k)) (sym here.0)
+        (subst (λ (x : Node). IsNode p later x (child_of (children networks) (length old))) here.1 right)
   ];
 }
 
 -- of no node nothing is known
-pub nodes_none : (n : Needs) (atoms : Table) (networks : NetworkTable) (nodes : List Node) → nodes ≡ [] → AreNodes n atoms networks nodes
-nodes_none n atoms networks nodes none = record {
+pub nodes_none : (p : Prospects) (atoms : Table) (networks : NetworkTable) (nodes : List Node) → nodes ≡ [] → AreNodes p atoms networks nodes
+nodes_none p atoms networks nodes none = record {
   within = (let is = ap length none in omega (arith, is));
   each = λ id node at. absurd (none-some node (sym (ap (λ l. slice_get l id) none) ∙ at));
 }
 
 -- what stands at a number is known of its node
-pub node_at : (n : Needs) (atoms : Table) (networks : NetworkTable) (nodes : List Node) (id : ℕ) (node : Node) → id < length nodes → node ≡ get_or nodes id node → AreNodes n atoms networks nodes
-    → IsNode n atoms node (child_of (children networks) id)
-node_at n atoms networks nodes id node low read are = are.each id node (slice_get_read nodes (length nodes) id node refl low read)
+pub node_at : (p : Prospects) (atoms : Table) (networks : NetworkTable) (nodes : List Node) (id : ℕ) (node : Node) → id < length nodes → node ≡ get_or nodes id node → AreNodes p atoms networks nodes
+    → IsNode p atoms node (child_of (children networks) id)
+node_at p atoms networks nodes id node low read are = are.each id node (slice_get_read nodes (length nodes) id node refl low read)
 
 -- the node at a position of a network is that of its number
 pub child_there : (networks : NetworkTable) (ids : List ℕ) (at d : ℕ) → at < length ids → child_of (map (child_of (children networks)) ids) at ≡ child_of (children networks) (get_or ids at d)
@@ -179,15 +181,15 @@ child_there networks ids at d low = get_or-map (child_of (children networks)) id
 -- ## Both
 
 -- it is right by later tables
-pub noted_later : (n : Needs) (atoms later : Table) (old new : NetworkTable) (t : NeedsTable) → IsLater atoms later → IsGrown old new → AreNoted n atoms old t → AreNoted n later new t
-noted_later n atoms later old new t grown networks noted = record {
-  nodes = nodes_later n atoms later old new t.nodes.items grown networks noted.nodes;
-  goals = wants_later n atoms later t.goals.items (take (length t.goals.items) t.goal) grown noted.goals;
+pub noted_later : (p : Prospects) (atoms later : Table) (old new : NetworkTable) (t : NeedsTable) → IsLater atoms later → IsGrown old new → AreNoted p atoms old t → AreNoted p later new t
+noted_later p atoms later old new t grown networks noted = record {
+  nodes = nodes_later p atoms later old new t.nodes.items grown networks noted.nodes;
+  goals = wants_later p.needs atoms later t.goals.items (take (length t.goals.items) t.goal) grown noted.goals;
 }
 
 -- at first there is nothing of it
-pub noted_none : (n : Needs) (atoms : Table) (networks : NetworkTable) (t : NeedsTable) → t.nodes.items ≡ [] → t.goals.items ≡ [] → AreNoted n atoms networks t
-noted_none n atoms networks t nodes goals = record {
-  nodes = nodes_none n atoms networks t.nodes.items nodes;
-  goals = wants_none n atoms t.goals.items t.goal goals;
+pub noted_none : (p : Prospects) (atoms : Table) (networks : NetworkTable) (t : NeedsTable) → t.nodes.items ≡ [] → t.goals.items ≡ [] → AreNoted p atoms networks t
+noted_none p atoms networks t nodes goals = record {
+  nodes = nodes_none p atoms networks t.nodes.items nodes;
+  goals = wants_none p.needs atoms t.goals.items t.goal goals;
 }

@@ -12,7 +12,9 @@ use Rattle.network_table.specs.declared.table.NetworkTable.{NetworkTable}
 use Rattle.state_table.specs.Compiled.{AreCompiled, is_met}
 use Rattle.state_table.specs.Table.{IsLater, state_of, Table}
 use Rattle.state_table.specs.declared.compiled.CompiledLiterals.{CompiledLiterals}
+use Rattle.needs_table.specs.Prospects.{is_lost}
 use Rattle.needs_table.specs.declared.node.Node.{Node}
+use Rattle.needs_table.specs.declared.prospects.Prospects.{Prospects}
 use Rattle.needs_table.specs.declared.table.NeedsTable.{NeedsTable}
 use Rattle.needs_table.specs.declared.wants.Want.{Want}
 
@@ -29,20 +31,21 @@ abbrev pub AreFirstWants : Needs → Table → List Want → List Literal → Ty
 AreFirstWants n atoms wants literals = AreWants n atoms wants (take (length wants) literals)
 
 -- where the node's row stands, whether it never ends, and what it wants
-pub record IsNode (n : Needs) (atoms : Table) (node : Node) (x : Child) : Type 0 where
-  pub row : row_at n node.place.spot ≡ row_of n x
-  pub blocked : node.place.is_blocked ≡ blocks n x
-  pub wants : AreWants n atoms node.wants.items (wants_by (row_of n x))
+pub record IsNode (p : Prospects) (atoms : Table) (node : Node) (x : Child) : Type 0 where
+  pub row : row_at p.needs node.place.spot ≡ row_of p.needs x
+  pub blocked : node.place.is_blocked ≡ blocks p.needs x
+  pub lost : node.is_lost ≡ is_lost p x
+  pub wants : AreWants p.needs atoms node.wants.items (wants_by (row_of p.needs x))
 
 -- so it is with the nodes of the first numbers
-pub record AreNodes (n : Needs) (atoms : Table) (networks : NetworkTable) (nodes : List Node) : Type 0 where
+pub record AreNodes (p : Prospects) (atoms : Table) (networks : NetworkTable) (nodes : List Node) : Type 0 where
   pub within : length nodes ≤ length (children networks)
-  pub each : (id : ℕ) (node : Node) → slice_get nodes id ≡ Some node → IsNode n atoms node (child_of (children networks) id)
+  pub each : (id : ℕ) (node : Node) → slice_get nodes id ≡ Some node → IsNode p atoms node (child_of (children networks) id)
 
 -- what is found once for all networks: of the first nodes, and of the goal
-pub record AreNoted (n : Needs) (atoms : Table) (networks : NetworkTable) (t : NeedsTable) : Type 0 where
-  pub nodes : AreNodes n atoms networks t.nodes.items
-  pub goals : AreFirstWants n atoms t.goals.items t.goal
+pub record AreNoted (p : Prospects) (atoms : Table) (networks : NetworkTable) (t : NeedsTable) : Type 0 where
+  pub nodes : AreNodes p atoms networks t.nodes.items
+  pub goals : AreFirstWants p.needs atoms t.goals.items t.goal
 
 -- ## Networks
 

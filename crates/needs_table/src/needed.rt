@@ -15,6 +15,7 @@ ghost use Rattle.state_table.specs.Table.{IsLater, state_of, Table};
 ghost use Rattle.needs_table.specs.Kept.{AreNodes, AreWants};
 
 use crate::node::Node;
+use crate::prospects::Prospects;
 use crate::wants::Want;
 use htn_order::Order;
 use network_needs::{Needs, Place};
@@ -65,7 +66,7 @@ pub(crate) fn push_needed_at(
 /// Adds what a network needs for its nodes.
 pub(crate) fn push_needed(
     found: &mut CompiledLiterals,
-    needs: &Needs,
+    prospects: &Prospects,
     nodes: &[Node],
     places: &[Place],
     network: &Network,
@@ -73,12 +74,13 @@ pub(crate) fn push_needed(
     requires within { All (λ id. id < length nodes.now) network.now.nodes }
     requires places { length places.now ≡ length network.now.nodes }
     ensures { OnOk result ((networks : Networks) (atoms later : Table) (words : List ℕ)
-        → ArePlaces needs.now places.now (network_of (children networks) network.now)
-        → AreNodes needs.now atoms networks nodes.now → IsLater atoms later
+        → ArePlaces prospects.now.needs places.now (network_of (children networks) network.now)
+        → AreNodes prospects.now atoms networks nodes.now → IsLater atoms later
         → all_hold words found.new
         ≡ (all_hold words found.old
-        && holds (state_of later words) (needed (outlook_of needs.now) (network_of (children networks) network.now)))) }
+        && holds (state_of later words) (needed (outlook_of prospects.now.needs) (network_of (children networks) network.now)))) }
 {
+    let needs = &prospects.needs;
     let ids = network.nodes();
     for at in 0..ids.len() {
         let id = ids[at];

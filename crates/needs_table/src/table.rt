@@ -2,7 +2,7 @@
 ghost use Rattle.std.specs.Prelude.{◌≡◌, ◌<◌, ◌≤◌, [], All, length, IfOk, OnOk};
 ghost use Rattle.htn_model.specs.Problem as model;
 ghost use Rattle.network_needs.specs.Needs.{may_end, Outlook};
-ghost use Rattle.network_needs.specs.Rows.{outlook_of};
+ghost use Rattle.needs_table.specs.Prospects.{outlook_by};
 ghost use Rattle.network_table.specs.Networks.{children, IsWhole, network_at};
 ghost use Rattle.network_table.specs.Numbered.{config_at, network_of};
 ghost use Rattle.network_table.specs.declared.table.NetworkTable.{NetworkTable as Networks};
@@ -10,10 +10,11 @@ ghost use Rattle.state_table.specs.Table.{IsLater, IsTable, state_of, Table};
 ghost use Rattle.needs_table.specs.Kept.{AreAllKept, AreFirstWants, AreKept, AreNodes, AreNoted, AreWants, IsKept};
 
 use crate::needed::{push_needed, push_needed_goal};
-use crate::node::{Node, places_of};
+use crate::node::{Node, has_lost, places_of};
+use crate::prospects::Prospects;
 use crate::wants::{Want, wants_of};
 use htn_state::LiteralList;
-use network_needs::{Needs, has_blocked_place};
+use network_needs::Needs;
 use network_table::{Network, NetworkTable};
 use state_table::{AtomTable, BitState, CompiledLiterals};
 use std::alloc::{AllocError, Global};
@@ -76,13 +77,13 @@ impl NeedsTable {
     fn keep_nodes(
         &mut self,
         alloc: Global,
-        needs: &Needs,
+        prospects: &Prospects,
         atoms: &mut AtomTable,
         networks: &NetworkTable,
     ) -> Result<(), AllocError>
-        requires { AreNodes needs.now atoms.old networks.now self.old.nodes.items }
+        requires { AreNodes prospects.now atoms.old networks.now self.old.nodes.items }
         ensures later { OnOk result (IsLater atoms.old atoms.new) }
-        ensures nodes { OnOk result (AreNodes needs.now atoms.new networks.now self.new.nodes.items) }
+        ensures nodes { OnOk result (AreNodes prospects.now atoms.new networks.now self.new.nodes.items) }
         ensures all { OnOk result (length (children networks.now) ≤ length self.new.nodes.items) }
         ensures goal { OnOk result (self.new.goal ≡ self.old.goal) }
         ensures goals { OnOk result (self.new.goals ≡ self.old.goals) }
@@ -92,7 +93,7 @@ impl NeedsTable {
         let children = networks.children();
         let first = self.nodes.len();
         for id in first..children.len() {
-            let node = Node::of(alloc, needs, atoms, &children[id])?;
+            let node = Node::of(alloc, prospects, atoms, &children[id])?;
             self.nodes.push(node)?;
         }
         Ok(())
@@ -102,23 +103,24 @@ impl NeedsTable {
     fn needed_by(
         &self,
         alloc: Global,
-        needs: &Needs,
+        prospects: &Prospects,
         network: &Network,
     ) -> Result<Option<CompiledLiterals>, AllocError>
         requires { All (λ id. id < length self.now.nodes.items) network.now.nodes }
         ensures { IfOk result (λ needed. (atoms : Table) (networks : Networks)
-            → AreNodes needs.now atoms networks self.now.nodes.items
-            → AreWants needs.now atoms self.now.goals.items self.now.goal
-            → IsKept (outlook_of needs.now) self.now.goal atoms (network_of (children networks) network.now) needed) }
+            → AreNodes prospects.now atoms networks self.now.nodes.items
+            → AreWants prospects.now.needs atoms self.now.goals.items self.now.goal
+            → IsKept (outlook_by prospects.now) self.now.goal atoms (network_of (children networks) network.now) needed) }
     {
         let nodes = self.nodes.as_slice();
-        let kept = places_of(alloc, nodes, network)?;
-        let places = kept.as_slice();
-        if has_blocked_place(places) {
+        if has_lost(nodes, network) {
             return Ok(None);
         }
+        let needs = &prospects.needs;
+        let kept = places_of(alloc, nodes, network)?;
+        let places = kept.as_slice();
         let mut found = CompiledLiterals::none(alloc);
-        push_needed(&mut found, needs, nodes, places, network)?;
+        push_needed(&mut found, prospects, nodes, places, network)?;
         push_needed_goal(&mut found, needs, places, self.goals.as_slice())?;
         found.drop_repeats();
         Ok(Some(found))
@@ -128,15 +130,15 @@ impl NeedsTable {
     fn keep_networks(
         &mut self,
         alloc: Global,
-        needs: &Needs,
+        prospects: &Prospects,
         networks: &NetworkTable,
     ) -> Result<(), AllocError>
         requires whole { IsWhole networks.now }
         requires all { length (children networks.now) ≤ length self.old.nodes.items }
-        ensures kept { OnOk result ((atoms : Table) → AreKept (outlook_of needs.now) atoms networks.now self.old
-            → AreNodes needs.now atoms networks.now self.old.nodes.items
-            → AreWants needs.now atoms self.old.goals.items self.old.goal
-            → AreAllKept (outlook_of needs.now) atoms networks.now self.new) }
+        ensures kept { OnOk result ((atoms : Table) → AreKept (outlook_by prospects.now) atoms networks.now self.old
+            → AreNodes prospects.now atoms networks.now self.old.nodes.items
+            → AreWants prospects.now.needs atoms self.old.goals.items self.old.goal
+            → AreAllKept (outlook_by prospects.now) atoms networks.now self.new) }
         ensures goal { OnOk result (self.new.goal ≡ self.old.goal) }
         ensures goals { OnOk result (self.new.goals ≡ self.old.goals) }
         ensures nodes { OnOk result (self.new.nodes ≡ self.old.nodes) }
@@ -144,7 +146,7 @@ impl NeedsTable {
         let all = networks.networks();
         let first = self.needs.len();
         for number in first..all.len() {
-            let needed = self.needed_by(alloc, needs, &all[number])?;
+            let needed = self.needed_by(alloc, prospects, &all[number])?;
             self.needs.push(needed)?;
         }
         Ok(())
@@ -154,21 +156,21 @@ impl NeedsTable {
     pub fn keep_up(
         &mut self,
         alloc: Global,
-        needs: &Needs,
+        prospects: &Prospects,
         atoms: &mut AtomTable,
         networks: &NetworkTable,
     ) -> Result<(), AllocError>
         requires whole { IsWhole networks.now }
-        requires kept { AreKept (outlook_of needs.now) atoms.old networks.now self.old }
-        requires noted { AreNoted needs.now atoms.old networks.now self.old }
+        requires kept { AreKept (outlook_by prospects.now) atoms.old networks.now self.old }
+        requires noted { AreNoted prospects.now atoms.old networks.now self.old }
         ensures later { OnOk result (IsLater atoms.old atoms.new) }
-        ensures kept { OnOk result (AreAllKept (outlook_of needs.now) atoms.new networks.now self.new) }
-        ensures noted { OnOk result (AreNoted needs.now atoms.new networks.now self.new) }
+        ensures kept { OnOk result (AreAllKept (outlook_by prospects.now) atoms.new networks.now self.new) }
+        ensures noted { OnOk result (AreNoted prospects.now atoms.new networks.now self.new) }
         ensures goal { OnOk result (self.new.goal ≡ self.old.goal) }
     {
-        self.keep_goal(alloc, needs, atoms)?;
-        self.keep_nodes(alloc, needs, atoms, networks)?;
-        self.keep_networks(alloc, needs, networks)?;
+        self.keep_goal(alloc, &prospects.needs, atoms)?;
+        self.keep_nodes(alloc, prospects, atoms, networks)?;
+        self.keep_networks(alloc, prospects, networks)?;
         Ok(())
     }
 

@@ -1,5 +1,6 @@
 //! Which actions may be carried out, and what becomes possible by them: a worklist with a count of what each action
-//! still lacks, for false atoms as well as for true ones. Nothing is promised of it: whoever uses it checks it.
+//! still lacks, as Hoffmann and Nebel compute relaxed plans (The FF planning system, 2001), but for false atoms as well
+//! as for true ones. Nothing is promised of it: whoever uses it checks it.
 
 use crate::facts::FactSets;
 use crate::reach::Marks;

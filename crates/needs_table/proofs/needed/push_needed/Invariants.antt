@@ -15,7 +15,7 @@ use Rattle.needs_table.proofs.needed.push_needed.Given as goal
 -- what is needed of the nodes so far
 abbrev pub invariant-loop-at : goal.invariant-loop-at
 invariant-loop-at l =
-    (networks : NetworkTable) (atoms later : Table) (words : List ℕ) → ArePlaces l.needs l.places (network_of (children networks) l.network) → AreNodes l.needs atoms networks l.nodes
+    (networks : NetworkTable) (atoms later : Table) (words : List ℕ) → ArePlaces l.prospects.needs l.places (network_of (children networks) l.network) → AreNodes l.prospects atoms networks l.nodes
     → IsLater atoms later
     → all_hold words l.found
-    ≡ (all_hold words l.initial.found && holds (state_of later words) (flat_map (needed_at (outlook_of l.needs) (network_of (children networks) l.network)) (range_with_len 0 l.at)))
+    ≡ (all_hold words l.initial.found && holds (state_of later words) (flat_map (needed_at (outlook_of l.prospects.needs) (network_of (children networks) l.network)) (range_with_len 0 l.at)))

@@ -27,23 +27,23 @@ loop-id-preserved c =
     let low = within k 0 c.loop-id-test.true in
     record {
       count = (let long = length-append old (p ∷ []) in let is = ap length c.in_ok-push.ensures.items in let before = c.loop-id.invariant.count in omega (arith, long, is, before));
-      rows = λ n atoms networks are.
-          places_more (λ (q : Place). row_at n q.spot) (row_of n) (child_of (children networks)) old new p ids k 0 c.loop-id-test.true c.in_ok-push.ensures.items
-          (node_at n atoms networks nodes (get_or ids k 0) node low c.index-nodes-id.is are).row (c.loop-id.invariant.rows n atoms networks are);
-      blocked = λ n atoms networks are.
-          places_more (λ (q : Place). q.is_blocked) (blocks n) (child_of (children networks)) old new p ids k 0 c.loop-id-test.true c.in_ok-push.ensures.items
-          (node_at n atoms networks nodes (get_or ids k 0) node low c.index-nodes-id.is are).blocked (c.loop-id.invariant.blocked n atoms networks are);
+      rows = λ known atoms networks are.
+          places_more (λ (q : Place). row_at known.needs q.spot) (row_of known.needs) (child_of (children networks)) old new p ids k 0 c.loop-id-test.true c.in_ok-push.ensures.items
+          (node_at known atoms networks nodes (get_or ids k 0) node low c.index-nodes-id.is are).row (c.loop-id.invariant.rows known atoms networks are);
+      blocked = λ known atoms networks are.
+          places_more (λ (q : Place). q.is_blocked) (blocks known.needs) (child_of (children networks)) old new p ids k 0 c.loop-id-test.true c.in_ok-push.ensures.items
+          (node_at known atoms networks nodes (get_or ids k 0) node low c.index-nodes-id.is are).blocked (c.loop-id.invariant.blocked known atoms networks are);
     }
 
 pub returns-clause-len : goal.returns-clause-len
 returns-clause-len c = let same = ap length c.nodes-ids.ensures in omega (arith, same, c.loop-id.invariant.count, c.loop-id.auto.id-index-end, c.loop-id-test.false)
 
 pub returns-clause-places : goal.returns-clause-places
-returns-clause-places c = λ n atoms networks are.
+returns-clause-places c = λ known atoms networks are.
     let node = child_of (children networks) in
     let ids = c.nodes-ids.result.now in
     let all = take_all c.loop-id.id-index ids c.loop-id-test.false ∙ c.nodes-ids.ensures in
     record {
-      rows = c.loop-id.invariant.rows n atoms networks are ∙ ap (λ (l : List ℕ). map (row_of n) (map node l)) all;
-      blocked = c.loop-id.invariant.blocked n atoms networks are ∙ ap (λ (l : List ℕ). map (blocks n) (map node l)) all;
+      rows = c.loop-id.invariant.rows known atoms networks are ∙ ap (λ (l : List ℕ). map (row_of known.needs) (map node l)) all;
+      blocked = c.loop-id.invariant.blocked known atoms networks are ∙ ap (λ (l : List ℕ). map (blocks known.needs) (map node l)) all;
     }

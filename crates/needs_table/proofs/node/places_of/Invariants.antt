@@ -2,20 +2,20 @@ use Rattle.std.proofs.Common.{◌≡◌, ℕ, length, map, take}
 use Rattle.htn_model.specs.Choice.{child_of}
 use Rattle.network_needs.specs.Places.{row_at}
 use Rattle.network_needs.specs.Rows.{blocks, row_of}
-use Rattle.network_needs.specs.declared.needs.Needs.{Needs}
 use Rattle.network_needs.specs.declared.places.Place.{Place}
 use Rattle.network_table.specs.Networks.{children}
 use Rattle.network_table.specs.declared.table.NetworkTable.{NetworkTable}
 use Rattle.state_table.specs.Table.{Table}
 use Rattle.needs_table.specs.Kept.{AreNodes}
+use Rattle.needs_table.specs.declared.prospects.Prospects.{Prospects}
 use Rattle.needs_table.proofs.node.places_of.Given as goal
 
 -- the places of the nodes so far
 abbrev pub invariant-loop-id : goal.invariant-loop-id
 invariant-loop-id l = record {
   count : length l.places.items ≡ l.id-index;
-  rows : (n : Needs) (atoms : Table) (networks : NetworkTable) → AreNodes n atoms networks l.nodes
-      → map (λ (p : Place). row_at n p.spot) l.places.items ≡ map (row_of n) (map (child_of (children networks)) (take l.id-index l.ids));
-  blocked : (n : Needs) (atoms : Table) (networks : NetworkTable) → AreNodes n atoms networks l.nodes
-      → map (λ (p : Place). p.is_blocked) l.places.items ≡ map (blocks n) (map (child_of (children networks)) (take l.id-index l.ids));
+  rows : (p : Prospects) (atoms : Table) (networks : NetworkTable) → AreNodes p atoms networks l.nodes
+      → map (λ (q : Place). row_at p.needs q.spot) l.places.items ≡ map (row_of p.needs) (map (child_of (children networks)) (take l.id-index l.ids));
+  blocked : (p : Prospects) (atoms : Table) (networks : NetworkTable) → AreNodes p atoms networks l.nodes
+      → map (λ (q : Place). q.is_blocked) l.places.items ≡ map (blocks p.needs) (map (child_of (children networks)) (take l.id-index l.ids));
 }

@@ -1,10 +1,10 @@
 use Rattle.std.proofs.Common.{◌≡◌, ◌∙◌, ◌∷◌, [], ◌≤◌, ◌<◌, List, length, length-append, get_or, ap, sym, subst, refl, arith}
 use Rattle.htn_model.specs.Literal.{Literal}
-use Rattle.network_needs.specs.Rows.{outlook_of}
 use Rattle.network_table.specs.Networks.{children, network_at}
 use Rattle.network_table.specs.Numbered.{IsWithin, Numbered, network_of}
 use Rattle.network_table.proofs.Expanding.{within_at}
 use Rattle.needs_table.specs.Kept.{AreNodes, AreWants, IsKept}
+use Rattle.needs_table.specs.Prospects.{outlook_by}
 use Rattle.needs_table.specs.declared.node.Node.{Node}
 use Rattle.needs_table.specs.declared.wants.Want.{Want}
 use Rattle.needs_table.proofs.Kept.{keeps_push, network_of_number}
@@ -33,8 +33,9 @@ needed_by-requires c =
 pub loop-number-preserved : goal.loop-number-preserved
 loop-number-preserved c =
     let t = c.args.networks.now in
-    let needs = c.args.needs.now in
-    let o = outlook_of needs in
+    let known = c.args.prospects.now in
+    let needs = known.needs in
+    let o = outlook_by known in
     let i = c.loop-number.invariant in
     let n = c.loop-number.number in
     let x = c.index-all-number.result in
@@ -46,7 +47,7 @@ loop-number-preserved c =
     let pushed = ap length c.in_ok-push.ensures.items in
     record {
       kept = λ atoms kept nodes goals.
-          (let noted = subst (λ (ns : List Node). AreNodes needs atoms t ns) (ap (λ v. v.items) (sym i.same_nodes)) nodes in
+          (let noted = subst (λ (ns : List Node). AreNodes known atoms t ns) (ap (λ v. v.items) (sym i.same_nodes)) nodes in
           let wanted =
           subst (λ (l : List Literal). AreWants needs atoms s.goals.items l) (sym i.same_goal)
           (subst (λ (ws : List Want). AreWants needs atoms ws c.args.self.now.goal) (ap (λ v. v.items) (sym i.same_goals)) goals) in

@@ -21,7 +21,7 @@ loop-id-init c = record {
 
 pub loop-id-preserved : goal.loop-id-preserved
 loop-id-preserved c =
-    let n = c.args.needs.now in
+    let n = c.args.prospects.now in
     let t = c.args.networks.now in
     let i = c.loop-id.invariant in
     let id = c.loop-id.id in

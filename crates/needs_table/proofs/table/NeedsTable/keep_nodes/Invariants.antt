@@ -7,7 +7,7 @@ use Rattle.needs_table.proofs.table.NeedsTable.keep_nodes.Given as goal
 abbrev pub invariant-loop-id : goal.invariant-loop-id
 invariant-loop-id l = record {
   later : IsLater l.initial.atoms l.atoms;
-  nodes : AreNodes l.needs l.atoms l.networks l.self.nodes.items;
+  nodes : AreNodes l.prospects l.atoms l.networks l.self.nodes.items;
   same_goal : l.self.goal ≡ l.initial.self.goal;
   same_goals : l.self.goals ≡ l.initial.self.goals;
   same_needs : l.self.needs ≡ l.initial.self.needs;

@@ -5,7 +5,6 @@ use Rattle.network_needs.specs.Needs.{needed, needed_goal}
 use Rattle.network_needs.specs.Places.{ArePlaces}
 use Rattle.network_needs.specs.Rows.{outlook_of}
 use Rattle.network_needs.specs.declared.places.Place.{Place}
-use Rattle.network_needs.proofs.RowsThere.{blocked_there}
 use Rattle.network_table.specs.Networks.{children}
 use Rattle.network_table.specs.Numbered.{network_of}
 use Rattle.state_table.specs.Table.{state_of}
@@ -14,25 +13,23 @@ use Rattle.needs_table.specs.declared.node.Node.{Node}
 use Rattle.needs_table.specs.declared.wants.Want.{Want}
 use Rattle.needs_table.proofs.table.NeedsTable.needed_by.Goals as goal
 
-pub returns-then-has_blocked_place : goal.returns-then-has_blocked_place
-returns-then-has_blocked_place c = λ atoms networks nodes goals.
-    let needs = c.args.needs.now in
-    let network = network_of (children networks) c.args.network.now in
-    let places = c.as_slice-places.result.now in
-    let noted = subst (λ (ns : List Node). AreNodes needs atoms networks ns) (sym c.as_slice-nodes.ensures.value) nodes in
-    let are = subst (λ (ps : List Place). ArePlaces needs ps network) (sym c.as_slice-places.ensures.value) (c.in_ok-kept.ensures.places needs atoms networks noted) in
-    sym (blocked_there needs places network are) ∙ sym c.has_blocked_place.ensures ∙ c.if-has_blocked_place.true
+pub returns-then-has_lost : goal.returns-then-has_lost
+returns-then-has_lost c = λ atoms networks nodes goals.
+    let known = c.args.prospects.now in
+    let noted = subst (λ (ns : List Node). AreNodes known atoms networks ns) (sym c.as_slice-nodes.ensures.value) nodes in
+    sym (c.has_lost.ensures known atoms networks noted) ∙ c.if-has_lost.true
 
 pub returns : goal.returns
 returns c = λ atoms networks nodes goals.
-    let needs = c.args.needs.now in
+    let known = c.args.prospects.now in
+    let needs = known.needs in
     let o = outlook_of needs in
     let network = network_of (children networks) c.args.network.now in
     let places = c.as_slice-places.result.now in
-    let noted = subst (λ (ns : List Node). AreNodes needs atoms networks ns) (sym c.as_slice-nodes.ensures.value) nodes in
+    let noted = subst (λ (ns : List Node). AreNodes known atoms networks ns) (sym c.as_slice-nodes.ensures.value) nodes in
     let wanted = subst (λ (ws : List Want). AreWants needs atoms ws c.args.self.now.goal) (sym c.as_slice.ensures.value) goals in
-    let are = subst (λ (ps : List Place). ArePlaces needs ps network) (sym c.as_slice-places.ensures.value) (c.in_ok-kept.ensures.places needs atoms networks noted) in (
-      sym (blocked_there needs places network are) ∙ sym c.has_blocked_place.ensures ∙ c.if-has_blocked_place.false,
+    let are = subst (λ (ps : List Place). ArePlaces needs ps network) (sym c.as_slice-places.ensures.value) (c.in_ok-kept.ensures.places known atoms networks noted) in (
+      sym (c.has_lost.ensures known atoms networks noted) ∙ c.if-has_lost.false,
       λ later grown words.
           c.drop_repeats.ensures words
           ∙ c.in_ok-push_needed_goal.ensures network c.args.self.now.goal atoms later words are wanted grown

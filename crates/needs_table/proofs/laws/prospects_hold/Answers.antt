@@ -1,0 +1,5 @@
+use Rattle.needs_table.proofs.Prospects.{prospects_hold}
+use Rattle.needs_table.proofs.laws.prospects_hold.Goals as goal
+
+pub returns : goal.returns
+returns c = prospects_hold

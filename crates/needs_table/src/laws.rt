@@ -1,0 +1,8 @@
+//! What is known before a search is good for.
+ghost use Rattle.needs_table.specs.Prospects.{AllProspectsHold};
+
+/// The bounds by what is known are bounds from below on the steps that are left, and where a configuration may be
+/// reached its nodes and its state tell whether it may end.
+pub fn prospects_hold()
+    ensures { AllProspectsHold }
+{}

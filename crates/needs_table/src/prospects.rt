@@ -1,0 +1,53 @@
+//! What is known before a search of how nodes end.
+ghost use Rattle.std.specs.Prelude.{◌≡◌, IfOk, map};
+ghost use Rattle.htn_ground.specs.Distinct.{distinct};
+ghost use Rattle.htn_ground.specs.Views.{child_view};
+ghost use Rattle.htn_model.specs.Grounding.{problem_of};
+ghost use Rattle.htn_model.specs.Instances.{initials};
+ghost use Rattle.htn_model.specs.Machine.{start};
+ghost use Rattle.tree_sizes.specs.Enumerated.{IsEnumeration};
+ghost use Rattle.needs_table.specs.Prospects.{AreProspects, is_lost, is_unreached};
+
+use htn_ground::Child;
+use htn_task::Task;
+use network_needs::Needs;
+use relaxed_reach::RelaxedReach;
+use std::alloc::{AllocError, Global};
+use tree_sizes::Enumeration;
+
+/// What is known before a search of how nodes end: what they want and give, and what is reached at all, if that is
+/// known.
+#[derive(Drop)]
+pub struct Prospects {
+    pub needs: Needs,
+    pub reach: Option<RelaxedReach>,
+}
+
+/// Whether nothing ends a node by what is reached.
+fn is_unreached(reach: &Option<RelaxedReach>, child: &Child) -> bool
+    ensures { result ≡ is_unreached reach.now (child_view child.now) }
+{
+    match reach {
+        Some(reach) => reach.is_lost_node(child),
+        None => false,
+    }
+}
+
+impl Prospects {
+    /// By what was enumerated of a task.
+    pub fn of(alloc: Global, task: &Task, found: &Enumeration) -> Result<Prospects, AllocError>
+        ensures { IfOk result (λ p. IsEnumeration task.now found.now → AreProspects (problem_of task.now)
+            (map (λ i. start (problem_of task.now) i.network) (distinct (initials task.now))) p) }
+    {
+        let needs = Needs::of(alloc, task, found)?;
+        let reach = RelaxedReach::of(alloc, task, found)?;
+        Ok(Prospects { needs, reach })
+    }
+
+    /// Whether nothing ever ends a node.
+    pub(crate) fn is_lost(&self, child: &Child) -> bool
+        ensures { result ≡ is_lost self.now (child_view child.now) }
+    {
+        self.needs.is_blocked(child) || is_unreached(&self.reach, child)
+    }
+}
