@@ -1,7 +1,7 @@
 -- What is known before a search gives a bound from below, and tells of what may be reached whether it may end.
 use Rattle.std.proofs.Common.{◌≡◌, ℕ, ◌+◌, ◌≤◌, Bool, true, false, not, ◌&&◌, ◌||◌, cond, length, max, List, [], ◌∷◌, Option, None, Some, refl, sym, ap, ◌∙◌, arith}
 use Rattle.std.specs.Prelude.{IfSome}
-use Rattle.std.specs.List.{list_any}
+use Rattle.std.specs.List.{All, list_any}
 use Rattle.std.proofs.lemmas.Bool.{and_parts, and_right, both_ways, false_from_ne_true, not_from_true, not-true}
 use Rattle.htn_model.specs.Exhaustion.{live_step}
 use Rattle.htn_model.specs.Literal.{holds}
@@ -14,7 +14,7 @@ use Rattle.network_needs.specs.Bounds.{IsEstimate, needs_bound}
 use Rattle.network_needs.specs.Needs.{may_end, needed, needed_goal, network_of}
 use Rattle.network_needs.specs.Rows.{blocks, outlook_of}
 use Rattle.network_needs.proofs.Bounded.{needs_are_bounds}
-use Rattle.relaxed_reach.specs.Reach.{IsRelaxedReach}
+use Rattle.relaxed_reach.specs.Reach.{IsRelaxedReach, is_reached}
 use Rattle.relaxed_reach.specs.Tables.{reach_of}
 use Rattle.relaxed_reach.specs.declared.reach.RelaxedReach.{RelaxedReach}
 use Rattle.relaxed_reach.proofs.Lasting.{reach_stays, reached_stays}
@@ -113,11 +113,17 @@ told_by problem grounded p right c reached =
     ∙ told_joined (list_any (blocks p.needs) c.open_nodes) (list_any (is_unreached p.reach) c.open_nodes) rest
     ∙ ap (λ b. not b && rest) (sym (any_or (blocks p.needs) (is_unreached p.reach) c.open_nodes))
 
+-- where it is known of the configurations at the start that they are reached, they may be
+start_reached : (reach : Option RelaxedReach) (starts : List Config) → IfSome reach (λ r. All (λ c. is_reached (reach_of r) c ≡ true) starts) → All (λ c. may_be_reached reach c ≡ true) starts
+start_reached None starts right = λ k d inside. refl
+start_reached (Some r) starts right = right
+
 -- ## The law
 
 -- right prospects hold
 pub prospects_hold : AllProspectsHold
 prospects_hold problem starts size cap p grounded measure right = record {
+  starts = start_reached p.reach starts right.starts;
   bound = raised problem grounded (needs_bound problem size cap (outlook_of p.needs)) (needs_are_bounds problem size cap (outlook_of p.needs) grounded measure right.outlook) (may_end_reached p.reach)
       (end_lasts problem grounded p.reach right.reach) (done_ends problem grounded p.reach right.reach);
   stays = reached_lasts problem grounded p.reach right.reach;

@@ -60,9 +60,11 @@ pub record AreProspects (problem : Problem) (starts : List Config) (p : Prospect
 
 -- ## Laws
 
--- the bound is one from below on the steps that are left; where what no effect names is as at first, a live step leads
--- from what may be reached to what may be; and such a configuration may end just where its nodes and state tell so
-pub record ProspectsHold (problem : Problem) (size : Child → ℕ) (cap : ℕ) (p : Prospects) : Type 0 where
+-- the bound is one from below on the steps that are left; the configurations at the start may be reached, and where what
+-- no effect names is as at first, a live step leads from what may be reached to what may be; and such a configuration may
+-- end just where its nodes and its state tell so
+pub record ProspectsHold (problem : Problem) (starts : List Config) (size : Child → ℕ) (cap : ℕ) (p : Prospects) : Type 0 where
+  pub starts : All (λ c. may_be_reached p.reach c ≡ true) starts
   pub bound : IsEstimate problem (prospects_bound problem size cap p)
   pub stays : (c d : Config) (number : ℕ) → live_step problem c number ≡ Some d → is_as_at_first problem c.state ≡ true
       → may_be_reached p.reach c ≡ true → may_be_reached p.reach d ≡ true
@@ -73,4 +75,4 @@ pub record ProspectsHold (problem : Problem) (size : Child → ℕ) (cap : ℕ) 
 abbrev pub AllProspectsHold : Type 0
 AllProspectsHold =
     (problem : Problem) (starts : List Config) (size : Child → ℕ) (cap : ℕ) (p : Prospects) → IsGrounded problem → IsLowerMeasure problem size
-    → AreProspects problem starts p → ProspectsHold problem size cap p
+    → AreProspects problem starts p → ProspectsHold problem starts size cap p

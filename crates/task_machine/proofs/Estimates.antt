@@ -4,8 +4,8 @@ use Rattle.htn_model.specs.Task.{Task}
 use Rattle.needs_table.specs.Kept.{AreKept, AreNoted}
 use Rattle.needs_table.proofs.Kept.{keeps_later}
 use Rattle.needs_table.proofs.Noted.{noted_later}
-use Rattle.network_needs.specs.Rows.{outlook_of}
-use Rattle.network_needs.specs.declared.needs.Needs.{Needs}
+use Rattle.needs_table.specs.Prospects.{outlook_by}
+use Rattle.needs_table.specs.declared.prospects.Prospects.{Prospects}
 use Rattle.network_table.specs.Networks.{IsWhole, Knows}
 use Rattle.tree_sizes.specs.Sizes.{out_of_reach}
 use Rattle.tree_sizes.specs.declared.tree_sizes.TreeSizes.{TreeSizes}
@@ -24,17 +24,17 @@ pub bound_lost : (least bound : ℕ) (ends told : Bool) → least ≡ bound → 
 bound_lost least bound ends told same tells lost = ap₂ max same (sym (ap (λ b. cond (not b) out_of_reach 0) (sym tells ∙ lost)))
 
 -- it is kept of each network what it needs
-pub is_needed : (t : Task) (sizes : TreeSizes) (needs : Needs) (tables : Tables) → AreOwned t sizes needs tables → (n : ℕ) → Knows tables.networks n → n < length tables.needs.needs.items
-is_needed t sizes needs tables own n known = subst (λ k. n < k) (sym own.needed.all) known
+pub is_needed : (t : Task) (sizes : TreeSizes) (known : Prospects) (tables : Tables) → AreOwned t sizes known tables → (n : ℕ) → Knows tables.networks n → n < length tables.needs.needs.items
+is_needed t sizes known tables own n known = subst (λ k. n < k) (sym own.needed.all) known
 
 -- what is kept stays right in later tables
-pub kept_still : (needs : Needs) (old new : Tables) → AreLater old new → new.needs ≡ old.needs → IsWhole old.networks → AreKept (outlook_of needs) old.atoms old.networks old.needs
-    → AreKept (outlook_of needs) new.atoms new.networks new.needs
-kept_still needs old new later same whole kept =
-    subst (AreKept (outlook_of needs) new.atoms new.networks) (sym same)
-    (keeps_later (outlook_of needs) old.needs.goal old.atoms new.atoms old.networks new.networks old.needs.needs.items later.atoms whole later.networks kept)
+pub kept_still : (known : Prospects) (old new : Tables) → AreLater old new → new.needs ≡ old.needs → IsWhole old.networks → AreKept (outlook_by known) old.atoms old.networks old.needs
+    → AreKept (outlook_by known) new.atoms new.networks new.needs
+kept_still known old new later same whole kept =
+    subst (AreKept (outlook_by known) new.atoms new.networks) (sym same)
+    (keeps_later (outlook_by known) old.needs.goal old.atoms new.atoms old.networks new.networks old.needs.needs.items later.atoms whole later.networks kept)
 
 -- and so does what is found once for nodes and the goal
-pub noted_still : (needs : Needs) (old new : Tables) → AreLater old new → new.needs ≡ old.needs → AreNoted needs old.atoms old.networks old.needs → AreNoted needs new.atoms new.networks new.needs
-noted_still needs old new later same noted =
-    subst (AreNoted needs new.atoms new.networks) (sym same) (noted_later needs old.atoms new.atoms old.networks new.networks old.needs later.atoms later.networks noted)
+pub noted_still : (known : Prospects) (old new : Tables) → AreLater old new → new.needs ≡ old.needs → AreNoted known old.atoms old.networks old.needs → AreNoted known new.atoms new.networks new.needs
+noted_still known old new later same noted =
+    subst (AreNoted known new.atoms new.networks) (sym same) (noted_later known old.atoms new.atoms old.networks new.networks old.needs later.atoms later.networks noted)

@@ -3,8 +3,8 @@ use Rattle.std.specs.Prelude.{◌≡◌}
 use Rattle.htn_model.specs.Grounding.{problem_of}
 use Rattle.htn_model.specs.Task.{Task}
 use Rattle.needs_table.specs.Kept.{AreAllKept, AreNoted}
-use Rattle.network_needs.specs.Rows.{outlook_of}
-use Rattle.network_needs.specs.declared.needs.Needs.{Needs}
+use Rattle.needs_table.specs.Prospects.{outlook_by}
+use Rattle.needs_table.specs.declared.prospects.Prospects.{Prospects}
 use Rattle.network_table.specs.Children.{AreBounds}
 use Rattle.network_table.specs.declared.table.NetworkTable.{NetworkTable}
 use Rattle.tree_sizes.specs.Sizes.{size_of}
@@ -16,10 +16,11 @@ use Rattle.task_machine.specs.declared.tables.Tables.{Tables}
 abbrev pub HasSizes : TreeSizes → NetworkTable → Type 0
 HasSizes sizes t = AreBounds (size_of sizes) t.children
 
--- the tables of a task's machine, in which the nodes stand with these sizes, and the networks with what they need by these needs
-pub record AreOwned (t : Task) (sizes : TreeSizes) (needs : Needs) (found : Tables) : Type 0 where
+-- the tables of a task's machine, in which the nodes stand with these sizes, and the networks with what they
+-- need by what is known of nodes
+pub record AreOwned (t : Task) (sizes : TreeSizes) (known : Prospects) (found : Tables) : Type 0 where
   pub tables : AreTables t found
   pub sized : HasSizes sizes found.networks
   pub goal : found.needs.goal ≡ (problem_of t).goal
-  pub needed : AreAllKept (outlook_of needs) found.atoms found.networks found.needs
-  pub noted : AreNoted needs found.atoms found.networks found.needs
+  pub needed : AreAllKept (outlook_by known) found.atoms found.networks found.needs
+  pub noted : AreNoted known found.atoms found.networks found.needs

@@ -3,15 +3,15 @@ ghost use Rattle.std.specs.Prelude.{◌≡◌, IfOk};
 ghost use Rattle.htn_model.specs.Grounding.{problem_of};
 ghost use Rattle.htn_model.specs.Problem.{IsGrounded};
 ghost use Rattle.htn_net.specs.Grounded.{grounded-prop};
-ghost use Rattle.network_needs.specs.Bounds.{IsEstimate, needs_bound};
-ghost use Rattle.network_needs.specs.Rows.{outlook_of};
-ghost use Rattle.task_machine.specs.Bounds.{estimate-prop, most_steps};
+ghost use Rattle.htn_net.specs.Listed.{listing_machine};
+ghost use Rattle.needs_table.specs.Prospects.{ProspectsHold};
+ghost use Rattle.task_machine.specs.Bounds.{most_steps, prospects-prop};
 ghost use Rattle.tree_sizes.specs.Sizes.{size_of};
 
 use crate::configuration::{Configuration, Reached};
 use crate::tables::Tables;
 use htn_task::Task;
-use network_needs::Needs;
+use needs_table::Prospects;
 use std::alloc::{AllocError, Global};
 use tree_sizes::{TreeSizes, enumerate};
 use word_machine::{Machine, Successor};
@@ -21,15 +21,15 @@ const MOST_LISTED: u64 = 100_000;
 
 /// The word machine of a task as a search takes it: from a configuration a rank leads to the next
 /// one. Of instances with equal networks only the first is listed, and so no number is counted.
-/// By the sizes of open nodes, and by what their network needs, it bounds how many steps are left.
+/// By the sizes of open nodes, by what their network needs and by what is reached, it bounds how many steps are left.
 #[derive(Drop)]
 pub struct TaskMachine<'a> {
     pub task: &'a Task,
     pub(crate) alloc: Global,
     sizes: TreeSizes,
-    needs: Needs,
+    prospects: Prospects,
     ghost grounded: { IsGrounded (problem_of task.now) } by { grounded-prop (problem_of task.now) },
-    ghost estimated: { IsEstimate (problem_of task.now) (needs_bound (problem_of task.now) (size_of sizes) most_steps (outlook_of needs)) } by { estimate-prop (problem_of task.now) (needs_bound (problem_of task.now) (size_of sizes) most_steps (outlook_of needs)) },
+    ghost known: { ProspectsHold (problem_of task.now) (listing_machine task.now).initials (size_of sizes) most_steps prospects } by { prospects-prop (problem_of task.now) (listing_machine task.now).initials (size_of sizes) prospects },
 }
 
 impl<'a> TaskMachine<'a> {
@@ -39,13 +39,13 @@ impl<'a> TaskMachine<'a> {
     {
         let _initial = task.initial_atoms();
         let found = enumerate(alloc, task, MOST_LISTED)?;
-        let needs = Needs::of(alloc, task, &found)?;
+        let prospects = Prospects::of(alloc, task, &found)?;
         let sizes = TreeSizes::of_enumerated(alloc, found)?;
         Ok(TaskMachine {
             task,
             alloc,
             sizes,
-            needs,
+            prospects,
         })
     }
 }
@@ -55,13 +55,10 @@ impl<'a> Machine for TaskMachine<'a> {
     ghost use Rattle.std.proofs.Common.{rules};
     ghost use Rattle.htn_model.specs.Grounding.{problem_of};
     ghost use Rattle.htn_model.specs.Machine.{Config};
-    ghost use Rattle.htn_answer.specs.Machine.{IsOwn};
-    ghost use Rattle.htn_net.specs.Laws.{listing_lawful};
     ghost use Rattle.htn_net.specs.Listed.{listing_machine};
     ghost use Rattle.network_table.specs.Networks.{expansion_at};
-    ghost use Rattle.network_needs.specs.Bounds.{needs_bound};
-    ghost use Rattle.network_needs.specs.Rows.{outlook_of};
-    ghost use Rattle.task_machine.specs.Bounds.{bounded, most_steps};
+    ghost use Rattle.needs_table.specs.Prospects.{prospects_bound};
+    ghost use Rattle.task_machine.specs.Bounds.{BelongsTo, bounded, belonging_lawful, most_steps};
     ghost use Rattle.task_machine.specs.Laws.{one_to_one};
     ghost use Rattle.task_machine.specs.Meaning.{meaning};
     ghost use Rattle.task_machine.specs.Owned.{AreOwned};
@@ -77,13 +74,13 @@ impl<'a> Machine for TaskMachine<'a> {
 
     ghost words = { λ m. listing_machine m.task.now };
 
-    ghost belongs = { λ m c. IsOwn (problem_of m.task.now) c };
+    ghost belongs = { λ m c. BelongsTo m.task.now m.prospects c };
 
-    ghost estimate = { λ m c. needs_bound (problem_of m.task.now) (size_of m.sizes) most_steps (outlook_of m.needs) c };
+    ghost estimate = { λ m c. prospects_bound (problem_of m.task.now) (size_of m.sizes) most_steps m.prospects c };
 
     ghost meaning = { λ m t. meaning t };
 
-    ghost owns = { λ m t. AreOwned m.task.now m.sizes m.needs t };
+    ghost owns = { λ m t. AreOwned m.task.now m.sizes m.prospects t };
 
     ghost is_ready = { λ m t c. IsSome (expansion_at t.networks c.network) };
 
@@ -91,9 +88,9 @@ impl<'a> Machine for TaskMachine<'a> {
 
     ghost one_to_one = { λ m t own. one_to_one m.task.now t own.tables };
 
-    ghost lawful = { λ m. listing_lawful m.task.now m.grounded };
+    ghost lawful = { λ m. belonging_lawful m.task.now (size_of m.sizes) m.prospects m.grounded m.known };
 
-    ghost bounded = { λ m. bounded m.task.now (needs_bound (problem_of m.task.now) (size_of m.sizes) most_steps (outlook_of m.needs)) m.estimated };
+    ghost bounded = { λ m. bounded m.task.now (prospects_bound (problem_of m.task.now) (size_of m.sizes) most_steps m.prospects) m.known.bound };
 
     fn new_tables(&self) -> Result<Tables, AllocError> {
         let tables = Tables::new(self.alloc, self.task)?;
@@ -102,13 +99,13 @@ impl<'a> Machine for TaskMachine<'a> {
 
     fn initials(&self, tables: &mut Tables) -> Result<Vec<Configuration>, AllocError> {
         let initials = tables.initials(self.alloc, self.task, &self.sizes)?;
-        tables.prepare_needs(self.alloc, &self.needs)?;
+        tables.prepare_needs(self.alloc, &self.prospects)?;
         Ok(initials)
     }
 
     fn prepare(&self, tables: &mut Tables, at: Configuration) -> Result<(), AllocError> {
         tables.prepare(self.alloc, self.task, &self.sizes, at.network)?;
-        tables.prepare_needs(self.alloc, &self.needs)?;
+        tables.prepare_needs(self.alloc, &self.prospects)?;
         Ok(())
     }
 

@@ -4,7 +4,7 @@ ghost use Rattle.std.specs.Option.{option_map};
 ghost use Rattle.htn_model.specs.Grounding.{problem_of};
 ghost use Rattle.htn_model.specs.Task as model;
 ghost use Rattle.needs_table.specs.Kept.{AreKept, AreNoted};
-ghost use Rattle.network_needs.specs.Rows.{outlook_of};
+ghost use Rattle.needs_table.specs.Prospects.{outlook_by};
 ghost use Rattle.network_table.specs.Expansions.{first_free};
 ghost use Rattle.network_table.specs.Networks.{children, expansion_at, IsWhole, Knows, network_at};
 ghost use Rattle.htn_net.specs.Listed.{listing_machine};
@@ -20,7 +20,7 @@ use crate::slots::{is_taken, put};
 use crate::tables::Tables;
 use htn_ground::distinct_initials;
 use htn_task::Task;
-use network_needs::Needs;
+use needs_table::Prospects;
 use network_table::{Network, NetworkTable};
 use state_table::initial_state;
 use std::alloc::{AllocError, Global};
@@ -160,18 +160,22 @@ impl Tables {
     }
 
     /// Sees that it is known what each network needs that has a number.
-    pub(crate) fn prepare_needs(&mut self, alloc: Global, needs: &Needs) -> Result<(), AllocError>
+    pub(crate) fn prepare_needs(
+        &mut self,
+        alloc: Global,
+        prospects: &Prospects,
+    ) -> Result<(), AllocError>
         requires whole { IsWhole self.old.networks }
-        requires kept { AreKept (outlook_of needs.now) self.old.atoms self.old.networks self.old.needs }
-        requires noted { AreNoted needs.now self.old.atoms self.old.networks self.old.needs }
+        requires kept { AreKept (outlook_by prospects.now) self.old.atoms self.old.networks self.old.needs }
+        requires noted { AreNoted prospects.now self.old.atoms self.old.networks self.old.needs }
         ensures owned { OnOk result ((t : model.Task) (sizes : TreeSizes) → AreTables t self.old
             → HasSizes sizes self.old.networks → self.old.needs.goal ≡ (problem_of t).goal
-            → AreOwned t sizes needs.now self.new) }
+            → AreOwned t sizes prospects.now self.new) }
         ensures later { OnOk result ((t : model.Task) → AreTables t self.old → AreLater self.old self.new) }
         ensures networks { OnOk result (self.new.networks ≡ self.old.networks) }
     {
         self.needs
-            .keep_up(alloc, needs, &mut self.atoms, &self.networks)?;
+            .keep_up(alloc, prospects, &mut self.atoms, &self.networks)?;
         Ok(())
     }
 }

@@ -4,8 +4,8 @@ ghost use Rattle.htn_model.specs.Grounding.{problem_of};
 ghost use Rattle.htn_model.specs.Levels.{is_done};
 ghost use Rattle.htn_model.specs.Task as model;
 ghost use Rattle.htn_model.specs.State.{State};
-ghost use Rattle.network_needs.specs.Rows.{outlook_of};
-ghost use Rattle.network_needs.specs.declared.needs.Needs.{Needs};
+ghost use Rattle.needs_table.specs.Prospects.{outlook_by};
+ghost use Rattle.needs_table.specs.declared.prospects.Prospects.{Prospects};
 ghost use Rattle.network_table.specs.Networks.{IsWhole, Knows, network_at};
 ghost use Rattle.network_table.specs.Numbered.{config_at};
 ghost use Rattle.task_machine.specs.Bounds.{bound_by, most_steps};
@@ -99,8 +99,8 @@ impl Tables {
         requires whole { IsWhole self.now.networks }
         requires known { Knows self.now.networks network }
         requires needed { network < length self.now.needs.needs.items }
-        ensures { (t : model.Task) (sizes : TreeSizes) (needs : Needs) → AreOwned t sizes needs self.now
-            → result ≡ bound_by (problem_of t) (size_of sizes) (outlook_of needs) (config_in self.now state.now network) }
+        ensures { (t : model.Task) (sizes : TreeSizes) (known : Prospects) → AreOwned t sizes known self.now
+            → result ≡ bound_by (problem_of t) (size_of sizes) (outlook_by known) (config_in self.now state.now network) }
     {
         let least = self.least_steps(network);
         if self.needs.may_end(network, state) {

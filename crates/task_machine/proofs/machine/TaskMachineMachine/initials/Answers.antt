@@ -12,11 +12,11 @@ prepare_needs-requires-clause-kept c =
     let s = c.args.tables.now in
     let u = c.initials.new.self in
     let later = c.in_ok-initials.ensures.later in
-    kept_still m.needs s u later c.in_ok-initials.ensures.needs c.requires.own.tables.networks c.requires.own.needed.kept
+    kept_still m.prospects s u later c.in_ok-initials.ensures.needs c.requires.own.tables.networks c.requires.own.needed.kept
 
 pub prepare_needs-requires-clause-noted : goal.prepare_needs-requires-clause-noted
 prepare_needs-requires-clause-noted c =
-    noted_still c.args.self.now.needs c.args.tables.now c.initials.new.self c.in_ok-initials.ensures.later c.in_ok-initials.ensures.needs c.requires.own.noted
+    noted_still c.args.self.now.prospects c.args.tables.now c.initials.new.self c.in_ok-initials.ensures.later c.in_ok-initials.ensures.needs c.requires.own.noted
 
 pub returns-clause-owned : goal.returns-clause-owned
 returns-clause-owned c =

@@ -1,5 +1,5 @@
 use Rattle.std.proofs.Common.{◌∙◌, ap, length, sym}
-use Rattle.network_needs.specs.Rows.{outlook_of}
+use Rattle.needs_table.specs.Prospects.{outlook_by}
 use Rattle.needs_table.proofs.Kept.{keeps_none}
 use Rattle.needs_table.proofs.Noted.{noted_none}
 use Rattle.task_machine.proofs.machine.TaskMachineMachine.new_tables.Goals as goal
@@ -14,8 +14,8 @@ returns c =
       sized = did.sized m.sizes;
       goal = did.goal;
       needed = record {
-        kept = keeps_none (outlook_of m.needs) found.needs.goal found.atoms found.networks found.needs.needs.items did.none.0;
+        kept = keeps_none (outlook_by m.prospects) found.needs.goal found.atoms found.networks found.needs.needs.items did.none.0;
         all = ap length did.none.0 ∙ sym (ap length did.none.1);
       };
-      noted = noted_none m.needs found.atoms found.networks found.needs did.nothing_noted.0 did.nothing_noted.1;
+      noted = noted_none m.prospects found.atoms found.networks found.needs did.nothing_noted.0 did.nothing_noted.1;
     }

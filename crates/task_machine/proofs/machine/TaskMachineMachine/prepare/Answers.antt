@@ -9,11 +9,11 @@ prepare_needs-requires-clause-kept c =
     let m = c.args.self.now in
     let s = c.args.tables.now in
     let u = c.prepare.new.self in
-    kept_still m.needs s u c.in_ok-prepare.ensures.later c.in_ok-prepare.ensures.needs c.requires.own.tables.networks c.requires.own.needed.kept
+    kept_still m.prospects s u c.in_ok-prepare.ensures.later c.in_ok-prepare.ensures.needs c.requires.own.tables.networks c.requires.own.needed.kept
 
 pub prepare_needs-requires-clause-noted : goal.prepare_needs-requires-clause-noted
 prepare_needs-requires-clause-noted c =
-    noted_still c.args.self.now.needs c.args.tables.now c.prepare.new.self c.in_ok-prepare.ensures.later c.in_ok-prepare.ensures.needs c.requires.own.noted
+    noted_still c.args.self.now.prospects c.args.tables.now c.prepare.new.self c.in_ok-prepare.ensures.later c.in_ok-prepare.ensures.needs c.requires.own.noted
 
 pub returns-clause-owned : goal.returns-clause-owned
 returns-clause-owned c =

@@ -1,7 +1,7 @@
 use Rattle.std.proofs.Common.{rules, ◌≡◌, ◌∙◌, max, sym}
 use Rattle.htn_model.specs.Grounding.{problem_of}
 use Rattle.network_needs.specs.Needs.{may_end}
-use Rattle.network_needs.specs.Rows.{outlook_of}
+use Rattle.needs_table.specs.Prospects.{outlook_by}
 use Rattle.state_table.specs.Table.{state_of}
 use Rattle.tree_sizes.specs.Measure.{estimate}
 use Rattle.tree_sizes.specs.Sizes.{out_of_reach, size_of}
@@ -11,19 +11,19 @@ use Rattle.task_machine.proofs.Estimates.{bound_ending, bound_lost}
 use Rattle.task_machine.proofs.tables.Tables.lower_bound.Goals as goal
 
 pub returns-then-may_end : goal.returns-then-may_end
-returns-then-may_end c = λ t sizes needs own.
+returns-then-may_end c = λ t sizes known own.
     let tables = c.args.self.now in
     let at = config_in tables c.args.state.now c.args.network in
-    bound_ending c.least_steps-least.result (estimate (size_of sizes) most_steps at) c.may_end.result (may_end (problem_of t) (outlook_of needs) at)
+    bound_ending c.least_steps-least.result (estimate (size_of sizes) most_steps at) c.may_end.result (may_end (problem_of t) (outlook_by known) at)
     (c.least_steps-least.ensures sizes (state_of tables.atoms c.args.state.now) own.sized)
-    (c.may_end.ensures (problem_of t) (outlook_of needs) tables.atoms tables.networks own.tables.atoms.table own.needed.kept own.goal) c.if-may_end.true
+    (c.may_end.ensures (problem_of t) (outlook_by known) tables.atoms tables.networks own.tables.atoms.table own.needed.kept own.goal) c.if-may_end.true
 
 pub returns : goal.returns
-returns c = λ t sizes needs own.
+returns c = λ t sizes known own.
     let tables = c.args.self.now in
     let at = config_in tables c.args.state.now c.args.network in
     let most : max c.least_steps-least.result out_of_reach ≡ c.max.result = search rules in
     sym most
-    ∙ bound_lost c.least_steps-least.result (estimate (size_of sizes) most_steps at) c.may_end.result (may_end (problem_of t) (outlook_of needs) at)
+    ∙ bound_lost c.least_steps-least.result (estimate (size_of sizes) most_steps at) c.may_end.result (may_end (problem_of t) (outlook_by known) at)
     (c.least_steps-least.ensures sizes (state_of tables.atoms c.args.state.now) own.sized)
-    (c.may_end.ensures (problem_of t) (outlook_of needs) tables.atoms tables.networks own.tables.atoms.table own.needed.kept own.goal) c.if-may_end.false
+    (c.may_end.ensures (problem_of t) (outlook_by known) tables.atoms tables.networks own.tables.atoms.table own.needed.kept own.goal) c.if-may_end.false
