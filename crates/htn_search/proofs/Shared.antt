@@ -12,7 +12,9 @@ use Rattle.htn_task.proofs.term.EqualitySchema.TheSendSync as EqualityShared
 use Rattle.htn_task.proofs.term.TaskSchema.TheSendSync as TaskSchemaShared
 use Rattle.htn_task.proofs.term.Term.TheSendSync as TermShared
 use Rattle.htn_task.proofs.term.TermList.TheSendSync as TermsShared
+use Rattle.needs_table.proofs.prospects.Prospects.TheSendSync as ProspectsShared
 use Rattle.network_needs.proofs.needs.Needs.TheSendSync as NeedsShared
+use Rattle.relaxed_reach.proofs.reach.RelaxedReach.TheSendSync as ReachShared
 use Rattle.tree_sizes.proofs.tree_sizes.TreeSizes.TheSendSync as SizesShared
 use Rattle.std.proofs.Crossing.{crosses}
 use Rattle.std.proofs.alloc.Global.TheSendSync as GlobalShared
@@ -89,6 +91,8 @@ pub ruleset beside = (
   GlobalShared.the_sync,
   SizesShared.the_field_sync,
   SizesShared.the_sync,
-  NeedsShared.the_field_sync,
+  ProspectsShared.the_field_sync,
+  ProspectsShared.the_sync,
   NeedsShared.the_sync,
+  ReachShared.the_sync,
 )
