@@ -101,13 +101,19 @@ any_none test h [] = refl
 any_none test h (id ∷ ids) = refl
 
 -- neither does one of one more, where that one doesn't
+next_none : {X : Type 0} (test : X → Bool) (h : ℕ → X) (ids : List ℕ) (k d : ℕ) → k < length ids → test (h (get_or ids k d)) ≡ false → list_any test (map h (take k ids)) ≡ false
+    → list_any test (map h (take (suc k) ids)) ≡ false
+next_none test h [] k d low here before = absurd (omega (arith, low))
+next_none test h (id ∷ ids) zero d low here before = ap (λ b. b || list_any test (map h (take 0 ids))) here ∙ any_none test h ids
+next_none test h (id ∷ ids) (suc k) d low here before =
+    let parts = or_parts (test (h id)) (list_any test (map h (take k ids))) before in
+    ap (λ b. b || list_any test (map h (take (suc k) ids))) parts.0 ∙ next_none test h ids k d (omega (arith, low)) here parts.1
+
+-- the same, as a loop counts
 pub any_more : {X : Type 0} (test : X → Bool) (h : ℕ → X) (ids : List ℕ) (k d : ℕ) → k < length ids → test (h (get_or ids k d)) ≡ false → list_any test (map h (take k ids)) ≡ false
     → list_any test (map h (take (k + 1) ids)) ≡ false
-any_more test h [] k d low here before = absurd (omega (arith, low))
-any_more test h (id ∷ ids) zero d low here before = ap (λ b. b || list_any test (map h (take 0 ids))) here ∙ any_none test h ids
-any_more test h (id ∷ ids) (suc k) d low here before =
-    let parts = or_parts (test (h id)) (list_any test (map h (take k ids))) before in
-    ap (λ b. b || list_any test (map h (take (k + 1) ids))) parts.0 ∙ any_more test h ids k d (omega (arith, low)) here parts.1
+any_more test h ids k d low here before =
+    let e : k + 1 ≡ suc k = omega arith in ap (λ (j : ℕ). list_any test (map h (take j ids))) e ∙ next_none test h ids k d low here before
 
 -- where one passes one of all does
 pub any_at : {X : Type 0} (test : X → Bool) (h : ℕ → X) (ids : List ℕ) (k d : ℕ) → k < length ids → test (h (get_or ids k d)) ≡ true → list_any test (map h ids) ≡ true

@@ -1,4 +1,4 @@
 pub mod Kept
 pub mod NeededLists
 pub mod Noted
-pub mod Prospects
+pub mod Ending

@@ -56,7 +56,7 @@ prospects_bound problem size cap p c = max (needs_bound problem size cap (outloo
 pub record AreProspects (problem : Problem) (starts : List Config) (p : Prospects) : Type 0 where
   pub outlook : IsOutlook problem (outlook_of p.needs)
   pub reach : IfSome p.reach (λ r. IsRelaxedReach problem (reach_of r))
-  pub starts : IfSome p.reach (λ r. All (λ c. is_reached (reach_of r) c ≡ true) starts)
+  pub first : IfSome p.reach (λ r. All (λ c. is_reached (reach_of r) c ≡ true) starts)
 
 -- ## Laws
 
@@ -64,7 +64,7 @@ pub record AreProspects (problem : Problem) (starts : List Config) (p : Prospect
 -- no effect names is as at first, a live step leads from what may be reached to what may be; and such a configuration may
 -- end just where its nodes and its state tell so
 pub record ProspectsHold (problem : Problem) (starts : List Config) (size : Child → ℕ) (cap : ℕ) (p : Prospects) : Type 0 where
-  pub starts : All (λ c. may_be_reached p.reach c ≡ true) starts
+  pub first : All (λ c. may_be_reached p.reach c ≡ true) starts
   pub bound : IsEstimate problem (prospects_bound problem size cap p)
   pub stays : (c d : Config) (number : ℕ) → live_step problem c number ≡ Some d → is_as_at_first problem c.state ≡ true
       → may_be_reached p.reach c ≡ true → may_be_reached p.reach d ≡ true

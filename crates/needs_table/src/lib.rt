@@ -6,11 +6,13 @@
 //! needs are put together from that.
 #![tactic(auto)]
 
+mod laws;
 mod needed;
 mod node;
 mod prospects;
 mod table;
 mod wants;
 
+pub use laws::prospects_hold;
 pub use prospects::Prospects;
 pub use table::NeedsTable;

@@ -88,7 +88,7 @@ pub belonging_lawful : (t : Task) (size : Child → ℕ) (p : Prospects) → IsG
 belonging_lawful t size p grounded holds =
     let m = listing_lawful t grounded in
     record {
-      starts = λ k d inside. (m.starts k d inside, holds.starts k d inside);
+      starts = λ k d inside. (m.starts k d inside, holds.first k d inside);
       stays = λ c d rank belongs step. (
           let s = live_rank t c d rank step in
           (m.stays c d rank belongs.0 step, holds.stays c d s.0 s.1 (agreeing (problem_of t) grounded c.state belongs.0) belongs.1));

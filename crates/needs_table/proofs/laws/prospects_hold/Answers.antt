@@ -1,4 +1,4 @@
-use Rattle.needs_table.proofs.Prospects.{prospects_hold}
+use Rattle.needs_table.proofs.Ending.{prospects_hold}
 use Rattle.needs_table.proofs.laws.prospects_hold.Goals as goal
 
 pub returns : goal.returns

@@ -29,8 +29,8 @@ push_needed_at-requires c = let count = ap length c.nodes-ids.ensures in let low
 
 pub loop-at-preserved : goal.loop-at-preserved
 loop-at-preserved c = λ networks atoms later words are nodes grown.
-    let known = c.args.prospects.now in
-    let needs = known.needs in
+    let prospects = c.args.prospects.now in
+    let needs = prospects.needs in
     let at = c.loop-at.at in
     let id = get_or c.nodes-ids.result.now at 0 in
     let numbered = c.args.network.now in
@@ -41,7 +41,7 @@ loop-at-preserved c = λ networks atoms later words are nodes grown.
     let low : at < length numbered.nodes = omega (arith, count, test) in
     let here : id ≡ get_or numbered.nodes at 0 = ap (λ (l : List ℕ). get_or l at 0) c.nodes-ids.ensures in
     let known : id < length c.args.nodes.now = subst (λ (k : ℕ). k < length c.args.nodes.now) (sym here) (c.requires.within at 0 low) in
-    let right = node_at known atoms networks c.args.nodes.now id node known c.index-nodes-id.is nodes in
+    let right = node_at prospects atoms networks c.args.nodes.now id node known c.index-nodes-id.is nodes in
     let child : child_of n.children at ≡ child_of (children networks) id = child_there networks numbered.nodes at 0 low ∙ ap (child_of (children networks)) (sym here) in
     let wants = subst (λ (x : Child). AreWants needs atoms node.wants.items (wants_by (row_of needs x))) (sym child) right.wants in
     needed_more (state_of later words) (needed_at (outlook_of needs) n) at (all_hold words c.args.found.now) (all_hold words c.loop-at.found) (all_hold words c.push_needed_at.new.found)

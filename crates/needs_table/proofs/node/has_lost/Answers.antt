@@ -23,10 +23,17 @@ loop-id-preserved c = λ p atoms networks are.
     let node = c.index-nodes-id.result in
     let within = subst (λ (l : List ℕ). All (λ id. id < length nodes) l) (sym c.nodes-ids.ensures) c.requires in
     let here = node_at p atoms networks nodes (get_or ids k 0) node (within k 0 c.loop-id-test.true) c.index-nodes-id.is are in
-    any_more (is_lost p) (child_of (children networks)) ids k 0 c.loop-id-test.true (sym here.lost ∙ ?) (c.loop-id.invariant p atoms networks are)
+    any_more (is_lost p) (child_of (children networks)) ids k 0 c.loop-id-test.true (sym here.lost ∙ c.if-node.false) (c.loop-id.invariant p atoms networks are)
 
-pub returns-then : goal.returns-then
-returns-then c = ?
+pub returns-then-node : goal.returns-then-node
+returns-then-node c = λ p atoms networks are.
+    let k = c.loop-id.id-index in
+    let ids = c.nodes-ids.result.now in
+    let nodes = c.args.nodes.now in
+    let child = child_of (children networks) in
+    let within = subst (λ (l : List ℕ). All (λ id. id < length nodes) l) (sym c.nodes-ids.ensures) c.requires in
+    let here = node_at p atoms networks nodes (get_or ids k 0) c.index-nodes-id.result (within k 0 c.loop-id-test.true) c.index-nodes-id.is are in
+    sym (any_at (is_lost p) child ids k 0 c.loop-id-test.true (sym here.lost ∙ c.if-node.true)) ∙ ap (λ (l : List ℕ). list_any (is_lost p) (map child l)) c.nodes-ids.ensures
 
 pub returns : goal.returns
 returns c = λ p atoms networks are.

@@ -5,5 +5,5 @@ pub returns : goal.returns
 returns c = λ listed. record {
   outlook = c.in_ok-needs.ensures listed;
   reach = IfSome_then c.in_ok-reach.reach c.in_ok-reach.ensures.reach (λ r right. right listed);
-  starts = c.in_ok-reach.ensures.starts;
+  first = c.in_ok-reach.ensures.starts;
 }

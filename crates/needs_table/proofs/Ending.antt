@@ -123,7 +123,7 @@ start_reached (Some r) starts right = right
 -- right prospects hold
 pub prospects_hold : AllProspectsHold
 prospects_hold problem starts size cap p grounded measure right = record {
-  starts = start_reached p.reach starts right.starts;
+  first = start_reached p.reach starts right.first;
   bound = raised problem grounded (needs_bound problem size cap (outlook_of p.needs)) (needs_are_bounds problem size cap (outlook_of p.needs) grounded measure right.outlook) (may_end_reached p.reach)
       (end_lasts problem grounded p.reach right.reach) (done_ends problem grounded p.reach right.reach);
   stays = reached_lasts problem grounded p.reach right.reach;
