@@ -25,7 +25,7 @@ bound_lost least bound ends told same tells lost = ap₂ max same (sym (ap (λ b
 
 -- it is kept of each network what it needs
 pub is_needed : (t : Task) (sizes : TreeSizes) (known : Prospects) (tables : Tables) → AreOwned t sizes known tables → (n : ℕ) → Knows tables.networks n → n < length tables.needs.needs.items
-is_needed t sizes known tables own n known = subst (λ k. n < k) (sym own.needed.all) known
+is_needed t sizes known tables own n low = subst (λ k. n < k) (sym own.needed.all) low
 
 -- what is kept stays right in later tables
 pub kept_still : (known : Prospects) (old new : Tables) → AreLater old new → new.needs ≡ old.needs → IsWhole old.networks → AreKept (outlook_by known) old.atoms old.networks old.needs
