@@ -1,5 +1,5 @@
 -- From what the closed list holds to what a search answers.
-use Rattle.std.proofs.Common.{◌≡◌, ℕ, ◌+◌, ◌<◌, ◌≤◌, ◌⊎◌, Bool, true, false, List, [], ◌∷◌, ◌++◌, length, refl, sym, subst, inl, inr, arith, slice_get, Some, get_or, All}
+use Rattle.std.proofs.Common.{◌≡◌, ℕ, ◌+◌, ◌<◌, ◌≤◌, ◌⊎◌, Bool, true, false, List, [], ◌∷◌, ◌++◌, length, refl, sym, subst, inl, inr, arith, slice_get, Some, get_or, All, Option}
 use Rattle.std.specs.Prelude.{max}
 use Rattle.std.proofs.Math.Nat.{max-le}
 use Rattle.std.proofs.lemmas.Bool.{cases_lt}
@@ -170,7 +170,7 @@ module _ {C : Type 0} (m : WordMachine C) (belongs : C → Type 0) (laws : IsLaw
 
       -- what is told where nothing is left to expand
       pub outcome : (bound ≤ level) ⊎ (low ≡ length contents.keys) → (told : Outcome)
-          → (contents.cut.any ≡ true → (least : ℕ) × (wide : ℕ) × (told ≡ Past least wide) × (least ≤ bound + contents.cut.past)) → (contents.cut.any ≡ false → told ≡ Exhausted) → IsOutcome m measure bound told
+          → (contents.cut.any ≡ true → (least : ℕ) × (wide : Option ℕ) × (told ≡ Past least wide) × (least ≤ bound + contents.cut.past)) → (contents.cut.any ≡ false → told ≡ Exhausted) → IsOutcome m measure bound told
       outcome end told past exhausted_so = by contents.cut.any refl
         where
           by : (cut : Bool) → contents.cut.any ≡ cut → IsOutcome m measure bound told

@@ -1,5 +1,5 @@
 -- The levels of a search whose configurations are numbers.
-use Rattle.std.proofs.Common.{◌≡◌, ℕ, ◌+◌, ◌<◌, ◌≤◌, ◌⊎◌, Bool, true, false, List, [], ◌∷◌, ◌++◌, length, map, sym, ap, subst, ◌∙◌, inl, inr, arith, slice_get, Some, get_or, All}
+use Rattle.std.proofs.Common.{◌≡◌, ℕ, ◌+◌, ◌<◌, ◌≤◌, ◌⊎◌, Bool, true, false, List, [], ◌∷◌, ◌++◌, length, map, sym, ap, subst, ◌∙◌, inl, inr, arith, slice_get, Some, get_or, All, Option, None}
 use Rattle.std.specs.Prelude.{Vec}
 use Rattle.std.specs.declared.alloc.Global.{Global}
 use Rattle.std.proofs.lemmas.List.{length-map}
@@ -87,13 +87,13 @@ module _ {C R P : Type 0} (m : WordMachine P) (belongs : P → Type 0) (laws : I
 
     -- what is told at the end of the search
     pub ended : (bound ≤ level) ⊎ (low ≡ length contents.keys) → (told : Outcome)
-        → (contents.cut.any ≡ true → (least : ℕ) × (wide : ℕ) × (told ≡ Past least wide) × (least ≤ bound + contents.cut.past)) → (contents.cut.any ≡ false → told ≡ Exhausted) → IsOutcome m measure bound told
+        → (contents.cut.any ≡ true → (least : ℕ) × (wide : Option ℕ) × (told ≡ Past least wide) × (least ≤ bound + contents.cut.past)) → (contents.cut.any ≡ false → told ≡ Exhausted) → IsOutcome m measure bound told
     ended end told past exhausted_so =
         outcome m belongs laws measure bound counts (contents_at meaning.point contents) level low s.closed
         (elim end [ inl over ↦ inl over | inr all ↦ inr (all ∙ sym many) ]) told past exhausted_so
 
     -- where no word finishes within the bound, something that is left out tells all
-    pub ended_early : contents.cut.any ≡ true → NoneFinishes m bound → IsOutcome m measure bound (Past (bound + 1) (bound + 1))
+    pub ended_early : contents.cut.any ≡ true → NoneFinishes m bound → IsOutcome m measure bound (Past (bound + 1) None)
     ended_early cut none = (none, s.closed.met cut, λ word finish. (let over : bound < step_count word = none word finish in omega arith))
 
     -- the first done successor gives the answer

@@ -130,8 +130,9 @@ impl<C: Eq + Hash + Drop> Closed<C> {
         self.least_past
     }
 
-    /// How far past the bound a search lets in as many of those that were cut off as were kept.
-    pub fn reach(&self) -> u64 {
+    /// How far past the bound a search lets in as many of those that were cut off as were kept; None if fewer than these
+    /// were less than 64 past it.
+    pub fn reach(&self) -> Option<u64> {
         self.overshoots.reach(self.configurations.len() as u64)
     }
 

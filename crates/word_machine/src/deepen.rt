@@ -28,6 +28,26 @@ fn least_bound<M: Machine>(machine: &M, tables: &M::Tables, initials: &[M::Confi
     least
 }
 
+// The bound of the next search, which is no less than the least that a word may need: as far as one that lets in as many
+// as were kept; and where so many weren't left out little past the bound, so many steps on.
+fn next_bound(least: u64, wide: Option<u64>, step: u64) -> u64
+    ensures { least ≤ result }
+{
+    match wide {
+        Some(wide) => wide.max(least),
+        None => least.saturating_add(step).max(least),
+    }
+}
+
+// How many steps on the next bound is to be, the next time that few are left out little past one: none at first, and
+// then about four times as many each time.
+fn next_step(wide: Option<u64>, step: u64) -> u64 {
+    match wide {
+        Some(_) => 0,
+        None => step.saturating_mul(4).saturating_add(3),
+    }
+}
+
 // The answer where no word finishes within the bound. A search by the open nodes tells whether the bound was met, and
 // ends where it is.
 fn search_open_nodes<M: Machine, G: Gate, R: Threads + Wait + Sync>(
@@ -53,7 +73,8 @@ fn search_open_nodes<M: Machine, G: Gate, R: Threads + Wait + Sync>(
 }
 
 /// The answer of `find_word`. It searches by the machine's own bound on the steps that are left, within bounds that
-/// grow from the least of the initial configurations on, each so far that about as many more are looked at. Only where
+/// grow from the least of the initial configurations on, each so far that about as many more are looked at, or where few
+/// are little past one by steps that grow. Only where
 /// no word is found so, a dive looks for a configuration that tells that the bound was met, and where it finds none, a
 /// search by the open nodes tells whether it was.
 pub fn find_word_deepening<M: Machine, G: Gate, R: Threads + Wait + Sync>(
@@ -72,6 +93,7 @@ pub fn find_word_deepening<M: Machine, G: Gate, R: Threads + Wait + Sync>(
     // No word finishes in fewer steps than `least`.
     let mut least = first;
     let mut nodes = first;
+    let mut step = 0;
     while least <= bounds.nodes {
         let within = bounds.within(nodes.min(bounds.nodes));
         let limits = Limits {
@@ -85,7 +107,8 @@ pub fn find_word_deepening<M: Machine, G: Gate, R: Threads + Wait + Sync>(
             Outcome::Exhausted => return Ok(Found::Unsolvable),
             Outcome::Past { least: past, wide } => {
                 least = past.max(within.nodes + 1);
-                nodes = wide.max(least);
+                nodes = next_bound(least, wide, step);
+                step = next_step(wide, step);
             }
         }
     }

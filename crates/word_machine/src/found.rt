@@ -1,6 +1,6 @@
 //! What a search answers, and why it may not.
 
-ghost use Rattle.std.specs.Prelude.{◌≡◌};
+ghost use Rattle.std.specs.Prelude.{◌≡◌, None};
 ghost use Rattle.word_machine.specs.Answer.{found_of};
 ghost use Rattle.word_machine.specs.declared.found.Outcome.TheVariants.{Past};
 
@@ -26,8 +26,9 @@ pub enum Outcome {
     /// The finishing word that is shortest and then least.
     Finished(Vec<u64>),
     /// No word finishes within the bound, nor in fewer steps than `least`; something past the bound was left out.
-    /// `wide` is for speed alone: a search to this bound is to let in as many of those as were kept.
-    Past { least: u64, wide: u64 },
+    /// `wide` is for speed alone: a search to this bound is to let in as many of those as were kept; None where fewer
+    /// were little past it.
+    Past { least: u64, wide: Option<u64> },
     /// No word finishes, and nothing was left out.
     Exhausted,
 }
@@ -35,11 +36,11 @@ pub enum Outcome {
 impl Outcome {
     /// No word finishes in fewer steps than these, and something was left out.
     pub fn past(steps: u64) -> Outcome
-        ensures { result ≡ Past steps steps }
+        ensures { result ≡ Past steps None }
     {
         Outcome::Past {
             least: steps,
-            wide: steps,
+            wide: None,
         }
     }
 

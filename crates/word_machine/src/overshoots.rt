@@ -1,5 +1,5 @@
 //! How far past a bound those were that a search left out.
-ghost use Rattle.std.specs.Prelude.{◌≡◌, ℕ, ◌+◌, ◌-◌, ◌^◌, ◌<◌, ◌≤◌, ◌⊎◌, min, take, slice_index, slice_set};
+ghost use Rattle.std.specs.Prelude.{◌≡◌, ℕ, ◌+◌, ◌-◌, ◌^◌, ◌<◌, ◌≤◌, IfNone, IfSome, min, take, slice_index, slice_set};
 ghost use Rattle.std.specs.List.{sum};
 ghost use Rattle.word_machine.specs.Contents.{slot_of};
 
@@ -25,18 +25,19 @@ impl Overshoots {
         self.counts[slot] = self.counts[slot].saturating_add(1);
     }
 
-    /// How far past the bound at least so many were, or all that were counted.
-    pub fn reach(&self, wanted: u64) -> u64
-        ensures enough { (wanted ≤ sum (take result self.now.counts)) ⊎ (result ≡ 64) }
-        ensures least { (d : ℕ) → d < result → sum (take d self.now.counts) < wanted }
+    /// How far past the bound at least so many were; None if fewer were less than 64 past it.
+    pub fn reach(&self, wanted: u64) -> Option<u64>
+        ensures enough { IfSome result (λ d. wanted ≤ sum (take d self.now.counts)) }
+        ensures least { IfSome result (λ r. (d : ℕ) → d < r → sum (take d self.now.counts) < wanted) }
+        ensures few { IfNone result (sum (take 63 self.now.counts) < wanted) }
     {
         let mut total: u64 = 0;
         for distance in 0..64_u64 {
             if total >= wanted {
-                return distance;
+                return Some(distance);
             }
             total += u64::from(self.counts[distance as usize]);
         }
-        64
+        None
     }
 }

@@ -1,5 +1,5 @@
 //! The search for the least finishing word, level by level.
-ghost use Rattle.std.specs.Prelude.{◌≡◌, ℕ, ◌+◌, ◌<◌, ◌≤◌, ◌∷◌, [], true, false, map, All, Some, slice_get, IfOk, IfErr, IfSome, IfNone, OnOk};
+ghost use Rattle.std.specs.Prelude.{◌≡◌, ℕ, ◌+◌, ◌<◌, ◌≤◌, ◌∷◌, [], true, false, map, All, Option, Some, slice_get, IfOk, IfErr, IfSome, IfNone, OnOk};
 ghost use Rattle.word_machine.specs.Machine.{IsDone};
 ghost use Rattle.word_machine.specs.Meaning.{IsGrown};
 ghost use Rattle.word_machine.specs.Ranks.{IsOwned};
@@ -103,15 +103,23 @@ pub fn search<M: Machine, G: Gate, R: Threads + Wait + Sync>(
     Ok(exhausted(&closed, bound))
 }
 
+// The bound that is so far past another one.
+fn bound_past(bound: u64, reach: Option<u64>) -> Option<u64> {
+    match reach {
+        Some(reach) => Some(bound.saturating_add(reach)),
+        None => None,
+    }
+}
+
 // The outcome where nothing is left to expand.
 fn exhausted<C: Eq + Hash + Drop>(closed: &Closed<C>, bound: u64) -> Outcome
-    ensures cut { closed.now.cut.any ≡ true → (least : ℕ) × (wide : ℕ) × (result ≡ Past least wide) × (least ≤ bound + closed.now.cut.past) }
+    ensures cut { closed.now.cut.any ≡ true → (least : ℕ) × (wide : Option ℕ) × (result ≡ Past least wide) × (least ≤ bound + closed.now.cut.past) }
     ensures uncut { closed.now.cut.any ≡ false → result ≡ Exhausted }
 {
     if closed.was_cut() {
         Outcome::Past {
             least: bound.saturating_add(closed.least_past()),
-            wide: bound.saturating_add(closed.reach()),
+            wide: bound_past(bound, closed.reach()),
         }
     } else {
         Outcome::Exhausted

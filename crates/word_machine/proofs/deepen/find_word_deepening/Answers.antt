@@ -1,7 +1,6 @@
 use Rattle.std.proofs.Common.{rules, ◌≡◌, ◌+◌, ◌≤◌, All, sym, ◌∙◌, subst, arith}
 use Rattle.word_machine.specs.Machine.{IsLawful, IsLowerBound}
 use Rattle.std.specs.Prelude.{max}
-use Rattle.std.proofs.Math.Nat.{le-max_right}
 use Rattle.word_machine.specs.declared.found.Outcome.TheVariants.{Past}
 use Rattle.word_machine.specs.Answer.{IsOutcome, NoneFinishesBefore}
 use Rattle.word_machine.specs.Ranks.{IsOwned}
@@ -57,12 +56,11 @@ loop-least-preserved g c =
     let told : IsOutcome m (g.M.Machine.estimate machine) bound (Past c.in-Past.past c.in-Past.wide) =
     subst (IsOutcome m (g.M.Machine.estimate machine) bound) c.in-Past.is c.in_ok-outcome.ensures.outcome in
     let least : max c.in-Past.past (bound + 1) ≡ c.max-least.result = search rules in
-    let nodes : max c.in-Past.wide c.max-least.result ≡ c.max-nodes.result = search rules in
     record {
       own = c.in_ok-outcome.ensures.owned;
       known = known_still old new c.in_ok-outcome.ensures.grown initials i.known;
       none = subst (NoneFinishesBefore m) least (none_before_more m bound c.in-Past.past told.0 told.2);
-      rising = subst (λ n. c.max-least.result ≤ n) nodes (le-max_right c.in-Past.wide c.max-least.result);
+      rising = c.next_bound-nodes.ensures;
       initials = same_points old new c.in_ok-outcome.ensures.grown initials i.known ∙ i.initials;
     }
 
