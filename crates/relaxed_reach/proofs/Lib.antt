@@ -3,3 +3,4 @@ pub mod Factual
 pub mod Lasting
 pub mod Examples
 pub mod Checked
+pub mod Marks

@@ -1,5 +1,5 @@
 -- What is reached, by sets of atoms and of ground tasks.
-use Rattle.std.specs.Prelude.{Bool, true, not}
+use Rattle.std.specs.Prelude.{Bool, true, false, not, ◌||◌, get_or, ℕ}
 use Rattle.htn_model.specs.State.{contains}
 use Rattle.htn_model.specs.Problem.{Child, precondition, action, task}
 use Rattle.tree_sizes.specs.Numbers.{is_among}
@@ -8,9 +8,13 @@ use Rattle.relaxed_reach.specs.Reach.{Reach}
 use Rattle.relaxed_reach.specs.declared.facts.FactSets.{FactSets}
 use Rattle.relaxed_reach.specs.declared.reach.RelaxedReach.{RelaxedReach}
 
--- the facts by two sets of atoms
+-- the atoms of a predicate are told apart
+abbrev pub is_told : FactSets → ℕ → Bool
+is_told f predicate = get_or f.told.items predicate false
+
+-- the facts by two sets of atoms; of a predicate that isn't told all may be true, and none has to be
 abbrev pub facts_of : FactSets → Facts
-facts_of f = record { may_hold = contains f.possible; lasting = f.lasting }
+facts_of f = record { may_hold = λ a. not (is_told f a.predicate) || contains f.possible a; lasting = f.lasting }
 
 -- whether a node is known: each step is, and the actions and tasks of the sets
 abbrev pub knows : RelaxedReach → Child → Bool

@@ -4,13 +4,16 @@ ghost use Rattle.std.specs.List.{list_all};
 ghost use Rattle.htn_model.specs.State.{contains};
 ghost use Rattle.htn_state.specs.Views.{literal_of, literals_of};
 ghost use Rattle.relaxed_reach.specs.Facts.{are_possible, has_effects, is_possible, is_within, may_fail};
-ghost use Rattle.relaxed_reach.specs.Tables.{facts_of};
+ghost use Rattle.relaxed_reach.specs.Tables.{facts_of, is_told};
 
 use htn_state::{Action, Atom, Literal, State};
 
 /// The atoms that may become true, and those that are true from the start on and never become false.
 #[derive(Drop)]
 pub(crate) struct FactSets {
+    /// By predicate, whether its atoms are told apart. Nothing is said of the others: that a static literal never holds
+    /// makes its instance dead, and is known without these sets.
+    pub(crate) told: Vec<bool>,
     pub(crate) possible: State,
     pub(crate) lasting: State,
 }
@@ -28,12 +31,38 @@ fn has_all(state: &State, atoms: &[Atom]) -> bool
 }
 
 impl FactSets {
+    /// Whether the atoms of a predicate are told apart.
+    fn is_told(&self, predicate: u16) -> bool
+        ensures { result ≡ is_told self.now predicate }
+    {
+        self.told.get(predicate as usize).copied().unwrap_or(false)
+    }
+
+    /// Whether an atom may become true.
+    fn may_hold(&self, atom: &Atom) -> bool
+        ensures { result ≡ (facts_of self.now).may_hold atom.now }
+    {
+        !self.is_told(atom.predicate()) || self.possible.contains(atom)
+    }
+
+    /// Whether each of some atoms may.
+    fn may_all_hold(&self, atoms: &[Atom]) -> bool
+        ensures { result ≡ list_all (facts_of self.now).may_hold atoms.now }
+    {
+        for atom in atoms {
+            if !self.may_hold(atom) {
+                return false;
+            }
+        }
+        true
+    }
+
     /// Whether a literal may become true.
     fn is_possible(&self, literal: &Literal) -> bool
         ensures { result ≡ is_possible (facts_of self.now) (literal_of literal.now) }
     {
         match literal {
-            Literal::Positive(atom) => self.possible.contains(atom),
+            Literal::Positive(atom) => self.may_hold(atom),
             Literal::Negative(atom) => !self.lasting.contains(atom),
             Literal::Same(x, y) => x == y,
             Literal::Different(x, y) => x != y,
@@ -56,7 +85,7 @@ impl FactSets {
     pub(crate) fn is_within(&self, state: &State) -> bool
         ensures { result ≡ is_within (facts_of self.now) state.now }
     {
-        has_all(&self.possible, state.atoms()) && has_all(state, self.lasting.atoms())
+        self.may_all_hold(state.atoms()) && has_all(state, self.lasting.atoms())
     }
 
     /// Whether an action may delete each of some atoms: it may become false, or the action adds it again.
@@ -76,7 +105,7 @@ impl FactSets {
     pub(crate) fn has_effects(&self, action: &Action) -> bool
         ensures { result ≡ has_effects (facts_of self.now) action.now }
     {
-        has_all(&self.possible, action.adds.atoms())
+        self.may_all_hold(action.adds.atoms())
             && self.may_delete_all(action, action.deletes.atoms())
     }
 }

@@ -3,9 +3,10 @@
 //! as for true ones. Nothing is promised of it: whoever uses it checks it.
 
 use crate::facts::FactSets;
+use crate::fluents::fluent_predicates;
 use crate::reach::Marks;
 use htn_ground::{Child, GroundTask, action_of, distinct_initials};
-use htn_state::{Action, Literal, State};
+use htn_state::{Action, Atom, Literal, State};
 use htn_task::Task;
 use indexmap::IndexSet;
 use std::alloc::{AllocError, Global};
@@ -24,6 +25,8 @@ struct Met {
 /// Actions and literals by number, and what is possible so far.
 #[derive(Drop)]
 pub(crate) struct Actions {
+    /// By predicate, whether some effect names it.
+    fluents: Vec<bool>,
     goals: IndexSet<GroundTask>,
     met: Vec<Met>,
     literals: IndexSet<Literal>,
@@ -34,10 +37,10 @@ pub(crate) struct Actions {
     ready: Vec<u32>,
 }
 
-/// The atoms of a state that another one doesn't have.
-fn lasting(alloc: Global, initial: &State, failing: &State) -> Result<State, AllocError> {
+/// The atoms that another state doesn't have.
+fn lasting(alloc: Global, initial: &[Atom], failing: &State) -> Result<State, AllocError> {
     let mut atoms = Vec::new(alloc);
-    for atom in initial.atoms() {
+    for atom in initial {
         if !failing.contains(atom) {
             atoms.push(atom.clone()?)?;
         }
@@ -47,14 +50,28 @@ fn lasting(alloc: Global, initial: &State, failing: &State) -> Result<State, All
 
 impl Actions {
     /// None was met.
-    fn new(alloc: Global) -> Actions {
+    fn new(alloc: Global, fluents: Vec<bool>) -> Actions {
         Actions {
+            fluents,
             goals: IndexSet::new(alloc),
             met: Vec::new(alloc),
             literals: IndexSet::new(alloc),
             possible: Vec::new(alloc),
             uses: Vec::new(alloc),
             ready: Vec::new(alloc),
+        }
+    }
+
+    /// Whether an atom is one that may change.
+    fn is_fluent(&self, atom: &Atom) -> bool {
+        self.fluents.get(atom.predicate() as usize).copied().unwrap_or(false)
+    }
+
+    /// Whether a literal speaks of an atom that never changes. Nothing is told of it here.
+    fn is_static(&self, literal: &Literal) -> bool {
+        match literal {
+            Literal::Positive(atom) | Literal::Negative(atom) => !self.is_fluent(atom),
+            Literal::Same(_, _) | Literal::Different(_, _) => false,
         }
     }
 
@@ -84,6 +101,9 @@ impl Actions {
     ) -> Result<u32, AllocError> {
         let mut missing = 0u32;
         for literal in literals {
+            if self.is_static(literal) {
+                continue;
+            }
             let number = self.number(alloc, task, literal.clone()?)? as usize;
             if self.is_reached(number) {
                 continue;
@@ -215,10 +235,21 @@ impl Actions {
         }
     }
 
+    /// The fluent atoms that are true at first.
+    fn first_atoms(&self, alloc: Global, task: &Task) -> Result<Vec<Atom>, AllocError> {
+        let mut atoms = Vec::new(alloc);
+        for atom in task.initial_atoms().atoms() {
+            if self.is_fluent(atom) {
+                atoms.push(atom.clone()?)?;
+            }
+        }
+        Ok(atoms)
+    }
+
     /// The atoms that may become true, and those that are true and stay so.
     pub(crate) fn facts(&self, alloc: Global, task: &Task) -> Result<FactSets, AllocError> {
-        let initial = task.initial_atoms();
-        let mut rising = Vec::from_clones(alloc, initial.atoms())?;
+        let first = self.first_atoms(alloc, task)?;
+        let mut rising = Vec::from_clones(alloc, first.as_slice())?;
         let mut failing = Vec::new(alloc);
         for (number, literal) in self.literals.as_slice().iter().enumerate() {
             if !self.is_reached(number) {
@@ -232,8 +263,9 @@ impl Actions {
         }
         let failing = State::of(alloc, &failing)?;
         Ok(FactSets {
+            told: Vec::from_clones(alloc, self.fluents.as_slice())?,
             possible: State::of(alloc, &rising)?,
-            lasting: lasting(alloc, initial, &failing)?,
+            lasting: lasting(alloc, first.as_slice(), &failing)?,
         })
     }
 
@@ -256,7 +288,8 @@ pub(crate) fn find_actions(
     task: &Task,
     found: &Enumeration,
 ) -> Result<Actions, AllocError> {
-    let mut actions = Actions::new(alloc);
+    let fluents = fluent_predicates(alloc, task)?;
+    let mut actions = Actions::new(alloc, fluents);
     for initial in &distinct_initials(alloc, task)? {
         actions.meet(alloc, task, initial.children().as_slice())?;
     }

@@ -5,16 +5,18 @@
 //! whose instances has such a node never ends ([`reach_stays`]). What a search keeps in mind is one invariant of its own
 //! configurations; then their nodes alone tell whether they may end ([`reached_stays`]). [`RelaxedReach`] is what is
 //! reached from the initial state of a task by the nodes of its enumerated instances. How it is found is not proved: it
-//! is checked.
+//! is checked. It speaks of the fluent atoms alone ([`fluent_predicates`]), which are few beside the static ones.
 #![tactic(auto)]
 
 mod check;
 mod facts;
 mod find;
+mod fluents;
 mod laws;
 mod of;
 mod reach;
 mod tasks;
 
+pub use fluents::fluent_predicates;
 pub use laws::{reach_examples_hold, reach_stays, reached_stays};
 pub use reach::RelaxedReach;

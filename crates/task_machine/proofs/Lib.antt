@@ -1,5 +1,4 @@
 pub mod Estimates
-pub mod Marks
 pub mod Owned
 pub mod Performing
 pub mod Prefixes

@@ -3,7 +3,6 @@
 
 mod configuration;
 mod expand;
-mod fluents;
 mod instances;
 mod machine;
 mod performer;

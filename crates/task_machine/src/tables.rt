@@ -16,12 +16,12 @@ ghost use Rattle.tree_sizes.specs.Measure.{estimate};
 ghost use Rattle.tree_sizes.specs.Sizes.{size_of};
 ghost use Rattle.tree_sizes.specs.declared.tree_sizes.TreeSizes.{TreeSizes};
 
-use crate::fluents::fluent_predicates;
 use crate::performer::Performer;
 use htn_ground::goal_literals;
 use htn_task::Task;
 use needs_table::NeedsTable;
 use network_table::{Network, NetworkTable};
+use relaxed_reach::fluent_predicates;
 use state_table::{AtomTable, BitState, CompiledLiterals, StateTable};
 use std::alloc::{AllocError, Global};
 

@@ -1,6 +1,6 @@
 use Rattle.std.proofs.Common.{◌∙◌, ◌||◌, false, get_or, nat_eq, ap, arith}
-use Rattle.task_machine.proofs.Marks.{marked, unmarked}
-use Rattle.task_machine.proofs.fluents.mark.Goals as goal
+use Rattle.relaxed_reach.proofs.Marks.{marked, unmarked}
+use Rattle.relaxed_reach.proofs.fluents.mark.Goals as goal
 
 pub loop-marks-preserved : goal.loop-marks-preserved
 loop-marks-preserved c = λ p. ap (λ l. get_or l p false) c.in_ok-push.ensures.items ∙ unmarked c.loop-marks.marks.items p ∙ c.loop-marks.invariant p

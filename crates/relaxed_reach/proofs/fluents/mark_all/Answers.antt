@@ -3,8 +3,8 @@ use Rattle.std.specs.List.{list_any}
 use Rattle.std.proofs.lemmas.List.{take_all}
 use Rattle.std.proofs.lemmas.List.Folds.{list_any_more}
 use Rattle.htn_model.specs.Schema.{AtomSchema}
-use Rattle.task_machine.proofs.Marks.{or_assoc, or_none}
-use Rattle.task_machine.proofs.fluents.mark_all.Goals as goal
+use Rattle.relaxed_reach.proofs.Marks.{or_assoc, or_none}
+use Rattle.relaxed_reach.proofs.fluents.mark_all.Goals as goal
 
 pub loop-atom-init : goal.loop-atom-init
 loop-atom-init c = λ p. sym (or_none (get_or c.args.marks.now.items p false))

@@ -1,6 +1,6 @@
 use Rattle.std.proofs.Common.{◌≡◌, ◌||◌, ℕ, false, get_or, nat_eq, take}
 use Rattle.std.specs.List.{list_any}
-use Rattle.task_machine.proofs.fluents.mark_all.Given as goal
+use Rattle.relaxed_reach.proofs.fluents.mark_all.Given as goal
 
 abbrev pub invariant-loop-atom : goal.invariant-loop-atom
 invariant-loop-atom l =

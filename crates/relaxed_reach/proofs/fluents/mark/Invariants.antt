@@ -1,5 +1,5 @@
 use Rattle.std.proofs.Common.{◌≡◌, ◌+◌, ◌-◌, ℕ, false, get_or, length}
-use Rattle.task_machine.proofs.fluents.mark.Given as goal
+use Rattle.relaxed_reach.proofs.fluents.mark.Given as goal
 
 abbrev pub invariant-loop-marks : goal.invariant-loop-marks
 invariant-loop-marks l = (p : ℕ) → get_or l.marks.items p false ≡ get_or l.initial.marks.items p false

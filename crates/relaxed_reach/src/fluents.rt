@@ -32,7 +32,7 @@ fn mark_all(marks: &mut Vec<bool>, atoms: &[AtomSchema]) -> Result<(), AllocErro
 }
 
 /// For each predicate whether some effect names it; for those past the last one none does.
-pub(crate) fn fluent_predicates(alloc: Global, task: &Task) -> Result<Vec<bool>, AllocError>
+pub fn fluent_predicates(alloc: Global, task: &Task) -> Result<Vec<bool>, AllocError>
     ensures { IfOk result (λ v. (p : ℕ) → get_or v.items p false ≡ is_changed task.now p) }
 {
     let mut marks = Vec::new(alloc);

@@ -1,6 +1,6 @@
 use Rattle.std.proofs.Common.{◌≡◌, ◌++◌, ℕ, false, get_or, nat_eq, take}
 use Rattle.std.specs.List.{list_any}
-use Rattle.task_machine.proofs.fluents.fluent_predicates.Given as goal
+use Rattle.relaxed_reach.proofs.fluents.fluent_predicates.Given as goal
 
 abbrev pub invariant-loop-action : goal.invariant-loop-action
 invariant-loop-action l =

@@ -4,8 +4,8 @@ use Rattle.std.proofs.lemmas.List.{take_all}
 use Rattle.std.proofs.lemmas.List.Folds.{list_any-append, list_any_more}
 use Rattle.htn_model.specs.Schema.{AtomSchema}
 use Rattle.htn_model.specs.Task.{ActionSchema}
-use Rattle.task_machine.proofs.Marks.{or_assoc}
-use Rattle.task_machine.proofs.fluents.fluent_predicates.Goals as goal
+use Rattle.relaxed_reach.proofs.Marks.{or_assoc}
+use Rattle.relaxed_reach.proofs.fluents.fluent_predicates.Goals as goal
 
 pub loop-action-init : goal.loop-action-init
 loop-action-init c = λ p. ap (λ l. get_or l p false) c.new-marks.ensures.items
