@@ -74,8 +74,6 @@ impl Numbers {
     {
         match number_among(&self.few, text) {
             Some(number) => Some(number),
-            // There are no others, so the text needn't be hashed.
-            None if self.few.len() < FEW => None,
             None => self.rest.get(text).copied(),
         }
     }

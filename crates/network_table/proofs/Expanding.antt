@@ -14,7 +14,7 @@ use Rattle.std.proofs.lemmas.Bool.{cases_lt}
 use Rattle.std.proofs.lemmas.Option.{none-some, same_Some}
 use Rattle.network_table.specs.Numbered.{Numbered, network_of, replaced_numbered, replaced_network, IsWithin}
 use Rattle.network_table.specs.Networks.{children, nothing, numbered_at, network_at, expansion_at, Knows, IsGrown, IsMore, IsWhole}
-use Rattle.network_table.specs.Expansions.{AreDecompositions, AreRemovals, AreInstances, IsKnownRemoval, IsDecomposed, IsExpansion, IsPerformed, IsSound, Live, first_free, free_positions, removal_at, removed_at, removal_network, position_network}
+use Rattle.network_table.specs.Expansions.{AreDecompositions, AreRemovals, IsKnownRemoval, IsDecomposed, IsExpansion, IsPerformed, IsSound, Live, first_free, free_positions, removal_at, removed_at, removal_network, position_network}
 use Rattle.network_table.specs.declared.expansion.Removal.{Removal}
 use Rattle.network_table.specs.declared.table.NetworkTable.{NetworkTable}
 use Rattle.network_table.proofs.Replacing.{replaced_alike}
@@ -58,7 +58,7 @@ decompositions_push t n i instances xs p x are known is = record {
 }
 
 -- a known removal stays known
-known_removal_more : (s t : NetworkTable) → IsMore s t → (r : Removal) → IsKnownRemoval s r → IsKnownRemoval t r
+pub known_removal_more : (s t : NetworkTable) → IsMore s t → (r : Removal) → IsKnownRemoval s r → IsKnownRemoval t r
 known_removal_more s t more r known = (more_known s t r.network more known.0, subst (λ (l : ChildTable). r.node < length (numbered_children l)) (sym more.children) known.1)
 
 -- removals stay right while networks are added
@@ -110,14 +110,14 @@ same_network s t n more known = ap₂ (λ (l : List Child) (m : Numbered). netwo
 
 -- decompositions by numbers are those of what they stand for
 pub decomposed_right : (live : Live) (s t : NetworkTable) (n i : ℕ) (g : GroundTask) (instances : List Numbered) (xs : List ℕ) → IsMore s t → Knows s n
-    → first_free (network_at s n) ≡ Some i → child_of (network_at s n).children i ≡ task g → AreInstances live s n instances
+    → first_free (network_at s n) ≡ Some i → child_of (network_at s n).children i ≡ task g → map (network_of (children s)) instances ≡ live g
     → AreDecompositions t (numbered_at s n) i instances xs → IsDecomposed live t n i xs
 decomposed_right live s t n i g instances xs more known first stands given are =
     let same = same_network s t n more known in
     let m = numbered_at s n in
     let own = network_of (children t) m in
     let own_is : own ≡ network_at t n = ap (λ m. network_of (children t) m) (sym (more_same s t n more known)) in
-    let instances_are : map (network_of (children t)) instances ≡ live g = ap (λ l. map (network_of l) instances) (ap numbered_children more.children) ∙ given i g first stands in
+    let instances_are : map (network_of (children t)) instances ≡ live g = ap (λ l. map (network_of l) instances) (ap numbered_children more.children) ∙ given in
     record {
       goal = g;
       first = ap first_free same ∙ first;

@@ -4,10 +4,12 @@
 //! with its order. With a network's number stand how many nodes it has, the sum of a bound on its
 //! nodes and, once asked for, its [`Expansion`]: the networks in which an instance stands in the
 //! place of the first free compound task or, where none is free, those without one of the free
-//! nodes. What becomes of a network is the same in every state, so it is found once.
+//! nodes. What becomes of a network is the same in every state, so it is found once. It may be found
+//! without a change of the table, as a [`Draft`], which the table takes in later.
 #![tactic(auto)]
 
 mod child_table;
+mod draft;
 mod expand;
 mod expansion;
 mod laws;
@@ -15,6 +17,7 @@ mod network;
 mod table;
 
 pub use child_table::ChildTable;
+pub use draft::{Draft, Drafted, DraftedRemoval};
 pub use expansion::{Expansion, Removal};
 pub use laws::{numbers_differ, numbers_stay, replaces_as_model};
 pub use network::Network;

@@ -1,5 +1,5 @@
 //! Networks by numbers.
-ghost use Rattle.std.specs.Prelude.{◌≡◌, ◌<◌, ◌+◌, ◌-◌, ◌^◌, [], ℕ, List, IfOk, OnOk, length, map, min, set, None, Some};
+ghost use Rattle.std.specs.Prelude.{◌≡◌, ◌<◌, ◌+◌, ◌-◌, ◌^◌, [], ℕ, List, IfOk, IfSome, OnOk, length, map, min, set, None, Some};
 ghost use Rattle.std.specs.List.{sum_by};
 ghost use Rattle.std.specs.Option.{option_map};
 ghost use Rattle.htn_model.specs.Problem as model;
@@ -118,6 +118,17 @@ impl NetworkTable {
         ensures { option_map (λ e. e.now) result ≡ expansion_at self.now number }
     {
         self.expansions[number as usize].as_ref()
+    }
+
+    /// The number of a network, if it has one. It takes no memory.
+    pub(crate) fn number_of(&self, network: &Network) -> Option<u32>
+        ensures { IfSome result (λ n. IsNumberOf self.now n network.now) }
+    {
+        let place = self.networks.get_index_of(network)?;
+        match u32::try_from(place) {
+            Ok(number) => Some(number),
+            Err(_) => None,
+        }
     }
 
     /// The number of a network, which it may get only now.

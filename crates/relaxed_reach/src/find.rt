@@ -64,10 +64,7 @@ impl Actions {
 
     /// Whether an atom is one that may change.
     fn is_fluent(&self, atom: &Atom) -> bool {
-        self.fluents
-            .get(atom.predicate() as usize)
-            .copied()
-            .unwrap_or(false)
+        self.fluents.get(atom.predicate() as usize).copied().unwrap_or(false)
     }
 
     /// Whether a literal speaks of an atom that never changes. Nothing is told of it here.

@@ -99,6 +99,8 @@ impl Machine for Counter {
 
     type Tables = Tallies;
 
+    type Draft = Numbered;
+
     ghost Point = { Tally };
 
     ghost words = { λ m. counting m.target (clipped m.first ∷ clipped m.second ∷ []) };
@@ -112,6 +114,8 @@ impl Machine for Counter {
     ghost owns = { λ m t. AreDistinct t.tallies.keys };
 
     ghost is_ready = { λ m t c. Unit {0} };
+
+    ghost is_draft = { λ m t d. Unit {0} };
 
     ghost same = { λ c d e. Prim.search rules };
 
@@ -132,6 +136,18 @@ impl Machine for Counter {
         initials.push(first)?;
         initials.push(second)?;
         Ok(initials)
+    }
+
+    fn wants_draft(&self, _tables: &mut Tallies, _at: Numbered) -> Result<bool, AllocError> {
+        Ok(true)
+    }
+
+    fn draft(&self, _tables: &Tallies, at: Numbered) -> Result<Numbered, AllocError> {
+        Ok(at)
+    }
+
+    fn take_in(&self, _tables: &mut Tallies, _draft: Numbered) -> Result<(), AllocError> {
+        Ok(())
     }
 
     fn prepare(&self, _tables: &mut Tallies, _at: Numbered) -> Result<(), AllocError> {

@@ -6,3 +6,4 @@ pub mod Results
 pub mod Square
 pub mod Stepping
 pub mod Wider
+pub mod Drafting

@@ -6,3 +6,4 @@ pub mod Owned
 pub mod Prefix
 pub mod Steps
 pub mod Tables
+pub mod Drafts

@@ -2,6 +2,7 @@
 ghost use Rattle.std.specs.Prelude.{◌≡◌};
 ghost use Rattle.task_machine.specs.Meaning.{network_number};
 
+use network_table::Draft;
 use state_table::BitState;
 
 /// The number of a state, and that of a task network.
@@ -30,4 +31,12 @@ impl Reached {
             Reached::New(_, network) => *network,
         }
     }
+}
+
+/// What becomes of the network of a number, as it was found without a change of the tables; None where the instances of
+/// its first free compound task weren't listed.
+#[derive(Drop)]
+pub struct NetworkDraft {
+    pub network: u32,
+    pub draft: Option<Draft>,
 }

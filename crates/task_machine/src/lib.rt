@@ -2,6 +2,7 @@
 #![tactic(auto)]
 
 mod configuration;
+mod draft;
 mod expand;
 mod instances;
 mod machine;
@@ -10,7 +11,7 @@ mod prepare;
 mod slots;
 mod tables;
 
-pub use configuration::{Configuration, Reached};
+pub use configuration::{Configuration, NetworkDraft, Reached};
 pub use machine::TaskMachine;
 pub use performer::Performer;
 pub use tables::Tables;

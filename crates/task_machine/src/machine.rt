@@ -8,7 +8,7 @@ ghost use Rattle.needs_table.specs.Prospects.{ProspectsHold};
 ghost use Rattle.task_machine.specs.Bounds.{most_steps, prospects-prop};
 ghost use Rattle.tree_sizes.specs.Sizes.{size_of};
 
-use crate::configuration::{Configuration, Reached};
+use crate::configuration::{Configuration, NetworkDraft, Reached};
 use crate::tables::Tables;
 use htn_task::Task;
 use needs_table::Prospects;
@@ -59,6 +59,7 @@ impl<'a> Machine for TaskMachine<'a> {
     ghost use Rattle.network_table.specs.Networks.{expansion_at};
     ghost use Rattle.needs_table.specs.Prospects.{prospects_bound};
     ghost use Rattle.task_machine.specs.Bounds.{BelongsTo, bounded, belonging_lawful, most_steps};
+    ghost use Rattle.task_machine.specs.Drafts.{IsNetworkDraft};
     ghost use Rattle.task_machine.specs.Laws.{one_to_one};
     ghost use Rattle.task_machine.specs.Meaning.{meaning};
     ghost use Rattle.task_machine.specs.Owned.{AreOwned};
@@ -69,6 +70,8 @@ impl<'a> Machine for TaskMachine<'a> {
     type Reached = Reached;
 
     type Tables = Tables;
+
+    type Draft = NetworkDraft;
 
     ghost Point = { Config };
 
@@ -83,6 +86,8 @@ impl<'a> Machine for TaskMachine<'a> {
     ghost owns = { λ m t. AreOwned m.task.now m.sizes m.prospects t };
 
     ghost is_ready = { λ m t c. IsSome (expansion_at t.networks c.network) };
+
+    ghost is_draft = { λ m t d. IsNetworkDraft m.task.now t d };
 
     ghost same = { λ c d e. Prim.search rules };
 
@@ -101,6 +106,25 @@ impl<'a> Machine for TaskMachine<'a> {
         let initials = tables.initials(self.alloc, self.task, &self.sizes)?;
         tables.prepare_needs(self.alloc, &self.prospects)?;
         Ok(initials)
+    }
+
+    fn wants_draft(&self, tables: &mut Tables, at: Configuration) -> Result<bool, AllocError> {
+        if !tables.ask(at.network)? {
+            return Ok(false);
+        }
+        tables.prepare_first(self.alloc, self.task, &self.sizes, at.network)?;
+        tables.prepare_needs(self.alloc, &self.prospects)?;
+        Ok(true)
+    }
+
+    fn draft(&self, tables: &Tables, at: Configuration) -> Result<NetworkDraft, AllocError> {
+        tables.draft(self.alloc, self.task, at.network)
+    }
+
+    fn take_in(&self, tables: &mut Tables, draft: NetworkDraft) -> Result<(), AllocError> {
+        tables.take_in(self.alloc, self.task, &self.sizes, draft)?;
+        tables.prepare_needs(self.alloc, &self.prospects)?;
+        Ok(())
     }
 
     fn prepare(&self, tables: &mut Tables, at: Configuration) -> Result<(), AllocError> {

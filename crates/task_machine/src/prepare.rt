@@ -27,7 +27,7 @@ use std::alloc::{AllocError, Global};
 use tree_sizes::TreeSizes;
 
 /// The number of a network's first free compound task.
-fn first_task(networks: &NetworkTable, network: u32) -> Option<u32>
+pub(crate) fn first_task(networks: &NetworkTable, network: u32) -> Option<u32>
     requires whole { IsWhole networks.now }
     requires known { Knows networks.now network }
     ensures some { IfSome result (IsFirstTask networks.now network) }
@@ -39,7 +39,7 @@ fn first_task(networks: &NetworkTable, network: u32) -> Option<u32>
 }
 
 /// The instances that stand at a number; none where nothing does.
-fn listed(instances: &[Option<Vec<Network>>], node: u32) -> &[Network]
+pub(crate) fn listed(instances: &[Option<Vec<Network>>], node: u32) -> &[Network]
     ensures { result.now ≡ unwrap_or (option_map (λ v. v.items) (slot instances.now node)) [] }
 {
     match instances.get(node as usize) {
@@ -74,7 +74,7 @@ impl Tables {
     }
 
     /// Sees that the instances of a compound task are listed, by the number of its node.
-    fn prepare_instances(
+    pub(crate) fn prepare_instances(
         &mut self,
         alloc: Global,
         task: &Task,

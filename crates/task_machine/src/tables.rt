@@ -45,6 +45,8 @@ pub struct Tables {
     pub(crate) instances: Vec<Option<Vec<Network>>>,
     /// By the number of a network, what it needs from the start.
     pub(crate) needs: NeedsTable,
+    /// By the number of a network, where a draft of what becomes of it was asked for.
+    pub(crate) asked: Vec<Option<()>>,
 }
 
 impl Tables {
@@ -68,6 +70,7 @@ impl Tables {
             performers: Vec::new(alloc),
             instances: Vec::new(alloc),
             needs: NeedsTable::new(alloc, literals),
+            asked: Vec::new(alloc),
         })
     }
 

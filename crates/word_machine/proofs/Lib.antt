@@ -11,3 +11,5 @@ pub mod Answering
 pub mod Searching
 pub mod Numbered
 pub mod Diving
+pub mod Drafting
+pub mod Standing

@@ -21,6 +21,9 @@ pub trait Machine: Sync {
     /// What a search has numbered, and what it keeps about it.
     type Tables: Drop + Send + Sync;
 
+    /// What a worker finds out of what the steps at a configuration need, without a change of the tables.
+    type Draft: Drop + Send;
+
     // What a configuration stands for.
     ghost Point: { Type 0 };
 
@@ -42,6 +45,9 @@ pub trait Machine: Sync {
     // The tables have what the steps at this configuration need.
     ghost is_ready: { Self → Self.Tables → Self.Configuration → Type 0 };
 
+    // By these tables, the draft is right.
+    ghost is_draft: { Self → Self.Tables → Self.Draft → Type 0 };
+
     /// The tables at the start of a search.
     fn new_tables(&self) -> Result<Self::Tables, AllocError>
         ensures { IfOk result (owns self.now) };
@@ -53,6 +59,38 @@ pub trait Machine: Sync {
         ensures grown { OnOk result (IsGrown (meaning self.now tables.old) (meaning self.now tables.new)) }
         ensures known { IfOk result (λ initials. All (meaning self.now tables.new).knows initials.items) }
         ensures initials { IfOk result (λ initials. map (meaning self.now tables.new).point initials.items ≡ (words self.now).initials) };
+
+    /// Whether a draft is to be made of what the steps at this configuration need, for which none was wanted before. What
+    /// it is made from is then in the tables.
+    fn wants_draft(
+        &self,
+        tables: &mut Self::Tables,
+        at: Self::Configuration,
+    ) -> Result<bool, AllocError>
+        requires own { owns self.now tables.old }
+        requires known { (meaning self.now tables.old).knows at }
+        requires belongs { belongs self.now ((meaning self.now tables.old).point at) }
+        ensures owned { OnOk result (owns self.now tables.new) }
+        ensures grown { OnOk result (IsGrown (meaning self.now tables.old) (meaning self.now tables.new)) };
+
+    /// Finds out what the steps at this configuration need, as far as that is wanted.
+    fn draft(
+        &self,
+        tables: &Self::Tables,
+        at: Self::Configuration,
+    ) -> Result<Self::Draft, AllocError>
+        requires own { owns self.now tables.now }
+        requires known { (meaning self.now tables.now).knows at }
+        requires belongs { belongs self.now ((meaning self.now tables.now).point at) }
+        ensures { IfOk result (is_draft self.now tables.now) };
+
+    /// Puts a draft into the tables.
+    fn take_in(&self, tables: &mut Self::Tables, draft: Self::Draft) -> Result<(), AllocError>
+        requires own { owns self.now tables.old }
+        requires draft { is_draft self.now tables.old draft }
+        ensures owned { OnOk result (owns self.now tables.new) }
+        ensures grown { OnOk result (IsGrown (meaning self.now tables.old) (meaning self.now tables.new)) }
+        ensures kept { OnOk result ((d : Self.Draft) → is_draft self.now tables.old d → is_draft self.now tables.new d) };
 
     /// Puts into the tables what the steps at this configuration need.
     fn prepare(&self, tables: &mut Self::Tables, at: Self::Configuration) -> Result<(), AllocError>

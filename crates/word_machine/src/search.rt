@@ -9,7 +9,8 @@ ghost use Rattle.word_machine.specs.declared.found.Outcome.TheVariants.{Past, Ex
 
 use crate::bounds::Bounds;
 use crate::closed::Closed;
-use crate::expand::{expand_ranks, prepare_ranks};
+use crate::draft::prepare_level;
+use crate::expand::expand_ranks;
 use crate::found::{Found, Outcome, SearchFault};
 use crate::machine::Machine;
 use crate::measure::{Limits, Measure};
@@ -87,7 +88,7 @@ pub fn search<M: Machine, G: Gate, R: Threads + Wait + Sync>(
             return Ok(exhausted(&closed, bound));
         }
         let kept = closed.configurations();
-        prepare_ranks(machine, tables, kept, low)?;
+        prepare_level(rt, alloc, machine, tables, kept, low, bounds)?;
         match expand_ranks(rt, alloc, machine, tables, kept, low, bounds, gate)? {
             Expanded::Whole(successors) => {
                 let room = bound - level - 1;

@@ -93,8 +93,8 @@ returns-clause-outcome g c =
     (g.M.Machine.meaning machine c.loop-level.tables) c.loop-level.closed c.loop-level.level c.loop-level.low (record { closed = i.closed; known = i.known })
     (inl c.loop-level-test.false) c.exhausted-2.result c.exhausted-2.ensures.cut c.exhausted-2.ensures.uncut
 
-pub prepare_ranks-requires-clause-known : goal.prepare_ranks-requires-clause-known
-prepare_ranks-requires-clause-known g c = λ _ _.
+pub prepare_level-requires-clause-known : goal.prepare_level-requires-clause-known
+prepare_level-requires-clause-known g c = λ _ _.
     let machine = c.args.machine.now in
     let m = g.M.Machine.words machine in
     let meaning = g.M.Machine.meaning machine c.loop-level.tables in
@@ -108,31 +108,31 @@ expand_ranks-requires-clause-known g c = λ _ _.
     let machine = c.args.machine.now in
     let m = g.M.Machine.words machine in
     let old = g.M.Machine.meaning machine c.loop-level.tables in
-    let meaning = g.M.Machine.meaning machine c.prepare_ranks.new.tables in
+    let meaning = g.M.Machine.meaning machine c.prepare_level.new.tables in
     let i = c.loop-level.invariant in
     subst (All (IsOwned meaning (g.M.Machine.belongs machine))) (sym c.configurations-kept.ensures)
     (keys_owned m (g.M.Machine.belongs machine) (laws g machine) (measure_of m (g.M.Machine.estimate machine) c.args.limits.measure) c.args.limits.bounds.nodes (counts g machine c.args.limits.measure c.args.limits.bounds.nodes)
     meaning c.loop-level.closed c.loop-level.level c.loop-level.low
     (searched_still m (g.M.Machine.belongs machine) (laws g machine) (measure_of m (g.M.Machine.estimate machine) c.args.limits.measure) c.args.limits.bounds.nodes (counts g machine c.args.limits.measure c.args.limits.bounds.nodes)
-    old meaning c.in_ok-prepare_ranks.ensures.grown c.loop-level.closed c.loop-level.level c.loop-level.low (record { closed = i.closed; known = i.known })))
+    old meaning c.in_ok-prepare_level.ensures.grown c.loop-level.closed c.loop-level.level c.loop-level.low (record { closed = i.closed; known = i.known })))
 
 pub returns-in-Done-clause-grown : goal.returns-in-Done-clause-grown
 returns-in-Done-clause-grown g c =
     let machine = c.args.machine.now in
-    grown_more (g.M.Machine.meaning machine c.args.tables.now) (g.M.Machine.meaning machine c.loop-level.tables) (g.M.Machine.meaning machine c.prepare_ranks.new.tables)
-    c.loop-level.invariant.grown c.in_ok-prepare_ranks.ensures.grown
+    grown_more (g.M.Machine.meaning machine c.args.tables.now) (g.M.Machine.meaning machine c.loop-level.tables) (g.M.Machine.meaning machine c.prepare_level.new.tables)
+    c.loop-level.invariant.grown c.in_ok-prepare_level.ensures.grown
 
 pub returns-in-Done-clause-outcome : goal.returns-in-Done-clause-outcome
 returns-in-Done-clause-outcome g c =
     let machine = c.args.machine.now in
     let m = g.M.Machine.words machine in
     let old = g.M.Machine.meaning machine c.loop-level.tables in
-    let meaning = g.M.Machine.meaning machine c.prepare_ranks.new.tables in
+    let meaning = g.M.Machine.meaning machine c.prepare_level.new.tables in
     let i = c.loop-level.invariant in
     let left = measure_of m (g.M.Machine.estimate machine) c.args.limits.measure in
     let count = counts g machine c.args.limits.measure c.args.limits.bounds.nodes in
     let now = searched_still m (g.M.Machine.belongs machine) (laws g machine) left c.args.limits.bounds.nodes count
-    old meaning c.in_ok-prepare_ranks.ensures.grown c.loop-level.closed c.loop-level.level c.loop-level.low (record { closed = i.closed; known = i.known }) in
+    old meaning c.in_ok-prepare_level.ensures.grown c.loop-level.closed c.loop-level.level c.loop-level.low (record { closed = i.closed; known = i.known }) in
     let first = first_done m meaning c.loop-level.closed.keys c.configurations-kept.result.now c.configurations-kept.result.now
     c.configurations-kept.ensures c.configurations-kept.ensures c.loop-level.low c.in_ok-successors.field-0 c.in_ok-successors.ensures.expanded c.in-Done.rank c.in-Done.finish c.in-Done.is in
     let found = word_found m (g.M.Machine.belongs machine) (laws g machine) left c.args.limits.bounds.nodes count
@@ -143,13 +143,13 @@ pub merge-requires-clause-known : goal.merge-requires-clause-known
 merge-requires-clause-known g c = λ _ _.
     let machine = c.args.machine.now in
     let old = g.M.Machine.meaning machine c.loop-level.tables in
-    let meaning = g.M.Machine.meaning machine c.prepare_ranks.new.tables in
-    known_still old meaning c.in_ok-prepare_ranks.ensures.grown c.loop-level.closed.keys c.loop-level.invariant.known
+    let meaning = g.M.Machine.meaning machine c.prepare_level.new.tables in
+    known_still old meaning c.in_ok-prepare_level.ensures.grown c.loop-level.closed.keys c.loop-level.invariant.known
 
 pub merge-requires-clause-allowed : goal.merge-requires-clause-allowed
 merge-requires-clause-allowed g c = λ _ _.
     let machine = c.args.machine.now in
-    (whole (g.M.Machine.words machine) (g.M.Machine.meaning machine c.prepare_ranks.new.tables) c.loop-level.closed.keys c.configurations-kept.result.now c.configurations-kept.result.now
+    (whole (g.M.Machine.words machine) (g.M.Machine.meaning machine c.prepare_level.new.tables) c.loop-level.closed.keys c.configurations-kept.result.now c.configurations-kept.result.now
     c.configurations-kept.ensures c.configurations-kept.ensures c.loop-level.low c.in_ok-successors.field-0 c.in_ok-successors.ensures.expanded c.in-Whole.successors c.in-Whole.is).0
 
 pub merge-requires-clause-belongs : goal.merge-requires-clause-belongs
@@ -157,12 +157,12 @@ merge-requires-clause-belongs g c = λ _ _.
     let machine = c.args.machine.now in
     let m = g.M.Machine.words machine in
     let old = g.M.Machine.meaning machine c.loop-level.tables in
-    let meaning = g.M.Machine.meaning machine c.prepare_ranks.new.tables in
+    let meaning = g.M.Machine.meaning machine c.prepare_level.new.tables in
     let i = c.loop-level.invariant in
     let left = measure_of m (g.M.Machine.estimate machine) c.args.limits.measure in
     let count = counts g machine c.args.limits.measure c.args.limits.bounds.nodes in
     let now = searched_still m (g.M.Machine.belongs machine) (laws g machine) left c.args.limits.bounds.nodes count
-    old meaning c.in_ok-prepare_ranks.ensures.grown c.loop-level.closed c.loop-level.level c.loop-level.low (record { closed = i.closed; known = i.known }) in
+    old meaning c.in_ok-prepare_level.ensures.grown c.loop-level.closed c.loop-level.level c.loop-level.low (record { closed = i.closed; known = i.known }) in
     let all = whole m meaning c.loop-level.closed.keys c.configurations-kept.result.now c.configurations-kept.result.now
     c.configurations-kept.ensures c.configurations-kept.ensures c.loop-level.low c.in_ok-successors.field-0 c.in_ok-successors.ensures.expanded c.in-Whole.successors c.in-Whole.is in
     successors_own m (g.M.Machine.belongs machine) (laws g machine) left c.args.limits.bounds.nodes count meaning c.loop-level.closed c.loop-level.level c.loop-level.low now c.in-Whole.successors all
@@ -172,12 +172,12 @@ merge-requires-clause-within g c = λ _ _.
     let machine = c.args.machine.now in
     let m = g.M.Machine.words machine in
     let old = g.M.Machine.meaning machine c.loop-level.tables in
-    let meaning = g.M.Machine.meaning machine c.prepare_ranks.new.tables in
+    let meaning = g.M.Machine.meaning machine c.prepare_level.new.tables in
     let i = c.loop-level.invariant in
     let left = measure_of m (g.M.Machine.estimate machine) c.args.limits.measure in
     let count = counts g machine c.args.limits.measure c.args.limits.bounds.nodes in
     let now = searched_still m (g.M.Machine.belongs machine) (laws g machine) left c.args.limits.bounds.nodes count
-    old meaning c.in_ok-prepare_ranks.ensures.grown c.loop-level.closed c.loop-level.level c.loop-level.low (record { closed = i.closed; known = i.known }) in
+    old meaning c.in_ok-prepare_level.ensures.grown c.loop-level.closed c.loop-level.level c.loop-level.low (record { closed = i.closed; known = i.known }) in
     let all = whole m meaning c.loop-level.closed.keys c.configurations-kept.result.now c.configurations-kept.result.now
     c.configurations-kept.ensures c.configurations-kept.ensures c.loop-level.low c.in_ok-successors.field-0 c.in_ok-successors.ensures.expanded c.in-Whole.successors c.in-Whole.is in
     reached_within m (g.M.Machine.belongs machine) (laws g machine) left c.args.limits.bounds.nodes count meaning c.loop-level.closed c.loop-level.level c.loop-level.low now c.in-Whole.successors all
@@ -187,14 +187,14 @@ loop-level-preserved g c =
     let machine = c.args.machine.now in
     let m = g.M.Machine.words machine in
     let old = g.M.Machine.meaning machine c.loop-level.tables in
-    let meaning = g.M.Machine.meaning machine c.prepare_ranks.new.tables in
+    let meaning = g.M.Machine.meaning machine c.prepare_level.new.tables in
     let new = g.M.Machine.meaning machine c.merge.new.tables in
     let i = c.loop-level.invariant in
     let left = measure_of m (g.M.Machine.estimate machine) c.args.limits.measure in
     let count = counts g machine c.args.limits.measure c.args.limits.bounds.nodes in
     let short : c.loop-level.level < c.args.limits.bounds.nodes = c.loop-level-test.true in
     let now = searched_still m (g.M.Machine.belongs machine) (laws g machine) left c.args.limits.bounds.nodes count
-    old meaning c.in_ok-prepare_ranks.ensures.grown c.loop-level.closed c.loop-level.level c.loop-level.low (record { closed = i.closed; known = i.known }) in
+    old meaning c.in_ok-prepare_level.ensures.grown c.loop-level.closed c.loop-level.level c.loop-level.low (record { closed = i.closed; known = i.known }) in
     let all = whole m meaning c.loop-level.closed.keys c.configurations-kept.result.now c.configurations-kept.result.now
     c.configurations-kept.ensures c.configurations-kept.ensures c.loop-level.low c.in_ok-successors.field-0 c.in_ok-successors.ensures.expanded c.in-Whole.successors c.in-Whole.is in
     let later : IsSearched m (g.M.Machine.belongs machine) (laws g machine) left c.args.limits.bounds.nodes count new c.merge.new.closed (c.loop-level.level + 1) (length c.loop-level.closed.keys) =
@@ -207,5 +207,5 @@ loop-level-preserved g c =
       known = held.known;
       own = c.in_ok-merge-in-Whole.ensures.owned;
       grown = grown_more (g.M.Machine.meaning machine c.args.tables.now) meaning new
-          (grown_more (g.M.Machine.meaning machine c.args.tables.now) old meaning i.grown c.in_ok-prepare_ranks.ensures.grown) c.in_ok-merge-in-Whole.ensures.grown;
+          (grown_more (g.M.Machine.meaning machine c.args.tables.now) old meaning i.grown c.in_ok-prepare_level.ensures.grown) c.in_ok-merge-in-Whole.ensures.grown;
     }

@@ -11,8 +11,8 @@ returns-in-Some c =
     let found : number_at few t ≡ Some c.in-Some.number = ap (λ ns. number_at (numbered ns) t) (sym c.deref.ensures.value) ∙ sym c.number_among.ensures ∙ c.in-Some.is in
     sym (ap (λ o. cond (is_some o) o (number_at rest t)) found) ∙ sym (number_at-append few rest t) ∙ ap (λ es. number_at es t) c.self.view_is
 
-pub returns-in-None-2 : goal.returns-in-None-2
-returns-in-None-2 c =
+pub returns-in-None : goal.returns-in-None
+returns-in-None c =
     let t = c.args.text.now in
     let few = numbered c.self.inside.few.items in
     let rest = entries_of c.self.inside.rest.entries in

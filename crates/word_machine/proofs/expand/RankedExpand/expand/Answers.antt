@@ -1,22 +1,9 @@
-use Rattle.std.proofs.Common.{◌≡◌, ◌<◌, ◌≤◌, length, ℕ, ◌*◌, List, arith, sym, ◌∙◌, subst, slice_get, Some, get_or}
-use Rattle.std.proofs.lemmas.Nat.{mul-le}
-use Rattle.std.proofs.lemmas.Option.{slice_get_within, same_Some, slice_get-get_or}
+use Rattle.std.proofs.Common.{length, arith, get_or}
+use Rattle.std.proofs.lemmas.Option.{slice_get_within}
 use Rattle.std.proofs.lemmas.Result.{IfOk-weaker}
-use Rattle.word_machine.specs.Ranks.{StandsAt}
 use Rattle.word_machine.proofs.Meanings.{IfNone-weaker, IfSome-weaker}
+use Rattle.word_machine.proofs.Standing.{fits_below, holds_there, stands}
 use Rattle.word_machine.proofs.expand.RankedExpand.expand.Goals as goal
-
--- a place in memory has an offset
-fits_below : (i n size : ℕ) → i < n → n * size < 9223372036854775808 → i * size < 18446744073709551616
-fits_below i n size inside whole = let h : i * size ≤ n * size = mul-le i size n size (omega arith) (omega arith) in omega arith
-
--- what stands at the rank
-stands : {C : Type 0} (holds : C → Type 0) (keys : List C) (rank : ℕ) (d : C) → StandsAt holds keys rank → slice_get keys rank ≡ Some (get_or keys rank d)
-stands holds keys rank d own = slice_get-get_or keys rank d (slice_get_within keys rank own.0 own.1)
-
--- what holds of what stands there
-holds_there : {C : Type 0} (holds : C → Type 0) (keys : List C) (rank : ℕ) (d : C) → StandsAt holds keys rank → holds (get_or keys rank d)
-holds_there holds keys rank d own = subst holds (same_Some own.0 (get_or keys rank d) (sym own.1 ∙ stands holds keys rank d own)) own.2
 
 pub bounds-self-rank : goal.bounds-self-rank
 bounds-self-rank g c = slice_get_within c.args.self.now.configurations.now c.args.rank c.requires.0 c.requires.1

@@ -1,0 +1,15 @@
+use Rattle.std.proofs.Common.{◌≡◌, ◌++◌, map, All}
+use Rattle.std.specs.Vec.Iter.{into_iter_items}
+use Rattle.network_table.specs.Drafts.{drafted_at}
+use Rattle.network_table.specs.Networks.{IsMore, IsWhole, Knows, numbered_at}
+use Rattle.network_table.proofs.table.NetworkTable.settle_networks.Given as goal
+
+-- those so far have numbers
+abbrev pub invariant-loop-drafted : goal.invariant-loop-drafted
+invariant-loop-drafted l = record {
+  whole : IsWhole l.self;
+  more : IsMore l.initial.self l.self;
+  known : All (Knows l.self) l.numbers.items;
+  each : map (numbered_at l.self) l.numbers.items ≡ map (drafted_at l.initial.self) l.yielded;
+  parts : l.yielded ++ into_iter_items l.drafted-iterator ≡ l.fn.drafts.items;
+}
