@@ -1,9 +1,9 @@
 //! What task networks need from the start, by their numbers.
 //!
 //! A [`NeedsTable`] keeps beside a table of networks what each of them needs ([`network_needs`]), by the numbers of
-//! atoms: so a look at a state tells whether a configuration may end. What a node wants, where its row stands and whether
-//! it never ends, also by what is reached ([`relaxed_reach`]), is found once for each numbered node, and a network's
-//! needs are put together from that.
+//! atoms: so a look at a state tells whether a configuration may end. What a node wants, where its row stands and
+//! whether it never ends, also by what is reached ([`relaxed_reach`]), is found once for each numbered node, and a
+//! network's needs are put together from that.
 #![tactic(auto)]
 
 mod laws;
