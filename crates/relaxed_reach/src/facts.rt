@@ -11,8 +11,8 @@ use htn_state::{Action, Atom, Literal, State};
 /// The atoms that may become true, and those that are true from the start on and never become false.
 #[derive(Drop)]
 pub(crate) struct FactSets {
-    /// By predicate, whether its atoms are told apart. Nothing is said of the others: that a static literal never holds
-    /// makes its instance dead, and is known without these sets.
+    /// By predicate, whether its atoms are told apart. Nothing is said of the others: a static literal that never holds
+    /// makes the instance of its step dead, or its action barred, and that is known without these sets.
     pub(crate) told: Vec<bool>,
     pub(crate) possible: State,
     pub(crate) lasting: State,

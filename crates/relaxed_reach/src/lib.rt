@@ -5,7 +5,7 @@
 //! whose instances has such a node never ends ([`reach_stays`]). What a search keeps in mind is one invariant of its
 //! own configurations; then their nodes alone tell whether they may end ([`reached_stays`]). [`RelaxedReach`] is what
 //! is reached from the initial state of a task by the nodes of its enumerated instances. How it is found is not proved:
-//! it is checked. It speaks of the fluent atoms alone ([`fluent_predicates`]), which are few beside the static ones.
+//! it is checked. It tells fluent atoms apart alone ([`fluent_predicates`]).
 #![tactic(auto)]
 
 mod check;
