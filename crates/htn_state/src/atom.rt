@@ -1,6 +1,7 @@
 //! Ground atoms.
 ghost use Rattle.std.specs.Prelude.{◌≡◌, IfOk};
-ghost use Rattle.std.specs.Ordering.{as_partial_cmp};
+ghost use Rattle.std.specs.Cmp.Lexicographic.{slice_cmp};
+ghost use Rattle.std.specs.Ordering.{as_partial_cmp, nat_cmp};
 
 use smallvec::SmallVec;
 use std::alloc::{AllocError, Global};
@@ -49,6 +50,21 @@ impl Atom {
     {
         self.arguments.as_slice()
     }
+}
+
+/// The order of two lists of objects, one by one: most have two or three, for which std's comparison by groups takes
+/// longer.
+fn compare_arguments(a: &[u16], b: &[u16]) -> Ordering
+    ensures { result ≡ slice_cmp nat_cmp a.now b.now }
+{
+    let both = a.len().min(b.len());
+    for i in 0..both {
+        let found = a[i].cmp(&b[i]);
+        if found.is_ne() {
+            return found;
+        }
+    }
+    a.len().cmp(&b.len())
 }
 
 impl Clone for Atom {
@@ -101,9 +117,10 @@ impl Ord for Atom {
     ghost matches_eq = { atom_cmp-matches };
 
     fn cmp(&self, other: &Atom) -> Ordering {
-        self.predicate
-            .cmp(&other.predicate)
-            .then(self.arguments.cmp(&other.arguments))
+        match self.predicate.cmp(&other.predicate) {
+            Ordering::Equal => compare_arguments(self.arguments(), other.arguments()),
+            unequal => unequal,
+        }
     }
 }
 

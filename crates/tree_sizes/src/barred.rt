@@ -39,11 +39,12 @@ fn is_changed(task: &Task, predicate: u16) -> bool
 fn is_dead_literal(task: &Task, literal: &Literal) -> bool
     ensures { result ≡ model.is_dead_literal (problem_of task.now) (literal_of literal.now) }
 {
-    let holds = task.initial_atoms().literal_holds(literal);
+    let initial = task.initial_atoms();
     match literal {
-        Literal::Positive(atom) => !is_changed(task, atom.predicate()) && !holds,
-        Literal::Negative(atom) => !is_changed(task, atom.predicate()) && !holds,
-        Literal::Same(_, _) | Literal::Different(_, _) => !holds,
+        Literal::Positive(atom) | Literal::Negative(atom) => {
+            !is_changed(task, atom.predicate()) && !initial.literal_holds(literal)
+        }
+        Literal::Same(_, _) | Literal::Different(_, _) => !initial.literal_holds(literal),
     }
 }
 
