@@ -155,6 +155,23 @@ module _ (vs : List Variable) (v : Variable) where
 
 -- ## The scope
 
+-- the empty list has no item
+nothing_in : {X : Type 0} (before : List X) (x : X) (after : List X) → [] ≡ before ++ x ∷ after → ⊥
+nothing_in [] x after e = cc
+nothing_in (y ∷ before) x after e = cc
+
+-- no variables, of which nothing is known
+pub scope_none : IsScope [] [] None
+scope_none = record {
+  whole = record {
+    positions = λ t. refl;
+    repeats = record { sound = tt; complete = λ e place (before, first, middle, second, after, cut, same, is). nothing_in (before ++ first ∷ middle) second after cut };
+  };
+  before = λ k e at. cc;
+  rising = λ k j e f at_k at_j le. cc;
+  within = λ k e at. cc;
+}
+
 -- one more entry, which has what was known before it
 pub scope_more : (entries : List Entry) (e : Entry) (known after : Entries) (found here next : Option ℕ) → e.texts ≡ length known → e.repeat ≡ found
     → ((t : Text) → number_at after t ≡ next_number known (text_of e.variable) (length entries) t) → take (length known) after ≡ known

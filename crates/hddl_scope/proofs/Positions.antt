@@ -1,5 +1,5 @@
 -- Positions of names among distinct names.
-use Rattle.std.proofs.Common.{◌≡◌, ◌⊎◌, ℕ, ◌+◌, ◌<◌, suc, not, true≢false, slice_get, Option, nat_lt, length, ◌↔◌, arith, Bool, true, false, List, [], ◌∷◌, ◌++◌, Some, None, refl, sym, ap, subst, ◌∙◌, inl, inr, cond, is_some, ◌||◌}
+use Rattle.std.proofs.Common.{◌≡◌, ◌⊎◌, ℕ, ◌+◌, ◌<◌, suc, not, true≢false, slice_get, option_and_then, Option, nat_lt, length, ◌↔◌, arith, Bool, true, false, List, [], ◌∷◌, ◌++◌, Some, None, refl, sym, ap, subst, ◌∙◌, inl, inr, cond, is_some, ◌||◌}
 use Rattle.std.specs.List.{find, list_any, position, position_from, position_or_len, fold}
 use Rattle.std.proofs.lemmas.Bool.{cases_lt}
 use Rattle.std.proofs.lemmas.Bool.Decides.{nat_tests, Decides-ltb}
@@ -144,3 +144,11 @@ found_nowhere p xs e =
           let some : Some (position_or_len p xs) ≡ None = sym (ap (λ b. cond b (Some (position_or_len p xs)) None) test) ∙ e in cc
       | inr past ↦ slice_get_past xs (position_or_len p xs) past
     ]
+
+-- what stands at the position, where there is one, is the value that is found
+pub found_by_position : {X : Type 0} (p : X → Bool) (xs : List X) → option_and_then (slice_get xs) (position p xs) ≡ find p xs
+found_by_position p xs = by (position p xs) refl
+  where
+    by : (o : Option ℕ) → position p xs ≡ o → option_and_then (slice_get xs) o ≡ find p xs
+    by (Some k) is = sym (found_at p xs k is)
+    by None is = sym (found_nowhere p xs is)

@@ -1,5 +1,6 @@
 //! The variables in force, found by their texts.
-ghost use Rattle.std.specs.Prelude.{◌≡◌, [], ◌∷◌, ◌++◌, length, take, cond, is_some, Some, None, IfOk, OnErr, OnOk, option_map};
+ghost use Rattle.std.specs.Prelude.{◌≡◌, [], ◌∷◌, ◌++◌, length, take, cond, is_some, Some, None, IfOk, OnErr, OnOk};
+ghost use Rattle.std.specs.Prelude.{option_and_then, option_map, slice_get};
 ghost use Rattle.std.specs.List.{flat_map, position};
 ghost use Rattle.hddl_meaning.specs.Mentions.{Text};
 ghost use Rattle.hddl_meaning.specs.Names.{is_same_text};
@@ -51,19 +52,22 @@ impl Model for Scope {
     ghost invariant = { λ scope. IsScope scope.entries.items scope.positions scope.repeat };
 }
 
-/// Gives a number to a text that has none. Where memory is refused, the numbers are as they were.
+/// Gives a number to a text, unless it has one, which is `first`. Where memory is refused, the numbers are as they
+/// were.
 fn number_text(
     alloc: Global,
     positions: &mut Numbers,
     text: &[u8],
+    first: Option<usize>,
     number: usize,
 ) -> Result<(), AllocError>
+    requires { first ≡ number_at positions.old text.now }
     ensures numbers { OnOk result ((t : Text) → number_at positions.new t
         ≡ cond (is_some (number_at positions.old t)) (number_at positions.old t) (cond (is_same_text t text.now) (Some number) None)) }
     ensures kept { take (length positions.old) positions.new ≡ positions.old }
     ensures err { OnErr result (positions.new ≡ positions.old) }
 {
-    if positions.get(text).is_none() {
+    if first.is_none() {
         positions.add(alloc, text, number)?;
     }
     Ok(())
@@ -81,11 +85,22 @@ impl Scope {
         }
     }
 
+    /// No variables, with room for so many.
+    fn with_capacity(alloc: Global, capacity: usize) -> Result<Scope, AllocError>
+        ensures { IfOk result (λ scope. scope ≡ []) }
+    {
+        Ok(Scope {
+            entries: Vec::with_capacity(alloc, capacity)?,
+            positions: Numbers::with_capacity(alloc, capacity)?,
+            repeat: None,
+        })
+    }
+
     /// The parameters of a schema.
     pub fn of(alloc: Global, groups: &[VariableGroup]) -> Result<Scope, AllocError>
         ensures { IfOk result (λ scope. scope ≡ parameters_of groups.now) }
     {
-        let mut scope = Scope::new(alloc);
+        let mut scope = Scope::with_capacity(alloc, groups.len())?;
         scope.push_groups(alloc, groups, false)?;
         Ok(scope)
     }
@@ -101,7 +116,14 @@ impl Scope {
     pub fn get(&self, text: &[u8]) -> Option<&Declared>
         ensures { option_map (λ v. v.now) result ≡ variable_in self.now text.now }
     {
-        match self.positions.get(text) {
+        self.at(self.positions.get(text))
+    }
+
+    /// The variable at a position, if one is given.
+    fn at(&self, position: Option<usize>) -> Option<&Declared>
+        ensures { option_map (λ v. v.now) result ≡ option_and_then (slice_get self.now) position }
+    {
+        match position {
             Some(position) => match self.entries.get(position) {
                 Some(entry) => Some(&entry.variable),
                 None => None,
@@ -134,11 +156,11 @@ impl Scope {
         }
     }
 
-    /// The place of the first variable of a text.
-    fn place_of(&self, text: &[u8]) -> Option<usize>
-        ensures { result ≡ option_map (λ v. v.typed.mention.place) (variable_in self.now text.now) }
+    /// The place of the variable at a position, if one is given.
+    fn place_at(&self, position: Option<usize>) -> Option<usize>
+        ensures { result ≡ option_map (λ v. v.typed.mention.place) (option_and_then (slice_get self.now) position) }
     {
-        match self.get(text) {
+        match self.at(position) {
             Some(variable) => Some(variable.place()),
             None => None,
         }
@@ -149,11 +171,12 @@ impl Scope {
         ensures ok { OnOk result (self.new ≡ self.old ++ variable ∷ []) }
         ensures err { OnErr result (self.new ≡ self.old) }
     {
-        let here = later(self.place_of(variable.text()), variable.place());
+        let first = self.positions.get(variable.text());
+        let here = later(self.place_at(first), variable.place());
         let texts = self.positions.len();
         let repeat = self.repeat;
         let position = self.entries.len();
-        number_text(alloc, &mut self.positions, variable.text(), position)?;
+        number_text(alloc, &mut self.positions, variable.text(), first, position)?;
         let entry = Entry {
             variable,
             texts,

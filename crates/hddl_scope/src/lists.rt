@@ -17,6 +17,7 @@ fn push_variables(
 ) -> Result<(), AllocError>
     ensures { OnOk result (mentions.new.items ≡ mentions.old.items ++ map variable_mention variables.now) }
 {
+    mentions.reserve(variables.len())?;
     for variable in variables {
         mentions.push(Mention::of_variable(alloc, variable)?)?;
     }
@@ -26,6 +27,7 @@ fn push_variables(
 fn push_names(alloc: Global, mentions: &mut Vec<Mention>, names: &[Name]) -> Result<(), AllocError>
     ensures { OnOk result (mentions.new.items ≡ mentions.old.items ++ map mention_of names.now) }
 {
+    mentions.reserve(names.len())?;
     for name in names {
         mentions.push(Mention::of_name(alloc, name)?)?;
     }
@@ -36,7 +38,7 @@ fn push_names(alloc: Global, mentions: &mut Vec<Mention>, names: &[Name]) -> Res
 pub fn variables_in(alloc: Global, groups: &[VariableGroup]) -> Result<Vec<Mention>, AllocError>
     ensures { IfOk result (λ mentions. mentions.items ≡ mentions_of (typed_variables groups.now)) }
 {
-    let mut mentions = Vec::new(alloc);
+    let mut mentions = Vec::with_capacity(alloc, groups.len())?;
     for group in groups {
         push_variables(alloc, &mut mentions, group.variables.as_slice())?;
     }
@@ -47,7 +49,7 @@ pub fn variables_in(alloc: Global, groups: &[VariableGroup]) -> Result<Vec<Menti
 pub fn names_in(alloc: Global, groups: &[NameGroup]) -> Result<Vec<Mention>, AllocError>
     ensures { IfOk result (λ mentions. mentions.items ≡ mentions_of (typed_names groups.now)) }
 {
-    let mut mentions = Vec::new(alloc);
+    let mut mentions = Vec::with_capacity(alloc, groups.len())?;
     for group in groups {
         push_names(alloc, &mut mentions, group.names.as_slice())?;
     }
@@ -71,7 +73,7 @@ fn push_parent(
 pub fn types_in(alloc: Global, groups: &[NameGroup]) -> Result<Vec<Mention>, AllocError>
     ensures { IfOk result (λ mentions. mentions.items ≡ flat_map (λ g. map mention_of g.names ++ optional_mention g.of_type) groups.now) }
 {
-    let mut mentions = Vec::new(alloc);
+    let mut mentions = Vec::with_capacity(alloc, groups.len())?;
     for group in groups {
         push_names(alloc, &mut mentions, group.names.as_slice())?;
         push_parent(alloc, &mut mentions, &group.of_type)?;
@@ -86,7 +88,7 @@ pub fn predicate_names(
 ) -> Result<Vec<Mention>, AllocError>
     ensures { IfOk result (λ mentions. mentions.items ≡ map (λ x. mention_of x.name) predicates.now) }
 {
-    let mut mentions = Vec::new(alloc);
+    let mut mentions = Vec::with_capacity(alloc, predicates.len())?;
     for predicate in predicates {
         mentions.push(Mention::of_name(alloc, &predicate.name)?)?;
     }
@@ -97,7 +99,7 @@ pub fn predicate_names(
 pub fn method_names(alloc: Global, methods: &[MethodText]) -> Result<Vec<Mention>, AllocError>
     ensures { IfOk result (λ mentions. mentions.items ≡ map (λ x. mention_of x.name) methods.now) }
 {
-    let mut mentions = Vec::new(alloc);
+    let mut mentions = Vec::with_capacity(alloc, methods.len())?;
     for method in methods {
         mentions.push(Mention::of_name(alloc, &method.name)?)?;
     }
@@ -112,7 +114,7 @@ pub fn task_names(
 ) -> Result<Vec<Mention>, AllocError>
     ensures { IfOk result (λ mentions. mentions.items ≡ map (λ x. mention_of x.name) tasks.now ++ map (λ x. mention_of x.name) actions.now) }
 {
-    let mut mentions = Vec::new(alloc);
+    let mut mentions = Vec::with_capacity(alloc, tasks.len().saturating_add(actions.len()))?;
     for task in tasks {
         mentions.push(Mention::of_name(alloc, &task.name)?)?;
     }

@@ -1,5 +1,6 @@
 //! Texts with numbers.
-ghost use Rattle.std.specs.Prelude.{◌≡◌, [], ◌∷◌, ◌++◌, None, OnOk, OnErr, length, take};
+ghost use Rattle.std.specs.Prelude.{◌≡◌, [], ◌∷◌, ◌++◌, None, IfOk, OnOk, OnErr, length, take};
+ghost use Rattle.hddl_meaning.specs.Names.{is_same_text};
 ghost use Rattle.hddl_scope.specs.Numbers.{number_at, numbered};
 
 use hddl_names::Folded;
@@ -38,12 +39,19 @@ impl Model for Numbers {
     ghost invariant = { λ numbers. (length numbers.few.items ≤ 8) × (length numbers.few.items < 8 → numbers.rest.entries ≡ []) };
 }
 
+/// Whether two texts are the same. Those of one list often differ in their last bytes alone, which are looked at first.
+fn is_same(text: &[u8], other: &[u8]) -> bool
+    ensures { result ≡ is_same_text text.now other.now }
+{
+    text.last() == other.last() && text == other
+}
+
 /// The number of a text among these.
 fn number_among(few: &[Numbered], text: &[u8]) -> Option<usize>
     ensures { result ≡ number_at (numbered few.now) text.now }
 {
     for one in few {
-        if text == one.text.as_slice() {
+        if is_same(text, one.text.as_slice()) {
             return Some(one.number);
         }
     }
@@ -59,6 +67,16 @@ impl Numbers {
             few: Vec::new(alloc),
             rest: IndexMap::new(alloc),
         }
+    }
+
+    /// No texts, with room for so many, or for the first few of them.
+    pub(crate) fn with_capacity(alloc: Global, capacity: usize) -> Result<Numbers, AllocError>
+        ensures { IfOk result (λ numbers. numbers ≡ []) }
+    {
+        Ok(Numbers {
+            few: Vec::with_capacity(alloc, capacity.min(FEW))?,
+            rest: IndexMap::new(alloc),
+        })
     }
 
     /// How many texts there are.

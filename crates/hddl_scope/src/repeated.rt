@@ -1,6 +1,7 @@
 //! Names that must differ.
 ghost use Rattle.std.specs.Prelude.{◌≡◌, IfOk, OnOk};
 ghost use Rattle.hddl_scope.specs.Findings.{Finds, IsOneOf};
+ghost use Rattle.hddl_scope.specs.Numbers.{number_at};
 ghost use Rattle.hddl_scope.specs.Repeats.{IsRepeat, noted, repeat_of};
 
 use crate::mention::Mention;
@@ -28,14 +29,28 @@ pub(crate) fn later(first: Option<usize>, place: usize) -> Option<usize>
     }
 }
 
+/// Keeps the place of a name, unless there is one before, which is `first`.
+fn note_after(
+    alloc: Global,
+    known: &mut Numbers,
+    mention: &Mention,
+    first: Option<usize>,
+) -> Result<(), AllocError>
+    requires { first ≡ number_at known.old mention.now.text }
+    ensures { OnOk result (known.new ≡ noted known.old mention.now) }
+{
+    if first.is_none() {
+        known.add(alloc, mention.text(), mention.place())?;
+    }
+    Ok(())
+}
+
 /// Keeps the place of a name that is new.
 pub(crate) fn note(alloc: Global, known: &mut Numbers, mention: &Mention) -> Result<(), AllocError>
     ensures { OnOk result (known.new ≡ noted known.old mention.now) }
 {
-    if known.get(mention.text()).is_none() {
-        known.add(alloc, mention.text(), mention.place())?;
-    }
-    Ok(())
+    let first = known.get(mention.text());
+    note_after(alloc, known, mention, first)
 }
 
 /// The place of a name that stood before, if there is one.
@@ -45,8 +60,9 @@ pub fn first_repeat(alloc: Global, mentions: &[Mention]) -> Result<Option<usize>
     let mut known = Numbers::new(alloc);
     let mut found = None;
     for mention in mentions {
-        let here = later(known.get(mention.text()), mention.place());
-        note(alloc, &mut known, mention)?;
+        let first = known.get(mention.text());
+        let here = later(first, mention.place());
+        note_after(alloc, &mut known, mention, first)?;
         found = least(found, here);
     }
     Ok(found)

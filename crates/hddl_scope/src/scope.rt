@@ -101,7 +101,7 @@ fn push_group(
 pub fn parameters(alloc: Global, groups: &[VariableGroup]) -> Result<Vec<Declared>, AllocError>
     ensures { IfOk result (λ parameters. parameters.items ≡ parameters_of groups.now) }
 {
-    let mut parameters = Vec::new(alloc);
+    let mut parameters = Vec::with_capacity(alloc, groups.len())?;
     for group in groups {
         push_group(alloc, &mut parameters, group)?;
     }

@@ -5,14 +5,16 @@ use Rattle.hddl_scope.specs.Numbers.{number_at, numbered}
 use Rattle.hddl_scope.proofs.Entries.{first_of_few, none_more}
 use Rattle.hddl_scope.proofs.numbers.number_among.Goals as goal
 
-pub returns-then-eq : goal.returns-then-eq
-returns-then-eq c =
-    let same : is_same_text c.args.text.now c.one-item.result.text.items ≡ true = ap (is_same_text c.args.text.now) (sym c.as_slice.ensures) ∙ sym c.if-eq.ensures in
+pub returns-then-is_same : goal.returns-then-is_same
+returns-then-is_same c =
+    let same : is_same_text c.args.text.now c.one-item.result.text.items ≡ true =
+    ap (is_same_text c.args.text.now) (sym c.as_slice.ensures) ∙ sym c.is_same.ensures ∙ c.if-is_same.true in
     sym (first_of_few c.args.few.now c.args.text.now c.loop-one.one-index c.one-item.result c.loop-one-test.true c.one-item.is c.loop-one.invariant same)
 
 pub loop-one-preserved : goal.loop-one-preserved
 loop-one-preserved c =
-    let differs : is_same_text c.args.text.now c.one-item.result.text.items ≡ false = ap (is_same_text c.args.text.now) (sym c.as_slice.ensures) ∙ sym c.if-eq.ensures in
+    let differs : is_same_text c.args.text.now c.one-item.result.text.items ≡ false =
+    ap (is_same_text c.args.text.now) (sym c.as_slice.ensures) ∙ sym c.is_same.ensures ∙ c.if-is_same.false in
     none_more c.args.few.now c.args.text.now c.loop-one.one-index c.one-item.result c.loop-one-test.true c.one-item.is c.loop-one.invariant differs
 
 pub returns : goal.returns

@@ -6,4 +6,4 @@ use Rattle.hddl_scope.proofs.in_force.Scope.of.Goals as goal
 
 pub returns : goal.returns
 returns c =
-    c.in_ok-push_groups.ensures.ok ∙ ap (λ l. l ++ flat_map (group_variables false) c.args.groups.now) c.new-scope.ensures ∙ scope_groups false c.args.groups.now
+    c.in_ok-push_groups.ensures.ok ∙ ap (λ l. l ++ flat_map (group_variables false) c.args.groups.now) c.in_ok-scope.ensures ∙ scope_groups false c.args.groups.now
