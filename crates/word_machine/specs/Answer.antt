@@ -1,11 +1,12 @@
 -- What a search answers.
-use Rattle.std.specs.Prelude.{ℕ, ◌<◌, ◌≤◌, List}
+use Rattle.std.specs.Prelude.{ℕ, ◌<◌, ◌≤◌, List, Option}
+use Rattle.std.specs.declared.option.Option.TheVariants as option
 use Rattle.word_machine.specs.Words.{Precedes, MeetsBound, step_count}
 use Rattle.word_machine.specs.Machine.{WordMachine, IsFinishing, IsLiveStep, IsMet}
 use Rattle.word_machine.specs.declared.found.Found.{Found}
 use Rattle.word_machine.specs.declared.found.Found.TheVariants.{Word, None, Unsolvable}
 use Rattle.word_machine.specs.declared.found.Outcome.{Outcome}
-use Rattle.word_machine.specs.declared.found.Outcome.TheVariants.{Finished, Past, Exhausted}
+use Rattle.word_machine.specs.declared.found.Outcome.TheVariants.{Finished, Past, Exhausted, GivenUp}
 use Rattle.word_machine.specs.declared.measure.Measure.{Measure}
 use Rattle.word_machine.specs.declared.measure.Measure.TheVariants.{OpenNodes, LowerBound}
 
@@ -34,19 +35,21 @@ module _ {Configuration : Type 0} (m : WordMachine Configuration) where
   IsAnswer bound None = NoneFinishes bound × IsMet m bound
   IsAnswer bound Unsolvable = NeverFinishes × (IsMet m bound → ⊥)
 
-  -- the same by a measure of what is left, in the place of the open nodes
+  -- the same by a measure of what is left, in the place of the open nodes; nothing is said where it was given up
   abbrev pub IsOutcome : (Configuration → ℕ) → ℕ → Outcome → Type 0
   IsOutcome measure bound (Finished word) = IsLeastFinishing bound word.items
   IsOutcome measure bound (Past least wide) = NoneFinishes bound × MeetsBound (IsLiveStep m) measure m.initials bound × NoneFinishesBefore least
   IsOutcome measure bound Exhausted = NeverFinishes × (MeetsBound (IsLiveStep m) measure m.initials bound → ⊥)
+  IsOutcome measure bound GivenUp = Unit {0}
 
   -- what is left at least of a configuration, by the measure
   abbrev pub measure_of : (Configuration → ℕ) → Measure → Configuration → ℕ
   measure_of lower_bound OpenNodes = m.open_len
   measure_of lower_bound LowerBound = lower_bound
 
--- an outcome by the open nodes, as an answer
-abbrev pub found_of : Outcome → Found
-found_of (Finished word) = Word word
-found_of (Past least wide) = None
-found_of Exhausted = Unsolvable
+-- an outcome by the open nodes, as an answer, unless it was given up
+abbrev pub found_of : Outcome → Option Found
+found_of (Finished word) = option.Some (Word word)
+found_of (Past least wide) = option.Some None
+found_of Exhausted = option.Some Unsolvable
+found_of GivenUp = option.None

@@ -1,5 +1,5 @@
 //! The search with growing bounds.
-ghost use Rattle.std.specs.Prelude.{◌≡◌, ◌<◌, ◌≤◌, All, map, IfOk, IfErr};
+ghost use Rattle.std.specs.Prelude.{◌≡◌, ◌<◌, ◌≤◌, All, map, IfOk, IfErr, IfSome, OnOk};
 ghost use Rattle.word_machine.specs.Answer.{IsAnswer, NoneFinishes};
 ghost use Rattle.word_machine.specs.Ranks.{IsOwned};
 ghost use Rattle.word_machine.specs.declared.found.SearchFault.TheVariants.{NoThread};
@@ -49,47 +49,55 @@ fn next_step(wide: Option<u64>, step: u64) -> u64 {
 }
 
 // The answer where no word finishes within the bound. A search by the open nodes tells whether the bound was met, and
-// ends where it is.
+// ends where it is. It goes on with the tables: what becomes of most networks stands there already.
 fn search_open_nodes<M: Machine, G: Gate, R: Threads + Wait + Sync>(
     rt: &R,
     alloc: Global,
     machine: &M,
+    tables: &mut M::Tables,
     bounds: Bounds,
+    most_kept: usize,
     gate: &G,
-) -> Result<Found, SearchFault>
-    requires { NoneFinishes (M.words machine.now) bounds.nodes }
-    ensures answer { IfOk result (IsAnswer (M.words machine.now) bounds.nodes) }
+) -> Result<Option<Found>, SearchFault>
+    requires own { M.owns machine.now tables.old }
+    requires none { NoneFinishes (M.words machine.now) bounds.nodes }
+    ensures owned { OnOk result (M.owns machine.now tables.new) }
+    ensures answer { IfOk result (λ o. IfSome o (IsAnswer (M.words machine.now) bounds.nodes)) }
     ensures no_thread { IfErr result (λ e. e ≡ NoThread → 1 < bounds.workers) }
 {
-    let mut tables = machine.new_tables()?;
-    let initials = machine.initials(&mut tables)?;
+    let initials = machine.initials(tables)?;
     let limits = Limits {
         bounds,
         measure: Measure::OpenNodes,
         none_within: true,
+        most_kept,
     };
-    let outcome = search(rt, alloc, machine, &mut tables, &initials, limits, gate)?;
+    let outcome = search(rt, alloc, machine, tables, &initials, limits, gate)?;
     Ok(outcome.found())
 }
 
 /// The answer of `find_word`. It searches by the machine's own bound on the steps that are left, within bounds that
 /// grow from the least of the initial configurations on, each so far that about as many more are looked at, or where few
-/// are little past one by steps that grow. Only where
-/// no word is found so, a dive looks for a configuration that tells that the bound was met, and where it finds none, a
-/// search by the open nodes tells whether it was.
+/// are little past one by steps that grow. Only where no word is found so, a dive looks for a configuration that tells
+/// that the bound was met, and where it finds none, a search by the open nodes tells whether it was. All go by the same
+/// tables, which a caller may go on with. None where it is given up, once one of them has kept more than `most_kept`
+/// configurations.
 pub fn find_word_deepening<M: Machine, G: Gate, R: Threads + Wait + Sync>(
     rt: &R,
     alloc: Global,
     machine: &M,
+    tables: &mut M::Tables,
     bounds: Bounds,
+    most_kept: usize,
     gate: &G,
-) -> Result<Found, SearchFault>
-    ensures answer { IfOk result (IsAnswer (M.words machine.now) bounds.nodes) }
+) -> Result<Option<Found>, SearchFault>
+    requires own { M.owns machine.now tables.old }
+    ensures owned { OnOk result (M.owns machine.now tables.new) }
+    ensures answer { IfOk result (λ o. IfSome o (IsAnswer (M.words machine.now) bounds.nodes)) }
     ensures no_thread { IfErr result (λ e. e ≡ NoThread → 1 < bounds.workers) }
 {
-    let mut tables = machine.new_tables()?;
-    let initials = machine.initials(&mut tables)?;
-    let first = least_bound(machine, &tables, &initials);
+    let initials = machine.initials(tables)?;
+    let first = least_bound(machine, tables, &initials);
     // No word finishes in fewer steps than `least`.
     let mut least = first;
     let mut nodes = first;
@@ -100,11 +108,13 @@ pub fn find_word_deepening<M: Machine, G: Gate, R: Threads + Wait + Sync>(
             bounds: within,
             measure: Measure::LowerBound,
             none_within: false,
+            most_kept,
         };
-        let outcome = search(rt, alloc, machine, &mut tables, &initials, limits, gate)?;
+        let outcome = search(rt, alloc, machine, tables, &initials, limits, gate)?;
         match outcome {
-            Outcome::Finished(word) => return Ok(Found::Word(word)),
-            Outcome::Exhausted => return Ok(Found::Unsolvable),
+            Outcome::Finished(word) => return Ok(Some(Found::Word(word))),
+            Outcome::Exhausted => return Ok(Some(Found::Unsolvable)),
+            Outcome::GivenUp => return Ok(None),
             Outcome::Past { least: past, wide } => {
                 least = past.max(within.nodes + 1);
                 nodes = next_bound(least, wide, step);
@@ -112,10 +122,8 @@ pub fn find_word_deepening<M: Machine, G: Gate, R: Threads + Wait + Sync>(
             }
         }
     }
-    // The dive lets the tables go. That memory was refused to it tells nothing.
-    let is_met = dive(alloc, machine, tables, &initials, first, bounds.nodes).unwrap_or(false);
-    if is_met {
-        return Ok(Found::None);
+    if dive(alloc, machine, tables, &initials, first, bounds.nodes)? {
+        return Ok(Some(Found::None));
     }
-    search_open_nodes(rt, alloc, machine, bounds, gate)
+    search_open_nodes(rt, alloc, machine, tables, bounds, most_kept, gate)
 }

@@ -158,30 +158,31 @@ fn expand<M: Machine>(
 pub fn dive<M: Machine>(
     alloc: Global,
     machine: &M,
-    mut tables: M::Tables,
+    tables: &mut M::Tables,
     initials: &[M::Configuration],
     least: u64,
     bound: u64,
 ) -> Result<bool, AllocError>
-    requires own { M.owns machine.now tables }
-    requires known { All (M.meaning machine.now tables).knows initials.now }
-    requires initials { map (M.meaning machine.now tables).point initials.now ≡ (M.words machine.now).initials }
+    requires own { M.owns machine.now tables.old }
+    requires known { All (M.meaning machine.now tables.old).knows initials.now }
+    requires initials { map (M.meaning machine.now tables.old).point initials.now ≡ (M.words machine.now).initials }
     requires least { All (λ c. least ≤ M.estimate machine.now c) (M.words machine.now).initials }
-    ensures { IfOk result (λ is_met. is_met ≡ true → IsMet (M.words machine.now) bound) }
+    ensures owned { OnOk result (M.owns machine.now tables.new) }
+    ensures met { IfOk result (λ is_met. is_met ≡ true → IsMet (M.words machine.now) bound) }
 {
     let mut frontier = Frontier::new(alloc);
-    keep_initials(machine, &tables, &mut frontier, initials, least)?;
+    keep_initials(machine, tables, &mut frontier, initials, least)?;
     for _turn in 0..MOST_KEPT {
         let Some(from) = frontier.pop() else {
             return Ok(false);
         };
-        if extent(machine, &tables, least, from) > bound {
+        if extent(machine, tables, least, from) > bound {
             return Ok(true);
         }
         if frontier.kept.len() >= MOST_KEPT {
             return Ok(false);
         }
-        expand(alloc, machine, &mut tables, &mut frontier, from, least)?;
+        expand(alloc, machine, tables, &mut frontier, from, least)?;
     }
     Ok(false)
 }

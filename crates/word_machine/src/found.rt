@@ -31,6 +31,8 @@ pub enum Outcome {
     Past { least: u64, wide: Option<u64> },
     /// No word finishes, and nothing was left out.
     Exhausted,
+    /// It was given up.
+    GivenUp,
 }
 
 impl Outcome {
@@ -44,14 +46,15 @@ impl Outcome {
         }
     }
 
-    /// The answer, where the measure is the number of open nodes.
-    pub fn found(self) -> Found
+    /// The answer, where the measure is the number of open nodes; None if it was given up.
+    pub fn found(self) -> Option<Found>
         ensures { result ≡ found_of self }
     {
         match self {
-            Outcome::Finished(word) => Found::Word(word),
-            Outcome::Past { .. } => Found::None,
-            Outcome::Exhausted => Found::Unsolvable,
+            Outcome::Finished(word) => Some(Found::Word(word)),
+            Outcome::Past { .. } => Some(Found::None),
+            Outcome::Exhausted => Some(Found::Unsolvable),
+            Outcome::GivenUp => None,
         }
     }
 }

@@ -21,6 +21,8 @@ pub struct Limits {
     pub bounds: Bounds,
     pub measure: Measure,
     pub none_within: bool,
+    /// Once it has kept more configurations, it is given up.
+    pub most_kept: usize,
 }
 
 /// How many steps are left at least, by this measure.

@@ -50,7 +50,8 @@ fn word_of_one(alloc: Global, number: u64) -> Result<Vec<u64>, AllocError>
 }
 
 /// The least finishing word within the bound, in a search that leaves out what this measure puts past it. Where none is
-/// known to finish within the bound, it ends with the level in which the first is left out.
+/// known to finish within the bound, it ends with the level in which the first is left out. It is given up before a level
+/// where it has kept more than the limit.
 pub fn search<M: Machine, G: Gate, R: Threads + Wait + Sync>(
     rt: &R,
     alloc: Global,
@@ -85,6 +86,9 @@ pub fn search<M: Machine, G: Gate, R: Threads + Wait + Sync>(
         let high = closed.configurations().len();
         if low == high {
             return Ok(exhausted(&closed, bound));
+        }
+        if high > limits.most_kept {
+            return Ok(Outcome::GivenUp);
         }
         let kept = closed.configurations();
         prepare_ranks(machine, tables, kept, low)?;
@@ -126,6 +130,33 @@ fn exhausted<C: Eq + Hash + Drop>(closed: &Closed<C>, bound: u64) -> Outcome
     }
 }
 
+/// The answer of `find_word`, in tables that a caller may go on with; None where it is given up, once more than
+/// `most_kept` configurations were kept.
+pub fn find_word_among<M: Machine, G: Gate, R: Threads + Wait + Sync>(
+    rt: &R,
+    alloc: Global,
+    machine: &M,
+    tables: &mut M::Tables,
+    bounds: Bounds,
+    most_kept: usize,
+    gate: &G,
+) -> Result<Option<Found>, SearchFault>
+    requires own { M.owns machine.now tables.old }
+    ensures owned { OnOk result (M.owns machine.now tables.new) }
+    ensures answer { IfOk result (λ o. IfSome o (IsAnswer (M.words machine.now) bounds.nodes)) }
+    ensures no_thread { IfErr result (λ e. e ≡ NoThread → 1 < bounds.workers) }
+{
+    let initials = machine.initials(tables)?;
+    let limits = Limits {
+        bounds,
+        measure: Measure::OpenNodes,
+        none_within: false,
+        most_kept,
+    };
+    let outcome = search(rt, alloc, machine, tables, &initials, limits, gate)?;
+    Ok(outcome.found())
+}
+
 /// The least finishing word of at most `bounds.nodes` steps. The answer is the same for every number of workers, size
 /// of the pieces and gate, and however the workers take turns.
 pub fn find_word<M: Machine, G: Gate, R: Threads + Wait + Sync>(
@@ -139,12 +170,9 @@ pub fn find_word<M: Machine, G: Gate, R: Threads + Wait + Sync>(
     ensures no_thread { IfErr result (λ e. e ≡ NoThread → 1 < bounds.workers) }
 {
     let mut tables = machine.new_tables()?;
-    let initials = machine.initials(&mut tables)?;
-    let limits = Limits {
-        bounds,
-        measure: Measure::OpenNodes,
-        none_within: false,
-    };
-    let outcome = search(rt, alloc, machine, &mut tables, &initials, limits, gate)?;
-    Ok(outcome.found())
+    match find_word_among(rt, alloc, machine, &mut tables, bounds, usize::MAX, gate)? {
+        Some(found) => Ok(found),
+        // More configurations could not be held either.
+        None => Err(SearchFault::OutOfMemory),
+    }
 }

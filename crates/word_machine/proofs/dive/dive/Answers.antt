@@ -17,10 +17,10 @@ bounded g machine = (g.met.M.Machine g.world.𝓛 g.world.𝓜 g.world.𝓡 ((λ
 pub keep_initials-requires-clause-visited : goal.keep_initials-requires-clause-visited
 keep_initials-requires-clause-visited g c = λ _ _.
     let machine = c.args.machine.now in
-    initials_visited (g.M.Machine.words machine) (g.M.Machine.belongs machine) (laws g machine) (g.M.Machine.meaning machine c.args.tables) c.args.initials.now c.requires.known c.requires.initials
+    initials_visited (g.M.Machine.words machine) (g.M.Machine.belongs machine) (laws g machine) (g.M.Machine.meaning machine c.args.tables.now) c.args.initials.now c.requires.known c.requires.initials
 
-pub returns-then-extent-bound : goal.returns-then-extent-bound
-returns-then-extent-bound g c = λ _.
+pub returns-then-extent-bound-clause-met : goal.returns-then-extent-bound-clause-met
+returns-then-extent-bound-clause-met g c = λ _.
     let machine = c.args.machine.now in
     let m = g.M.Machine.words machine in
     let lower = g.M.Machine.estimate machine in
