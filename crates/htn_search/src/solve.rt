@@ -1,10 +1,11 @@
 //! The search of a task.
-ghost use Rattle.std.specs.Prelude.{◌≡◌, ◌<◌, ◌↔◌, IfErr, IfOk, IsTrue};
+ghost use Rattle.std.specs.Prelude.{◌≡◌, ◌<◌, ◌↔◌, IfErr, IfOk, IfSome, IsTrue};
 ghost use Rattle.htn_answer.specs.Answered.{IsAnswered, IsExact};
 ghost use Rattle.htn_model.specs.Grounding.{problem_of};
 ghost use Rattle.htn_model.specs.Machine.{Finishes};
 ghost use Rattle.htn_net.specs.Listed.{listing_machine};
 ghost use Rattle.htn_search.specs.Answer.{Answers};
+ghost use Rattle.task_machine.specs.Tables.{AreTables};
 ghost use Rattle.word_machine.specs.Answer.{IsAnswer};
 ghost use Rattle.word_machine.specs.declared.found.SearchFault.TheVariants.{NoThread};
 
@@ -17,8 +18,81 @@ use htn_task::Task;
 use std::alloc::{AllocError, Global};
 use std::sync::Wait;
 use std::thread::Threads;
-use task_machine::TaskMachine;
-use word_machine::{Bounds, Found, Gate, SearchFault};
+use task_machine::{Tables, TaskMachine};
+use word_machine::{
+    Bounds, Found, Gate, Machine, SearchFault, find_word_among, find_word_deepening,
+};
+
+// So many configurations a search by the open nodes keeps first: where they suffice, bounds would cost more than they
+// spare.
+const FEW_KEPT: usize = 10_000;
+
+// So much is listed at first to find sizes and needs, and where it isn't all, so many configurations are kept by that,
+// before more is listed: which takes about as long.
+const FEW_LISTED: u64 = 20_000;
+
+const MANY_KEPT: usize = 100_000;
+
+// So much is listed at most.
+const MOST_LISTED: u64 = 100_000;
+
+/// What a search found, and the tables that it went by.
+#[derive(Drop)]
+struct Searched {
+    found: Found,
+    tables: Tables,
+}
+
+/// The least finishing word of ranks of a task, or that there is none, by a machine for which so much is listed; None
+/// where it is given up, which may be only if more would be listed with a greater limit.
+fn search_listed<G: Gate, R: Threads + Wait + Sync>(
+    rt: &R,
+    alloc: Global,
+    task: &Task,
+    most_listed: u64,
+    most_kept: usize,
+    bounds: Bounds,
+    gate: &G,
+) -> Result<Option<Searched>, SearchFault>
+    ensures answer { IfOk result (λ o. IfSome o (λ s. IsAnswer (listing_machine task.now) bounds.nodes s.found)) }
+    ensures tables { IfOk result (λ o. IfSome o (λ s. AreTables task.now s.tables)) }
+    ensures no_thread { IfErr result (λ e. e ≡ NoThread → 1 < bounds.workers) }
+{
+    let machine = TaskMachine::new(alloc, task, most_listed)?;
+    let mut tables = machine.new_tables()?;
+    let most_kept = if machine.is_cut {
+        most_kept
+    } else {
+        usize::MAX
+    };
+    let by_bounds = find_word_deepening(rt, alloc, &machine, &mut tables, bounds, most_kept, gate)?;
+    match by_bounds {
+        Some(found) => Ok(Some(Searched { found, tables })),
+        None => Ok(None),
+    }
+}
+
+/// The same by a search by the open nodes, for which nothing is listed; None where it is given up.
+fn search_plainly<G: Gate, R: Threads + Wait + Sync>(
+    rt: &R,
+    alloc: Global,
+    task: &Task,
+    most_kept: usize,
+    bounds: Bounds,
+    gate: &G,
+) -> Result<Option<Searched>, SearchFault>
+    ensures answer { IfOk result (λ o. IfSome o (λ s. IsAnswer (listing_machine task.now) bounds.nodes s.found)) }
+    ensures tables { IfOk result (λ o. IfSome o (λ s. AreTables task.now s.tables)) }
+    ensures no_thread { IfErr result (λ e. e ≡ NoThread → 1 < bounds.workers) }
+{
+    let machine = TaskMachine::new(alloc, task, 0)?;
+    let mut tables = machine.new_tables()?;
+    let answer = find_word_among(rt, alloc, &machine, &mut tables, bounds, most_kept, gate)?;
+    match answer {
+        Some(found) => Ok(Some(Searched { found, tables })),
+        None => Ok(None),
+    }
+}
 
 /// The least finishing word of ranks of a task, or that there is none.
 fn find_ranks<G: Gate, R: Threads + Wait + Sync>(
@@ -27,13 +101,22 @@ fn find_ranks<G: Gate, R: Threads + Wait + Sync>(
     task: &Task,
     bounds: Bounds,
     gate: &G,
-) -> Result<Found, SearchFault>
-    ensures answer { IfOk result (IsAnswer (listing_machine task.now) bounds.nodes) }
+) -> Result<Searched, SearchFault>
+    ensures answer { IfOk result (λ s. IsAnswer (listing_machine task.now) bounds.nodes s.found) }
+    ensures tables { IfOk result (λ s. AreTables task.now s.tables) }
     ensures no_thread { IfErr result (λ e. e ≡ NoThread → 1 < bounds.workers) }
 {
-    let machine = TaskMachine::new(alloc, task)?;
-    let found = word_machine::find_word_deepening(rt, alloc, &machine, bounds, gate)?;
-    Ok(found)
+    if let Some(searched) = search_plainly(rt, alloc, task, FEW_KEPT, bounds, gate)? {
+        return Ok(searched);
+    }
+    if let Some(searched) = search_listed(rt, alloc, task, FEW_LISTED, MANY_KEPT, bounds, gate)? {
+        return Ok(searched);
+    }
+    match search_listed(rt, alloc, task, MOST_LISTED, usize::MAX, bounds, gate)? {
+        Some(searched) => Ok(searched),
+        // More configurations could not be held either.
+        None => Err(SearchFault::OutOfMemory),
+    }
 }
 
 /// The least finishing word of a task, by its steps and then by its numbers; or that no solution is
@@ -52,7 +135,8 @@ pub fn find_word<G: Gate, R: Threads + Wait + Sync>(
     ensures no_thread { IfErr result (λ e. e ≡ NoThread → 1 < bounds.workers) }
 {
     let _typed = task.objects();
-    match find_ranks(rt, alloc, task, bounds, gate)? {
+    let searched = find_ranks(rt, alloc, task, bounds, gate)?;
+    match searched.found {
         Found::Word(ranks) => Ok(Found::Word(word_of_ranks(alloc, task, &ranks)?)),
         Found::None => Ok(Found::None),
         Found::Unsolvable => Ok(Found::Unsolvable),
@@ -72,7 +156,8 @@ pub fn search<G: Gate, R: Threads + Wait + Sync>(
     ensures no_thread { IfErr result (λ e. e ≡ NoThread → 1 < bounds.workers) }
 {
     let _typed = task.objects();
-    match find_ranks(rt, alloc, task, bounds, gate)? {
+    let searched = find_ranks(rt, alloc, task, bounds, gate)?;
+    match searched.found {
         Found::Word(ranks) => Ok(Answer::Plan(rebuild_listed(alloc, task, &ranks)?)),
         Found::None => Ok(Answer::None),
         Found::Unsolvable => Ok(Answer::Unsolvable),

@@ -8,7 +8,9 @@ use std::sync::Wait;
 use std::sync::atomic::{AtomicU64, Ordering};
 use std::test::Fail;
 use std::thread::Threads;
-use word_machine::{Bounds, Found, Gate, NoGate, find_word, find_word_deepening};
+use word_machine::{
+    Bounds, Found, Gate, Machine, NoGate, find_word, find_word_among, find_word_deepening,
+};
 
 fn tally(tasks: u64, value: u64) -> Tally {
     Tally {
@@ -56,8 +58,9 @@ fn deepening<R: Threads + Wait + Sync>(
     bounds: Bounds,
 ) -> Result<String, Fail> {
     let alloc: Global = machine.alloc;
-    let found = find_word_deepening(rt, alloc, machine, bounds, &NoGate)?;
-    text(alloc, found)
+    let mut tables = machine.new_tables()?;
+    let found = find_word_deepening(rt, alloc, machine, &mut tables, bounds, usize::MAX, &NoGate)?;
+    text(alloc, found.ok_or("not given up")?)
 }
 
 // Expects the same answer for each number of workers and each size of the pieces.
@@ -92,10 +95,9 @@ fn expect_calls<R: Threads + Wait + Sync + Abort>(
         calls: AtomicU64::new(0),
     };
     let bounds = Bounds::new(nodes, 1, 1).ok_or("in range")?;
-    let found = text(
-        alloc,
-        find_word_deepening(rt, alloc, machine, bounds, &gate)?,
-    )?;
+    let mut tables = machine.new_tables()?;
+    let answer = find_word_deepening(rt, alloc, machine, &mut tables, bounds, usize::MAX, &gate)?;
+    let found = text(alloc, answer.ok_or("not given up")?)?;
     assert_eq!(rt; found.as_str(), wanted);
     assert_eq!(rt; gate.calls.load(Ordering::SeqCst), calls);
     Ok(())
@@ -186,6 +188,22 @@ fn a_dive_tells_none(rt: HostRuntime) -> Result<(), Fail> {
 fn a_search_tells_unsolvable(rt: HostRuntime) -> Result<(), Fail> {
     let machine = counter(rt.alloc(), 5, tally(1, 0), tally(1, 0));
     expect_calls(&rt, &machine, 1, "unsolvable", 1)
+}
+
+// Two configurations are kept at the start, so a search that may keep one is given up, and another goes on with its tables.
+#[test]
+fn a_search_is_given_up(rt: HostRuntime) -> Result<(), Fail> {
+    let alloc: Global = rt.alloc();
+    let machine = counter(alloc, 3, tally(2, 0), tally(3, 900));
+    let bounds = Bounds::new(9, 1, 1).ok_or("in range")?;
+    let mut tables = machine.new_tables()?;
+    let given_up = find_word_among(&rt, alloc, &machine, &mut tables, bounds, 1, &NoGate)?;
+    assert!(rt; given_up.is_none());
+    let most = usize::MAX;
+    let found = find_word_among(&rt, alloc, &machine, &mut tables, bounds, most, &NoGate)?;
+    let word = text(alloc, found.ok_or("not given up")?)?;
+    assert_eq!(rt; word.as_str(), "[0, 0, 1, 0]");
+    Ok(())
 }
 
 #[test]

@@ -16,9 +16,6 @@ use std::alloc::{AllocError, Global};
 use tree_sizes::{TreeSizes, enumerate};
 use word_machine::{Machine, Successor};
 
-/// How much is listed at most to find sizes and needs: ground tasks, their instances, and the nodes of these.
-const MOST_LISTED: u64 = 100_000;
-
 /// The word machine of a task as a search takes it: from a configuration a rank leads to the next
 /// one. Of instances with equal networks only the first is listed, and so no number is counted.
 /// By the sizes of open nodes, by what their network needs and by what is reached, it bounds how many steps are left.
@@ -28,17 +25,25 @@ pub struct TaskMachine<'a> {
     pub(crate) alloc: Global,
     sizes: TreeSizes,
     prospects: Prospects,
+    /// Whether more would be known with a greater limit on what is listed.
+    pub is_cut: bool,
     ghost grounded: { IsGrounded (problem_of task.now) } by { grounded-prop (problem_of task.now) },
     ghost known: { ProspectsHold (problem_of task.now) (listing_machine task.now).initials (size_of sizes) most_steps prospects } by { prospects-prop (problem_of task.now) (listing_machine task.now).initials (size_of sizes) prospects },
 }
 
 impl<'a> TaskMachine<'a> {
-    /// The word machine of a task.
-    pub fn new(alloc: Global, task: &'a Task) -> Result<TaskMachine<'a>, AllocError>
+    /// The word machine of a task. So much is listed at most to find sizes and needs: ground tasks, their instances, and
+    /// the nodes of these.
+    pub fn new(
+        alloc: Global,
+        task: &'a Task,
+        most_listed: u64,
+    ) -> Result<TaskMachine<'a>, AllocError>
         ensures { IfOk result (λ m. m.task.now ≡ task.now) }
     {
         let _initial = task.initial_atoms();
-        let found = enumerate(alloc, task, MOST_LISTED)?;
+        let found = enumerate(alloc, task, most_listed)?;
+        let is_cut = found.is_cut();
         let prospects = Prospects::of(alloc, task, &found)?;
         let sizes = TreeSizes::of_enumerated(alloc, found)?;
         Ok(TaskMachine {
@@ -46,6 +51,7 @@ impl<'a> TaskMachine<'a> {
             alloc,
             sizes,
             prospects,
+            is_cut,
         })
     }
 }

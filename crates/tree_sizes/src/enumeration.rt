@@ -22,6 +22,7 @@ pub struct Enumeration {
     pub(crate) actions: Actions,
     pub(crate) expanded: usize,
     pub(crate) instances: Vec<Parts>,
+    pub(crate) is_cut: bool,
 }
 
 /// The compound tasks of the initial networks.
@@ -109,6 +110,13 @@ impl Enumeration {
         &self.tasks
     }
 
+    /// Whether more would be listed with a greater limit.
+    pub fn is_cut(&self) -> bool
+        ensures { result ≡ self.now.is_cut }
+    {
+        self.is_cut
+    }
+
     /// Actions that are never carried out.
     pub fn barred(&self) -> &IndexSet<GroundTask>
         ensures { result.now ≡ self.now.actions.barred }
@@ -126,6 +134,7 @@ impl Enumeration {
             actions: Actions::new(alloc),
             expanded: 0,
             instances: Vec::new(alloc),
+            is_cut: false,
         })
     }
 
@@ -178,6 +187,10 @@ pub fn enumerate(alloc: Global, task: &Task, limit: u64) -> Result<Enumeration, 
     let mut found = Enumeration::new(alloc, task)?;
     let mut left = limit;
     while let Some(goal) = found.tasks.get_index(found.expanded) {
+        if left == 0 {
+            found.is_cut = true;
+            break;
+        }
         if !may_be_listed(task, goal) {
             break;
         }
@@ -187,6 +200,7 @@ pub fn enumerate(alloc: Global, task: &Task, limit: u64) -> Result<Enumeration, 
             break;
         };
         if cost > left {
+            found.is_cut = true;
             break;
         }
         left -= cost;

@@ -1,6 +1,6 @@
 -- From what the closed list holds to what a search answers.
 use Rattle.std.proofs.Common.{◌≡◌, ℕ, ◌+◌, ◌<◌, ◌≤◌, ◌⊎◌, Bool, true, false, List, [], ◌∷◌, ◌++◌, length, refl, sym, subst, inl, inr, arith, slice_get, Some, get_or, All, Option}
-use Rattle.std.specs.Prelude.{max}
+use Rattle.std.specs.Prelude.{IfSome, max}
 use Rattle.std.proofs.Math.Nat.{max-le}
 use Rattle.std.proofs.lemmas.Bool.{cases_lt}
 use Rattle.std.proofs.lemmas.Option.{slice_get_within, slice_get-get_or, get_or_from_slice_get}
@@ -14,8 +14,8 @@ use Rattle.word_machine.specs.Expansion.{IsFirstDone, IsExpansion}
 use Rattle.word_machine.specs.declared.measure.Measure.{Measure}
 use Rattle.word_machine.specs.declared.measure.Measure.TheVariants.{OpenNodes, LowerBound}
 use Rattle.word_machine.specs.declared.found.Outcome.{Outcome}
-use Rattle.word_machine.specs.declared.found.Outcome.TheVariants.{Past, Exhausted}
-use Rattle.word_machine.specs.Answer.{IsOutcome, measure_of, IsLeastFinishing, NoneFinishes, NoneFinishesBefore, NeverFinishes}
+use Rattle.word_machine.specs.declared.found.Outcome.TheVariants.{Finished, Past, Exhausted, GivenUp}
+use Rattle.word_machine.specs.Answer.{IsAnswer, IsOutcome, found_of, measure_of, IsLeastFinishing, NoneFinishes, NoneFinishesBefore, NeverFinishes}
 use Rattle.word_machine.proofs.Meanings.{all_at}
 use Rattle.word_machine.proofs.Order.{open_len-leads, IsAtMost-length, step_count-reached}
 use Rattle.word_machine.proofs.Complete.{CountsOpen, found_finishes, found_length, found_least, close_last, none_within, none_before, never, never_met}
@@ -225,3 +225,10 @@ none_before_more m bound next none before word finish =
     let over : bound < step_count word = none word finish in
     let later : next ≤ step_count word = before word finish in
     max-le later (omega arith)
+
+-- what became of a search by the open nodes is an answer, unless it was given up
+pub answer_of : {C : Type 0} (m : WordMachine C) (bound : ℕ) (o : Outcome) → IsOutcome m m.open_len bound o → IfSome (found_of o) (IsAnswer m bound)
+answer_of m bound (Finished word) told = told
+answer_of m bound (Past least wide) told = (told.0, told.1)
+answer_of m bound Exhausted told = told
+answer_of m bound GivenUp told = tt

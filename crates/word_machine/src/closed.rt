@@ -100,6 +100,17 @@ impl<C: Eq + Hash + Drop> Closed<C> {
         }
     }
 
+    /// Lets all go but the room for as many.
+    pub fn clear(&mut self)
+        ensures { self.new ≡ record { keys = []; origins = []; cut = record { any = false; past = 2 ^ 64 - 1 } } }
+    {
+        self.configurations.clear();
+        self.links.clear();
+        self.was_cut = false;
+        self.least_past = u64::MAX;
+        self.overshoots = Overshoots::new();
+    }
+
     /// The configurations by rank.
     pub fn configurations(&self) -> &[C]
         ensures { result.now ≡ self.now.keys }

@@ -5,6 +5,7 @@ ghost use Rattle.word_machine.specs.Ranks.{IsOwned};
 ghost use Rattle.word_machine.specs.declared.found.SearchFault.TheVariants.{NoThread};
 
 use crate::bounds::Bounds;
+use crate::closed::Closed;
 use crate::dive::dive;
 use crate::found::{Found, Outcome, SearchFault};
 use crate::machine::Machine;
@@ -55,6 +56,7 @@ fn search_open_nodes<M: Machine, G: Gate, R: Threads + Wait + Sync>(
     alloc: Global,
     machine: &M,
     tables: &mut M::Tables,
+    closed: &mut Closed<M::Configuration>,
     bounds: Bounds,
     most_kept: usize,
     gate: &G,
@@ -72,7 +74,7 @@ fn search_open_nodes<M: Machine, G: Gate, R: Threads + Wait + Sync>(
         none_within: true,
         most_kept,
     };
-    let outcome = search(rt, alloc, machine, tables, &initials, limits, gate)?;
+    let outcome = search(rt, alloc, machine, tables, &initials, closed, limits, gate)?;
     Ok(outcome.found())
 }
 
@@ -102,6 +104,7 @@ pub fn find_word_deepening<M: Machine, G: Gate, R: Threads + Wait + Sync>(
     let mut least = first;
     let mut nodes = first;
     let mut step = 0;
+    let mut closed = Closed::new(alloc);
     while least <= bounds.nodes {
         let within = bounds.within(nodes.min(bounds.nodes));
         let limits = Limits {
@@ -110,7 +113,16 @@ pub fn find_word_deepening<M: Machine, G: Gate, R: Threads + Wait + Sync>(
             none_within: false,
             most_kept,
         };
-        let outcome = search(rt, alloc, machine, tables, &initials, limits, gate)?;
+        let outcome = search(
+            rt,
+            alloc,
+            machine,
+            tables,
+            &initials,
+            &mut closed,
+            limits,
+            gate,
+        )?;
         match outcome {
             Outcome::Finished(word) => return Ok(Some(Found::Word(word))),
             Outcome::Exhausted => return Ok(Some(Found::Unsolvable)),
@@ -125,5 +137,14 @@ pub fn find_word_deepening<M: Machine, G: Gate, R: Threads + Wait + Sync>(
     if dive(alloc, machine, tables, &initials, first, bounds.nodes)? {
         return Ok(Some(Found::None));
     }
-    search_open_nodes(rt, alloc, machine, tables, bounds, most_kept, gate)
+    search_open_nodes(
+        rt,
+        alloc,
+        machine,
+        tables,
+        &mut closed,
+        bounds,
+        most_kept,
+        gate,
+    )
 }

@@ -51,13 +51,15 @@ fn word_of_one(alloc: Global, number: u64) -> Result<Vec<u64>, AllocError>
 
 /// The least finishing word within the bound, in a search that leaves out what this measure puts past it. Where none is
 /// known to finish within the bound, it ends with the level in which the first is left out. It is given up before a level
-/// where it has kept more than the limit.
+/// where it has kept more than the limit. The closed list is cleared first: searches within growing bounds use its room
+/// again.
 pub fn search<M: Machine, G: Gate, R: Threads + Wait + Sync>(
     rt: &R,
     alloc: Global,
     machine: &M,
     tables: &mut M::Tables,
     initials: &[M::Configuration],
+    closed: &mut Closed<M::Configuration>,
     limits: Limits,
     gate: &G,
 ) -> Result<Outcome, SearchFault>
@@ -76,8 +78,8 @@ pub fn search<M: Machine, G: Gate, R: Threads + Wait + Sync>(
     let bounds = limits.bounds;
     let measure = limits.measure;
     let bound = bounds.nodes;
-    let mut closed = Closed::new(alloc);
-    offer_initials(machine, tables, &mut closed, initials, measure, bound)?;
+    closed.clear();
+    offer_initials(machine, tables, closed, initials, measure, bound)?;
     let mut low = 0;
     for level in 0..bound {
         if limits.none_within && closed.was_cut() {
@@ -85,7 +87,7 @@ pub fn search<M: Machine, G: Gate, R: Threads + Wait + Sync>(
         }
         let high = closed.configurations().len();
         if low == high {
-            return Ok(exhausted(&closed, bound));
+            return Ok(exhausted(closed, bound));
         }
         if high > limits.most_kept {
             return Ok(Outcome::GivenUp);
@@ -95,16 +97,16 @@ pub fn search<M: Machine, G: Gate, R: Threads + Wait + Sync>(
         match expand_ranks(rt, alloc, machine, tables, kept, low, bounds, gate)? {
             Expanded::Whole(successors) => {
                 let room = bound - level - 1;
-                merge(machine, tables, &mut closed, successors, measure, room)?;
+                merge(machine, tables, closed, successors, measure, room)?;
             }
             Expanded::Done { rank, finish } => {
-                let word = read_word(alloc, &closed, rank, finish)?;
+                let word = read_word(alloc, closed, rank, finish)?;
                 return Ok(Outcome::Finished(word));
             }
         }
         low = high;
     }
-    Ok(exhausted(&closed, bound))
+    Ok(exhausted(closed, bound))
 }
 
 // The bound that is so far past another one.
@@ -153,7 +155,17 @@ pub fn find_word_among<M: Machine, G: Gate, R: Threads + Wait + Sync>(
         none_within: false,
         most_kept,
     };
-    let outcome = search(rt, alloc, machine, tables, &initials, limits, gate)?;
+    let mut closed = Closed::new(alloc);
+    let outcome = search(
+        rt,
+        alloc,
+        machine,
+        tables,
+        &initials,
+        &mut closed,
+        limits,
+        gate,
+    )?;
     Ok(outcome.found())
 }
 

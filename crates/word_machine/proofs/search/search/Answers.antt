@@ -57,7 +57,7 @@ loop-level-init g c =
     meaning c.args.initials.now c.requires.known c.requires.initials eq met.same
     (g.met.M.Configuration.Eq g.world.𝓛 g.world.𝓜 g.world.𝓡 ((λ s x. x), (λ x. x), (λ x. x), λ x. x)).laws.refl
     (met.one_to_one machine c.args.tables.now c.requires.own) c.in_default.ensures.none c.offer_initials.new.closed
-    (c.in_ok-offer_initials.ensures ∙ ap (λ (n : Contents g.row.M-Configuration.Denot). offer_all eq (λ x. left (meaning.point x)) c.args.limits.bounds.nodes n (initial_successors 0 c.args.initials.now)) c.new-closed.ensures) in
+    (c.in_ok-offer_initials.ensures ∙ ap (λ (n : Contents g.row.M-Configuration.Denot). offer_all eq (λ x. left (meaning.point x)) c.args.limits.bounds.nodes n (initial_successors 0 c.args.initials.now)) c.clear.ensures) in
     record {
       closed = first.closed;
       known = first.known;
