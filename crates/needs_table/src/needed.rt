@@ -1,13 +1,13 @@
 //! The needs of a network, put together from what its nodes want.
 ghost use Rattle.std.specs.Prelude.{◌≡◌, ◌<◌, ◌&&◌, All, cond, ℕ, List, true, OnOk, length};
+ghost use Rattle.htn_model.specs.Choice.{child_of};
 ghost use Rattle.htn_model.specs.Literal as model;
 ghost use Rattle.htn_model.specs.Literal.{holds};
 ghost use Rattle.htn_model.specs.Problem as problem;
 ghost use Rattle.network_needs.specs.Needs.{needed, needed_at, needed_goal};
 ghost use Rattle.network_needs.specs.Places.{AreGiven, ArePlaces};
 ghost use Rattle.network_needs.specs.Rows.{outlook_of, row_of, wants_by};
-ghost use Rattle.network_needs.specs.declared.needs.Needs.{Needs as Rows};
-ghost use Rattle.htn_model.specs.Choice.{child_of};
+ghost use Rattle.network_needs.specs.declared.needs.Needs.{Needs as KnownNeeds};
 ghost use Rattle.network_table.specs.Networks.{children};
 ghost use Rattle.network_table.specs.Numbered.{network_of};
 ghost use Rattle.network_table.specs.declared.table.NetworkTable.{NetworkTable as Networks};
@@ -100,7 +100,7 @@ pub(crate) fn push_needed_goal(
     given: &Given,
     goals: &[Want],
 ) -> Result<(), AllocError>
-    ensures { OnOk result ((needs : Rows) (n : problem.Network) (goal : List model.Literal) (atoms later : Table)
+    ensures { OnOk result ((needs : KnownNeeds) (n : problem.Network) (goal : List model.Literal) (atoms later : Table)
         (words : List ℕ)
         → AreGiven needs n given.now → AreWants needs atoms goals.now goal → IsLater atoms later
         → all_hold words found.new
