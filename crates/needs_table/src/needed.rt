@@ -89,7 +89,15 @@ pub(crate) fn push_needed(
     for at in 0..ids.len() {
         let id = ids[at];
         let node = &nodes[id as usize];
-        push_needed_at(found, needs, places, given, network.order(), at, &node.wants)?;
+        push_needed_at(
+            found,
+            needs,
+            places,
+            given,
+            network.order(),
+            at,
+            &node.wants,
+        )?;
     }
     Ok(())
 }

@@ -1,5 +1,6 @@
 //! Marks at numbers, as the bits of words of 64. Past the last word there is none.
-ghost use Rattle.std.specs.Prelude.{◌≡◌, ◌<◌, ◌≤◌, ◌||◌, ℕ, Option, IsTrue, OnOk, Some, bit_or, cond, eqb, get_or, length, true};
+ghost use Rattle.std.specs.Prelude.{◌≡◌, ◌<◌, ◌≤◌, ◌||◌, ℕ, true, bit_or, cond, eqb, get_or, length};
+ghost use Rattle.std.specs.Prelude.{IsTrue, OnOk, Option, Some};
 ghost use Rattle.network_needs.specs.Rows.{is_marked};
 
 use std::alloc::AllocError;
