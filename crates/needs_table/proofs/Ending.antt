@@ -7,7 +7,7 @@ use Rattle.htn_model.specs.Exhaustion.{live_step}
 use Rattle.htn_model.specs.Literal.{holds}
 use Rattle.htn_model.specs.Machine.{Config, IsDone}
 use Rattle.htn_model.specs.Problem.{Child, IsGrounded, Problem}
-use Rattle.tree_sizes.specs.Measure.{IsLowerMeasure, is_as_at_first}
+use Rattle.tree_sizes.specs.Measure.{is_as_at_first}
 use Rattle.tree_sizes.specs.Sizes.{out_of_reach}
 use Rattle.tree_sizes.proofs.Bounded.{states_last}
 use Rattle.network_needs.specs.Bounds.{IsEstimate, needs_bound}
@@ -19,7 +19,7 @@ use Rattle.relaxed_reach.specs.Tables.{reach_of}
 use Rattle.relaxed_reach.specs.declared.reach.RelaxedReach.{RelaxedReach}
 use Rattle.relaxed_reach.proofs.Lasting.{reach_stays, reached_stays}
 use Rattle.relaxed_reach.proofs.Lists.{any_or}
-use Rattle.needs_table.specs.Prospects.{AllProspectsHold, AreProspects, is_unreached, may_be_reached, may_end_reached, outlook_by, prospects_bound}
+use Rattle.needs_table.specs.Prospects.{AllProspectsHold, is_unreached, may_be_reached, may_end_reached, outlook_by}
 use Rattle.needs_table.specs.declared.prospects.Prospects.{Prospects}
 
 -- ## Bounds

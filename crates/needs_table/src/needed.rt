@@ -1,12 +1,13 @@
 //! The needs of a network, put together from what its nodes want.
 ghost use Rattle.std.specs.Prelude.{◌≡◌, ◌<◌, ◌&&◌, All, cond, ℕ, List, true, OnOk, length};
+ghost use Rattle.htn_model.specs.Choice.{child_of};
 ghost use Rattle.htn_model.specs.Literal as model;
 ghost use Rattle.htn_model.specs.Literal.{holds};
 ghost use Rattle.htn_model.specs.Problem as problem;
 ghost use Rattle.network_needs.specs.Needs.{needed, needed_at, needed_goal};
-ghost use Rattle.network_needs.specs.Places.{ArePlaces};
+ghost use Rattle.network_needs.specs.Places.{AreGiven, ArePlaces};
 ghost use Rattle.network_needs.specs.Rows.{outlook_of, row_of, wants_by};
-ghost use Rattle.htn_model.specs.Choice.{child_of};
+ghost use Rattle.network_needs.specs.declared.needs.Needs.{Needs as KnownNeeds};
 ghost use Rattle.network_table.specs.Networks.{children};
 ghost use Rattle.network_table.specs.Numbered.{network_of};
 ghost use Rattle.network_table.specs.declared.table.NetworkTable.{NetworkTable as Networks};
@@ -18,7 +19,7 @@ use crate::node::Node;
 use crate::prospects::Prospects;
 use crate::wants::Want;
 use htn_order::Order;
-use network_needs::{Needs, Place};
+use network_needs::{Given, Needs, Place};
 use network_table::Network;
 use state_table::{CompiledLiteral, CompiledLiterals};
 use std::alloc::AllocError;
@@ -44,20 +45,21 @@ pub(crate) fn push_needed_at(
     found: &mut CompiledLiterals,
     needs: &Needs,
     places: &[Place],
+    given: &Given,
     order: &Order,
     at: usize,
     wants: &[Want],
 ) -> Result<(), AllocError>
     requires { at < length places.now }
     ensures { OnOk result ((n : problem.Network) (atoms later : Table) (words : List ℕ)
-        → ArePlaces needs.now places.now n → order.now ≡ n.order
+        → ArePlaces needs.now places.now n → AreGiven needs.now n given.now → order.now ≡ n.order
         → AreWants needs.now atoms wants.now (wants_by (row_of needs.now (child_of n.children at)))
         → IsLater atoms later
         → all_hold words found.new
         ≡ (all_hold words found.old && holds (state_of later words) (needed_at (outlook_of needs.now) n at))) }
 {
     for want in wants {
-        let is_kept = needs.is_ungiven_at(places, order, want.number, at);
+        let is_kept = needs.is_ungiven_at(places, given, order, want.number, at);
         push_if(found, want.literal, is_kept)?;
     }
     Ok(())
@@ -69,12 +71,14 @@ pub(crate) fn push_needed(
     prospects: &Prospects,
     nodes: &[Node],
     places: &[Place],
+    given: &Given,
     network: &Network,
 ) -> Result<(), AllocError>
     requires within { All (λ id. id < length nodes.now) network.now.nodes }
     requires places { length places.now ≡ length network.now.nodes }
     ensures { OnOk result ((networks : Networks) (atoms later : Table) (words : List ℕ)
         → ArePlaces prospects.now.needs places.now (network_of (children networks) network.now)
+        → AreGiven prospects.now.needs (network_of (children networks) network.now) given.now
         → AreNodes prospects.now atoms networks nodes.now → IsLater atoms later
         → all_hold words found.new
         ≡ (all_hold words found.old
@@ -85,7 +89,15 @@ pub(crate) fn push_needed(
     for at in 0..ids.len() {
         let id = ids[at];
         let node = &nodes[id as usize];
-        push_needed_at(found, needs, places, network.order(), at, &node.wants)?;
+        push_needed_at(
+            found,
+            needs,
+            places,
+            given,
+            network.order(),
+            at,
+            &node.wants,
+        )?;
     }
     Ok(())
 }
@@ -93,17 +105,17 @@ pub(crate) fn push_needed(
 /// Adds what a network needs for a goal: those of its literals that no node gives.
 pub(crate) fn push_needed_goal(
     found: &mut CompiledLiterals,
-    needs: &Needs,
-    places: &[Place],
+    given: &Given,
     goals: &[Want],
 ) -> Result<(), AllocError>
-    ensures { OnOk result ((n : problem.Network) (goal : List model.Literal) (atoms later : Table) (words : List ℕ)
-        → ArePlaces needs.now places.now n → AreWants needs.now atoms goals.now goal → IsLater atoms later
+    ensures { OnOk result ((needs : KnownNeeds) (n : problem.Network) (goal : List model.Literal) (atoms later : Table)
+        (words : List ℕ)
+        → AreGiven needs n given.now → AreWants needs atoms goals.now goal → IsLater atoms later
         → all_hold words found.new
-        ≡ (all_hold words found.old && holds (state_of later words) (needed_goal (outlook_of needs.now) goal n))) }
+        ≡ (all_hold words found.old && holds (state_of later words) (needed_goal (outlook_of needs) goal n))) }
 {
     for want in goals {
-        let is_kept = !needs.is_given_at(places, want.number);
+        let is_kept = !given.has(want.number);
         push_if(found, want.literal, is_kept)?;
     }
     Ok(())

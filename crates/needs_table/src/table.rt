@@ -119,9 +119,10 @@ impl NeedsTable {
         let needs = &prospects.needs;
         let kept = places_of(alloc, nodes, network)?;
         let places = kept.as_slice();
+        let given = needs.given_at(alloc, places)?;
         let mut found = CompiledLiterals::none(alloc);
-        push_needed(&mut found, prospects, nodes, places, network)?;
-        push_needed_goal(&mut found, needs, places, self.goals.as_slice())?;
+        push_needed(&mut found, prospects, nodes, places, &given, network)?;
+        push_needed_goal(&mut found, &given, self.goals.as_slice())?;
         found.drop_repeats();
         Ok(Some(found))
     }

@@ -1,20 +1,20 @@
 -- What rows at places say of the nodes of a network.
 use Rattle.std.proofs.Common.{◌≡◌, ℕ, ◌<◌, Bool, true, false, not, ◌&&◌, ◌||◌, List, [], ◌∷◌, map, length, get_or, Option, None, eqb, refl, sym, ap, ap₂, ◌∙◌, arith, zero-add}
 use Rattle.std.specs.List.{list_any, range_with_len}
-use Rattle.std.proofs.lemmas.List.{get_or-map, length-map}
+use Rattle.std.proofs.lemmas.List.{get_or_default, get_or-map, length-map}
 use Rattle.std.proofs.lemmas.List.Folds.{list_any_at}
 use Rattle.std.proofs.lemmas.List.FromFn.{get_or-range_with_len, length-range_with_len}
 use Rattle.htn_model.specs.Choice.{child_of}
 use Rattle.htn_model.specs.Literal.{Literal}
 use Rattle.htn_model.specs.Problem.{Child, precondition, Network, Order, is_before}
-use Rattle.network_needs.specs.Needs.{has_blocked, is_ungiven, may_give, Outlook}
-use Rattle.network_needs.specs.Places.{ArePlaces, is_given_by, may_give_by, place_at, row_at, some_is_blocked}
-use Rattle.network_needs.specs.Rows.{blocks, gives_by, literal_number, outlook_of, row_of}
+use Rattle.network_needs.specs.Needs.{is_ungiven, may_give, Outlook}
+use Rattle.network_needs.specs.Places.{ArePlaces, is_given_by, may_give_by, place_at, row_at}
+use Rattle.network_needs.specs.Rows.{gives_by, literal_number, outlook_of, row_of}
 use Rattle.network_needs.specs.declared.needs.Needs.{Needs}
 use Rattle.network_needs.specs.declared.places.Place.{Place}
 use Rattle.network_needs.specs.declared.places.Spot.TheVariants.{Nowhere}
 use Rattle.network_needs.specs.declared.rows.Row.{Row}
-use Rattle.network_needs.proofs.Lists.{in_range, none_from}
+use Rattle.network_needs.proofs.Lists.{in_range, none_from, none_passes}
 
 -- a test of some passes where it passes what they are mapped to
 any_map : {X Y : Type 0} (test : Y → Bool) (f : X → Y) (xs : List X) → list_any (λ x. test (f x)) xs ≡ list_any test (map f xs)
@@ -22,7 +22,7 @@ any_map test f [] = refl
 any_map test f (x ∷ xs) = ap (λ b. test (f x) || b) (any_map test f xs)
 
 -- the place of a node without a row
-abbrev nowhere : Place
+abbrev pub nowhere : Place
 nowhere = record { spot = Nowhere; is_blocked = false }
 
 module _ (n : Needs) (places : List Place) (network : Network) (are : ArePlaces n places network) where
@@ -46,13 +46,6 @@ module _ (n : Needs) (places : List Place) (network : Network) (are : ArePlaces 
       ∙ ap (list_any (λ (r : Option Row). gives_by r number)) are.rows
       ∙ sym (any_map (λ (r : Option Row). gives_by r number) (row_of n) network.children)
 
-  -- whether one never ends
-  pub blocked_there : some_is_blocked places ≡ has_blocked (outlook_of n) network
-  blocked_there =
-      any_map (λ (b : Bool). b) (λ (p : Place). p.is_blocked) places
-      ∙ ap (list_any (λ (b : Bool). b)) are.blocked
-      ∙ sym (any_map (λ (b : Bool). b) (blocks n) network.children)
-
   -- whether the one at a position may give a literal
   pub may_give_there : (order : Order) (number : Option ℕ) (l : Literal) (i j : ℕ) → order ≡ network.order → number ≡ literal_number n l → j < length places
       → may_give_by n places order number i j ≡ may_give (outlook_of n) network l i j
@@ -64,6 +57,21 @@ pub not_given : (o : Outlook) (network : Network) (l : Literal) (i : ℕ) → ((
 not_given o network l i none =
     ap not (none_from (may_give o network l i) (range_with_len 0 (length network.children))
     (λ j at. (let low = in_range 0 (length network.children) j at in none j (omega (arith, low)))))
+
+-- with what fails in the end, all fails
+last_fails : (a b : Bool) → (a && (b && false)) ≡ false
+last_fails true true = refl
+last_fails true false = refl
+last_fails false b = refl
+
+-- what no node gives is not given for any of them
+pub given_by_none : (o : Outlook) (network : Network) (l : Literal) (i : ℕ) → list_any (λ x. o.gives x l) network.children ≡ false → is_ungiven o network i l ≡ true
+given_by_none o network l i none =
+    not_given o network l i
+    (λ j low.
+    (let x = child_of network.children j in
+    let gives : o.gives x l ≡ false = none_passes (λ y. o.gives y l) network.children x none (j, low, get_or_default network.children j x (precondition []) low) in
+    ap (λ b. not (eqb i j) && (not (is_before network.order i j) && b)) gives ∙ last_fails (not (eqb i j)) (not (is_before network.order i j))))
 
 -- where one may it is
 pub given : (o : Outlook) (network : Network) (l : Literal) (i j : ℕ) → j < length network.children → may_give o network l i j ≡ true → is_ungiven o network i l ≡ false

@@ -1,5 +1,5 @@
 -- What the checks of one row and one network tell.
-use Rattle.std.proofs.Common.{◌≡◌, ℕ, ◌+◌, ◌<◌, Bool, true, false, not, ◌||◌, List, [], ◌∷◌, All, Contains, length, get_or, Option, Some, None, slice_get, inl, inr, refl, sym, ap, ap₂, ◌∙◌, subst, arith, zero-add}
+use Rattle.std.proofs.Common.{◌≡◌, ℕ, ◌+◌, ◌<◌, true, false, not, ◌||◌, List, [], ◌∷◌, All, Contains, length, get_or, Option, Some, None, slice_get, inl, inr, refl, sym, ap, ap₂, ◌∙◌, subst, arith, zero-add}
 use Rattle.std.specs.List.{list_any, range_with_len}
 use Rattle.std.specs.Cmp.Lexicographic.{pointwise}
 use Rattle.std.proofs.lemmas.Bool.{and_parts, cases_Bool, cases_lt}
@@ -48,15 +48,10 @@ contains_equal (m ∷ ls) l passes = elim (cases_Bool (literal_eq l m)) [
 pub each_literal : (P : Literal → Type 0) (xs : List Written) → All (λ x. P (literal_of x)) xs → (l : Literal) → Contains (literals_of xs) l → P l
 each_literal P xs all l at = All-contains P (literals_of xs) l (All-map P literal_of xs all) at
 
--- a mark that others have too
-marked_too : (a b : List Bool) → ((k : ℕ) → get_or a k false ≡ true → get_or b k false ≡ true) → (number : Option ℕ) → is_marked a number ≡ true → is_marked b number ≡ true
-marked_too a b h None on = on
-marked_too a b h (Some k) on = h k on
-
 -- a node whose row's marks a row has gives within it
-pub gives_from : (n : Needs) (x : Child) (inner r : Row) → row_of n x ≡ Some inner → ((k : ℕ) → get_or inner.gives.items k false ≡ true → get_or r.gives.items k false ≡ true)
+pub gives_from : (n : Needs) (x : Child) (inner r : Row) → row_of n x ≡ Some inner → ((number : Option ℕ) → is_marked inner.gives.items number ≡ true → is_marked r.gives.items number ≡ true)
     → GivesWithin n x r
-gives_from n x inner r is h = λ number on. marked_too inner.gives.items r.gives.items h number (sym (ap (λ o. gives_by o number) is) ∙ on)
+gives_from n x inner r is h = λ number on. h number (sym (ap (λ o. gives_by o number) is) ∙ on)
 
 -- where no node may give a literal it is not given
 pub ungiven_of_none : (n : Needs) (children : List Node) (order : Order) (l : Literal) (i : ℕ)

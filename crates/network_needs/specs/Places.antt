@@ -1,10 +1,11 @@
 -- Where rows stand, so that they needn't be sought again.
-use Rattle.std.specs.Prelude.{◌≡◌, ◌++◌, ◌&&◌, ℕ, Bool, false, not, eqb, get_or, List, map, Option, None, slice_get}
+use Rattle.std.specs.Prelude.{◌≡◌, ◌++◌, ◌&&◌, ◌||◌, ℕ, Bool, false, not, eqb, get_or, List, map, Option, None, slice_get}
 use Rattle.std.specs.List.{list_any}
 use Rattle.htn_model.specs.Literal.{Literal}
 use Rattle.htn_model.specs.Problem.{is_before, Network, Order}
 use Rattle.network_needs.specs.Needs.{needed, needed_goal, Outlook}
-use Rattle.network_needs.specs.Rows.{blocks, gives_by, row_of}
+use Rattle.network_needs.specs.Rows.{blocks, gives_by, is_marked, literal_number, outlook_of, row_of}
+use Rattle.network_needs.specs.declared.given.Given.{Given}
 use Rattle.network_needs.specs.declared.needs.Needs.{Needs}
 use Rattle.network_needs.specs.declared.places.Place.{Place}
 use Rattle.network_needs.specs.declared.places.Spot.{Spot}
@@ -21,10 +22,6 @@ row_at n (Leaf number) = slice_get n.rows.leaf_rows.items number
 abbrev pub place_at : List Place → ℕ → Place
 place_at places i = get_or places i (record { spot = Nowhere; is_blocked = false })
 
--- whether one of the nodes never ends
-abbrev pub some_is_blocked : List Place → Bool
-some_is_blocked places = list_any (λ (p : Place). p.is_blocked) places
-
 -- whether the literal of a number may become true through one of the nodes
 abbrev pub is_given_by : Needs → List Place → Option ℕ → Bool
 is_given_by n places number = list_any (λ (p : Place). gives_by (row_at n p.spot) number) places
@@ -37,6 +34,14 @@ may_give_by n places order number i j = not (eqb i j) && (not (is_before order i
 pub record ArePlaces (n : Needs) (places : List Place) (network : Network) : Type 0 where
   pub rows : map (λ (p : Place). row_at n p.spot) places ≡ map (row_of n) network.children
   pub blocked : map (λ (p : Place). p.is_blocked) places ≡ map (blocks n) network.children
+
+-- whether the literal of a number is among those that some nodes give together
+abbrev pub has_given : Given → Option ℕ → Bool
+has_given given number = given.is_all || is_marked given.marks.items number
+
+-- they are the literals that one of a network's nodes gives
+abbrev pub AreGiven : Needs → Network → Given → Type 0
+AreGiven n network given = (l : Literal) → has_given given (literal_number n l) ≡ list_any (λ x. (outlook_of n).gives x l) network.children
 
 -- all that a network needs from the start, for its nodes and for a goal
 abbrev pub all_needed : Outlook → List Literal → Network → List Literal

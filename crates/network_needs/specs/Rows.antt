@@ -1,8 +1,9 @@
 -- What nodes want and give, by rows.
-use Rattle.std.specs.Prelude.{ℕ, Bool, true, false, List, [], get_or, Option, Some, None, slice_get, option_and_then}
+use Rattle.std.specs.Prelude.{ℕ, ◌/◌, ◌%◌, Bool, true, false, List, [], get_or, Option, Some, None, slice_get, option_and_then}
 use Rattle.std.specs.List.{position}
 use Rattle.htn_model.specs.Literal.{Literal as ModelLiteral, literal_eq}
 use Rattle.htn_model.specs.Problem.{Child, precondition, action, task, GroundTask, child_eq}
+use Rattle.htn_order.specs.BitRows.{is_set}
 use Rattle.htn_state.specs.Views.{literal_of, literals_of}
 use Rattle.htn_ground.specs.Views.{child_view}
 use Rattle.tree_sizes.specs.Numbers.{is_among, number_of}
@@ -29,10 +30,10 @@ abbrev pub wants_by : Option Row → List ModelLiteral
 wants_by None = []
 wants_by (Some r) = literals_of r.wants.items
 
--- whether a mark stands at a number
-abbrev pub is_marked : List Bool → Option ℕ → Bool
+-- whether a mark stands at a number, by the bits of words
+abbrev pub is_marked : List ℕ → Option ℕ → Bool
 is_marked marks None = false
-is_marked marks (Some number) = get_or marks number false
+is_marked marks (Some number) = is_set (get_or marks (number / 64) 0) (number % 64)
 
 -- whether a node gives the literal of a number by its row; all without one
 abbrev pub gives_by : Option Row → Option ℕ → Bool

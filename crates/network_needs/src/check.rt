@@ -1,5 +1,5 @@
 //! Whether rows are an outlook.
-ghost use Rattle.std.specs.Prelude.{◌≡◌, ◌<◌, ℕ, true, false, All, Contains, IfOk, IsTrue, get_or, length};
+ghost use Rattle.std.specs.Prelude.{◌≡◌, ◌<◌, ℕ, true, false, All, Contains, IfOk, IsTrue, length};
 ghost use Rattle.std.specs.List.{list_any};
 ghost use Rattle.htn_model.specs.Literal as model;
 ghost use Rattle.htn_model.specs.Literal.{literal_eq};
@@ -11,6 +11,7 @@ ghost use Rattle.network_needs.specs.Checked.{IsActionRight, IsAllowed, IsLeafRi
 ghost use Rattle.network_needs.specs.Needs.{IsNeededAt, is_ungiven, may_give};
 ghost use Rattle.network_needs.specs.Rows.{is_marked, literal_number, outlook_of};
 
+use crate::marks::{are_marked_too, is_marked};
 use crate::needs::Needs;
 use crate::rows::Row;
 use htn_ground::{Child, GroundTask, action_of};
@@ -38,35 +39,6 @@ fn are_among(literals: &[Literal], others: &[Literal]) -> bool
 {
     for literal in literals {
         if !is_among(literal, others) {
-            return false;
-        }
-    }
-    true
-}
-
-/// Whether a mark stands at a number.
-fn is_marked(marks: &[bool], number: usize) -> bool
-    ensures { result ≡ get_or marks.now number false }
-{
-    match marks.get(number) {
-        Some(mark) => *mark,
-        None => false,
-    }
-}
-
-/// Whether others have the mark of a number, if the first do.
-fn is_marked_too(marks: &[bool], others: &[bool], number: usize) -> bool
-    ensures { IsTrue result → get_or marks.now number false ≡ true → get_or others.now number false ≡ true }
-{
-    !is_marked(marks, number) || is_marked(others, number)
-}
-
-/// Whether others have all marks of the first.
-fn are_marked_too(marks: &[bool], others: &[bool]) -> bool
-    ensures { IsTrue result → (k : ℕ) → get_or marks.now k false ≡ true → get_or others.now k false ≡ true }
-{
-    for number in 0..marks.len() {
-        if !is_marked_too(marks, others, number) {
             return false;
         }
     }

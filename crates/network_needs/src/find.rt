@@ -2,6 +2,7 @@
 //! most. Nothing is promised of them: whoever uses them checks them.
 
 use crate::leaves::Leaves;
+use crate::marks::is_marked;
 use crate::rows::{Row, Rows};
 use htn_ground::{Child, GroundTask};
 use htn_order::Order;
@@ -34,7 +35,7 @@ struct Search {
     /// By instance, its nodes.
     nodes: Vec<Vec<Node>>,
     /// By task, which literals it gives.
-    gives: Vec<Vec<bool>>,
+    gives: Vec<Vec<u64>>,
     /// By task, the literals that it wants, once some tree of it is known.
     wants: Vec<Option<Vec<u32>>>,
 }
@@ -68,50 +69,42 @@ fn common(alloc: Global, numbers: &[u32], others: &[u32]) -> Result<Vec<u32>, Al
     Ok(both)
 }
 
-/// Marks at these numbers, as many as there are literals.
-fn marks_of(alloc: Global, literals: usize, numbers: &[u32]) -> Result<Vec<bool>, AllocError> {
-    let mut marks = Vec::with_capacity(alloc, literals)?;
-    for _ in 0..literals {
-        marks.push(false)?;
-    }
-    for number in numbers {
-        if let Some(mark) = marks.get_mut(*number as usize) {
-            *mark = true;
-        }
-    }
+/// Marks at these numbers, with room for as many as there are literals.
+fn marks_of(alloc: Global, literals: usize, numbers: &[u32]) -> Result<Vec<u64>, AllocError> {
+    let mut marks = vec![in alloc; 0; literals / 64 + 1]?;
+    let _ = set_marks(&mut marks, numbers);
     Ok(marks)
 }
 
 /// Sets the marks of some numbers. Whether one of them wasn't set.
-fn set_marks(marks: &mut [bool], numbers: &[u32]) -> bool {
+fn set_marks(marks: &mut [u64], numbers: &[u32]) -> bool {
     let mut is_more = false;
     for number in numbers {
-        if let Some(mark) = marks.get_mut(*number as usize) {
-            is_more |= !*mark;
-            *mark = true;
+        if let Some(word) = marks.get_mut((*number / 64) as usize) {
+            let mark = 1 << (*number % 64);
+            is_more |= *word & mark == 0;
+            *word |= mark;
         }
     }
     is_more
 }
 
 /// Sets the marks that others have. Whether one of them wasn't set.
-fn join_marks(marks: &mut [bool], others: &[bool]) -> bool {
+fn join_marks(marks: &mut [u64], others: &[u64]) -> bool {
     let mut is_more = false;
-    for (mark, other) in marks.iter_mut().zip(others) {
-        if *other && !*mark {
-            *mark = true;
-            is_more = true;
-        }
+    for (word, other) in marks.iter_mut().zip(others) {
+        is_more |= *other & !*word != 0;
+        *word |= *other;
     }
     is_more
 }
 
 /// Sets all marks. Whether one of them wasn't set.
-fn set_all(marks: &mut [bool]) -> bool {
+fn set_all(marks: &mut [u64]) -> bool {
     let mut is_more = false;
-    for mark in marks.iter_mut() {
-        is_more |= !*mark;
-        *mark = true;
+    for word in marks.iter_mut() {
+        is_more |= *word != u64::MAX;
+        *word = u64::MAX;
     }
     is_more
 }
@@ -150,14 +143,14 @@ impl Search {
                 None => true,
             },
             Node::Task(number) => match self.gives.get(number as usize) {
-                Some(marks) => marks.get(literal as usize).copied().unwrap_or(false),
+                Some(marks) => is_marked(marks, literal as usize),
                 None => true,
             },
         }
     }
 
     /// Adds to what a task gives what a node gives. Whether that is more.
-    fn join(&self, marks: &mut [bool], node: Node) -> bool {
+    fn join(&self, marks: &mut [u64], node: Node) -> bool {
         match node {
             Node::Leaf(number) => match self.leaves.gives.get(number as usize) {
                 Some(given) => set_marks(marks, given),

@@ -9,15 +9,17 @@
 
 mod check;
 mod find;
+mod given;
 mod laws;
 mod leaves;
+mod marks;
 mod needed;
 mod needs;
 mod of;
 mod places;
 mod rows;
 
+pub use given::Given;
 pub use laws::{needs_are_bounds, needs_stay};
-pub use needed::has_blocked_place;
 pub use needs::Needs;
 pub use places::Place;

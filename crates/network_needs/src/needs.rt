@@ -5,6 +5,7 @@ ghost use Rattle.htn_ground.specs.Views.{child_view};
 ghost use Rattle.htn_state.specs.Views.{literal_of, literals_of};
 ghost use Rattle.network_needs.specs.Rows.{leaf_row, outlook_of, row_of, task_row};
 
+use crate::marks::is_marked;
 use crate::rows::{Row, Rows};
 use htn_ground::{Child, GroundTask};
 use htn_state::Literal;
@@ -65,7 +66,7 @@ impl Needs {
             return true;
         };
         match self.rows.literals.get_index_of(literal) {
-            Some(number) => row.gives.get(number).copied().unwrap_or(false),
+            Some(number) => is_marked(row.gives.as_slice(), number),
             None => false,
         }
     }

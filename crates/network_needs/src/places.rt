@@ -6,6 +6,7 @@ ghost use Rattle.htn_state.specs.Views.{literal_of, literals_of};
 ghost use Rattle.network_needs.specs.Places.{row_at};
 ghost use Rattle.network_needs.specs.Rows.{blocks, gives_by, leaf_row, literal_number, row_of, task_row, wants_by};
 
+use crate::marks::is_marked;
 use crate::needs::Needs;
 use crate::rows::Row;
 use htn_ground::{Child, GroundTask};
@@ -73,7 +74,7 @@ impl Needs {
     }
 
     /// The row at a place.
-    fn row_at(&self, place: Place) -> Option<&Row>
+    pub(crate) fn row_at(&self, place: Place) -> Option<&Row>
         ensures { option_map (λ r. r.now) result ≡ row_at self.now place.spot }
     {
         match place.spot {
@@ -108,7 +109,7 @@ impl Needs {
             return true;
         };
         match number {
-            Some(number) => row.gives.get(number).copied().unwrap_or(false),
+            Some(number) => is_marked(row.gives.as_slice(), number),
             None => false,
         }
     }

@@ -6,11 +6,12 @@ use htn_state::Literal;
 use indexmap::IndexSet;
 use std::alloc::Global;
 
-/// Of a node: the literals that it wants, and whether it gives each of the numbered ones.
+/// Of a node: the literals that it wants, and which of the numbered ones it gives.
 #[derive(Drop)]
 pub(crate) struct Row {
     pub(crate) wants: Vec<Literal>,
-    pub(crate) gives: Vec<bool>,
+    /// As the bits of words, by the numbers of literals.
+    pub(crate) gives: Vec<u64>,
     /// Nothing ever ends it.
     pub(crate) is_blocked: bool,
 }

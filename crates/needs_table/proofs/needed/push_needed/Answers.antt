@@ -17,7 +17,7 @@ use Rattle.needs_table.proofs.Noted.{child_there, node_at}
 use Rattle.needs_table.proofs.needed.push_needed.Goals as goal
 
 pub loop-at-init : goal.loop-at-init
-loop-at-init c = λ networks atoms later words are nodes grown. and_nothing (all_hold words c.args.found.now)
+loop-at-init c = λ networks atoms later words are together nodes grown. and_nothing (all_hold words c.args.found.now)
 
 -- each number is that of a node of which it is known
 pub bounds-nodes-id : goal.bounds-nodes-id
@@ -28,7 +28,7 @@ pub push_needed_at-requires : goal.push_needed_at-requires
 push_needed_at-requires c = let count = ap length c.nodes-ids.ensures in let low = c.loop-at-test.true in let as_many = c.requires.places in omega (arith, count, low, as_many)
 
 pub loop-at-preserved : goal.loop-at-preserved
-loop-at-preserved c = λ networks atoms later words are nodes grown.
+loop-at-preserved c = λ networks atoms later words are together nodes grown.
     let prospects = c.args.prospects.now in
     let needs = prospects.needs in
     let at = c.loop-at.at in
@@ -45,15 +45,15 @@ loop-at-preserved c = λ networks atoms later words are nodes grown.
     let child : child_of n.children at ≡ child_of (children networks) id = child_there networks numbered.nodes at 0 low ∙ ap (child_of (children networks)) (sym here) in
     let wants = subst (λ (x : Child). AreWants needs atoms node.wants.items (wants_by (row_of needs x))) (sym child) right.wants in
     needed_more (state_of later words) (needed_at (outlook_of needs) n) at (all_hold words c.args.found.now) (all_hold words c.loop-at.found) (all_hold words c.push_needed_at.new.found)
-    (c.loop-at.invariant networks atoms later words are nodes grown)
-    (c.in_ok-push_needed_at.ensures n atoms later words are c.order.ensures.value (subst (λ (ws : List Want). AreWants needs atoms ws (wants_by (row_of needs (child_of n.children at)))) (sym c.deref.ensures.value) wants) grown)
+    (c.loop-at.invariant networks atoms later words are together nodes grown)
+    (c.in_ok-push_needed_at.ensures n atoms later words are together c.order.ensures.value (subst (λ (ws : List Want). AreWants needs atoms ws (wants_by (row_of needs (child_of n.children at)))) (sym c.deref.ensures.value) wants) grown)
 
 pub returns : goal.returns
-returns c = λ networks atoms later words are nodes grown.
+returns c = λ networks atoms later words are together nodes grown.
     let numbered = c.args.network.now in
     let n = network_of (children networks) numbered in
     let count = ap length c.nodes-ids.ensures in
     let long = length-map numbered.nodes (child_of (children networks)) in
     let all : c.loop-at.at ≡ length n.children = omega (arith, count, long, c.loop-at.auto.at-end, c.loop-at-test.false) in
-    c.loop-at.invariant networks atoms later words are nodes grown
+    c.loop-at.invariant networks atoms later words are together nodes grown
     ∙ ap (λ k. all_hold words c.args.found.now && holds (state_of later words) (flat_map (needed_at (outlook_of c.args.prospects.now.needs) n) (range_with_len 0 k))) all

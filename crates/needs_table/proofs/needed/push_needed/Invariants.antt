@@ -2,7 +2,7 @@ use Rattle.std.proofs.Common.{◌≡◌, ◌&&◌, List, ℕ}
 use Rattle.std.specs.List.{flat_map, range_with_len}
 use Rattle.htn_model.specs.Literal.{holds}
 use Rattle.network_needs.specs.Needs.{needed_at}
-use Rattle.network_needs.specs.Places.{ArePlaces}
+use Rattle.network_needs.specs.Places.{AreGiven, ArePlaces}
 use Rattle.network_needs.specs.Rows.{outlook_of}
 use Rattle.network_table.specs.Networks.{children}
 use Rattle.network_table.specs.Numbered.{network_of}
@@ -15,7 +15,7 @@ use Rattle.needs_table.proofs.needed.push_needed.Given as goal
 -- what is needed of the nodes so far
 abbrev pub invariant-loop-at : goal.invariant-loop-at
 invariant-loop-at l =
-    (networks : NetworkTable) (atoms later : Table) (words : List ℕ) → ArePlaces l.prospects.needs l.places (network_of (children networks) l.network) → AreNodes l.prospects atoms networks l.nodes
+    (networks : NetworkTable) (atoms later : Table) (words : List ℕ) → ArePlaces l.prospects.needs l.places (network_of (children networks) l.network) → AreGiven l.prospects.needs (network_of (children networks) l.network) l.given → AreNodes l.prospects atoms networks l.nodes
     → IsLater atoms later
     → all_hold words l.found
     ≡ (all_hold words l.initial.found && holds (state_of later words) (flat_map (needed_at (outlook_of l.prospects.needs) (network_of (children networks) l.network)) (range_with_len 0 l.at)))

@@ -3,7 +3,7 @@ use Rattle.htn_model.specs.Choice.{child_of}
 use Rattle.htn_model.specs.Literal.{holds}
 use Rattle.htn_model.specs.Problem.{Network}
 use Rattle.network_needs.specs.Needs.{is_ungiven}
-use Rattle.network_needs.specs.Places.{ArePlaces}
+use Rattle.network_needs.specs.Places.{AreGiven, ArePlaces}
 use Rattle.network_needs.specs.Rows.{outlook_of, row_of, wants_by}
 use Rattle.state_table.specs.Compiled.{all_hold}
 use Rattle.state_table.specs.Table.{IsLater, state_of, Table}
@@ -13,7 +13,7 @@ use Rattle.needs_table.proofs.needed.push_needed_at.Given as goal
 -- what is needed of the wanted literals so far
 abbrev pub invariant-loop-want : goal.invariant-loop-want
 invariant-loop-want l =
-    (n : Network) (atoms later : Table) (words : List ℕ) → ArePlaces l.needs l.places n → l.order ≡ n.order → AreWants l.needs atoms l.wants (wants_by (row_of l.needs (child_of n.children l.at)))
+    (n : Network) (atoms later : Table) (words : List ℕ) → ArePlaces l.needs l.places n → AreGiven l.needs n l.given → l.order ≡ n.order → AreWants l.needs atoms l.wants (wants_by (row_of l.needs (child_of n.children l.at)))
     → IsLater atoms later
     → all_hold words l.found
     ≡ (all_hold words l.initial.found

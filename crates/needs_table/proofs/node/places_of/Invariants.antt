@@ -1,4 +1,4 @@
-use Rattle.std.proofs.Common.{◌≡◌, ℕ, length, map, take}
+use Rattle.std.proofs.Common.{◌≡◌, length, map, take}
 use Rattle.htn_model.specs.Choice.{child_of}
 use Rattle.network_needs.specs.Places.{row_at}
 use Rattle.network_needs.specs.Rows.{blocks, row_of}

@@ -1,4 +1,4 @@
-use Rattle.std.proofs.Common.{◌≡◌, ◌∙◌, ◌∷◌, [], ◌≤◌, ◌<◌, List, length, length-append, get_or, ap, sym, subst, refl, arith}
+use Rattle.std.proofs.Common.{◌∙◌, ◌∷◌, [], ◌≤◌, ◌<◌, List, length, length-append, get_or, ap, sym, subst, refl, arith}
 use Rattle.htn_model.specs.Literal.{Literal}
 use Rattle.network_table.specs.Networks.{children, network_at}
 use Rattle.network_table.specs.Numbered.{IsWithin, Numbered, network_of}

@@ -28,12 +28,13 @@ returns c = λ atoms networks nodes goals.
     let places = c.as_slice-places.result.now in
     let noted = subst (λ (ns : List Node). AreNodes known atoms networks ns) (sym c.as_slice-nodes.ensures.value) nodes in
     let wanted = subst (λ (ws : List Want). AreWants needs atoms ws c.args.self.now.goal) (sym c.as_slice.ensures.value) goals in
-    let are = subst (λ (ps : List Place). ArePlaces needs ps network) (sym c.as_slice-places.ensures.value) (c.in_ok-kept.ensures.places known atoms networks noted) in (
+    let are = subst (λ (ps : List Place). ArePlaces needs ps network) (sym c.as_slice-places.ensures.value) (c.in_ok-kept.ensures.places known atoms networks noted) in
+    let together = c.in_ok-given.ensures network are in (
       sym (c.has_lost.ensures known atoms networks noted) ∙ c.if-has_lost.false,
       λ later grown words.
           c.drop_repeats.ensures words
-          ∙ c.in_ok-push_needed_goal.ensures network c.args.self.now.goal atoms later words are wanted grown
+          ∙ c.in_ok-push_needed_goal.ensures needs network c.args.self.now.goal atoms later words together wanted grown
           ∙ ap (λ b. b && holds (state_of later words) (needed_goal o c.args.self.now.goal network))
-          (c.in_ok-push_needed.ensures networks atoms later words are noted grown ∙ ap (λ b. b && holds (state_of later words) (needed o network)) (c.none-found.ensures words))
+          (c.in_ok-push_needed.ensures networks atoms later words are together noted grown ∙ ap (λ b. b && holds (state_of later words) (needed o network)) (c.none-found.ensures words))
           ∙ sym (list_all-append (literal_holds (state_of later words)) (needed o network) (needed_goal o c.args.self.now.goal network)),
     )

@@ -1,10 +1,16 @@
-use Rattle.std.proofs.Common.{◌∙◌, ◌<◌, length, sym, arith}
+use Rattle.std.proofs.Common.{◌∙◌, ◌<◌, ap, length, sym, arith}
+use Rattle.network_needs.specs.Places.{has_given}
 use Rattle.network_needs.specs.Rows.{outlook_of}
-use Rattle.network_needs.proofs.RowsThere.{as_many, given, may_give_there, not_given}
+use Rattle.network_needs.proofs.RowsThere.{as_many, given, given_by_none, may_give_there, not_given}
 use Rattle.network_needs.proofs.needs.Needs.is_ungiven_at.Goals as goal
 
+pub returns-then-not-has : goal.returns-then-not-has
+returns-then-not-has c = λ n l are together order number.
+    let needs = c.args.self.now in
+    sym (given_by_none (outlook_of needs) n l c.args.at (sym (together l) ∙ ap (has_given c.args.given.now) (sym number) ∙ sym c.has.ensures ∙ c.if-not-has.true))
+
 pub returns-then-may_give_at : goal.returns-then-may_give_at
-returns-then-may_give_at c = λ n l are order number.
+returns-then-may_give_at c = λ n l are together order number.
     let needs = c.args.self.now in
     let places = c.args.places.now in
     let at = c.loop-position.position in
@@ -15,7 +21,7 @@ returns-then-may_give_at c = λ n l are order number.
     sym (given (outlook_of needs) n l c.args.at at low_too (sym there ∙ sym c.may_give_at.ensures ∙ c.if-may_give_at.true))
 
 pub returns : goal.returns
-returns c = λ n l are order number.
+returns c = λ n l are together order number.
     let needs = c.args.self.now in
     let places = c.args.places.now in
     let count = as_many needs places n are in
