@@ -19,22 +19,32 @@ use std::alloc::{AllocError, Global};
 use std::sync::Wait;
 use std::thread::Threads;
 use task_machine::{Tables, TaskMachine};
-use word_machine::{
-    Bounds, Found, Gate, Machine, SearchFault, find_word_among, find_word_deepening,
-};
+use word_machine::{Bounds, Found, Gate, Machine, SearchFault, find_word_deepening};
 
-// So many configurations a search by the open nodes keeps first: where they suffice, bounds would cost more than they
-// spare.
-const FEW_KEPT: usize = 10_000;
+// How much is listed at most to find sizes and needs, and how many configurations a search by these keeps at most, before
+// more is listed.
+#[derive(Clone, Copy)]
+struct Stage {
+    listed: u64,
+    kept: usize,
+}
 
-// So much is listed at first to find sizes and needs, and where it isn't all, so many configurations are kept by that,
-// before more is listed: which takes about as long.
-const FEW_LISTED: u64 = 20_000;
-
-const MANY_KEPT: usize = 100_000;
-
-// So much is listed at most.
-const MOST_LISTED: u64 = 100_000;
+// To list as much as a stage does takes no longer than to keep some times as many configurations; so little is listed
+// where little is needed, and no search takes much longer by what is listed for it.
+const STAGES: [Stage; 3] = [
+    Stage {
+        listed: 2_000,
+        kept: 2_000,
+    },
+    Stage {
+        listed: 20_000,
+        kept: 100_000,
+    },
+    Stage {
+        listed: 100_000,
+        kept: usize::MAX,
+    },
+];
 
 /// What a search found, and the tables that it went by.
 #[derive(Drop)]
@@ -43,14 +53,13 @@ struct Searched {
     tables: Tables,
 }
 
-/// The least finishing word of ranks of a task, or that there is none, by a machine for which so much is listed; None
-/// where it is given up, which may be only if more would be listed with a greater limit.
-fn search_listed<G: Gate, R: Threads + Wait + Sync>(
+/// The least finishing word of ranks of a task, or that there is none; None where it is given up, since more would be
+/// known if more was listed.
+fn search_stage<G: Gate, R: Threads + Wait + Sync>(
     rt: &R,
     alloc: Global,
     task: &Task,
-    most_listed: u64,
-    most_kept: usize,
+    stage: Stage,
     bounds: Bounds,
     gate: &G,
 ) -> Result<Option<Searched>, SearchFault>
@@ -58,36 +67,14 @@ fn search_listed<G: Gate, R: Threads + Wait + Sync>(
     ensures tables { IfOk result (λ o. IfSome o (λ s. AreTables task.now s.tables)) }
     ensures no_thread { IfErr result (λ e. e ≡ NoThread → 1 < bounds.workers) }
 {
-    let machine = TaskMachine::new(alloc, task, most_listed)?;
-    let mut tables = machine.new_tables()?;
+    let machine = TaskMachine::new(alloc, task, stage.listed)?;
     let most_kept = if machine.is_cut {
-        most_kept
+        stage.kept
     } else {
         usize::MAX
     };
-    let by_bounds = find_word_deepening(rt, alloc, &machine, &mut tables, bounds, most_kept, gate)?;
-    match by_bounds {
-        Some(found) => Ok(Some(Searched { found, tables })),
-        None => Ok(None),
-    }
-}
-
-/// The same by a search by the open nodes, for which nothing is listed; None where it is given up.
-fn search_plainly<G: Gate, R: Threads + Wait + Sync>(
-    rt: &R,
-    alloc: Global,
-    task: &Task,
-    most_kept: usize,
-    bounds: Bounds,
-    gate: &G,
-) -> Result<Option<Searched>, SearchFault>
-    ensures answer { IfOk result (λ o. IfSome o (λ s. IsAnswer (listing_machine task.now) bounds.nodes s.found)) }
-    ensures tables { IfOk result (λ o. IfSome o (λ s. AreTables task.now s.tables)) }
-    ensures no_thread { IfErr result (λ e. e ≡ NoThread → 1 < bounds.workers) }
-{
-    let machine = TaskMachine::new(alloc, task, 0)?;
     let mut tables = machine.new_tables()?;
-    let answer = find_word_among(rt, alloc, &machine, &mut tables, bounds, most_kept, gate)?;
+    let answer = find_word_deepening(rt, alloc, &machine, &mut tables, bounds, most_kept, gate)?;
     match answer {
         Some(found) => Ok(Some(Searched { found, tables })),
         None => Ok(None),
@@ -106,17 +93,13 @@ fn find_ranks<G: Gate, R: Threads + Wait + Sync>(
     ensures tables { IfOk result (λ s. AreTables task.now s.tables) }
     ensures no_thread { IfErr result (λ e. e ≡ NoThread → 1 < bounds.workers) }
 {
-    if let Some(searched) = search_plainly(rt, alloc, task, FEW_KEPT, bounds, gate)? {
-        return Ok(searched);
+    for stage in STAGES {
+        if let Some(searched) = search_stage(rt, alloc, task, stage, bounds, gate)? {
+            return Ok(searched);
+        }
     }
-    if let Some(searched) = search_listed(rt, alloc, task, FEW_LISTED, MANY_KEPT, bounds, gate)? {
-        return Ok(searched);
-    }
-    match search_listed(rt, alloc, task, MOST_LISTED, usize::MAX, bounds, gate)? {
-        Some(searched) => Ok(searched),
-        // More configurations could not be held either.
-        None => Err(SearchFault::OutOfMemory),
-    }
+    // More configurations than the last stage may keep could not be held either.
+    Err(SearchFault::OutOfMemory)
 }
 
 /// The least finishing word of a task, by its steps and then by its numbers; or that no solution is

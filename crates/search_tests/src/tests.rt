@@ -8,9 +8,7 @@ use std::sync::Wait;
 use std::sync::atomic::{AtomicU64, Ordering};
 use std::test::Fail;
 use std::thread::Threads;
-use word_machine::{
-    Bounds, Found, Gate, Machine, NoGate, find_word, find_word_among, find_word_deepening,
-};
+use word_machine::{Bounds, Found, Gate, Machine, NoGate, find_word, find_word_deepening};
 
 fn tally(tasks: u64, value: u64) -> Tally {
     Tally {
@@ -190,17 +188,18 @@ fn a_search_tells_unsolvable(rt: HostRuntime) -> Result<(), Fail> {
     expect_calls(&rt, &machine, 1, "unsolvable", 1)
 }
 
-// Two configurations are kept at the start, so a search that may keep one is given up, and another goes on with its tables.
+// Two configurations are kept at the start, so a search that may keep one is given up, and another goes on with its
+// tables.
 #[test]
 fn a_search_is_given_up(rt: HostRuntime) -> Result<(), Fail> {
     let alloc: Global = rt.alloc();
     let machine = counter(alloc, 3, tally(2, 0), tally(3, 900));
     let bounds = Bounds::new(9, 1, 1).ok_or("in range")?;
     let mut tables = machine.new_tables()?;
-    let given_up = find_word_among(&rt, alloc, &machine, &mut tables, bounds, 1, &NoGate)?;
+    let given_up = find_word_deepening(&rt, alloc, &machine, &mut tables, bounds, 1, &NoGate)?;
     assert!(rt; given_up.is_none());
     let most = usize::MAX;
-    let found = find_word_among(&rt, alloc, &machine, &mut tables, bounds, most, &NoGate)?;
+    let found = find_word_deepening(&rt, alloc, &machine, &mut tables, bounds, most, &NoGate)?;
     let word = text(alloc, found.ok_or("not given up")?)?;
     assert_eq!(rt; word.as_str(), "[0, 0, 1, 0]");
     Ok(())

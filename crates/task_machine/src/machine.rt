@@ -43,7 +43,7 @@ impl<'a> TaskMachine<'a> {
     {
         let _initial = task.initial_atoms();
         let found = enumerate(alloc, task, most_listed)?;
-        let is_cut = found.is_cut();
+        let is_cut = found.is_cut(task);
         let prospects = Prospects::of(alloc, task, &found)?;
         let sizes = TreeSizes::of_enumerated(alloc, found)?;
         Ok(TaskMachine {

@@ -22,7 +22,6 @@ pub struct Enumeration {
     pub(crate) actions: Actions,
     pub(crate) expanded: usize,
     pub(crate) instances: Vec<Parts>,
-    pub(crate) is_cut: bool,
 }
 
 /// The compound tasks of the initial networks.
@@ -111,10 +110,11 @@ impl Enumeration {
     }
 
     /// Whether more would be listed with a greater limit.
-    pub fn is_cut(&self) -> bool
-        ensures { result ≡ self.now.is_cut }
-    {
-        self.is_cut
+    pub fn is_cut(&self, task: &Task) -> bool {
+        match self.tasks.get_index(self.expanded) {
+            Some(goal) => may_be_listed(task, goal),
+            None => false,
+        }
     }
 
     /// Actions that are never carried out.
@@ -134,7 +134,6 @@ impl Enumeration {
             actions: Actions::new(alloc),
             expanded: 0,
             instances: Vec::new(alloc),
-            is_cut: false,
         })
     }
 
@@ -187,10 +186,6 @@ pub fn enumerate(alloc: Global, task: &Task, limit: u64) -> Result<Enumeration, 
     let mut found = Enumeration::new(alloc, task)?;
     let mut left = limit;
     while let Some(goal) = found.tasks.get_index(found.expanded) {
-        if left == 0 {
-            found.is_cut = true;
-            break;
-        }
         if !may_be_listed(task, goal) {
             break;
         }
@@ -200,7 +195,6 @@ pub fn enumerate(alloc: Global, task: &Task, limit: u64) -> Result<Enumeration, 
             break;
         };
         if cost > left {
-            found.is_cut = true;
             break;
         }
         left -= cost;

@@ -20,4 +20,4 @@ pub use deepen::find_word_deepening;
 pub use found::{Found, SearchFault};
 pub use htn_level::{Gate, NoGate};
 pub use machine::Machine;
-pub use search::{find_word, find_word_among};
+pub use search::find_word;

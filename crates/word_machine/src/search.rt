@@ -132,43 +132,6 @@ fn exhausted<C: Eq + Hash + Drop>(closed: &Closed<C>, bound: u64) -> Outcome
     }
 }
 
-/// The answer of `find_word`, in tables that a caller may go on with; None where it is given up, once more than
-/// `most_kept` configurations were kept.
-pub fn find_word_among<M: Machine, G: Gate, R: Threads + Wait + Sync>(
-    rt: &R,
-    alloc: Global,
-    machine: &M,
-    tables: &mut M::Tables,
-    bounds: Bounds,
-    most_kept: usize,
-    gate: &G,
-) -> Result<Option<Found>, SearchFault>
-    requires own { M.owns machine.now tables.old }
-    ensures owned { OnOk result (M.owns machine.now tables.new) }
-    ensures answer { IfOk result (λ o. IfSome o (IsAnswer (M.words machine.now) bounds.nodes)) }
-    ensures no_thread { IfErr result (λ e. e ≡ NoThread → 1 < bounds.workers) }
-{
-    let initials = machine.initials(tables)?;
-    let limits = Limits {
-        bounds,
-        measure: Measure::OpenNodes,
-        none_within: false,
-        most_kept,
-    };
-    let mut closed = Closed::new(alloc);
-    let outcome = search(
-        rt,
-        alloc,
-        machine,
-        tables,
-        &initials,
-        &mut closed,
-        limits,
-        gate,
-    )?;
-    Ok(outcome.found())
-}
-
 /// The least finishing word of at most `bounds.nodes` steps. The answer is the same for every number of workers, size
 /// of the pieces and gate, and however the workers take turns.
 pub fn find_word<M: Machine, G: Gate, R: Threads + Wait + Sync>(
@@ -182,7 +145,25 @@ pub fn find_word<M: Machine, G: Gate, R: Threads + Wait + Sync>(
     ensures no_thread { IfErr result (λ e. e ≡ NoThread → 1 < bounds.workers) }
 {
     let mut tables = machine.new_tables()?;
-    match find_word_among(rt, alloc, machine, &mut tables, bounds, usize::MAX, gate)? {
+    let initials = machine.initials(&mut tables)?;
+    let limits = Limits {
+        bounds,
+        measure: Measure::OpenNodes,
+        none_within: false,
+        most_kept: usize::MAX,
+    };
+    let mut closed = Closed::new(alloc);
+    let outcome = search(
+        rt,
+        alloc,
+        machine,
+        &mut tables,
+        &initials,
+        &mut closed,
+        limits,
+        gate,
+    )?;
+    match outcome.found() {
         Some(found) => Ok(found),
         // More configurations could not be held either.
         None => Err(SearchFault::OutOfMemory),
