@@ -1,5 +1,5 @@
 -- What is kept of listed instances gives them back.
-use Rattle.std.proofs.Common.{◌≡◌, ◌∙◌, [], ℕ, None, Some, ap, sym, length, map, slice_get}
+use Rattle.std.proofs.Common.{◌≡◌, ◌∙◌, [], ℕ, None, Some, ap, sym, length, slice_get}
 use Rattle.std.specs.Prelude.{IfNone, Option}
 use Rattle.std.specs.Option.{option_map}
 use Rattle.std.proofs.lemmas.List.{length-map}
