@@ -1,9 +1,11 @@
 -- Sets that number what they hold.
-use Rattle.std.proofs.Common.{◌≡◌, ℕ, zero, suc, ◌<◌, inl, inr, Bool, true, false, not, if◌then◌else◌, List, [], ◌∷◌, ◌++◌, map, length, get_or, refl, sym, ap, subst, ◌∙◌, arith, true≢false, slice_get, Some}
-use Rattle.std.specs.List.{IsDistinct, list_any}
+use Rattle.std.proofs.Common.{◌≡◌, ℕ, zero, suc, ◌<◌, ◌≤◌, inl, inr, Bool, true, false, not, cond, if◌then◌else◌, List, [], ◌∷◌, ◌++◌, map, length, get_or, refl, sym, ap, subst, ◌∙◌, arith, true≢false, slice_get, Some, None}
+use Rattle.std.specs.Prelude.{position, IfNone, Option}
+use Rattle.std.specs.List.{IsDistinct, list_any, position_or_len}
 use Rattle.std.specs.Bool.{Decides}
-use Rattle.std.proofs.lemmas.Bool.{cases_lt}
+use Rattle.std.proofs.lemmas.Bool.{cases_lt, lt-ltb, le-ltb}
 use Rattle.std.proofs.lemmas.List.{length-map, get_or-map}
+use Rattle.std.proofs.lemmas.List.Sums.{passes_at_first, fails_before_first}
 use Rattle.std.proofs.lemmas.Map.Made.{AllPairs-from_IsDistinct}
 use Rattle.std.proofs.lemmas.Map.Keys.{apart_from_distinct}
 use Rattle.std.proofs.lemmas.Option.{none-some, same_Some, slice_get-get_or}
@@ -86,3 +88,62 @@ distinct_keys eq same d keys distinct = without_repeats d keys (λ i j here ther
         | inr no_more ↦ omega arith
       ]
     ])
+
+-- what the search for a key tells of the first place where it is
+place_at : {K : Type 0} (test : K → Bool) (keys : List K) (n : ℕ) → position test keys ≡ Some n → (position_or_len test keys ≡ n) × (n < length keys)
+place_at test keys n is = elim (cases_lt (position_or_len test keys) (length keys)) [
+  | inl less ↦
+      (let here : position_or_len test keys ≡ n = same_Some _ n (sym (ap (λ b. cond b (Some (position_or_len test keys)) None) (lt-ltb (position_or_len test keys) (length keys) less)) ∙ is) in
+      (here, subst (λ k. k < length keys) here less))
+  | inr past ↦ absurd (none-some n (sym (ap (λ b. cond b (Some (position_or_len test keys)) None) (le-ltb (position_or_len test keys) (length keys) past)) ∙ is))
+]
+
+-- where it finds none, no place is before the end
+no_place : {K : Type 0} (test : K → Bool) (keys : List K) → position test keys ≡ None → length keys ≤ position_or_len test keys
+no_place test keys is = elim (cases_lt (position_or_len test keys) (length keys)) [
+  | inl less ↦ absurd (none-some (position_or_len test keys) (sym is ∙ ap (λ b. cond b (Some (position_or_len test keys)) None) (lt-ltb (position_or_len test keys) (length keys) less)))
+  | inr past ↦ past
+]
+
+module _ {K X : Type 0} (eq : K → K → Bool) (view : K → X) (same : (a b : K) → Decides (eq a b) (view a ≡ view b)) (d q : K) (keys : List K) where
+  -- a key that was found stands for what was sought
+  pub found_view : (n : ℕ) → position (eq q) keys ≡ Some n → (n < length (map view keys)) × (get_or (map view keys) n (view d) ≡ view q)
+  found_view n is =
+      let at = place_at (eq q) keys n is in
+      let long = length-map keys view in
+      let less : position_or_len (eq q) keys < length keys = subst (λ k. k < length keys) (sym at.0) at.1 in
+      let meets : eq q (get_or keys n d) ≡ true = ap (λ k. eq q (get_or keys k d)) (sym at.0) ∙ passes_at_first (eq q) keys d less in (
+        omega (arith, at.1),
+        get_or-map view keys n d (view d) at.1 ∙ sym ((same q (get_or keys n d)).0 meets),
+      )
+
+  -- it stands nowhere before the first place
+  pub first_view : (id : ℕ) → id < length (map view keys) → get_or (map view keys) id (view d) ≡ view q → position_or_len (eq q) keys ≤ id
+  first_view id inside is =
+      let long = length-map keys view in
+      let low : id < length keys = omega arith in
+      let meets : eq q (get_or keys id d) ≡ true = (same q (get_or keys id d)).1 (sym is ∙ get_or-map view keys id d (view d) low) in
+      elim (cases_lt id (position_or_len (eq q) keys)) [
+        | inl before ↦ absurd (true≢false (sym meets ∙ fails_before_first (eq q) keys id d before))
+        | inr after ↦ after
+      ]
+
+  -- what was not found stands nowhere
+  pub absent_view : position (eq q) keys ≡ None → (id : ℕ) → id < length (map view keys) → get_or (map view keys) id (view d) ≡ view q → ⊥
+  absent_view is id inside at =
+      let long = length-map keys view in
+      let first = first_view id inside at in
+      let past = no_place (eq q) keys is in
+      omega arith
+
+  -- what was found at a place stands nowhere before
+  pub late_view : (n : ℕ) → position (eq q) keys ≡ Some n → (id : ℕ) → id < n → id < length (map view keys) → get_or (map view keys) id (view d) ≡ view q → ⊥
+  late_view n is id before inside at =
+      let place = (place_at (eq q) keys n is).0 in
+      let first = first_view id inside at in
+      omega arith
+
+-- what holds anyway holds where there is none
+pub none_either : {A P : Type 0} (o : Option A) → P → IfNone o P
+none_either None holds = holds
+none_either (Some a) holds = tt

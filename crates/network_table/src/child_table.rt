@@ -1,5 +1,5 @@
 //! Nodes by numbers.
-ghost use Rattle.std.specs.Prelude.{◌≡◌, ◌<◌, ◌++◌, ℕ, List, IfOk, OnOk, length, get_or};
+ghost use Rattle.std.specs.Prelude.{◌≡◌, ◌<◌, ◌^◌, ◌++◌, ℕ, List, IfNone, IfOk, IfSome, OnOk, length, get_or};
 ghost use Rattle.htn_model.specs.Problem as model;
 ghost use Rattle.htn_model.specs.Choice.{child_of};
 ghost use Rattle.htn_ground.specs.Views.{child_view, children_of};
@@ -34,6 +34,18 @@ impl ChildTable {
         ensures { child_view result.now ≡ child_of (numbered_children self.now) id }
     {
         &self.children.as_slice()[id as usize]
+    }
+
+    /// The number of a node, if it has one that a word of 32 bits holds. It takes no memory.
+    pub fn number_of(&self, child: &Child) -> Option<u32>
+        ensures some { IfSome result (λ id. IsNumber self.now id (child_view child.now)) }
+        ensures none { IfNone result ((id : ℕ) → id < 2 ^ 32 → IsNumber self.now id (child_view child.now) → ⊥) }
+    {
+        let place = self.children.get_index_of(child)?;
+        let Ok(id) = u32::try_from(place) else {
+            return None;
+        };
+        Some(id)
     }
 
     /// The nodes in the order of their numbers.

@@ -1,5 +1,5 @@
 //! Networks by numbers.
-ghost use Rattle.std.specs.Prelude.{◌≡◌, ◌<◌, ◌+◌, ◌-◌, ◌^◌, [], ℕ, List, IfOk, OnOk, length, map, min, set, None, Some};
+ghost use Rattle.std.specs.Prelude.{◌≡◌, ◌<◌, ◌+◌, ◌-◌, ◌^◌, [], ℕ, List, IfNone, IfOk, IfSome, OnOk, length, map, min, set, None, Some};
 ghost use Rattle.std.specs.List.{sum_by};
 ghost use Rattle.std.specs.Option.{option_map};
 ghost use Rattle.htn_model.specs.Problem as model;
@@ -88,6 +88,14 @@ impl NetworkTable {
         ensures { child_view result.now ≡ child_of (children self.now) id }
     {
         self.children.child(id)
+    }
+
+    /// The number of a node, if it has one that a word of 32 bits holds. It takes no memory.
+    pub fn number_of_child(&self, child: &Child) -> Option<u32>
+        ensures some { IfSome result (λ id. IsNumber self.now.children id (child_view child.now)) }
+        ensures none { IfNone result ((id : ℕ) → id < 2 ^ 32 → IsNumber self.now.children id (child_view child.now) → ⊥) }
+    {
+        self.children.number_of(child)
     }
 
     /// How many nodes the network of a number has.

@@ -1,4 +1,5 @@
 pub mod Estimates
+pub mod Listings
 pub mod Owned
 pub mod Performing
 pub mod Prefixes

@@ -1,5 +1,6 @@
 -- The tables stay right as they grow.
 use Rattle.std.proofs.Common.{◌≡◌, ◌∙◌, ◌<◌, ◌&&◌, ◌⊎◌, inl, inr, ℕ, List, [], ◌++◌, All, Option, Some, None, IsSome, unwrap_or, true≢false, not, ap, ap₂, sym, subst, map, length, get_or, slice_get, refl, arith, append-nil, append_assoc, length-append}
+use Rattle.std.specs.Option.{option_map}
 use Rattle.std.proofs.lemmas.List.{get_or_append_left}
 use Rattle.std.proofs.lemmas.Bool.{cases_eq}
 use Rattle.std.proofs.lemmas.Option.{get_or_from_slice_get, same_Some, slice_get-get_or}
@@ -36,10 +37,11 @@ use Rattle.word_machine.specs.Meaning.{IsGrown as MeaningGrown}
 use Rattle.task_machine.specs.Growing.{IsWider, StandFor}
 use Rattle.task_machine.specs.Meaning.{allows, config_in, knows, meaning, point, point_of}
 use Rattle.task_machine.specs.Steps.{live_networks}
-use Rattle.task_machine.specs.Tables.{AreAtoms, AreExpanded, AreLater, AreListings, ArePerformers, AreTables, HasPerformers, IsFirstTask, IsKnownExpansion, IsPerformer, instances_at, slot}
+use Rattle.task_machine.specs.Tables.{AreAtoms, AreExpanded, AreLater, AreListings, ArePerformers, AreTables, HasPerformers, IsFirstTask, IsKnownExpansion, IsListing, IsPerformer, slot}
 use Rattle.task_machine.specs.declared.configuration.Configuration.{Configuration}
 use Rattle.task_machine.specs.declared.configuration.Reached.{Reached}
 use Rattle.task_machine.specs.declared.configuration.Reached.TheVariants.{Known, New}
+use Rattle.task_machine.specs.declared.listing.Listing.{Listing}
 use Rattle.task_machine.specs.declared.performer.Performer.{Performer}
 use Rattle.task_machine.specs.declared.performer.Performer.TheVariants.{Step, Action as Acts, Never}
 use Rattle.task_machine.specs.declared.tables.Tables.{Tables}
@@ -120,12 +122,13 @@ performers_wider t atoms old new grown performers own n p is =
     )
 
 -- and so do listed instances
-pub listings_wider : (t : Task) (old new : NetworkTable) → IsGrown old new → (instances : ℕ → Option (List Numbered)) → AreListings t old instances → AreListings t new instances
-listings_wider t old new grown instances own n found is =
+pub listings_wider : (t : Task) (old new : NetworkTable) → IsGrown old new → (listings : List (Option Listing)) → AreListings t old listings → AreListings t new listings
+listings_wider t old new grown listings own n found is =
     let of = own n found is in
     let stays = node_stays old new grown n of.0 in (
       stays.0,
-      λ g stands. stand_still old new grown found (live_networks t g) (of.1 g (sym stays.1 ∙ stands)),
+      λ g stands. (let listing = of.1 g (sym stays.1 ∙ stands) in
+          record { networks = stand_still old new grown found.networks.items (live_networks t g) listing.networks; sources = listing.sources }),
     )
 
 -- the tables with more networks
@@ -139,7 +142,7 @@ with_networks t s networks wider own = record {
   goal = own.goal;
   performers = performers_wider t s.atoms s.networks networks wider.grown s.performers.items own.performers;
   performed = λ n e is. own.performed n e (sym (wider.remembered n) ∙ is);
-  instances = listings_wider t s.networks networks wider.grown (instances_at s) own.instances;
+  instances = listings_wider t s.networks networks wider.grown s.instances.items own.instances;
 }
 
 -- ## One more state
@@ -249,15 +252,15 @@ performers_put t atoms networks old new number performer here others known of ow
     ]
 
 -- one more compound task's instances
-pub listings_put : (t : Task) (networks : NetworkTable) (old new : ℕ → Option (List Numbered)) (number : ℕ) (found : List Numbered)
-    → new number ≡ Some found → ((n : ℕ) → (n ≡ number → ⊥) → new n ≡ old n) → number < length (children networks)
-    → ((g : GroundTask) → child_of (children networks) number ≡ task g → StandFor networks found (live_networks t g)) → AreListings t networks old → AreListings t networks new
+pub listings_put : (t : Task) (networks : NetworkTable) (old new : List (Option Listing)) (number : ℕ) (found : Listing)
+    → slot new number ≡ Some found → ((n : ℕ) → (n ≡ number → ⊥) → slot new n ≡ slot old n) → number < length (children networks)
+    → ((g : GroundTask) → child_of (children networks) number ≡ task g → IsListing t networks g found) → AreListings t networks old → AreListings t networks new
 listings_put t networks old new number found here others known right own n other is =
     elim (cases_eq n number) [
       | inl same ↦ (
-          let alike : found ≡ other = same_Some found other (sym here ∙ ap new (sym same) ∙ is) in (
+          let alike : found ≡ other = same_Some found other (sym here ∙ ap (slot new) (sym same) ∙ is) in (
             subst (λ k. k < length (children networks)) (sym same) known,
-            λ g stands. subst (λ (ns : List Numbered). StandFor networks ns (live_networks t g)) alike (right g (ap (child_of (children networks)) (sym same) ∙ stands)),
+            λ g stands. subst (IsListing t networks g) alike (right g (ap (child_of (children networks)) (sym same) ∙ stands)),
           ))
       | inr apart ↦ own n other (sym (others n apart) ∙ is)
     ]
@@ -295,7 +298,7 @@ expanded t s network networks whole grown sound others own = record {
   goal = own.goal;
   performers = performers_wider t s.atoms s.networks networks grown s.performers.items own.performers;
   performed = λ n e apart is. own.performed n e (sym (others n apart) ∙ is);
-  instances = listings_wider t s.networks networks grown (instances_at s) own.instances;
+  instances = listings_wider t s.networks networks grown s.instances.items own.instances;
 }
 
 -- the nodes that go from the network have their performers
@@ -344,16 +347,16 @@ module _ (t : Task) (networks : NetworkTable) (network node : ℕ) (first : IsFi
       stand.1 ∙ ap (live_networks t) goals
 
   -- they are its instances, by nodes that have numbers
-  pub listed_right : (instances : ℕ → Option (List Numbered)) → AreListings t networks instances → IsSome (instances node) → (result : List Numbered)
-      → result ≡ unwrap_or (instances node) [] → All (IsWithin (children networks)) result × AreInstances (live_networks t) networks network result
-  listed_right instances own there result is = by (instances node) refl there is
+  pub listed_right : (listings : List (Option Listing)) → AreListings t networks listings → IsSome (slot listings node) → (result : List Numbered)
+      → result ≡ unwrap_or (option_map (λ (l : Listing). l.networks.items) (slot listings node)) [] → All (IsWithin (children networks)) result × AreInstances (live_networks t) networks network result
+  listed_right listings own there result is = by (slot listings node) refl there is
     where
-      by : (o : Option (List Numbered)) → instances node ≡ o → IsSome o → result ≡ unwrap_or o [] → All (IsWithin (children networks)) result × AreInstances (live_networks t) networks network result
+      by : (o : Option Listing) → slot listings node ≡ o → IsSome o → result ≡ unwrap_or (option_map (λ (l : Listing). l.networks.items) o) [] → All (IsWithin (children networks)) result × AreInstances (live_networks t) networks network result
       by None at there is = absurd (true≢false (sym there))
       by (Some found) at there is =
-          let stand = (own node found at).1 first.goal (first.same ∙ first.stands) in (
+          let stand = ((own node found at).1 first.goal (first.same ∙ first.stands)).networks in (
             subst (All (IsWithin (children networks))) (sym is) stand.0,
-            subst (AreInstances (live_networks t) networks network) (sym is) (listed_alike found stand),
+            subst (AreInstances (live_networks t) networks network) (sym is) (listed_alike found.networks.items stand),
           )
 
 -- it is the first in a table that has grown

@@ -31,7 +31,7 @@ then_after f g None = refl
 then_after f g (Some a) = refl
 
 -- two maps that agree on two lists agree at each place
-same_place : {A B X : Type 0} (f : A → X) (g : B → X) (xs : List A) (ys : List B) (k : ℕ) → map f xs ≡ map g ys
+pub same_place : {A B X : Type 0} (f : A → X) (g : B → X) (xs : List A) (ys : List B) (k : ℕ) → map f xs ≡ map g ys
     → option_map f (slice_get xs k) ≡ option_map g (slice_get ys k)
 same_place f g xs ys k same = sym (slice_get-map f xs k) ∙ ap (λ l. slice_get l k) same ∙ slice_get-map g ys k
 

@@ -1,25 +1,28 @@
 -- What the tables of a search have, and when they are right.
-use Rattle.std.specs.Prelude.{◌≡◌, ℕ, ◌<◌, ◌&&◌, not, List, length, get_or, All, Option, Some, None, IsSome, slice_get}
-use Rattle.std.specs.Option.{option_map}
+use Rattle.std.specs.Prelude.{◌≡◌, ℕ, ◌<◌, ◌^◌, ◌&&◌, not, List, length, map, get_or, All, Option, Some, None, IsSome, slice_get}
 use Rattle.htn_model.specs.Atom.{Atom}
 use Rattle.htn_model.specs.Choice.{child_of}
 use Rattle.htn_model.specs.Grounding as ground
 use Rattle.htn_model.specs.Grounding.{problem_of}
+use Rattle.htn_model.specs.Instance.{Instance}
 use Rattle.htn_model.specs.Literal.{Literal, Action as ModelAction}
 use Rattle.htn_model.specs.Problem.{Child, GroundTask, precondition, action, task, perform}
 use Rattle.htn_model.specs.State.{State, contains}
 use Rattle.htn_model.specs.Task.{Task}
+use Rattle.htn_ground.specs.Distinct.{distinct, live_methods}
 use Rattle.state_table.specs.Compiled.{AreCompiled, IsCompiled}
 use Rattle.state_table.specs.Numberings.{IsExtension, IsNumbering}
 use Rattle.state_table.specs.Table.{Table, IsLater, IsSetOf, IsTable, is_changed, is_fluent}
+use Rattle.network_table.specs.Children.{IsNumber}
 use Rattle.network_table.specs.Expansions.{first_free, IsSound}
 use Rattle.network_table.specs.Networks.{children, expansion_at, IsGrown, IsWhole, network_at}
-use Rattle.network_table.specs.Numbered.{Numbered}
 use Rattle.network_table.specs.declared.expansion.Expansion.{Expansion}
 use Rattle.network_table.specs.declared.expansion.Expansion.TheVariants.{Decomposed, Performed}
 use Rattle.network_table.specs.declared.table.NetworkTable.{NetworkTable}
 use Rattle.task_machine.specs.Growing.{StandFor}
 use Rattle.task_machine.specs.Steps.{live_networks}
+use Rattle.task_machine.specs.declared.listing.Listing.{Listing}
+use Rattle.task_machine.specs.declared.listing.Source.{Source}
 use Rattle.task_machine.specs.declared.performer.Performer.{Performer}
 use Rattle.task_machine.specs.declared.performer.Performer.TheVariants.{Step, Action as Acts, Never}
 use Rattle.task_machine.specs.declared.tables.Tables.{Tables}
@@ -56,16 +59,25 @@ IsKnownExpansion networks (Performed removals) = All (λ r. r.node < length (chi
 
 -- ## Instances
 
--- those that are there are their compound task's
-abbrev pub AreListings : Task → NetworkTable → (ℕ → Option (List Numbered)) → Type 0
-AreListings t networks instances =
-    (n : ℕ) (found : List Numbered) → instances n ≡ Some found
-    → (n < length (children networks))
-    × ((g : GroundTask) → child_of (children networks) n ≡ task g → StandFor networks found (live_networks t g))
+-- where an instance comes from
+abbrev pub source_of : Instance → Source
+source_of i = record { method = i.method; values = i.values }
 
--- the numbered networks of a compound task's instances, by the number of its node
-abbrev pub instances_at : Tables → ℕ → Option (List Numbered)
-instances_at t n = option_map (λ v. v.items) (slot t.instances.items n)
+-- these are the instances that are listed for a compound task
+pub record IsListing (t : Task) (table : NetworkTable) (g : GroundTask) (found : Listing) : Type 0 where
+  pub networks : StandFor table found.networks.items (live_networks t g)
+  pub sources : found.sources.items ≡ map source_of (distinct (live_methods t g))
+
+-- those that are there are their compound task's
+abbrev pub AreListings : Task → NetworkTable → List (Option Listing) → Type 0
+AreListings t table listings =
+    (n : ℕ) (found : Listing) → slot listings n ≡ Some found
+    → (n < length (children table)) × ((g : GroundTask) → child_of (children table) n ≡ task g → IsListing t table g found)
+
+-- they have these instances of a compound task, by the number of its node
+abbrev pub HasListing : Tables → GroundTask → Listing → Type 0
+HasListing tables g found =
+    (n : ℕ) × (n < 2 ^ 32) × IsNumber tables.networks.children n (task g) × (slot tables.instances.items n ≡ Some found)
 
 -- the node of this number is a network's first free compound task
 pub record IsFirstTask (networks : NetworkTable) (network node : ℕ) : Type 0 where
@@ -95,7 +107,7 @@ pub record AreTables (t : Task) (tables : Tables) : Type 0 where
   pub goal : AreCompiled tables.atoms tables.goal (problem_of t).goal
   pub performers : ArePerformers t tables.atoms tables.networks tables.performers.items
   pub performed : (n : ℕ) (e : Expansion) → expansion_at tables.networks n ≡ Some e → HasPerformers tables.performers.items e
-  pub instances : AreListings t tables.networks (instances_at tables)
+  pub instances : AreListings t tables.networks tables.instances.items
 
 -- the same, but that what becomes of one network is known, and the nodes that go from it may have no performers
 pub record AreExpanded (t : Task) (tables : Tables) (network : ℕ) : Type 0 where
@@ -107,7 +119,7 @@ pub record AreExpanded (t : Task) (tables : Tables) (network : ℕ) : Type 0 whe
   pub goal : AreCompiled tables.atoms tables.goal (problem_of t).goal
   pub performers : ArePerformers t tables.atoms tables.networks tables.performers.items
   pub performed : (n : ℕ) (e : Expansion) → (n ≡ network → ⊥) → expansion_at tables.networks n ≡ Some e → HasPerformers tables.performers.items e
-  pub instances : AreListings t tables.networks (instances_at tables)
+  pub instances : AreListings t tables.networks tables.instances.items
 
 -- the tables with more in them
 pub record AreLater (old new : Tables) : Type 0 where

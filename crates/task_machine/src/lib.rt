@@ -4,6 +4,7 @@
 mod configuration;
 mod expand;
 mod instances;
+mod listing;
 mod machine;
 mod performer;
 mod prepare;
@@ -11,6 +12,7 @@ mod slots;
 mod tables;
 
 pub use configuration::{Configuration, Reached};
+pub use listing::{Listing, Source};
 pub use machine::TaskMachine;
 pub use performer::Performer;
 pub use tables::Tables;

@@ -11,10 +11,11 @@ ghost use Rattle.htn_net.specs.Listed.{listing_machine};
 ghost use Rattle.tree_sizes.specs.declared.tree_sizes.TreeSizes.{TreeSizes};
 ghost use Rattle.task_machine.specs.Owned.{AreOwned, HasSizes};
 ghost use Rattle.task_machine.specs.Meaning.{knows, point};
-ghost use Rattle.task_machine.specs.Tables.{AreExpanded, AreLater, AreTables, instances_at, IsFirstTask, slot};
+ghost use Rattle.task_machine.specs.Tables.{AreExpanded, AreLater, AreTables, IsFirstTask, slot};
 
 use crate::configuration::Configuration;
 use crate::instances::{configurations_of, instances_of, number_networks};
+use crate::listing::{Listing, sources_of};
 use crate::performer::prepare_performers;
 use crate::slots::{is_taken, put};
 use crate::tables::Tables;
@@ -38,12 +39,12 @@ fn first_task(networks: &NetworkTable, network: u32) -> Option<u32>
     Some(nodes[position])
 }
 
-/// The instances that stand at a number; none where nothing does.
-fn listed(instances: &[Option<Vec<Network>>], node: u32) -> &[Network]
-    ensures { result.now ≡ unwrap_or (option_map (λ v. v.items) (slot instances.now node)) [] }
+/// The networks of the instances that stand at a number; none where nothing does.
+fn listed(instances: &[Option<Listing>], node: u32) -> &[Network]
+    ensures { result.now ≡ unwrap_or (option_map (λ l. l.networks.items) (slot instances.now node)) [] }
 {
     match instances.get(node as usize) {
-        Some(Some(found)) => found.as_slice(),
+        Some(Some(found)) => found.networks.as_slice(),
         _ => &[],
     }
 }
@@ -89,14 +90,15 @@ impl Tables {
         ensures later { OnOk result (AreLater self.old self.new) }
         ensures needs { OnOk result (self.new.needs ≡ self.old.needs) }
         ensures remembered { OnOk result ((n : ℕ) → expansion_at self.new.networks n ≡ expansion_at self.old.networks n) }
-        ensures there { OnOk result (IsSome (instances_at self.new node)) }
+        ensures there { OnOk result (IsSome (slot self.new.instances.items node)) }
     {
         if is_taken(&self.instances, node) {
             return Ok(());
         }
         let found = instances_of(alloc, task, self.networks.child(node))?;
-        let numbered = number_networks(alloc, &mut self.networks, sizes, &found)?;
-        put(&mut self.instances, node, numbered)?;
+        let networks = number_networks(alloc, &mut self.networks, sizes, &found)?;
+        let sources = sources_of(alloc, &found)?;
+        put(&mut self.instances, node, Listing { networks, sources })?;
         Ok(())
     }
 

@@ -16,11 +16,12 @@ ghost use Rattle.tree_sizes.specs.Measure.{estimate};
 ghost use Rattle.tree_sizes.specs.Sizes.{size_of};
 ghost use Rattle.tree_sizes.specs.declared.tree_sizes.TreeSizes.{TreeSizes};
 
+use crate::listing::Listing;
 use crate::performer::Performer;
 use htn_ground::goal_literals;
 use htn_task::Task;
 use needs_table::NeedsTable;
-use network_table::{Network, NetworkTable};
+use network_table::NetworkTable;
 use relaxed_reach::fluent_predicates;
 use state_table::{AtomTable, BitState, CompiledLiterals, StateTable};
 use std::alloc::{AllocError, Global};
@@ -40,9 +41,9 @@ pub struct Tables {
     pub(crate) goal: CompiledLiterals,
     /// By the number of a step's or an action's node, once it was free.
     pub(crate) performers: Vec<Option<Performer>>,
-    /// By the number of a compound task's node, once it was the first free one: the networks of its
-    /// instances that are listed.
-    pub(crate) instances: Vec<Option<Vec<Network>>>,
+    /// By the number of a compound task's node, once it was the first free one: its instances that are
+    /// listed.
+    pub(crate) instances: Vec<Option<Listing>>,
     /// By the number of a network, what it needs from the start.
     pub(crate) needs: NeedsTable,
 }

@@ -5,7 +5,8 @@ use Rattle.state_table.proofs.Keys.{if_none}
 use Rattle.network_table.specs.Children.{AreBounds}
 use Rattle.tree_sizes.specs.Sizes.{size_of}
 use Rattle.task_machine.specs.Steps.{live_networks}
-use Rattle.task_machine.specs.Tables.{instances_at, slot}
+use Rattle.task_machine.specs.Tables.{slot}
+use Rattle.task_machine.specs.declared.listing.Listing.{Listing}
 use Rattle.task_machine.proofs.Owned.{expanded, first_stays, later_networks, later_tables_then, listed_right}
 use Rattle.task_machine.proofs.tables.Tables.expand.Goals as goal
 
@@ -26,7 +27,7 @@ expand-requires-2-clause-within c =
     let u = c.prepare_instances.new.self in
     let did = c.in_ok-prepare_instances.ensures in
     let first = first_stays s.networks u.networks c.args.network c.in-Some.node c.requires.own.networks did.later.networks c.requires.known c.in-Some.ensures.some in
-    (listed_right t u.networks c.args.network c.in-Some.node first (instances_at u) did.owned.instances did.there c.listed-instances.result.now (c.listed-instances.ensures ∙ ap (λ l. unwrap_or (option_map (λ v. v.items) (slot l c.in-Some.node)) []) c.deref.ensures.value)).0
+    (listed_right t u.networks c.args.network c.in-Some.node first u.instances.items did.owned.instances did.there c.listed-instances.result.now (c.listed-instances.ensures ∙ ap (λ l. unwrap_or (option_map (λ (x : Listing). x.networks.items) (slot l c.in-Some.node)) []) c.deref.ensures.value)).0
 
 pub returns-clause-expanded : goal.returns-clause-expanded
 returns-clause-expanded c =
@@ -36,7 +37,7 @@ returns-clause-expanded c =
     let did = c.in_ok-prepare_instances.ensures in
     let last = c.in_ok-expand-2.ensures in
     let first = first_stays s.networks u.networks c.args.network c.in-Some.node c.requires.own.networks did.later.networks c.requires.known c.in-Some.ensures.some in
-    let given = (listed_right t u.networks c.args.network c.in-Some.node first (instances_at u) did.owned.instances did.there c.listed-instances.result.now (c.listed-instances.ensures ∙ ap (λ l. unwrap_or (option_map (λ v. v.items) (slot l c.in-Some.node)) []) c.deref.ensures.value)).1 in
+    let given = (listed_right t u.networks c.args.network c.in-Some.node first u.instances.items did.owned.instances did.there c.listed-instances.result.now (c.listed-instances.ensures ∙ ap (λ l. unwrap_or (option_map (λ (x : Listing). x.networks.items) (slot l c.in-Some.node)) []) c.deref.ensures.value)).1 in
     expanded t u c.args.network c.expand-2.new.self last.whole last.grown (last.sound (live_networks t) given did.owned.sound) last.others did.owned
 
 pub returns-clause-later : goal.returns-clause-later

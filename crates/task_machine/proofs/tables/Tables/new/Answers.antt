@@ -1,5 +1,4 @@
 use Rattle.std.proofs.Common.{◌∙◌, ◌&&◌, List, ℕ, not, ap, sym, subst, slice_get}
-use Rattle.std.specs.Option.{option_map}
 use Rattle.std.proofs.lemmas.Option.{none-some}
 use Rattle.htn_model.specs.Literal.{Literal}
 use Rattle.htn_model.specs.State.{State, contains}
@@ -30,7 +29,7 @@ returns-clause-own c =
       goal = subst (λ (l : List Literal). AreCompiled c.of.new.table c.in_ok-goal.goal l) (c.as_slice.ensures ∙ c.in_ok-literals.ensures) c.in_ok-goal.ensures.compiled;
       performers = λ n p is. absurd (none-some p (sym (ap (λ l. slot l n) c.new-4.ensures.items) ∙ is));
       performed = λ n e is. absurd (none-some e (sym (c.new-3.ensures.none n) ∙ is));
-      instances = λ n found is. absurd (none-some found (sym (ap (λ l. option_map (λ v. v.items) (slot l n)) c.new-5.ensures.items) ∙ is));
+      instances = λ n found is. absurd (none-some found (sym (ap (λ l. slot l n) c.new-5.ensures.items) ∙ is));
     }
 
 pub returns-clause-sized : goal.returns-clause-sized
