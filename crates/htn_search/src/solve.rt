@@ -18,7 +18,7 @@ use std::alloc::{AllocError, Global};
 use std::sync::Wait;
 use std::thread::Threads;
 use task_machine::TaskMachine;
-use word_machine::{Bounds, Found, Gate, SearchFault};
+use word_machine::{Bounds, Found, Gate, Machine, SearchFault};
 
 /// The least finishing word of ranks of a task, or that there is none.
 fn find_ranks<G: Gate, R: Threads + Wait + Sync>(
@@ -73,7 +73,11 @@ pub fn search<G: Gate, R: Threads + Wait + Sync>(
 {
     let _typed = task.objects();
     match find_ranks(rt, alloc, task, bounds, gate)? {
-        Found::Word(ranks) => Ok(Answer::Plan(rebuild_listed(alloc, task, &ranks)?)),
+        Found::Word(ranks) => {
+            let machine = TaskMachine::new(alloc, task)?;
+            let tables = machine.new_tables()?;
+            Ok(Answer::Plan(rebuild_listed(alloc, task, &tables, &ranks)?))
+        }
         Found::None => Ok(Answer::None),
         Found::Unsolvable => Ok(Answer::Unsolvable),
     }
