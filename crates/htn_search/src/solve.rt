@@ -139,8 +139,9 @@ pub fn search<G: Gate, R: Threads + Wait + Sync>(
     ensures no_thread { IfErr result (λ e. e ≡ NoThread → 1 < bounds.workers) }
 {
     let _typed = task.objects();
-    let Searched { found, tables } = find_ranks(rt, alloc, task, bounds, gate)?;
-    match found {
+    let searched = find_ranks(rt, alloc, task, bounds, gate)?;
+    let tables = searched.tables;
+    match searched.found {
         Found::Word(ranks) => Ok(Answer::Plan(rebuild_listed(alloc, task, &tables, &ranks)?)),
         Found::None => Ok(Answer::None),
         Found::Unsolvable => Ok(Answer::Unsolvable),
