@@ -2,7 +2,6 @@
 #![tactic(auto)]
 
 mod answer;
-mod chosen;
 mod numbers;
 mod places;
 mod solution;

@@ -1,11 +1,10 @@
 //! The search of a task.
-ghost use Rattle.std.specs.Prelude.{◌≡◌, ◌<◌, ◌↔◌, IfErr, IfOk, IfSome, IsTrue};
+ghost use Rattle.std.specs.Prelude.{◌≡◌, ◌<◌, ◌↔◌, IfErr, IfOk, IsTrue};
 ghost use Rattle.htn_answer.specs.Answered.{IsAnswered, IsExact};
 ghost use Rattle.htn_model.specs.Grounding.{problem_of};
 ghost use Rattle.htn_model.specs.Machine.{Finishes};
 ghost use Rattle.htn_net.specs.Listed.{listing_machine};
 ghost use Rattle.htn_search.specs.Answer.{Answers};
-ghost use Rattle.task_machine.specs.Tables.{AreTables};
 ghost use Rattle.word_machine.specs.Answer.{IsAnswer};
 ghost use Rattle.word_machine.specs.declared.found.SearchFault.TheVariants.{NoThread};
 
@@ -18,68 +17,11 @@ use htn_task::Task;
 use std::alloc::{AllocError, Global};
 use std::sync::Wait;
 use std::thread::Threads;
-use task_machine::{Tables, TaskMachine};
-use word_machine::{Bounds, Found, Gate, Machine, SearchFault, find_word_deepening};
+use task_machine::TaskMachine;
+use word_machine::{Bounds, Found, Gate, SearchFault};
 
-// How much is listed at most to find sizes and needs, and how many configurations a search by these keeps at most, before
-// more is listed.
-#[derive(Clone, Copy)]
-struct Stage {
-    listed: u64,
-    kept: usize,
-}
-
-// To list as much as a stage does takes no longer than to keep some times as many configurations; so little is listed
-// where little is needed, and no search takes much longer by what is listed for it.
-const STAGES: [Stage; 3] = [
-    Stage {
-        listed: 2_000,
-        kept: 2_000,
-    },
-    Stage {
-        listed: 20_000,
-        kept: 100_000,
-    },
-    Stage {
-        listed: 100_000,
-        kept: usize::MAX,
-    },
-];
-
-/// What a search found, and the tables that it went by.
-#[derive(Drop)]
-struct Searched {
-    found: Found,
-    tables: Tables,
-}
-
-/// The least finishing word of ranks of a task, or that there is none; None where it is given up, since more would be
-/// known if more was listed.
-fn search_stage<G: Gate, R: Threads + Wait + Sync>(
-    rt: &R,
-    alloc: Global,
-    task: &Task,
-    stage: Stage,
-    bounds: Bounds,
-    gate: &G,
-) -> Result<Option<Searched>, SearchFault>
-    ensures answer { IfOk result (λ o. IfSome o (λ s. IsAnswer (listing_machine task.now) bounds.nodes s.found)) }
-    ensures tables { IfOk result (λ o. IfSome o (λ s. AreTables task.now s.tables)) }
-    ensures no_thread { IfErr result (λ e. e ≡ NoThread → 1 < bounds.workers) }
-{
-    let machine = TaskMachine::new(alloc, task, stage.listed)?;
-    let most_kept = if machine.is_cut {
-        stage.kept
-    } else {
-        usize::MAX
-    };
-    let mut tables = machine.new_tables()?;
-    let answer = find_word_deepening(rt, alloc, &machine, &mut tables, bounds, most_kept, gate)?;
-    match answer {
-        Some(found) => Ok(Some(Searched { found, tables })),
-        None => Ok(None),
-    }
-}
+/// How much is listed at most to find sizes and needs: ground tasks, their instances, and the nodes of these.
+const MOST_LISTED: u64 = 100_000;
 
 /// The least finishing word of ranks of a task, or that there is none.
 fn find_ranks<G: Gate, R: Threads + Wait + Sync>(
@@ -88,18 +30,13 @@ fn find_ranks<G: Gate, R: Threads + Wait + Sync>(
     task: &Task,
     bounds: Bounds,
     gate: &G,
-) -> Result<Searched, SearchFault>
-    ensures answer { IfOk result (λ s. IsAnswer (listing_machine task.now) bounds.nodes s.found) }
-    ensures tables { IfOk result (λ s. AreTables task.now s.tables) }
+) -> Result<Found, SearchFault>
+    ensures answer { IfOk result (IsAnswer (listing_machine task.now) bounds.nodes) }
     ensures no_thread { IfErr result (λ e. e ≡ NoThread → 1 < bounds.workers) }
 {
-    for stage in STAGES {
-        if let Some(searched) = search_stage(rt, alloc, task, stage, bounds, gate)? {
-            return Ok(searched);
-        }
-    }
-    // More configurations than the last stage may keep could not be held either.
-    Err(SearchFault::OutOfMemory)
+    let machine = TaskMachine::new(alloc, task, MOST_LISTED)?;
+    let found = word_machine::find_word_deepening(rt, alloc, &machine, bounds, gate)?;
+    Ok(found)
 }
 
 /// The least finishing word of a task, by its steps and then by its numbers; or that no solution is
@@ -118,8 +55,7 @@ pub fn find_word<G: Gate, R: Threads + Wait + Sync>(
     ensures no_thread { IfErr result (λ e. e ≡ NoThread → 1 < bounds.workers) }
 {
     let _typed = task.objects();
-    let searched = find_ranks(rt, alloc, task, bounds, gate)?;
-    match searched.found {
+    match find_ranks(rt, alloc, task, bounds, gate)? {
         Found::Word(ranks) => Ok(Found::Word(word_of_ranks(alloc, task, &ranks)?)),
         Found::None => Ok(Found::None),
         Found::Unsolvable => Ok(Found::Unsolvable),
@@ -139,10 +75,8 @@ pub fn search<G: Gate, R: Threads + Wait + Sync>(
     ensures no_thread { IfErr result (λ e. e ≡ NoThread → 1 < bounds.workers) }
 {
     let _typed = task.objects();
-    let searched = find_ranks(rt, alloc, task, bounds, gate)?;
-    let tables = searched.tables;
-    match searched.found {
-        Found::Word(ranks) => Ok(Answer::Plan(rebuild_listed(alloc, task, &tables, &ranks)?)),
+    match find_ranks(rt, alloc, task, bounds, gate)? {
+        Found::Word(ranks) => Ok(Answer::Plan(rebuild_listed(alloc, task, &ranks)?)),
         Found::None => Ok(Answer::None),
         Found::Unsolvable => Ok(Answer::Unsolvable),
     }

@@ -196,10 +196,10 @@ fn a_search_is_given_up(rt: HostRuntime) -> Result<(), Fail> {
     let machine = counter(alloc, 3, tally(2, 0), tally(3, 900));
     let bounds = Bounds::new(9, 1, 1).ok_or("in range")?;
     let mut tables = machine.new_tables()?;
-    let given_up = find_word_deepening(&rt, alloc, &machine, &mut tables, bounds, 1, &NoGate)?;
+    let given_up = find_word_in(&rt, alloc, &machine, &mut tables, bounds, 1, &NoGate)?;
     assert!(rt; given_up.is_none());
     let most = usize::MAX;
-    let found = find_word_deepening(&rt, alloc, &machine, &mut tables, bounds, most, &NoGate)?;
+    let found = find_word_in(&rt, alloc, &machine, &mut tables, bounds, most, &NoGate)?;
     let word = text(alloc, found.ok_or("not given up")?)?;
     assert_eq!(rt; word.as_str(), "[0, 0, 1, 0]");
     Ok(())

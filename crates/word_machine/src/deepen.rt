@@ -78,13 +78,13 @@ fn search_open_nodes<M: Machine, G: Gate, R: Threads + Wait + Sync>(
     Ok(outcome.found())
 }
 
-/// The answer of `find_word`. It searches by the machine's own bound on the steps that are left, within bounds that
+/// The answer of `find_word`, in tables that the caller goes on with. It searches by the machine's own bound on the steps that are left, within bounds that
 /// grow from the least of the initial configurations on, each so far that about as many more are looked at, or where few
 /// are little past one by steps that grow. Only where no word is found so, a dive looks for a configuration that tells
 /// that the bound was met, and where it finds none, a search by the open nodes tells whether it was. All go by the same
-/// tables, which a caller may go on with. None where it is given up, once one of them has kept more than `most_kept`
+/// tables. None where it is given up, once one of them has kept more than `most_kept`
 /// configurations.
-pub fn find_word_deepening<M: Machine, G: Gate, R: Threads + Wait + Sync>(
+pub fn find_word_in<M: Machine, G: Gate, R: Threads + Wait + Sync>(
     rt: &R,
     alloc: Global,
     machine: &M,
@@ -147,4 +147,23 @@ pub fn find_word_deepening<M: Machine, G: Gate, R: Threads + Wait + Sync>(
         most_kept,
         gate,
     )
+}
+
+/// The answer of `find_word`, found by `find_word_in` in tables of its own.
+pub fn find_word_deepening<M: Machine, G: Gate, R: Threads + Wait + Sync>(
+    rt: &R,
+    alloc: Global,
+    machine: &M,
+    bounds: Bounds,
+    gate: &G,
+) -> Result<Found, SearchFault>
+    ensures answer { IfOk result (IsAnswer (M.words machine.now) bounds.nodes) }
+    ensures no_thread { IfErr result (λ e. e ≡ NoThread → 1 < bounds.workers) }
+{
+    let mut tables = machine.new_tables()?;
+    match find_word_in(rt, alloc, machine, &mut tables, bounds, usize::MAX, gate)? {
+        Some(found) => Ok(found),
+        // More configurations could not be held either.
+        None => Err(SearchFault::OutOfMemory),
+    }
 }

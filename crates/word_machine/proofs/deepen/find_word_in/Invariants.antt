@@ -1,6 +1,6 @@
 use Rattle.std.proofs.Common.{◌≡◌, ◌+◌, ◌-◌, ◌≤◌, map, All}
 use Rattle.word_machine.specs.Answer.{NoneFinishesBefore}
-use Rattle.word_machine.proofs.deepen.find_word_deepening.Given as goal
+use Rattle.word_machine.proofs.deepen.find_word_in.Given as goal
 
 -- the tables are this machine's, and have the initial configurations; and no word finishes before the bound
 abbrev pub invariant-loop-least : goal.invariant-loop-least

@@ -6,8 +6,8 @@ use Rattle.word_machine.specs.Answer.{IsOutcome, NoneFinishesBefore}
 use Rattle.word_machine.specs.Ranks.{IsOwned}
 use Rattle.word_machine.proofs.Meanings.{all_map, all_owned, known_still, same_points}
 use Rattle.word_machine.proofs.Answering.{none_before_least, none_before_more}
-use Rattle.word_machine.proofs.deepen.find_word_deepening.Given as given
-use Rattle.word_machine.proofs.deepen.find_word_deepening.Goals as goal
+use Rattle.word_machine.proofs.deepen.find_word_in.Given as given
+use Rattle.word_machine.proofs.deepen.find_word_in.Goals as goal
 
 -- the machine's laws
 laws : (g : given.Over) (machine : g.row.M.Denot) → IsLawful (g.M.Machine.words machine) (g.M.Machine.belongs machine)
