@@ -8,7 +8,9 @@ use std::sync::Wait;
 use std::sync::atomic::{AtomicU64, Ordering};
 use std::test::Fail;
 use std::thread::Threads;
-use word_machine::{Bounds, Found, Gate, Machine, NoGate, find_word, find_word_deepening};
+use word_machine::{
+    Bounds, Found, Gate, Machine, NoGate, find_word, find_word_deepening, find_word_in,
+};
 
 fn tally(tasks: u64, value: u64) -> Tally {
     Tally {
