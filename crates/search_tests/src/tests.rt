@@ -58,9 +58,8 @@ fn deepening<R: Threads + Wait + Sync>(
     bounds: Bounds,
 ) -> Result<String, Fail> {
     let alloc: Global = machine.alloc;
-    let mut tables = machine.new_tables()?;
-    let found = find_word_deepening(rt, alloc, machine, &mut tables, bounds, usize::MAX, &NoGate)?;
-    text(alloc, found.ok_or("not given up")?)
+    let found = find_word_deepening(rt, alloc, machine, bounds, &NoGate)?;
+    text(alloc, found)
 }
 
 // Expects the same answer for each number of workers and each size of the pieces.
@@ -95,9 +94,10 @@ fn expect_calls<R: Threads + Wait + Sync + Abort>(
         calls: AtomicU64::new(0),
     };
     let bounds = Bounds::new(nodes, 1, 1).ok_or("in range")?;
-    let mut tables = machine.new_tables()?;
-    let answer = find_word_deepening(rt, alloc, machine, &mut tables, bounds, usize::MAX, &gate)?;
-    let found = text(alloc, answer.ok_or("not given up")?)?;
+    let found = text(
+        alloc,
+        find_word_deepening(rt, alloc, machine, bounds, &gate)?,
+    )?;
     assert_eq!(rt; found.as_str(), wanted);
     assert_eq!(rt; gate.calls.load(Ordering::SeqCst), calls);
     Ok(())
