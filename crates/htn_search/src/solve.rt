@@ -48,9 +48,37 @@ const STAGES: [Stage; 3] = [
 
 /// What a search found, and the tables that it went by.
 #[derive(Drop)]
-struct Searched {
+struct Searched<T> {
     found: Found,
-    tables: Tables,
+    tables: T,
+}
+
+impl Stage {
+    /// How many configurations are kept at most, where more would be listed with a greater limit or not.
+    fn most_kept(self, is_cut: bool) -> usize {
+        if is_cut { self.kept } else { usize::MAX }
+    }
+}
+
+/// What the search of a machine finds, with its tables; None where it is given up.
+fn search_by<M: Machine, G: Gate, R: Threads + Wait + Sync>(
+    rt: &R,
+    alloc: Global,
+    machine: &M,
+    most_kept: usize,
+    bounds: Bounds,
+    gate: &G,
+) -> Result<Option<Searched<M::Tables>>, SearchFault>
+    ensures answer { IfOk result (λ o. IfSome o (λ s. IsAnswer (M.words machine.now) bounds.nodes s.found)) }
+    ensures own { IfOk result (λ o. IfSome o (λ s. M.owns machine.now s.tables)) }
+    ensures no_thread { IfErr result (λ e. e ≡ NoThread → 1 < bounds.workers) }
+{
+    let mut tables = machine.new_tables()?;
+    let answer = find_word_deepening(rt, alloc, machine, &mut tables, bounds, most_kept, gate)?;
+    match answer {
+        Some(found) => Ok(Some(Searched { found, tables })),
+        None => Ok(None),
+    }
 }
 
 /// The least finishing word of ranks of a task, or that there is none; None where it is given up, since more would be
@@ -62,23 +90,15 @@ fn search_stage<G: Gate, R: Threads + Wait + Sync>(
     stage: Stage,
     bounds: Bounds,
     gate: &G,
-) -> Result<Option<Searched>, SearchFault>
+) -> Result<Option<Searched<Tables>>, SearchFault>
     ensures answer { IfOk result (λ o. IfSome o (λ s. IsAnswer (listing_machine task.now) bounds.nodes s.found)) }
     ensures tables { IfOk result (λ o. IfSome o (λ s. AreTables task.now s.tables)) }
     ensures no_thread { IfErr result (λ e. e ≡ NoThread → 1 < bounds.workers) }
 {
     let machine = TaskMachine::new(alloc, task, stage.listed)?;
-    let most_kept = if machine.is_cut {
-        stage.kept
-    } else {
-        usize::MAX
-    };
-    let mut tables = machine.new_tables()?;
-    let answer = find_word_deepening(rt, alloc, &machine, &mut tables, bounds, most_kept, gate)?;
-    match answer {
-        Some(found) => Ok(Some(Searched { found, tables })),
-        None => Ok(None),
-    }
+    let most_kept = stage.most_kept(machine.is_cut);
+    let searched = search_by(rt, alloc, &machine, most_kept, bounds, gate)?;
+    Ok(searched)
 }
 
 /// The least finishing word of ranks of a task, or that there is none.
@@ -88,7 +108,7 @@ fn find_ranks<G: Gate, R: Threads + Wait + Sync>(
     task: &Task,
     bounds: Bounds,
     gate: &G,
-) -> Result<Searched, SearchFault>
+) -> Result<Searched<Tables>, SearchFault>
     ensures answer { IfOk result (λ s. IsAnswer (listing_machine task.now) bounds.nodes s.found) }
     ensures tables { IfOk result (λ s. AreTables task.now s.tables) }
     ensures no_thread { IfErr result (λ e. e ≡ NoThread → 1 < bounds.workers) }
@@ -118,8 +138,8 @@ pub fn find_word<G: Gate, R: Threads + Wait + Sync>(
     ensures no_thread { IfErr result (λ e. e ≡ NoThread → 1 < bounds.workers) }
 {
     let _typed = task.objects();
-    let searched = find_ranks(rt, alloc, task, bounds, gate)?;
-    match searched.found {
+    let Searched { found, .. } = find_ranks(rt, alloc, task, bounds, gate)?;
+    match found {
         Found::Word(ranks) => Ok(Found::Word(word_of_ranks(alloc, task, &ranks)?)),
         Found::None => Ok(Found::None),
         Found::Unsolvable => Ok(Found::Unsolvable),
@@ -139,9 +159,8 @@ pub fn search<G: Gate, R: Threads + Wait + Sync>(
     ensures no_thread { IfErr result (λ e. e ≡ NoThread → 1 < bounds.workers) }
 {
     let _typed = task.objects();
-    let searched = find_ranks(rt, alloc, task, bounds, gate)?;
-    let tables = searched.tables;
-    match searched.found {
+    let Searched { found, tables } = find_ranks(rt, alloc, task, bounds, gate)?;
+    match found {
         Found::Word(ranks) => Ok(Answer::Plan(rebuild_listed(alloc, task, &tables, &ranks)?)),
         Found::None => Ok(Answer::None),
         Found::Unsolvable => Ok(Answer::Unsolvable),

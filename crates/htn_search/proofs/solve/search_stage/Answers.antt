@@ -2,5 +2,5 @@ use denote.Param.Send.{arg_sync, param_sync, recorded_sync, shr_sync, struct_syn
 use Rattle.htn_search.proofs.Shared.{beside, both, task_sync}
 use Rattle.htn_search.proofs.solve.search_stage.Goals as goal
 
-pub find_word_deepening-requires-sync-M : goal.find_word_deepening-requires-sync-M
-find_word_deepening-requires-sync-M g c κs within = search (both, tt, param_sync, arg_sync, recorded_sync, struct_sync, shr_sync, task_sync, beside) depth 60 fits 20000
+pub search_by-requires-sync-M : goal.search_by-requires-sync-M
+search_by-requires-sync-M g c κs within = search (both, tt, param_sync, arg_sync, recorded_sync, struct_sync, shr_sync, task_sync, beside) depth 60 fits 20000
