@@ -25,8 +25,6 @@ pub struct TaskMachine<'a> {
     pub(crate) alloc: Global,
     sizes: TreeSizes,
     prospects: Prospects,
-    /// Whether more would be known with a greater limit on what is listed.
-    pub is_cut: bool,
     ghost grounded: { IsGrounded (problem_of task.now) } by { grounded-prop (problem_of task.now) },
     ghost known: { ProspectsHold (problem_of task.now) (listing_machine task.now).initials (size_of sizes) most_steps prospects } by { prospects-prop (problem_of task.now) (listing_machine task.now).initials (size_of sizes) prospects },
 }
@@ -43,7 +41,6 @@ impl<'a> TaskMachine<'a> {
     {
         let _initial = task.initial_atoms();
         let found = enumerate(alloc, task, most_listed)?;
-        let is_cut = found.is_cut(task);
         let prospects = Prospects::of(alloc, task, &found)?;
         let sizes = TreeSizes::of_enumerated(alloc, found)?;
         Ok(TaskMachine {
@@ -51,7 +48,6 @@ impl<'a> TaskMachine<'a> {
             alloc,
             sizes,
             prospects,
-            is_cut,
         })
     }
 }
