@@ -2,6 +2,7 @@
 #![tactic(auto)]
 
 mod answer;
+mod chosen;
 mod numbers;
 mod places;
 mod solution;

@@ -6,6 +6,7 @@ ghost use Rattle.htn_model.specs.Machine.{Finishes};
 ghost use Rattle.htn_net.specs.Listed.{listing_machine};
 ghost use Rattle.htn_search.specs.Rebuilt.{IsSolutionOf};
 ghost use Rattle.htn_search.specs.Told.{told_word};
+ghost use Rattle.task_machine.specs.Tables.{AreTables};
 ghost use Rattle.word_machine.specs.Machine.{IsFinishing};
 
 use crate::trail::grow_back;
@@ -14,6 +15,7 @@ use htn_ground::{distinct_initials, initials};
 use htn_task::Task;
 use htn_tree::Solution;
 use std::alloc::{AllocError, Global};
+use task_machine::Tables;
 
 /// The solution whose code is the word: its trees, and the order of its actions and steps.
 pub fn rebuild(alloc: Global, task: &Task, word: &[u64]) -> Result<Solution, AllocError>
@@ -35,14 +37,16 @@ pub fn rebuild(alloc: Global, task: &Task, word: &[u64]) -> Result<Solution, All
     })
 }
 
-/// The solution of a word of ranks that finishes. It is made from the instances, and no number is
-/// counted.
+/// The solution of a word of ranks that finishes. It is made from the instances, which the tables of the
+/// search have, and no number is counted.
 pub(crate) fn rebuild_listed(
     alloc: Global,
     task: &Task,
+    tables: &Tables,
     ranks: &[u64],
 ) -> Result<Solution, AllocError>
-    requires { IsFinishing (listing_machine task.now) ranks.now }
+    requires own { AreTables task.now tables.now }
+    requires finishing { IsFinishing (listing_machine task.now) ranks.now }
     ensures { IfOk result (λ s. IsSolutionOf (problem_of task.now) (told_word task.now ranks.now) (solution_of task.now s)) }
 {
     let _typed = task.objects();
@@ -51,7 +55,7 @@ pub(crate) fn rebuild_listed(
     };
     let mut listed = distinct_initials(alloc, task)?;
     let initial = listed.swap_remove(*rank as usize);
-    let walk = walk_listed(alloc, task, &initial, ranks)?;
+    let walk = walk_listed(alloc, task, tables, &initial, ranks)?;
     let trees = grow_back(alloc, walk.trail)?;
     Ok(Solution {
         initial,

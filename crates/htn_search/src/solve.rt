@@ -1,10 +1,11 @@
 //! The search of a task.
-ghost use Rattle.std.specs.Prelude.{◌≡◌, ◌<◌, ◌↔◌, IfErr, IfOk, IsTrue};
+ghost use Rattle.std.specs.Prelude.{◌≡◌, ◌-◌, ◌^◌, ◌<◌, ◌↔◌, ◌⊎◌, IfErr, IfNone, IfOk, IfSome, IsTrue};
 ghost use Rattle.htn_answer.specs.Answered.{IsAnswered, IsExact};
 ghost use Rattle.htn_model.specs.Grounding.{problem_of};
 ghost use Rattle.htn_model.specs.Machine.{Finishes};
 ghost use Rattle.htn_net.specs.Listed.{listing_machine};
 ghost use Rattle.htn_search.specs.Answer.{Answers};
+ghost use Rattle.task_machine.specs.Tables.{AreTables};
 ghost use Rattle.word_machine.specs.Answer.{IsAnswer};
 ghost use Rattle.word_machine.specs.declared.found.SearchFault.TheVariants.{NoThread};
 
@@ -17,11 +18,90 @@ use htn_task::Task;
 use std::alloc::{AllocError, Global};
 use std::sync::Wait;
 use std::thread::Threads;
-use task_machine::TaskMachine;
-use word_machine::{Bounds, Found, Gate, SearchFault};
+use task_machine::{Tables, TaskMachine};
+use tree_sizes::enumerate;
+use word_machine::{Bounds, Found, Gate, Machine, SearchFault, find_word_in};
 
-/// How much is listed at most to find sizes and needs: ground tasks, their instances, and the nodes of these.
-const MOST_LISTED: u64 = 100_000;
+// How much is listed at most to find sizes and needs, and how many configurations a search by these keeps at most, before
+// more is listed. To list as much as a stage does takes no longer than to keep some times as many configurations; so
+// little is listed where little is needed, and no search takes much longer by what is listed for it.
+#[derive(Clone, Copy)]
+struct Stage {
+    listed: u64,
+    kept: usize,
+}
+
+const FIRST_STAGES: [Stage; 2] = [
+    Stage {
+        listed: 2_000,
+        kept: 2_000,
+    },
+    Stage {
+        listed: 20_000,
+        kept: 100_000,
+    },
+];
+
+const LAST_STAGE: Stage = Stage {
+    listed: 100_000,
+    kept: usize::MAX,
+};
+
+/// What a search found, and the tables that it went by.
+#[derive(Drop)]
+struct Searched<T> {
+    found: Found,
+    tables: T,
+}
+
+/// What the search of a machine finds, with its tables; None where it is given up.
+fn search_by<M: Machine, G: Gate, R: Threads + Wait + Sync>(
+    rt: &R,
+    alloc: Global,
+    machine: &M,
+    most_kept: usize,
+    bounds: Bounds,
+    gate: &G,
+) -> Result<Option<Searched<M::Tables>>, SearchFault>
+    ensures answer { IfOk result (λ o. IfSome o (λ s. IsAnswer (M.words machine.now) bounds.nodes s.found)) }
+    ensures own { IfOk result (λ o. IfSome o (λ s. M.owns machine.now s.tables)) }
+    ensures given_up { IfOk result (λ o. IfNone o (most_kept < 2 ^ 64 - 1)) }
+    ensures no_thread { IfErr result (λ e. e ≡ NoThread → 1 < bounds.workers) }
+{
+    let mut tables = machine.new_tables()?;
+    match find_word_in(rt, alloc, machine, &mut tables, bounds, most_kept, gate)? {
+        Some(found) => Ok(Some(Searched { found, tables })),
+        None => Ok(None),
+    }
+}
+
+/// How many configurations are kept at most, where more would be listed with a greater limit or not.
+fn most_kept(stage: Stage, is_cut: bool) -> usize
+    ensures { result ≡ stage.kept ⊎ result ≡ 2 ^ 64 - 1 }
+{
+    if is_cut { stage.kept } else { usize::MAX }
+}
+
+/// The least finishing word of ranks of a task, or that there is none; None where it is given up, since more would be
+/// known if more was listed.
+fn search_stage<G: Gate, R: Threads + Wait + Sync>(
+    rt: &R,
+    alloc: Global,
+    task: &Task,
+    stage: Stage,
+    bounds: Bounds,
+    gate: &G,
+) -> Result<Option<Searched<Tables>>, SearchFault>
+    ensures answer { IfOk result (λ o. IfSome o (λ s. IsAnswer (listing_machine task.now) bounds.nodes s.found)) }
+    ensures tables { IfOk result (λ o. IfSome o (λ s. AreTables task.now s.tables)) }
+    ensures given_up { IfOk result (λ o. IfNone o (stage.kept < 2 ^ 64 - 1)) }
+    ensures no_thread { IfErr result (λ e. e ≡ NoThread → 1 < bounds.workers) }
+{
+    let listed = enumerate(alloc, task, stage.listed)?;
+    let kept = most_kept(stage, listed.is_cut(task));
+    let machine = TaskMachine::new(alloc, task, listed)?;
+    search_by(rt, alloc, &machine, kept, bounds, gate)
+}
 
 /// The least finishing word of ranks of a task, or that there is none.
 fn find_ranks<G: Gate, R: Threads + Wait + Sync>(
@@ -30,13 +110,21 @@ fn find_ranks<G: Gate, R: Threads + Wait + Sync>(
     task: &Task,
     bounds: Bounds,
     gate: &G,
-) -> Result<Found, SearchFault>
-    ensures answer { IfOk result (IsAnswer (listing_machine task.now) bounds.nodes) }
+) -> Result<Searched<Tables>, SearchFault>
+    ensures answer { IfOk result (λ s. IsAnswer (listing_machine task.now) bounds.nodes s.found) }
+    ensures tables { IfOk result (λ s. AreTables task.now s.tables) }
     ensures no_thread { IfErr result (λ e. e ≡ NoThread → 1 < bounds.workers) }
 {
-    let machine = TaskMachine::new(alloc, task, MOST_LISTED)?;
-    let found = word_machine::find_word_deepening(rt, alloc, &machine, bounds, gate)?;
-    Ok(found)
+    for stage in FIRST_STAGES {
+        if let Some(searched) = search_stage(rt, alloc, task, stage, bounds, gate)? {
+            return Ok(searched);
+        }
+    }
+    match search_stage(rt, alloc, task, LAST_STAGE, bounds, gate)? {
+        Some(searched) => Ok(searched),
+        // It is never given up, since no list holds more.
+        None => unreachable!(),
+    }
 }
 
 /// The least finishing word of a task, by its steps and then by its numbers; or that no solution is
@@ -55,7 +143,8 @@ pub fn find_word<G: Gate, R: Threads + Wait + Sync>(
     ensures no_thread { IfErr result (λ e. e ≡ NoThread → 1 < bounds.workers) }
 {
     let _typed = task.objects();
-    match find_ranks(rt, alloc, task, bounds, gate)? {
+    let Searched { found, tables: _ } = find_ranks(rt, alloc, task, bounds, gate)?;
+    match found {
         Found::Word(ranks) => Ok(Found::Word(word_of_ranks(alloc, task, &ranks)?)),
         Found::None => Ok(Found::None),
         Found::Unsolvable => Ok(Found::Unsolvable),
@@ -75,8 +164,9 @@ pub fn search<G: Gate, R: Threads + Wait + Sync>(
     ensures no_thread { IfErr result (λ e. e ≡ NoThread → 1 < bounds.workers) }
 {
     let _typed = task.objects();
-    match find_ranks(rt, alloc, task, bounds, gate)? {
-        Found::Word(ranks) => Ok(Answer::Plan(rebuild_listed(alloc, task, &ranks)?)),
+    let Searched { found, tables } = find_ranks(rt, alloc, task, bounds, gate)?;
+    match found {
+        Found::Word(ranks) => Ok(Answer::Plan(rebuild_listed(alloc, task, &tables, &ranks)?)),
         Found::None => Ok(Answer::None),
         Found::Unsolvable => Ok(Answer::Unsolvable),
     }

@@ -14,7 +14,9 @@ ghost use Rattle.htn_tree.specs.Trees.{Numbering, node_of};
 ghost use Rattle.htn_search.specs.Trail.{AreWithin, bare, decomposed_by, number_by};
 ghost use Rattle.htn_search.specs.Told.{FinishesListed, told};
 ghost use Rattle.htn_search.specs.Walk.{IsOneOn, IsStart, recorded};
+ghost use Rattle.task_machine.specs.Tables.{AreTables};
 
+use crate::chosen::choose_by_rank;
 use crate::places::{child_places, open_children};
 use crate::trail::Move;
 use htn_ground::{Child, Instance};
@@ -22,6 +24,7 @@ use htn_net::{Change, Config};
 use htn_task::Task;
 use htn_tree::Node;
 use std::alloc::{AllocError, Global};
+use task_machine::Tables;
 
 /// A walk along a word: where it is, and what it saw on the way.
 #[derive(Drop)]
@@ -152,13 +155,21 @@ impl Walk {
         self.take(alloc, task, position, change)
     }
 
-    /// One rank on.
-    fn follow_listed(&mut self, alloc: Global, task: &Task, rank: u64) -> Result<(), AllocError>
+    /// One rank on, an instance being taken from the tables where these have it.
+    fn follow_listed(
+        &mut self,
+        alloc: Global,
+        task: &Task,
+        tables: &Tables,
+        rank: u64,
+    ) -> Result<(), AllocError>
+        requires own { AreTables task.now tables.now }
         requires chosen { IsSome (choose_listed task.now self.old.config rank) }
         requires placed { length self.old.places.items ≡ length self.old.config.open_nodes }
         ensures { OnOk result (IsOneOn task.now (number_of task.now self.old.config rank) self.old self.new) }
     {
-        let Some((position, change)) = self.config.choose_listed(alloc, task, rank)? else {
+        let Some((position, change)) = choose_by_rank(alloc, task, tables, &self.config, rank)?
+        else {
             unreachable!()
         };
         self.take(alloc, task, position, change)
@@ -200,14 +211,16 @@ pub(crate) fn walk_along(
     Ok(walk)
 }
 
-/// The walk along all ranks of a word of the search that finishes, from an initial network on: it has
+/// The walk along all ranks of a word that a search with these tables found, from an initial network on: it has
 /// recorded the word's solution.
 pub(crate) fn walk_listed(
     alloc: Global,
     task: &Task,
+    tables: &Tables,
     initial: &Instance,
     ranks: &[u64],
 ) -> Result<Walk, AllocError>
+    requires own { AreTables task.now tables.now }
     requires initial { Contains (initials task.now) initial.now }
     requires finishes { FinishesListed task.now (start (problem_of task.now) initial.now.network) ranks.now }
     ensures within { IfOk result (λ walk. AreWithin walk.trail.items 0) }
@@ -217,7 +230,7 @@ pub(crate) fn walk_listed(
     let _typed = task.objects();
     let mut walk = start_walk(alloc, task, initial)?;
     for rank in ranks {
-        walk.follow_listed(alloc, task, *rank)?;
+        walk.follow_listed(alloc, task, tables, *rank)?;
     }
     Ok(walk)
 }

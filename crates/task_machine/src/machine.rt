@@ -6,6 +6,7 @@ ghost use Rattle.htn_net.specs.Grounded.{grounded-prop};
 ghost use Rattle.htn_net.specs.Listed.{listing_machine};
 ghost use Rattle.needs_table.specs.Prospects.{ProspectsHold};
 ghost use Rattle.task_machine.specs.Bounds.{most_steps, prospects-prop};
+ghost use Rattle.tree_sizes.specs.Enumerated.{IsEnumeration};
 ghost use Rattle.tree_sizes.specs.Sizes.{size_of};
 
 use crate::configuration::{Configuration, Reached};
@@ -13,7 +14,7 @@ use crate::tables::Tables;
 use htn_task::Task;
 use needs_table::Prospects;
 use std::alloc::{AllocError, Global};
-use tree_sizes::{TreeSizes, enumerate};
+use tree_sizes::{Enumeration, TreeSizes};
 use word_machine::{Machine, Successor};
 
 /// The word machine of a task as a search takes it: from a configuration a rank leads to the next
@@ -30,17 +31,16 @@ pub struct TaskMachine<'a> {
 }
 
 impl<'a> TaskMachine<'a> {
-    /// The word machine of a task. So much is listed at most to find sizes and needs: ground tasks, their instances, and
-    /// the nodes of these.
+    /// The word machine of a task. By what was listed of the task it knows sizes and needs.
     pub fn new(
         alloc: Global,
         task: &'a Task,
-        most_listed: u64,
+        found: Enumeration,
     ) -> Result<TaskMachine<'a>, AllocError>
+        requires { IsEnumeration task.now found }
         ensures { IfOk result (λ m. m.task.now ≡ task.now) }
     {
         let _initial = task.initial_atoms();
-        let found = enumerate(alloc, task, most_listed)?;
         let prospects = Prospects::of(alloc, task, &found)?;
         let sizes = TreeSizes::of_enumerated(alloc, found)?;
         Ok(TaskMachine {

@@ -1,5 +1,5 @@
 //! The search with growing bounds.
-ghost use Rattle.std.specs.Prelude.{◌≡◌, ◌<◌, ◌≤◌, All, map, IfOk, IfErr, IfSome, OnOk};
+ghost use Rattle.std.specs.Prelude.{◌≡◌, ◌-◌, ◌^◌, ◌<◌, ◌≤◌, All, map, IfOk, IfErr, IfSome, IfNone, OnOk};
 ghost use Rattle.word_machine.specs.Answer.{IsAnswer, NoneFinishes};
 ghost use Rattle.word_machine.specs.Ranks.{IsOwned};
 ghost use Rattle.word_machine.specs.declared.found.SearchFault.TheVariants.{NoThread};
@@ -65,6 +65,7 @@ fn search_open_nodes<M: Machine, G: Gate, R: Threads + Wait + Sync>(
     requires none { NoneFinishes (M.words machine.now) bounds.nodes }
     ensures owned { OnOk result (M.owns machine.now tables.new) }
     ensures answer { IfOk result (λ o. IfSome o (IsAnswer (M.words machine.now) bounds.nodes)) }
+    ensures given_up { IfOk result (λ o. IfNone o (most_kept < 2 ^ 64 - 1)) }
     ensures no_thread { IfErr result (λ e. e ≡ NoThread → 1 < bounds.workers) }
 {
     let initials = machine.initials(tables)?;
@@ -78,12 +79,12 @@ fn search_open_nodes<M: Machine, G: Gate, R: Threads + Wait + Sync>(
     Ok(outcome.found())
 }
 
-/// The answer of `find_word`, in tables that the caller goes on with. It searches by the machine's own bound on the steps that are left, within bounds that
-/// grow from the least of the initial configurations on, each so far that about as many more are looked at, or where few
-/// are little past one by steps that grow. Only where no word is found so, a dive looks for a configuration that tells
-/// that the bound was met, and where it finds none, a search by the open nodes tells whether it was. All go by the same
-/// tables. None where it is given up, once one of them has kept more than `most_kept`
-/// configurations.
+/// The answer of `find_word`, in tables that the caller goes on with. It searches by the machine's own bound on the
+/// steps that are left, within bounds that grow from the least of the initial configurations on, each so far that about
+/// as many more are looked at, or where few are little past one by steps that grow. Only where no word is found so, a
+/// dive looks for a configuration that tells that the bound was met, and where it finds none, a search by the open nodes
+/// tells whether it was. All go by the same tables. None where it is given up, once one of the searches has kept more
+/// than `most_kept` configurations; never where that is the greatest number.
 pub fn find_word_in<M: Machine, G: Gate, R: Threads + Wait + Sync>(
     rt: &R,
     alloc: Global,
@@ -96,6 +97,7 @@ pub fn find_word_in<M: Machine, G: Gate, R: Threads + Wait + Sync>(
     requires own { M.owns machine.now tables.old }
     ensures owned { OnOk result (M.owns machine.now tables.new) }
     ensures answer { IfOk result (λ o. IfSome o (IsAnswer (M.words machine.now) bounds.nodes)) }
+    ensures given_up { IfOk result (λ o. IfNone o (most_kept < 2 ^ 64 - 1)) }
     ensures no_thread { IfErr result (λ e. e ≡ NoThread → 1 < bounds.workers) }
 {
     let initials = machine.initials(tables)?;
@@ -163,7 +165,7 @@ pub fn find_word_deepening<M: Machine, G: Gate, R: Threads + Wait + Sync>(
     let mut tables = machine.new_tables()?;
     match find_word_in(rt, alloc, machine, &mut tables, bounds, usize::MAX, gate)? {
         Some(found) => Ok(found),
-        // More configurations could not be held either.
-        None => Err(SearchFault::OutOfMemory),
+        // It is never given up, since no list holds more.
+        None => unreachable!(),
     }
 }

@@ -1,11 +1,11 @@
 //! The search for the least finishing word, level by level.
-ghost use Rattle.std.specs.Prelude.{◌≡◌, ℕ, ◌+◌, ◌<◌, ◌≤◌, ◌∷◌, [], true, false, map, All, Option, Some, slice_get, IfOk, IfErr, IfSome, IfNone, OnOk};
+ghost use Rattle.std.specs.Prelude.{◌≡◌, ℕ, ◌+◌, ◌-◌, ◌^◌, ◌<◌, ◌≤◌, ◌∷◌, [], true, false, map, All, Option, Some, slice_get, IfOk, IfErr, IfSome, IfNone, OnOk};
 ghost use Rattle.word_machine.specs.Machine.{IsDone};
 ghost use Rattle.word_machine.specs.Meaning.{IsGrown};
 ghost use Rattle.word_machine.specs.Ranks.{IsOwned};
 ghost use Rattle.word_machine.specs.Answer.{IsAnswer, IsOutcome, NoneFinishes, measure_of};
 ghost use Rattle.word_machine.specs.declared.found.SearchFault.TheVariants.{NoThread};
-ghost use Rattle.word_machine.specs.declared.found.Outcome.TheVariants.{Past, Exhausted};
+ghost use Rattle.word_machine.specs.declared.found.Outcome.TheVariants.{Past, Exhausted, GivenUp};
 
 use crate::bounds::Bounds;
 use crate::closed::Closed;
@@ -51,7 +51,7 @@ fn word_of_one(alloc: Global, number: u64) -> Result<Vec<u64>, AllocError>
 
 /// The least finishing word within the bound, in a search that leaves out what this measure puts past it. Where none is
 /// known to finish within the bound, it ends with the level in which the first is left out. It is given up before a level
-/// where it has kept more than the limit. The closed list is cleared first: searches within growing bounds use its room
+/// where it has kept more than the limit, and never where the limit is the greatest number. The closed list is cleared first: searches within growing bounds use its room
 /// again.
 pub fn search<M: Machine, G: Gate, R: Threads + Wait + Sync>(
     rt: &R,
@@ -70,6 +70,7 @@ pub fn search<M: Machine, G: Gate, R: Threads + Wait + Sync>(
     ensures owned { OnOk result (M.owns machine.now tables.new) }
     ensures grown { OnOk result (IsGrown (M.meaning machine.now tables.old) (M.meaning machine.now tables.new)) }
     ensures outcome { IfOk result (IsOutcome (M.words machine.now) (measure_of (M.words machine.now) (M.estimate machine.now) limits.measure) limits.bounds.nodes) }
+    ensures given_up { IfOk result (λ o. o ≡ GivenUp → limits.most_kept < 2 ^ 64 - 1) }
     ensures no_thread { IfErr result (λ e. e ≡ NoThread → 1 < limits.bounds.workers) }
 {
     if let Some(initial) = first_done(machine, tables, initials) {
@@ -121,6 +122,7 @@ fn bound_past(bound: u64, reach: Option<u64>) -> Option<u64> {
 fn exhausted<C: Eq + Hash + Drop>(closed: &Closed<C>, bound: u64) -> Outcome
     ensures cut { closed.now.cut.any ≡ true → (least : ℕ) × (wide : Option ℕ) × (result ≡ Past least wide) × (least ≤ bound + closed.now.cut.past) }
     ensures uncut { closed.now.cut.any ≡ false → result ≡ Exhausted }
+    ensures ended { result ≡ GivenUp → ⊥ }
 {
     if closed.was_cut() {
         Outcome::Past {
@@ -165,7 +167,7 @@ pub fn find_word<M: Machine, G: Gate, R: Threads + Wait + Sync>(
     )?;
     match outcome.found() {
         Some(found) => Ok(found),
-        // More configurations could not be held either.
-        None => Err(SearchFault::OutOfMemory),
+        // It is never given up, since no list holds more.
+        None => unreachable!(),
     }
 }

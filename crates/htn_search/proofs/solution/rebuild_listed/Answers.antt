@@ -18,19 +18,19 @@ pub swap_remove-initial-requires : goal.swap_remove-initial-requires
 swap_remove-initial-requires c =
     let t = c.args.task.now in
     subst (λ n. c.in-Some.rank.now < n) (sym c.in_ok-listed.listed.ok.0)
-    (rank_within t c.in-Some.rank.now c.in-Some.ranks.now c.in_ok-listed.listed.items (subst (IsFinishing (listing_machine t)) c.in-Some.ensures.cases.0 c.requires) c.in_ok-listed.ensures)
+    (rank_within t c.in-Some.rank.now c.in-Some.ranks.now c.in_ok-listed.listed.items (subst (IsFinishing (listing_machine t)) c.in-Some.ensures.cases.0 c.requires.finishing) c.in_ok-listed.ensures)
 
 pub walk_listed-requires-clause-initial : goal.walk_listed-requires-clause-initial
 walk_listed-requires-clause-initial c =
     let t = c.args.task.now in
     let y = c.swap_remove-initial.result in
-    let b = begun_at t c.in-Some.rank.now c.in-Some.ranks.now c.in_ok-listed.listed.items (subst (IsFinishing (listing_machine t)) c.in-Some.ensures.cases.0 c.requires) c.in_ok-listed.ensures y c.swap_remove-initial.ensures.value in
+    let b = begun_at t c.in-Some.rank.now c.in-Some.ranks.now c.in_ok-listed.listed.items (subst (IsFinishing (listing_machine t)) c.in-Some.ensures.cases.0 c.requires.finishing) c.in_ok-listed.ensures y c.swap_remove-initial.ensures.value in
     (b.number, slice_get_within (initials t) b.number y b.among, get_or_from_slice_get (initials t) b.number y y b.among)
 
 pub walk_listed-requires-clause-finishes : goal.walk_listed-requires-clause-finishes
 walk_listed-requires-clause-finishes c =
     let t = c.args.task.now in
-    (begun_at t c.in-Some.rank.now c.in-Some.ranks.now c.in_ok-listed.listed.items (subst (IsFinishing (listing_machine t)) c.in-Some.ensures.cases.0 c.requires) c.in_ok-listed.ensures
+    (begun_at t c.in-Some.rank.now c.in-Some.ranks.now c.in_ok-listed.listed.items (subst (IsFinishing (listing_machine t)) c.in-Some.ensures.cases.0 c.requires.finishing) c.in_ok-listed.ensures
     c.swap_remove-initial.result c.swap_remove-initial.ensures.value).finishes
 
 pub returns : goal.returns
@@ -40,7 +40,7 @@ returns c =
     let rank = c.in-Some.rank.now in
     let ranks = c.in-Some.ranks.now in
     let y = c.swap_remove-initial.result in
-    let b = begun_at t rank ranks c.in_ok-listed.listed.items (subst (IsFinishing (listing_machine t)) c.in-Some.ensures.cases.0 c.requires) c.in_ok-listed.ensures y c.swap_remove-initial.ensures.value in
+    let b = begun_at t rank ranks c.in_ok-listed.listed.items (subst (IsFinishing (listing_machine t)) c.in-Some.ensures.cases.0 c.requires.finishing) c.in_ok-listed.ensures y c.swap_remove-initial.ensures.value in
     let among : slice_get problem.initials b.number ≡ Some y.network =
     slice_get-map (λ (i : Instance). i.network) (initials t) b.number ∙ ap (option_map (λ (i : Instance). i.network)) b.among in
     let same_number = sym (initial_number_is t c.objects-typed.ensures.typed y b.number b.among) in

@@ -18,7 +18,7 @@ returns-in_ok-rebuild_listed-in-Word-clause-answer g c =
     let t = c.args.task.now in
     let grounded = tasks_are_grounded t c.objects-typed.ensures.typed in
     let plan = c.in_ok-rebuild_listed-in-Word.field-0 in
-    let least = subst (IsAnswer (listing_machine t) c.args.bounds.nodes) c.in-Word.is c.in_ok-ranks.ensures.answer in
+    let least = subst (IsAnswer (listing_machine t) c.args.bounds.nodes) c.in-Word.is c.in_ok-searched.ensures.answer in
     plan_answers t c.args.bounds.nodes grounded plan
     (told_solution t grounded c.args.bounds.nodes c.in-Word.ranks.items (solution_of t plan) least
     (subst (λ w. IsSolutionOf (problem_of t) (told_word t w) (solution_of t plan)) c.deref.ensures.value c.in_ok-rebuild_listed-in-Word.ensures))
@@ -28,7 +28,7 @@ returns-in-None-clause-answer g c =
     let t = c.args.task.now in
     let grounded = tasks_are_grounded t c.objects-typed.ensures.typed in
     let own = answered (problem_of t) c.args.bounds.nodes None grounded
-    (told_answer t grounded c.args.bounds.nodes None None (subst (IsAnswer (listing_machine t) c.args.bounds.nodes) c.in-None.is c.in_ok-ranks.ensures.answer) tt) in
+    (told_answer t grounded c.args.bounds.nodes None None (subst (IsAnswer (listing_machine t) c.args.bounds.nodes) c.in-None.is c.in_ok-searched.ensures.answer) tt) in
     none_answers t c.args.bounds.nodes own.0 own.1
 
 pub returns-in-Unsolvable-clause-answer : goal.returns-in-Unsolvable-clause-answer
@@ -36,11 +36,11 @@ returns-in-Unsolvable-clause-answer g c =
     let t = c.args.task.now in
     let grounded = tasks_are_grounded t c.objects-typed.ensures.typed in
     let own = answered (problem_of t) c.args.bounds.nodes Unsolvable grounded
-    (told_answer t grounded c.args.bounds.nodes Unsolvable Unsolvable (subst (IsAnswer (listing_machine t) c.args.bounds.nodes) c.in-Unsolvable.is c.in_ok-ranks.ensures.answer) tt) in
+    (told_answer t grounded c.args.bounds.nodes Unsolvable Unsolvable (subst (IsAnswer (listing_machine t) c.args.bounds.nodes) c.in-Unsolvable.is c.in_ok-searched.ensures.answer) tt) in
     unsolvable_answers t c.args.bounds.nodes own.0 own.1
 
-pub rebuild_listed-requires : goal.rebuild_listed-requires
-rebuild_listed-requires g c =
+pub rebuild_listed-requires-clause-finishing : goal.rebuild_listed-requires-clause-finishing
+rebuild_listed-requires-clause-finishing g c =
     let t = c.args.task.now in
-    let least : IsLeastFinishing (listing_machine t) c.args.bounds.nodes c.in-Word.ranks.items = subst (IsAnswer (listing_machine t) c.args.bounds.nodes) c.in-Word.is c.in_ok-ranks.ensures.answer in
+    let least : IsLeastFinishing (listing_machine t) c.args.bounds.nodes c.in-Word.ranks.items = subst (IsAnswer (listing_machine t) c.args.bounds.nodes) c.in-Word.is c.in_ok-searched.ensures.answer in
     subst (IsFinishing (listing_machine t)) (sym c.deref.ensures.value) least.finishes

@@ -25,7 +25,7 @@ pub invariant_of-result : goal.invariant_of-result
 invariant_of-result c =
     let t = c.args.task.now in
     let grounded = tasks_are_grounded t c.initial_atoms-initial.ensures.typed in
-    let listed = c.in_ok-found.ensures in
+    let listed = c.requires in
     record {
       grounded = grounded;
       known = prospects_hold (problem_of t) (listing_machine t).initials (size_of c.in_ok-sizes.sizes) most_steps c.in_ok-prospects.prospects grounded (c.in_ok-sizes.ensures t listed)
