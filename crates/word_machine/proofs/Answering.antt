@@ -18,7 +18,8 @@ use Rattle.word_machine.specs.declared.found.Outcome.TheVariants.{Finished, Past
 use Rattle.word_machine.specs.Answer.{IsAnswer, IsOutcome, found_of, measure_of, IsLeastFinishing, NoneFinishes, NoneFinishesBefore, NeverFinishes}
 use Rattle.word_machine.proofs.Meanings.{all_at}
 use Rattle.word_machine.proofs.Order.{open_len-leads, IsAtMost-length, step_count-reached}
-use Rattle.word_machine.proofs.Complete.{CountsOpen, found_finishes, found_length, found_least, close_last, none_within, none_before, never, never_met}
+use Rattle.word_machine.specs.Dive.{AreKeptBelow}
+use Rattle.word_machine.proofs.Complete.{CountsOpen, covered_below, found_finishes, found_length, found_least, close_last, none_within, none_before, never, never_met}
 use Rattle.word_machine.proofs.Levels.{word_at}
 
 -- the open nodes, and a bound from below, each measure what is left
@@ -158,6 +159,24 @@ module _ {C : Type 0} (m : WordMachine C) (belongs : C → Type 0) (laws : IsLaw
             | inl fewer ↦ absurd (none_before S counts contents.keys (words_of contents.origins) contents.cut e.0 e.1 e.3 e.2 word (omega arith) (live_finishes word finish))
             | inr enough ↦ enough
           ]
+
+      -- what a word reaches stands in the list, where its steps and those left at least are fewer than of what was cut
+      pub kept_below : (bound ≤ level) ⊎ (low ≡ length contents.keys) → (next : ℕ) → next ≤ bound + contents.cut.past
+          → AreKeptBelow m measure (max next (bound + 1)) contents.keys
+      kept_below end next least word c reached fewer =
+          let e = exhausted end in
+          let steps : step_count word + 1 ≡ length word = step_count-reached (IsLiveStep m) m.initials c word reached in
+          let size = step_count word + measure c in
+          let near : (length word + measure c < bound + 2) ⊎ (length word + measure c < bound + 1 + contents.cut.past) =
+          elim (cases_lt size next) [
+            | inl less ↦ inr (omega arith)
+            | inr no_less ↦ elim (cases_lt size (bound + 1)) [
+              | inl within ↦ inl (omega arith)
+              | inr past ↦ (let most : max next (bound + 1) ≤ size = max-le no_less past in absurd (omega (arith, fewer)))
+            ]
+          ] in
+          let k = covered_below S counts contents.keys (words_of contents.origins) contents.cut e.0 e.1 e.3 e.2 word c reached near in
+          (k.rank, k.at.key)
 
       -- where nothing was, no word finishes, and the bound is not met
       pub answer_unsolvable : (bound ≤ level) ⊎ (low ≡ length contents.keys) → contents.cut.any ≡ false

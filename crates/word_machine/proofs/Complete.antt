@@ -212,6 +212,12 @@ module _ {C : Type 0} (S : Search C) (laws : CountsOpen S) where
       covered_of_all : (limit : ℕ) → IsLimit limit → (v : List ℕ) (c : C) → Reaches S.Step S.initials v c → IsKnown limit c (length v) → IsCovered keys words c v
       covered_of_all limit is_limit v c reached known = covered_word limit is_limit (length v) (early_of_all (length v)) v c (omega arith) reached known
 
+      -- what is left with a word below the bound, or below what was cut, is covered
+      pub covered_below : (v : List ℕ) (c : C) → Reaches S.Step S.initials v c
+          → (length v + S.open_len c < S.bound + 2) ⊎ (length v + S.open_len c < S.bound + 1 + cut.past) → IsCovered keys words c v
+      covered_below v c reached (inl near) = covered_of_all (S.bound + 2) within_bound v c reached (inr near)
+      covered_below v c reached (inr far) = covered_of_all (S.bound + 1 + cut.past) (inr (omega arith)) v c reached (inr far)
+
       -- no word finishes before what was cut
       pub none_before : (v : List ℕ) → length v ≤ S.bound + cut.past → Finishes S.Step S.IsDone S.initials v → ⊥
       none_before v within finish =

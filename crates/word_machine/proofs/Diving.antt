@@ -1,6 +1,7 @@
 -- What a dive comes to is reached, and may tell that the bound is met.
-use Rattle.std.proofs.Common.{◌≡◌, ℕ, ◌+◌, ◌<◌, ◌≤◌, Bool, true, false, List, [], ◌∷◌, ◌++◌, if◌then◌else◌, length, map, refl, subst, sym, arith, slice_get, Some, get_or, All}
+use Rattle.std.proofs.Common.{◌≡◌, ℕ, ◌+◌, ◌<◌, ◌≤◌, Bool, true, false, List, [], ◌∷◌, ◌++◌, if◌then◌else◌, length, map, refl, ap, ◌∙◌, subst, sym, true≢false, inl, inr, arith, slice_get, Some, get_or, All}
 use Rattle.std.specs.List.{list_any}
+use Rattle.std.proofs.lemmas.Bool.{cases_lt}
 use Rattle.std.proofs.lemmas.Option.{slice_get-get_or}
 use Rattle.std.proofs.lemmas.List.Elements.{All-push}
 use Rattle.indexmap.specs.IndexSet.{insert_key}
@@ -8,9 +9,10 @@ use Rattle.word_machine.specs.declared.closed.Successor.{Successor}
 use Rattle.word_machine.specs.Words.{Reaches, step_count}
 use Rattle.word_machine.specs.Machine.{WordMachine, IsLawful, IsLowerBound, IsLiveStep, IsDone, IsMet}
 use Rattle.word_machine.specs.Expansion.{IsSuccessor}
-use Rattle.word_machine.specs.Meaning.{Meaning, IsGrown, AreSuccessors, successor_at}
-use Rattle.word_machine.specs.Dive.{IsReached, IsVisited, extent}
-use Rattle.word_machine.proofs.Meanings.{all_at, all_by, all_owned, owned_still, slice_get-map}
+use Rattle.word_machine.specs.Meaning.{Meaning, IsGrown, IsOneToOne, AreSuccessors, successor_at}
+use Rattle.word_machine.specs.Dive.{AreKeptBelow, IsReached, IsVisited, extent}
+use Rattle.word_machine.proofs.Meanings.{all_at, all_by, all_owned, known_still, owned_still, same_points, slice_get-map}
+use Rattle.word_machine.proofs.Offering.{known_point}
 use Rattle.word_machine.proofs.Order.{Reaches-push, open_len-leads}
 use Rattle.word_machine.proofs.Places.{all_zip_back}
 
@@ -28,14 +30,22 @@ module _ {C : Type 0} (m : WordMachine C) where
         let along : lower reached.0 ≤ lower c + length ns = open_len-leads (IsLiveStep m) lower is_lower.lowers_one reached.0 c ns reached.2 in
         omega arith
 
-    -- a reached configuration of a greater extent than the bound tells that it is met
-    pub met_by : (bound : ℕ) (c : C) → IsReached m c → bound < extent m lower least c → IsMet m bound
-    met_by bound c reached past = (
-      reached.0,
-      c,
-      reached.1,
-      λ other also. (let steps : least ≤ step_count other + lower c = least_steps other c also in omega arith),
-    )
+    -- so nothing is left out before the first search
+    pub none_below : AreKeptBelow m lower least []
+    none_below word c reached fewer = (let enough : least ≤ step_count word + lower c = least_steps word c reached in absurd (omega (arith, fewer)))
+
+  -- a reached configuration that a search left out, of a greater extent than the bound, tells that it is met
+  pub met_by : (lower : C → ℕ) (least : ℕ) (keys : List C) → AreKeptBelow m lower least keys → (bound : ℕ) (c : C) → IsReached m c
+      → ((rank : ℕ) → slice_get keys rank ≡ Some c → ⊥) → bound < extent m lower least c → IsMet m bound
+  met_by lower least keys below bound c reached apart past = (
+    reached.0,
+    c,
+    reached.1,
+    λ other also. elim (cases_lt (step_count other + lower c) least) [
+      | inl fewer ↦ (let at = below other c also fewer in absurd (apart at.0 at.1))
+      | inr enough ↦ omega (arith, past)
+    ],
+  )
 
 module _ {C R P : Type 0} (m : WordMachine P) (belongs : P → Type 0) (a b : Meaning C R P) (g : IsGrown a b) where
   -- what was visited still is as tables grow
@@ -45,6 +55,16 @@ module _ {C R P : Type 0} (m : WordMachine P) (belongs : P → Type 0) (a b : Me
   -- and each of those that were kept
   pub all_visited_still : (keys : List C) → All (IsVisited m belongs a) keys → All (IsVisited m belongs b) keys
   all_visited_still keys each = all_by (IsVisited m belongs a) (IsVisited m belongs b) visited_still keys each
+
+  -- what is not in a list of configurations that were known stands for none of their points
+  pub not_kept : (eq : C → C → Bool) → ((c d : C) → eq c d ≡ true → c ≡ d) → ((c : C) → eq c c ≡ true) → IsOneToOne b
+      → (keys : List C) → All a.knows keys → (c : C) → b.knows c → list_any (eq c) keys ≡ false
+      → (rank : ℕ) → slice_get (map a.point keys) rank ≡ Some (b.point c) → ⊥
+  not_kept eq same reflexive one keys known c own none rank at =
+      let there : list_any (eq c) keys ≡ true =
+      known_point eq same reflexive b.knows b.point one keys c (known_still a b g keys known) own rank
+      (ap (λ l. slice_get l rank) (same_points a b g keys known) ∙ at) in
+      true≢false (sym there ∙ none)
 
 module _ {C R P : Type 0} (m : WordMachine P) (belongs : P → Type 0) (laws : IsLawful m belongs) where
   -- the initial configurations are visited

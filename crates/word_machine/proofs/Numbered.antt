@@ -1,12 +1,13 @@
 -- The levels of a search whose configurations are numbers.
-use Rattle.std.proofs.Common.{◌≡◌, ℕ, ◌+◌, ◌<◌, ◌≤◌, ◌⊎◌, Bool, true, false, List, [], ◌∷◌, ◌++◌, length, map, sym, ap, subst, ◌∙◌, inl, inr, arith, slice_get, Some, get_or, All, Option, None}
+use Rattle.std.proofs.Common.{◌≡◌, ℕ, ◌+◌, ◌<◌, ◌≤◌, ◌⊎◌, Bool, true, false, true≢false, List, [], ◌∷◌, ◌++◌, length, map, refl, max, sym, ap, subst, ◌∙◌, inl, inr, arith, slice_get, Some, get_or, All, Option, None}
 use Rattle.std.specs.Prelude.{Vec}
 use Rattle.std.specs.declared.alloc.Global.{Global}
 use Rattle.std.proofs.lemmas.List.{length-map}
+use Rattle.std.proofs.lemmas.Option.{slice_get-get_or}
 use Rattle.htn_level.specs.declared.order.Expanded.TheVariants.{Whole, Done}
 use Rattle.word_machine.specs.declared.closed.Successor.{Successor}
 use Rattle.word_machine.specs.declared.found.Outcome.{Outcome}
-use Rattle.word_machine.specs.declared.found.Outcome.TheVariants.{Past, Exhausted}
+use Rattle.word_machine.specs.declared.found.Outcome.TheVariants.{Finished, Past, Exhausted, GivenUp}
 use Rattle.word_machine.specs.Machine.{WordMachine, IsLawful, IsLiveStep, IsDone}
 use Rattle.word_machine.specs.Meaning.{Meaning, IsGrown, IsOneToOne, successor_at, contents_at}
 use Rattle.word_machine.specs.Contents.{Contents, AreOffered, offer_all, initial_successors, words_of, IsOriginWithin}
@@ -18,9 +19,24 @@ use Rattle.word_machine.specs.Answer.{IsOutcome, IsLeastFinishing, NoneFinishes}
 use Rattle.word_machine.proofs.Complete.{CountsOpen}
 use Rattle.word_machine.proofs.Meanings.{slice_get-map, slice_get-map_back, all_of_map, same_points, known_still, all_owned}
 use Rattle.word_machine.proofs.Offering.{offers}
-use Rattle.word_machine.proofs.Levels.{numbered_each, numbered_map, empty}
-use Rattle.word_machine.proofs.Answering.{answer_initial, answer_found, outcome, keys_belong, successors_belong, successors_within}
+use Rattle.word_machine.specs.Dive.{AreAllBelow, AreKeptBelow, IsVisited}
+use Rattle.word_machine.proofs.Levels.{numbered_each, numbered_map, empty, word_at}
+use Rattle.word_machine.proofs.Answering.{answer_initial, answer_found, kept_below, outcome, keys_belong, successors_belong, successors_within}
 use Rattle.word_machine.proofs.Searching.{first_level, later_level}
+
+-- the least steps that are told where something was left out
+abbrev least_of : Outcome → ℕ
+least_of (Past least wide) = least
+least_of (Finished word) = 0
+least_of Exhausted = 0
+least_of GivenUp = 0
+
+-- whether something was left out
+abbrev is_past : Outcome → Bool
+is_past (Past least wide) = true
+is_past (Finished word) = false
+is_past Exhausted = false
+is_past GivenUp = false
 
 module _ {C R P : Type 0} (m : WordMachine P) (belongs : P → Type 0) (laws : IsLawful m belongs) (measure : P → ℕ) (bound : ℕ) (counts : CountsOpen (search_by m measure bound)) where
   -- the closed list in the middle of a search, by what its numbers stand for
@@ -91,6 +107,30 @@ module _ {C R P : Type 0} (m : WordMachine P) (belongs : P → Type 0) (laws : I
     ended end told past exhausted_so =
         outcome m belongs laws measure bound counts (contents_at meaning.point contents) level low s.closed
         (elim end [ inl over ↦ inl over | inr all ↦ inr (all ∙ sym many) ]) told past exhausted_so
+
+    -- each configuration of the list is reached
+    keys_visited : All (IsVisited m belongs meaning) contents.keys
+    keys_visited = λ k d inside. (
+        let c = get_or contents.keys k d in
+        let at = word_at (search_by m measure bound) (contents_at meaning.point contents) level low s.closed k (meaning.point c)
+        (slice_get-map meaning.point contents.keys k c (slice_get-get_or contents.keys k d inside)) in
+        let word = get_or (words_of contents.origins) k [] in
+        (keys_owned k d inside, (word, s.closed.kept.reached k (meaning.point c) word at)))
+
+    -- where something was left out, the list has all before it
+    pub left_out : (bound ≤ level) ⊎ (low ≡ length contents.keys) → (told : Outcome)
+        → (contents.cut.any ≡ true → (least : ℕ) × (wide : Option ℕ) × (told ≡ Past least wide) × (least ≤ bound + contents.cut.past)) → (contents.cut.any ≡ false → told ≡ Exhausted)
+        → (steps : ℕ) (wide : Option ℕ) → told ≡ Past steps wide → AreAllBelow m belongs measure meaning (max steps (bound + 1)) contents.keys
+    left_out end told past exhausted_so steps wide is = (keys_visited, by contents.cut.any refl)
+      where
+        by : (cut : Bool) → contents.cut.any ≡ cut → AreKeptBelow m measure (max steps (bound + 1)) (map meaning.point contents.keys)
+        by true cut =
+            let p = past cut in
+            let same : p.0 ≡ steps = ap least_of (sym p.2 ∙ is) in
+            subst (λ n. AreKeptBelow m measure (max n (bound + 1)) (map meaning.point contents.keys)) same
+            (kept_below m belongs laws measure bound counts (contents_at meaning.point contents) level low s.closed
+            (elim end [ inl over ↦ inl over | inr all ↦ inr (all ∙ sym many) ]) p.0 p.3)
+        by false cut = absurd (true≢false (ap is_past (sym is ∙ exhausted_so cut)))
 
     -- where no word finishes within the bound, something that is left out tells all
     pub ended_early : contents.cut.any ≡ true → NoneFinishes m bound → IsOutcome m measure bound (Past (bound + 1) None)

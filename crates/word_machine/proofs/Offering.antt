@@ -34,7 +34,7 @@ module _ {C P : Type 0} (eq : C → C → Bool) (same : (c d : C) → eq c d ≡
   present (x ∷ xs) k (suc r) at = ap (λ b. eq k x || b) (present xs k r at) ∙ or_true (eq k x)
 
   -- a point that stands among those of the list has its number there
-  known_point : (ks : List C) (c : C) → All knows ks → knows c → (r : ℕ) → slice_get (map point ks) r ≡ Some (point c) → list_any (eq c) ks ≡ true
+  pub known_point : (ks : List C) (c : C) → All knows ks → knows c → (r : ℕ) → slice_get (map point ks) r ≡ Some (point c) → list_any (eq c) ks ≡ true
   known_point ks c known own r at =
       let back = slice_get-map_back point ks r (point c) at in
       let alike : back.0 ≡ c = one_to_one back.0 c (all_at knows ks known r back.0 back.1) own back.2 in

@@ -1,6 +1,6 @@
 -- What a dive goes by.
-use Rattle.std.specs.Prelude.{ℕ, ◌+◌, ◌-◌, List}
-use Rattle.word_machine.specs.Words.{Reaches}
+use Rattle.std.specs.Prelude.{◌≡◌, ℕ, ◌+◌, ◌-◌, ◌<◌, List, Some, slice_get, map, All}
+use Rattle.word_machine.specs.Words.{Reaches, step_count}
 use Rattle.word_machine.specs.Machine.{WordMachine, IsLiveStep}
 use Rattle.word_machine.specs.Meaning.{Meaning}
 use Rattle.word_machine.specs.Ranks.{IsOwned}
@@ -10,10 +10,20 @@ module _ {Configuration : Type 0} (m : WordMachine Configuration) where
   abbrev pub IsReached : Configuration → Type 0
   IsReached c = (word : List ℕ) × Reaches (IsLiveStep m) m.initials word c
 
-  -- the steps to a configuration at least, where no word begins with fewer than `least` left, and its open nodes
+  -- whatever a word reaches that has fewer steps than these, with what is left of it at least, is in the list
+  abbrev pub AreKeptBelow : (Configuration → ℕ) → ℕ → List Configuration → Type 0
+  AreKeptBelow lower least keys =
+      (word : List ℕ) (c : Configuration) → Reaches (IsLiveStep m) m.initials word c → step_count word + lower c < least
+      → (rank : ℕ) × (slice_get keys rank ≡ Some c)
+
+  -- the steps to a configuration at least that is not among those below `least`, and its open nodes
   abbrev pub extent : (Configuration → ℕ) → ℕ → Configuration → ℕ
   extent lower least c = (least - lower c) + m.open_len c
 
 -- a configuration that is numbered, of a point of the machine's own that is reached
 abbrev pub IsVisited : {C R P : Type 0} → WordMachine P → (P → Type 0) → Meaning C R P → C → Type 0
 IsVisited m belongs meaning c = IsOwned meaning belongs c × IsReached m (meaning.point c)
+
+-- each is visited, and they are all that a word reaches that has fewer steps than these, with what is left of it at least
+abbrev pub AreAllBelow : {C R P : Type 0} → WordMachine P → (P → Type 0) → (P → ℕ) → Meaning C R P → ℕ → List C → Type 0
+AreAllBelow m belongs lower meaning least keys = All (IsVisited m belongs meaning) keys × AreKeptBelow m lower least (map meaning.point keys)

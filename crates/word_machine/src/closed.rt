@@ -1,9 +1,11 @@
 //! The closed list: all configurations that a search kept, each with where it came from.
 ghost use Rattle.std.specs.Prelude.{◌≡◌, ℕ, ◌+◌, ◌-◌, ◌^◌, ◌<◌, Some, false, length, slice_get, [], OnOk, OnErr};
+ghost use Rattle.std.specs.List.{list_any};
 ghost use Rattle.indexmap.specs.IndexSet.{contains};
 ghost use Rattle.word_machine.specs.Contents.{origin_of};
 ghost use Rattle.word_machine.specs.declared.closed.Origin.TheVariants.{Step};
 
+use crate::edge::Edge;
 use crate::overshoots::Overshoots;
 use indexmap::IndexSet;
 use std::alloc::{AllocError, Global};
@@ -32,6 +34,9 @@ pub struct Link {
 }
 
 const NO_RANK: usize = usize::MAX;
+
+// What is cut off less past the bound than this may still end.
+const NEAR: u64 = 64;
 
 impl Link {
     fn new(origin: Origin) -> Link
@@ -70,8 +75,9 @@ pub struct Closed<C: Eq + Hash> {
     was_cut: bool,
     // By how much the least that was cut off was past the bound.
     least_past: u64,
-    // For speed alone: by how much all of them were. The list's value goes without.
+    // For speed alone: by how much all of them were, and from where some were reached. The list's value goes without.
     overshoots: Overshoots,
+    edge: Edge,
 }
 
 impl<C: Eq + Hash> Model for Closed<C> {
@@ -97,6 +103,7 @@ impl<C: Eq + Hash + Drop> Closed<C> {
             was_cut: false,
             least_past: u64::MAX,
             overshoots: Overshoots::new(),
+            edge: Edge::new(),
         }
     }
 
@@ -109,6 +116,7 @@ impl<C: Eq + Hash + Drop> Closed<C> {
         self.was_cut = false;
         self.least_past = u64::MAX;
         self.overshoots = Overshoots::new();
+        self.edge = Edge::new();
     }
 
     /// The configurations by rank.
@@ -141,6 +149,18 @@ impl<C: Eq + Hash + Drop> Closed<C> {
         self.least_past
     }
 
+    /// Whether the configuration is there.
+    pub fn contains(&self, configuration: &C) -> bool
+        ensures { result ≡ list_any (C.eq configuration.now) self.now.keys }
+    {
+        self.configurations.contains(configuration)
+    }
+
+    /// Ranks from which configurations were reached that were cut off little past the bound: the last of them.
+    pub fn edge(&self) -> &[usize] {
+        self.edge.ranks()
+    }
+
     /// How far past the bound a search lets in as many of those that were cut off as were kept; None if fewer than these
     /// were less than 64 past it.
     pub fn reach(&self) -> Option<u64> {
@@ -164,17 +184,20 @@ impl<C: Eq + Hash + Drop> Closed<C> {
                 self.links.push(Link::new(origin))?;
             }
         } else if !self.configurations.contains(&configuration) {
-            self.cut_off(left - room);
+            self.cut_off(origin, left - room);
         }
         Ok(())
     }
 
-    /// Leaves out one that is not in the list, and is past the room by so much.
-    pub fn cut_off(&mut self, past: u64)
+    /// Leaves out one that came from there and is not in the list, and is past the room by so much.
+    pub fn cut_off(&mut self, origin: Origin, past: u64)
         ensures { self.new ≡ record { keys = self.old.keys; origins = self.old.origins; cut = cut_more self.old.cut past } }
     {
         self.was_cut = true;
         self.least_past = self.least_past.min(past);
         self.overshoots.add(past);
+        if past < NEAR {
+            self.edge.add(origin);
+        }
     }
 }

@@ -136,7 +136,15 @@ pub fn find_word_in<M: Machine, G: Gate, R: Threads + Wait + Sync>(
             }
         }
     }
-    if dive(alloc, machine, tables, &initials, first, bounds.nodes)? {
+    if dive(
+        alloc,
+        machine,
+        tables,
+        &initials,
+        &closed,
+        least,
+        bounds.nodes,
+    )? {
         return Ok(Some(Found::None));
     }
     search_open_nodes(

@@ -1,20 +1,21 @@
 //! A dive for a configuration that tells that the bound is met.
 ghost use Rattle.std.specs.Prelude.{◌≡◌, ◌≤◌, ◌-◌, ◌^◌, ℕ, [], true, All, Some, IfOk, IfSome, OnOk, map, min, slice_get};
 ghost use Rattle.indexmap.specs.IndexSet.{insert_key};
-ghost use Rattle.word_machine.specs.Dive.{IsReached, IsVisited, extent};
+ghost use Rattle.word_machine.specs.Dive.{AreAllBelow, IsReached, IsVisited, extent};
 ghost use Rattle.word_machine.specs.Machine.{IsMet};
+ghost use Rattle.word_machine.specs.Meaning.{IsGrown};
 ghost use Rattle.word_machine.specs.Ranks.{IsOwned};
 
-use crate::closed::Successor;
+use crate::closed::{Closed, Successor};
 use crate::machine::Machine;
 use indexmap::IndexSet;
 use std::alloc::{AllocError, Global};
 use std::collections::BinaryHeap;
 use std::hash::Hash;
 
-// Where a dive finds what it looks for at all, some hundreds of configurations mostly do. Once it has kept so many, it
-// gives up.
-const MOST_KEPT: usize = 1_000;
+// Where a dive finds what it looks for at all, some hundreds of configurations mostly do. Once it has kept so many, and
+// half as many as the search before it, it gives up.
+const LEAST_KEPT: usize = 1_000;
 
 // The configurations that a dive came to, none of them twice, and which of them it has not expanded.
 #[derive(Drop)]
@@ -67,37 +68,67 @@ fn extent<M: Machine>(machine: &M, tables: &M::Tables, least: u64, at: M::Config
     steps.saturating_add(machine.open_len(tables, at))
 }
 
-// Keeps the initial configurations.
-fn keep_initials<M: Machine>(
+// Keeps a configuration from which a dive starts.
+fn keep_start<M: Machine>(
     machine: &M,
     tables: &M::Tables,
     frontier: &mut Frontier<M::Configuration>,
-    initials: &[M::Configuration],
+    at: M::Configuration,
     least: u64,
 ) -> Result<(), AllocError>
     requires own { M.owns machine.now tables.now }
     requires kept { All
         (IsVisited (M.words machine.now) (M.belongs machine.now) (M.meaning machine.now tables.now))
         frontier.old.kept.keys }
-    requires visited { All
+    requires visited { IsVisited (M.words machine.now) (M.belongs machine.now) (M.meaning machine.now tables.now) at }
+    ensures { OnOk result (All
+        (IsVisited (M.words machine.now) (M.belongs machine.now) (M.meaning machine.now tables.now))
+        frontier.new.kept.keys) }
+{
+    let extent = extent(machine, tables, least, at);
+    frontier.keep(at, extent)
+}
+
+// Keeps the initial configurations, and those from which a search reached some that it left out.
+fn keep_starts<M: Machine>(
+    machine: &M,
+    tables: &M::Tables,
+    frontier: &mut Frontier<M::Configuration>,
+    initials: &[M::Configuration],
+    closed: &Closed<M::Configuration>,
+    least: u64,
+) -> Result<(), AllocError>
+    requires own { M.owns machine.now tables.now }
+    requires kept { All
+        (IsVisited (M.words machine.now) (M.belongs machine.now) (M.meaning machine.now tables.now))
+        frontier.old.kept.keys }
+    requires initials { All
         (IsVisited (M.words machine.now) (M.belongs machine.now) (M.meaning machine.now tables.now))
         initials.now }
+    requires closed { All
+        (IsVisited (M.words machine.now) (M.belongs machine.now) (M.meaning machine.now tables.now))
+        closed.now.keys }
     ensures { OnOk result (All
         (IsVisited (M.words machine.now) (M.belongs machine.now) (M.meaning machine.now tables.now))
         frontier.new.kept.keys) }
 {
     for initial in initials {
-        let extent = extent(machine, tables, least, *initial);
-        frontier.keep(*initial, extent)?;
+        keep_start(machine, tables, frontier, *initial, least)?;
+    }
+    for rank in closed.edge() {
+        if let Some(configuration) = closed.configurations().get(*rank) {
+            keep_start(machine, tables, frontier, *configuration, least)?;
+        }
     }
     Ok(())
 }
 
-// Numbers successors, and keeps them.
+// Numbers successors, and keeps those that a search left out.
 fn keep_all<M: Machine>(
     machine: &M,
     tables: &mut M::Tables,
     frontier: &mut Frontier<M::Configuration>,
+    closed: &Closed<M::Configuration>,
     batch: Vec<Successor<M::Reached>>,
     least: u64,
 ) -> Result<(), AllocError>
@@ -113,24 +144,30 @@ fn keep_all<M: Machine>(
         (λ s. IsReached (M.words machine.now) ((M.meaning machine.now tables.old).point_of s.configuration))
         batch.items }
     ensures owned { OnOk result (M.owns machine.now tables.new) }
+    ensures grown { OnOk result (IsGrown (M.meaning machine.now tables.old) (M.meaning machine.now tables.new)) }
     ensures kept { OnOk result (All
         (IsVisited (M.words machine.now) (M.belongs machine.now) (M.meaning machine.now tables.new))
         frontier.new.kept.keys) }
 {
     for successor in batch {
         let configuration = machine.keep(tables, successor.configuration)?;
+        if closed.contains(&configuration) {
+            continue;
+        }
         let extent = extent(machine, tables, least, configuration);
         frontier.keep(configuration, extent)?;
     }
     Ok(())
 }
 
-// Keeps the successors of a configuration. If one of them is done they are not listed, and none is kept.
+// Keeps the successors of a configuration that a search left out. If one of them is done they are not listed, and none is
+// kept.
 fn expand<M: Machine>(
     alloc: Global,
     machine: &M,
     tables: &mut M::Tables,
     frontier: &mut Frontier<M::Configuration>,
+    closed: &Closed<M::Configuration>,
     from: M::Configuration,
     least: u64,
 ) -> Result<(), AllocError>
@@ -140,6 +177,7 @@ fn expand<M: Machine>(
         frontier.old.kept.keys }
     requires from { IsVisited (M.words machine.now) (M.belongs machine.now) (M.meaning machine.now tables.old) from }
     ensures owned { OnOk result (M.owns machine.now tables.new) }
+    ensures grown { OnOk result (IsGrown (M.meaning machine.now tables.old) (M.meaning machine.now tables.new)) }
     ensures kept { OnOk result (All
         (IsVisited (M.words machine.now) (M.belongs machine.now) (M.meaning machine.now tables.new))
         frontier.new.kept.keys) }
@@ -147,42 +185,45 @@ fn expand<M: Machine>(
     machine.prepare(tables, from)?;
     let mut successors = Vec::new(alloc);
     match machine.expand(tables, 0, from, &mut successors)? {
-        None => keep_all(machine, tables, frontier, successors, least),
+        None => keep_all(machine, tables, frontier, closed, successors, least),
         Some(_) => Ok(()),
     }
 }
 
 /// Looks for a configuration that no word reaches with its steps and its open nodes within the bound, and tells whether
-/// there was one. It goes by the greatest extent first, where no word begins with fewer than `least` steps left, and
-/// may give up.
+/// there was one. It starts where a search left configurations out, each of which has, with the steps of any word that
+/// reaches it, at least `least` steps left; it goes by the greatest extent first, and may give up.
 pub fn dive<M: Machine>(
     alloc: Global,
     machine: &M,
     tables: &mut M::Tables,
     initials: &[M::Configuration],
+    closed: &Closed<M::Configuration>,
     least: u64,
     bound: u64,
 ) -> Result<bool, AllocError>
     requires own { M.owns machine.now tables.old }
     requires known { All (M.meaning machine.now tables.old).knows initials.now }
     requires initials { map (M.meaning machine.now tables.old).point initials.now ≡ (M.words machine.now).initials }
-    requires least { All (λ c. least ≤ M.estimate machine.now c) (M.words machine.now).initials }
+    requires below { AreAllBelow (M.words machine.now) (M.belongs machine.now) (M.estimate machine.now)
+        (M.meaning machine.now tables.old) least closed.now.keys }
     ensures owned { OnOk result (M.owns machine.now tables.new) }
     ensures met { IfOk result (λ is_met. is_met ≡ true → IsMet (M.words machine.now) bound) }
 {
     let mut frontier = Frontier::new(alloc);
-    keep_initials(machine, tables, &mut frontier, initials, least)?;
-    for _turn in 0..MOST_KEPT {
+    keep_starts(machine, tables, &mut frontier, initials, closed, least)?;
+    let most_kept = LEAST_KEPT.max(closed.configurations().len() / 2);
+    for _turn in 0..most_kept {
         let Some(from) = frontier.pop() else {
             return Ok(false);
         };
-        if extent(machine, tables, least, from) > bound {
+        if extent(machine, tables, least, from) > bound && !closed.contains(&from) {
             return Ok(true);
         }
-        if frontier.kept.len() >= MOST_KEPT {
+        if frontier.kept.len() >= most_kept {
             return Ok(false);
         }
-        expand(alloc, machine, tables, &mut frontier, from, least)?;
+        expand(alloc, machine, tables, &mut frontier, closed, from, least)?;
     }
     Ok(false)
 }

@@ -5,6 +5,7 @@ mod bounds;
 mod closed;
 mod deepen;
 mod dive;
+mod edge;
 mod expand;
 mod found;
 pub mod machine;

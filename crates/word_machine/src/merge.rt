@@ -93,7 +93,7 @@ pub fn merge<M: Machine>(
                 };
                 closed.keep(numbered, left, room)?;
             }
-            None => closed.cut_off(left - room),
+            None => closed.cut_off(origin, left - room),
         }
     }
     Ok(())

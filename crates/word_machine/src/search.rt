@@ -1,8 +1,9 @@
 //! The search for the least finishing word, level by level.
-ghost use Rattle.std.specs.Prelude.{◌≡◌, ℕ, ◌+◌, ◌-◌, ◌^◌, ◌<◌, ◌≤◌, ◌∷◌, [], true, false, map, All, Option, Some, slice_get, IfOk, IfErr, IfSome, IfNone, OnOk};
+ghost use Rattle.std.specs.Prelude.{◌≡◌, ℕ, ◌+◌, ◌-◌, ◌^◌, ◌<◌, ◌≤◌, ◌∷◌, [], true, false, map, max, All, Option, Some, slice_get, IfOk, IfErr, IfSome, IfNone, OnOk};
 ghost use Rattle.word_machine.specs.Machine.{IsDone};
 ghost use Rattle.word_machine.specs.Meaning.{IsGrown};
 ghost use Rattle.word_machine.specs.Ranks.{IsOwned};
+ghost use Rattle.word_machine.specs.Dive.{AreAllBelow};
 ghost use Rattle.word_machine.specs.Answer.{IsAnswer, IsOutcome, NoneFinishes, measure_of};
 ghost use Rattle.word_machine.specs.declared.found.SearchFault.TheVariants.{NoThread};
 ghost use Rattle.word_machine.specs.declared.found.Outcome.TheVariants.{Past, Exhausted, GivenUp};
@@ -70,6 +71,9 @@ pub fn search<M: Machine, G: Gate, R: Threads + Wait + Sync>(
     ensures owned { OnOk result (M.owns machine.now tables.new) }
     ensures grown { OnOk result (IsGrown (M.meaning machine.now tables.old) (M.meaning machine.now tables.new)) }
     ensures outcome { IfOk result (IsOutcome (M.words machine.now) (measure_of (M.words machine.now) (M.estimate machine.now) limits.measure) limits.bounds.nodes) }
+    ensures left_out { IfOk result (λ o. limits.none_within ≡ false → (steps : ℕ) (wide : Option ℕ) → o ≡ Past steps wide
+        → AreAllBelow (M.words machine.now) (M.belongs machine.now) (measure_of (M.words machine.now) (M.estimate machine.now) limits.measure)
+        (M.meaning machine.now tables.new) (max steps (limits.bounds.nodes + 1)) closed.new.keys) }
     ensures given_up { IfOk result (λ o. o ≡ GivenUp → limits.most_kept < 2 ^ 64 - 1) }
     ensures no_thread { IfErr result (λ e. e ≡ NoThread → 1 < limits.bounds.workers) }
 {

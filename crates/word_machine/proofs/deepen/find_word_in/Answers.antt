@@ -1,9 +1,12 @@
-use Rattle.std.proofs.Common.{rules, ◌≡◌, ◌+◌, ◌≤◌, All, sym, ◌∙◌, subst, arith}
+use Rattle.std.proofs.Common.{rules, refl, ap, ◌≡◌, ◌+◌, ◌≤◌, All, sym, ◌∙◌, subst, arith}
 use Rattle.word_machine.specs.Machine.{IsLawful, IsLowerBound}
 use Rattle.std.specs.Prelude.{max}
 use Rattle.word_machine.specs.declared.found.Outcome.TheVariants.{Past}
 use Rattle.word_machine.specs.Answer.{IsOutcome, NoneFinishesBefore}
+use Rattle.word_machine.specs.Contents.{Contents}
+use Rattle.word_machine.specs.Dive.{AreAllBelow}
 use Rattle.word_machine.specs.Ranks.{IsOwned}
+use Rattle.word_machine.proofs.Diving.{none_below}
 use Rattle.word_machine.proofs.Meanings.{all_map, all_owned, known_still, same_points}
 use Rattle.word_machine.proofs.Answering.{none_before_least, none_before_more}
 use Rattle.word_machine.proofs.deepen.find_word_in.Given as given
@@ -35,11 +38,16 @@ loop-least-init g c =
     let listed = c.in_ok-initials.initials.items in
     let each : All (λ (x : g.row.M-Configuration.Denot). least ≤ lower (meaning.point x)) listed =
     subst (All (λ (x : g.row.M-Configuration.Denot). least ≤ lower (meaning.point x))) c.deref.ensures.value c.least_bound-first.ensures in
+    let m = g.M.Machine.words machine in
+    let belongs = g.M.Machine.belongs machine in
+    let first : All (λ p. least ≤ lower p) m.initials =
+    subst (All (λ p. least ≤ lower p)) c.in_ok-initials.ensures.initials (all_map meaning.point (λ p. least ≤ lower p) listed each) in
     record {
       own = c.in_ok-initials.ensures.owned;
       known = c.in_ok-initials.ensures.known;
-      none = none_before_least (g.M.Machine.words machine) (g.M.Machine.belongs machine) (laws g machine) lower (bounded g machine) least
-          (subst (All (λ p. least ≤ lower p)) c.in_ok-initials.ensures.initials (all_map meaning.point (λ p. least ≤ lower p) listed each));
+      none = none_before_least m belongs (laws g machine) lower (bounded g machine) least first;
+      below = subst (AreAllBelow m belongs lower meaning least) (sym (ap (λ (n : Contents g.row.M-Configuration.Denot). n.keys) c.new-closed.ensures))
+          ((λ k d inside. absurd (omega arith)), none_below m lower (bounded g machine) least first);
       rising = omega arith;
       initials = c.in_ok-initials.ensures.initials;
     }
@@ -61,16 +69,7 @@ loop-least-preserved g c =
       known = known_still old new c.in_ok-outcome.ensures.grown initials i.known;
       none = subst (NoneFinishesBefore m) least (none_before_more m bound c.in-Past.past told.0 told.2);
       rising = c.next_bound-nodes.ensures;
+      below = subst (λ n. AreAllBelow m (g.M.Machine.belongs machine) (g.M.Machine.estimate machine) new n c.search.new.closed.keys) least
+          (c.in_ok-outcome.ensures.left_out refl c.in-Past.past c.in-Past.wide c.in-Past.is);
       initials = same_points old new c.in_ok-outcome.ensures.grown initials i.known ∙ i.initials;
     }
-
-pub dive-requires-clause-least : goal.dive-requires-clause-least
-dive-requires-clause-least g c = λ _ _.
-    let machine = c.args.machine.now in
-    let meaning = g.M.Machine.meaning machine c.initials.new.tables in
-    let first = c.least_bound-first.result in
-    let lower = g.M.Machine.estimate machine in
-    let listed = c.in_ok-initials.initials.items in
-    let each : All (λ (x : g.row.M-Configuration.Denot). first ≤ lower (meaning.point x)) listed =
-    subst (All (λ (x : g.row.M-Configuration.Denot). first ≤ lower (meaning.point x))) c.deref.ensures.value c.least_bound-first.ensures in
-    subst (All (λ p. first ≤ lower p)) c.in_ok-initials.ensures.initials (all_map meaning.point (λ p. first ≤ lower p) listed each)

@@ -1,5 +1,6 @@
 use Rattle.std.proofs.Common.{◌≡◌, ◌+◌, ◌-◌, ◌≤◌, map, All}
 use Rattle.word_machine.specs.Answer.{NoneFinishesBefore}
+use Rattle.word_machine.specs.Dive.{AreAllBelow}
 use Rattle.word_machine.proofs.deepen.find_word_in.Given as goal
 
 -- the tables are this machine's, and have the initial configurations; and no word finishes before the bound
@@ -11,6 +12,7 @@ invariant-loop-least g l =
       known : All meaning.knows l.initials.items;
       none : NoneFinishesBefore (g.M.Machine.words l.machine) l.least;
       rising : l.least ≤ l.nodes;
+      below : AreAllBelow (g.M.Machine.words l.machine) (g.M.Machine.belongs l.machine) (g.M.Machine.estimate l.machine) meaning l.least l.closed.keys;
       initials : map meaning.point l.initials.items ≡ (g.M.Machine.words l.machine).initials;
     }
 

@@ -3,6 +3,8 @@ use Rattle.std.proofs.lemmas.Option.{MatchOption-at_none}
 use Rattle.word_machine.specs.declared.closed.Successor.{Successor}
 use Rattle.word_machine.specs.Machine.{IsLawful}
 use Rattle.word_machine.specs.Dive.{IsReached}
+use Rattle.std.proofs.lemmas.Result.{on_ok_weaker}
+use Rattle.word_machine.proofs.Meanings.{grown_more}
 use Rattle.word_machine.proofs.Diving.{all_visited_still, successors_reached, visited_still}
 use Rattle.word_machine.proofs.dive.expand.Given as given
 use Rattle.word_machine.proofs.dive.expand.Goals as goal
@@ -46,3 +48,10 @@ returns-in-Some-clause-kept g c =
     let machine = c.args.machine.now in
     all_visited_still (g.M.Machine.words machine) (g.M.Machine.belongs machine) (g.M.Machine.meaning machine c.args.tables.now) (g.M.Machine.meaning machine c.prepare.new.tables)
     c.in_ok-prepare.ensures.grown c.args.frontier.now.kept.keys c.requires.kept
+
+pub returns-in-None-clause-grown : goal.returns-in-None-clause-grown
+returns-in-None-clause-grown g c =
+    let machine = c.args.machine.now in
+    on_ok_weaker c.keep_all.result
+    (grown_more (g.M.Machine.meaning machine c.args.tables.now) (g.M.Machine.meaning machine c.prepare.new.tables) (g.M.Machine.meaning machine c.keep_all.new.tables)
+    c.in_ok-prepare.ensures.grown) c.keep_all.ensures.grown

@@ -7,6 +7,46 @@ use Rattle.word_machine.proofs.Meanings.{grown_more}
 use Rattle.word_machine.proofs.Places.{All-between}
 use Rattle.word_machine.proofs.dive.keep_all.Goals as goal
 
+pub extent-extent-requires-clause-owned : goal.extent-extent-requires-clause-owned
+extent-extent-requires-clause-owned g c = λ _ _.
+    let i = c.loop-successor.invariant in
+    let machine = c.args.machine.now in
+    let m = g.M.Machine.words machine in
+    let belongs = g.M.Machine.belongs machine in
+    let old = g.M.Machine.meaning machine c.args.tables.now in
+    let mid = g.M.Machine.meaning machine c.loop-successor.tables in
+    let new = g.M.Machine.meaning machine c.keep.new.tables in
+    let done = c.loop-successor.yielded in
+    let s = c.in-Some.successor in
+    let x = c.in_ok-configuration.configuration in
+    let rest = into_iter_items c.next.new.self in
+    let next : into_iter_items c.loop-successor.successor-iterator ≡ s ∷ rest = c.in-Some.ensures.steps.0 in
+    let joined : done ++ s ∷ rest ≡ c.args.batch.items = ap (λ l. done ++ l) (sym next) ∙ i.parts in
+    let allowed = All-between (λ (t : Successor g.row.M-Reached.Denot). old.allows t.configuration) done s rest c.args.batch.items joined c.requires.allowed in
+    let own = All-between (λ (t : Successor g.row.M-Reached.Denot). belongs (old.point_of t.configuration)) done s rest c.args.batch.items joined c.requires.belongs in
+    let reached = All-between (λ (t : Successor g.row.M-Reached.Denot). IsReached m (old.point_of t.configuration)) done s rest c.args.batch.items joined c.requires.reached in
+    let same : old.point_of s.configuration ≡ new.point x = sym (c.in_ok-configuration.ensures.same ∙ i.grown.same_reached s.configuration allowed) in
+    let visited : IsVisited m belongs new x = ((c.in_ok-configuration.ensures.known, subst belongs same own), subst (IsReached m) same reached) in
+    visited.0
+
+pub loop-successor-preserved-then-contains : goal.loop-successor-preserved-then-contains
+loop-successor-preserved-then-contains g c =
+    let i = c.loop-successor.invariant in
+    let machine = c.args.machine.now in
+    let old = g.M.Machine.meaning machine c.args.tables.now in
+    let mid = g.M.Machine.meaning machine c.loop-successor.tables in
+    let new = g.M.Machine.meaning machine c.keep.new.tables in
+    let done = c.loop-successor.yielded in
+    let s = c.in-Some.successor in
+    let rest = into_iter_items c.next.new.self in
+    let next : into_iter_items c.loop-successor.successor-iterator ≡ s ∷ rest = c.in-Some.ensures.steps.0 in
+    record {
+      own = c.in_ok-configuration.ensures.owned;
+      grown = grown_more old mid new i.grown c.in_ok-configuration.ensures.grown;
+      kept = all_visited_still (g.M.Machine.words machine) (g.M.Machine.belongs machine) mid new c.in_ok-configuration.ensures.grown c.loop-successor.frontier.kept.keys i.kept;
+      parts = append_assoc done (s ∷ []) rest ∙ ap (λ l. done ++ l) (sym next) ∙ i.parts;
+    }
+
 pub loop-successor-preserved : goal.loop-successor-preserved
 loop-successor-preserved g c =
     let i = c.loop-successor.invariant in

@@ -8,7 +8,7 @@ use Rattle.word_machine.proofs.Complete.{CountsOpen}
 use Rattle.word_machine.proofs.Answering.{counts_by}
 use Rattle.word_machine.proofs.Meanings.{grown_none, grown_more, known_still}
 use Rattle.word_machine.proofs.Searching.{whole, first_done}
-use Rattle.word_machine.proofs.Numbered.{IsSearched, searched_still, initials_owned, initial_found, started, keys_owned, ended, ended_early, word_found, successors_own, reached_within, next_searched}
+use Rattle.word_machine.proofs.Numbered.{IsSearched, searched_still, initials_owned, initial_found, started, keys_owned, ended, ended_early, left_out, word_found, successors_own, reached_within, next_searched}
 use Rattle.word_machine.proofs.search.search.Given as given
 use Rattle.word_machine.proofs.search.search.Goals as goal
 
@@ -209,3 +209,21 @@ loop-level-preserved g c =
       grown = grown_more (g.M.Machine.meaning machine c.args.tables.now) meaning new
           (grown_more (g.M.Machine.meaning machine c.args.tables.now) old meaning i.grown c.in_ok-prepare_ranks.ensures.grown) c.in_ok-merge-in-Whole.ensures.grown;
     }
+
+pub returns-then-low-high-clause-left_out : goal.returns-then-low-high-clause-left_out
+returns-then-low-high-clause-left_out g c = λ _.
+    let machine = c.args.machine.now in
+    let m = g.M.Machine.words machine in
+    let i = c.loop-level.invariant in
+    left_out m (g.M.Machine.belongs machine) (laws g machine) (measure_of m (g.M.Machine.estimate machine) c.args.limits.measure) c.args.limits.bounds.nodes (counts g machine c.args.limits.measure c.args.limits.bounds.nodes)
+    (g.M.Machine.meaning machine c.loop-level.tables) c.loop-level.closed c.loop-level.level c.loop-level.low (record { closed = i.closed; known = i.known })
+    (inr (c.if-low-high.true ∙ ap length c.configurations-high.ensures)) c.exhausted.result c.exhausted.ensures.cut c.exhausted.ensures.uncut
+
+pub returns-clause-left_out : goal.returns-clause-left_out
+returns-clause-left_out g c = λ _.
+    let machine = c.args.machine.now in
+    let m = g.M.Machine.words machine in
+    let i = c.loop-level.invariant in
+    left_out m (g.M.Machine.belongs machine) (laws g machine) (measure_of m (g.M.Machine.estimate machine) c.args.limits.measure) c.args.limits.bounds.nodes (counts g machine c.args.limits.measure c.args.limits.bounds.nodes)
+    (g.M.Machine.meaning machine c.loop-level.tables) c.loop-level.closed c.loop-level.level c.loop-level.low (record { closed = i.closed; known = i.known })
+    (inl c.loop-level-test.false) c.exhausted-2.result c.exhausted-2.ensures.cut c.exhausted-2.ensures.uncut
