@@ -204,6 +204,23 @@ module _ {C : Type 0} where
               met = merged.met;
             }
 
+        -- one that is past the bound as far as one that was cut
+        offered_far : new.cut.any ≡ true → room < S.open_len s.configuration → new.cut.past ≤ S.open_len s.configuration - room → IsMerged (done ++ s ∷ []) new
+        offered_far cut over far =
+            let long : length own_word ≡ size = next.long in
+            record {
+              kept = merged.kept;
+              more_keys = merged.more_keys;
+              keys_are = merged.keys_are;
+              more_words = merged.more_words;
+              words_are = merged.words_are;
+              from_batch = still_from_batch;
+              accounted = accounted_so_far (IsAccounted S new.keys (words_of new.origins) new.cut) merged.accounted (inr (cut, omega arith, omega arith));
+              cut_stays = merged.cut_stays;
+              past_falls = merged.past_falls;
+              met = merged.met;
+            }
+
         -- one that is past the bound
         offered_past : ((r : ℕ) → slice_get new.keys r ≡ Some s.configuration → ⊥) → room < S.open_len s.configuration
             → IsMerged (done ++ s ∷ []) (record { keys = new.keys; origins = new.origins; cut = cut_more new.cut (S.open_len s.configuration - room) })
@@ -282,8 +299,11 @@ module _ {C : Type 0} where
         IsMerged-offer after offered =
             elim offered [
               | inl there ↦ subst (IsMerged (done ++ s ∷ [])) (sym there.2) (offered_known there.0 there.1)
-              | inr absent ↦ subst (IsMerged (done ++ s ∷ [])) (sym absent.1)
-                  (by (nat_le (S.open_len s.configuration) room) (leb_tells (S.open_len s.configuration) room) absent.0)
+              | inr other ↦ elim other [
+                | inl absent ↦ subst (IsMerged (done ++ s ∷ [])) (sym absent.1)
+                    (by (nat_le (S.open_len s.configuration) room) (leb_tells (S.open_len s.configuration) room) absent.0)
+                | inr far ↦ subst (IsMerged (done ++ s ∷ [])) (sym far.3) (offered_far far.0 far.1 far.2)
+              ]
             ]
           where
             by : (fits : Bool) → ((fits ≡ true) × (S.open_len s.configuration ≤ room)) ⊎ ((fits ≡ false) × (room < S.open_len s.configuration))

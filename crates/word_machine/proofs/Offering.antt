@@ -60,7 +60,7 @@ module _ {C P : Type 0} (eq : C → C → Bool) (same : (c d : C) → eq c d ≡
           else if nat_le left room then record { keys = contents.keys ++ s.configuration ∷ []; origins = contents.origins ++ s.origin ∷ []; cut = contents.cut }
           else record { keys = contents.keys; origins = contents.origins; cut = cut_more contents.cut (left - room) }))
       by true is = let at = found contents.keys s.configuration is in inl (at.0, slice_get-map point contents.keys at.0 s.configuration at.1, refl)
-      by false is = inr ((λ r at. true≢false (sym (known_point contents.keys s.configuration known own r at) ∙ is)), fitting (nat_le left room))
+      by false is = inr (inl ((λ r at. true≢false (sym (known_point contents.keys s.configuration known own r at) ∙ is)), fitting (nat_le left room)))
 
   -- all that is kept is known
   offer_known : (contents : Contents C) (s : Successor C) (left room : ℕ) → All knows contents.keys → knows s.configuration → All knows (offer eq contents s left room).keys
@@ -95,7 +95,7 @@ module _ {P : Type 0} (measure : P → ℕ) (room : ℕ) where
 -- what is past the room and not in the list is cut off
 offered_past : {P : Type 0} (contents : Contents P) (s : Successor P) (left room : ℕ) → ((r : ℕ) → slice_get contents.keys r ≡ Some s.configuration → ⊥) → room < left
     → IsOffered contents s left room (record { keys = contents.keys; origins = contents.origins; cut = cut_more contents.cut (left - room) })
-offered_past {P} contents s left room absent over = inr (absent, by (nat_le left room) (leb_tells left room))
+offered_past {P} contents s left room absent over = inr (inl (absent, by (nat_le left room) (leb_tells left room)))
   where
     by : (fits : Bool) → ((fits ≡ true) × (left ≤ room)) ⊎ ((fits ≡ false) × (room < left))
         → ◌≡◌ {A = Contents P} (record { keys = contents.keys; origins = contents.origins; cut = cut_more contents.cut (left - room) })
@@ -143,6 +143,11 @@ module _ {C R P : Type 0} (measure : P → ℕ) (room : ℕ) where
               (subst (λ p. IsOffered (contents_at b.point now) (record { origin = s.origin; configuration = p }) left room (contents_at b.point (offer eq now t left room))) is offered),
           offer_known eq same reflexive b.knows b.point one now t left room still own,
         )
+
+    -- one that is past the room as far as one that was cut off
+    pub more_past : now.cut.any ≡ true → room < measure (point_of s.configuration) → now.cut.past ≤ measure (point_of s.configuration) - room
+        → AreOffered measure room (contents_at b.point old) (map (successor_at point_of) (done ++ s ∷ [])) (contents_at b.point now)
+    more_past cut over far = more now (inr (inr (cut, over, far, refl)))
 
     -- one that has none, and is past the room
     pub more_cut : ((c : C) → b.knows c → b.point c ≡ point_of s.configuration → ⊥) → room < measure (point_of s.configuration)

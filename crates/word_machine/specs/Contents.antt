@@ -1,5 +1,5 @@
 -- What a closed list holds, and what offering a configuration to it changes.
-use Rattle.std.specs.Prelude.{◌≡◌, ℕ, ◌+◌, ◌<◌, ◌⊎◌, Some, slice_get, nat_eq, Bool, true, List, [], ◌∷◌, ◌++◌, if◌then◌else◌, fold, nat_le, ◌-◌, min, slice_index_or}
+use Rattle.std.specs.Prelude.{◌≡◌, ℕ, ◌+◌, ◌<◌, ◌≤◌, ◌⊎◌, Some, slice_get, nat_eq, Bool, true, List, [], ◌∷◌, ◌++◌, if◌then◌else◌, fold, nat_le, ◌-◌, min, slice_index_or}
 use Rattle.std.specs.List.{list_any}
 use Rattle.word_machine.specs.declared.closed.Origin.{Origin}
 use Rattle.word_machine.specs.declared.closed.Origin.TheVariants.{Initial, Step}
@@ -41,13 +41,14 @@ module _ {C : Type 0} (eq : C → C → Bool) where
 -- the same by what a configuration stands for, whatever tells that it is there
 module _ {C : Type 0} where
   -- one is offered: it is there, and nothing changes; or it is not, and it goes last if there is room for what is left
-  -- of it, and else it is cut off
+  -- of it, and else it is cut off; or some was cut off that was no further past the room, and nothing changes
   abbrev pub IsOffered : Contents C → Successor C → ℕ → ℕ → Contents C → Type 0
   IsOffered old s left room new =
       ((r : ℕ) × (slice_get old.keys r ≡ Some s.configuration) × (new ≡ old))
       ⊎ (((r : ℕ) → slice_get old.keys r ≡ Some s.configuration → ⊥)
       × (new ≡ (if nat_le left room then record { keys = old.keys ++ s.configuration ∷ []; origins = old.origins ++ s.origin ∷ []; cut = old.cut }
       else record { keys = old.keys; origins = old.origins; cut = cut_more old.cut (left - room) })))
+      ⊎ ((old.cut.any ≡ true) × (room < left) × (old.cut.past ≤ left - room) × (new ≡ old))
 
   -- the same, one after another, by a measure of what is left
   abbrev pub AreOffered : (C → ℕ) → ℕ → Contents C → List (Successor C) → Contents C → Type 0

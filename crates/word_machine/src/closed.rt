@@ -1,5 +1,5 @@
 //! The closed list: all configurations that a search kept, each with where it came from.
-ghost use Rattle.std.specs.Prelude.{◌≡◌, ℕ, ◌+◌, ◌-◌, ◌^◌, ◌<◌, Some, false, length, slice_get, [], OnOk, OnErr};
+ghost use Rattle.std.specs.Prelude.{◌≡◌, ℕ, ◌+◌, ◌-◌, ◌^◌, ◌<◌, ◌≤◌, Some, false, true, length, slice_get, [], OnOk, OnErr};
 ghost use Rattle.std.specs.List.{list_any};
 ghost use Rattle.indexmap.specs.IndexSet.{contains};
 ghost use Rattle.word_machine.specs.Contents.{origin_of};
@@ -35,7 +35,7 @@ pub struct Link {
 
 const NO_RANK: usize = usize::MAX;
 
-// What is cut off less past the bound than this may still end.
+// How far each is past the bound is counted for those that are less past it than this.
 const NEAR: u64 = 64;
 
 impl Link {
@@ -154,6 +154,15 @@ impl<C: Eq + Hash + Drop> Closed<C> {
         ensures { result ≡ list_any (C.eq configuration.now) self.now.keys }
     {
         self.configurations.contains(configuration)
+    }
+
+    /// Whether leaving out another one, past the room by so much, tells nothing more: it is so far past it that it is not
+    /// counted, and some was left out that was no further.
+    pub fn has_cut_within(&self, past: u64) -> bool
+        ensures any { result ≡ true → self.now.cut.any ≡ true }
+        ensures past { result ≡ true → self.now.cut.past ≤ past }
+    {
+        past >= NEAR && self.was_cut && self.least_past <= past
     }
 
     /// Ranks from which configurations were reached that were cut off little past the bound: the last of them.

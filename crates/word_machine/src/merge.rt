@@ -85,6 +85,9 @@ pub fn merge<M: Machine>(
             configuration,
         } = successor;
         let left = measured_of(machine, tables, measure, &configuration);
+        if left > room && closed.has_cut_within(left - room) {
+            continue;
+        }
         match number_if(machine, tables, configuration, left <= room)? {
             Some(configuration) => {
                 let numbered = Successor {

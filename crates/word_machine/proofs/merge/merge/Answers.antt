@@ -1,4 +1,4 @@
-use Rattle.std.proofs.Common.{◌≡◌, ℕ, ◌-◌, ◌<◌, ◌≤◌, false, true≢false, length, [], ◌∷◌, ◌++◌, ap, ◌∙◌, sym, subst, inl, inr, arith, append_assoc, map, All}
+use Rattle.std.proofs.Common.{rules, true, ◌≡◌, ℕ, ◌-◌, ◌<◌, ◌≤◌, false, true≢false, length, [], ◌∷◌, ◌++◌, ap, ◌∙◌, sym, subst, inl, inr, arith, append_assoc, map, All}
 use Rattle.std.specs.Prelude.{nat_le}
 use Rattle.std.specs.Vec.Iter.{into_iter_items}
 use Rattle.std.proofs.lemmas.Bool.Decides.{leb_tells}
@@ -7,9 +7,9 @@ use Rattle.word_machine.specs.declared.closed.Successor.{Successor}
 use Rattle.word_machine.specs.Answer.{measure_of}
 use Rattle.word_machine.specs.Contents.{Contents, AreOffered, cut_more, offer}
 use Rattle.word_machine.specs.Meaning.{IsOneToOne, contents_at, successor_at}
-use Rattle.word_machine.proofs.Meanings.{grown_more, known_still}
+use Rattle.word_machine.proofs.Meanings.{grown_more, grown_none, known_still}
 use Rattle.word_machine.proofs.Merging.{offer_grows}
-use Rattle.word_machine.proofs.Offering.{more_kept, more_cut}
+use Rattle.word_machine.proofs.Offering.{more_kept, more_cut, more_past}
 use Rattle.word_machine.proofs.Places.{All-between}
 use Rattle.word_machine.proofs.merge.merge.Given as given
 use Rattle.word_machine.proofs.merge.merge.Goals as goal
@@ -95,4 +95,34 @@ loop-successor-preserved g c =
       offered = subst (λ (n : Contents g.row.M-Configuration.Denot). AreOffered left room (contents_at new.point first) (map (successor_at old.point_of) (done ++ s ∷ [])) (contents_at new.point n)) (sym cut) own;
       parts = append_assoc done (s ∷ []) rest ∙ joined;
       longer = subst (λ (n : Contents g.row.M-Configuration.Denot). length first.keys ≤ length n.keys) (sym cut) i.longer;
+    }
+
+pub loop-successor-preserved-then-has_cut_within : goal.loop-successor-preserved-then-has_cut_within
+loop-successor-preserved-then-has_cut_within g c =
+    let i = c.loop-successor.invariant in
+    let machine = c.args.machine.now in
+    let old = g.M.Machine.meaning machine c.args.tables.now in
+    let mid = g.M.Machine.meaning machine c.loop-successor.tables in
+    let left = measure_of (g.M.Machine.words machine) (g.M.Machine.estimate machine) c.args.measure in
+    let room = c.args.room in
+    let first = c.args.closed.now in
+    let now = c.loop-successor.closed in
+    let done = c.loop-successor.yielded in
+    let s = c.in-Some.successor in
+    let rest = into_iter_items c.next.new.self in
+    let next : into_iter_items c.loop-successor.successor-iterator ≡ s ∷ rest = c.in-Some.ensures.steps.0 in
+    let joined : done ++ s ∷ rest ≡ c.args.batch.items = ap (λ l. done ++ l) (sym next) ∙ i.parts in
+    let allowed = All-between (λ (t : Successor g.row.M-Reached.Denot). old.allows t.configuration) done s rest c.args.batch.items joined c.requires.allowed in
+    let is_left : c.measured_of-left.result ≡ left (old.point_of s.configuration) = c.measured_of-left.ensures ∙ ap left (i.grown.same_reached s.configuration allowed) in
+    let over : room < c.measured_of-left.result = search rules in
+    let cut : now.cut.any ≡ true = search rules in
+    let far : now.cut.past ≤ c.measured_of-left.result - room = search rules in
+    record {
+      own = i.own;
+      grown = i.grown;
+      known = i.known;
+      offered = more_past left room mid mid (grown_none mid) old.point_of first now done s (known_still old mid i.grown first.keys c.requires.known) i.known i.offered
+          cut (subst (λ n. room < n) is_left over) (subst (λ n. now.cut.past ≤ n - room) is_left far);
+      parts = append_assoc done (s ∷ []) rest ∙ joined;
+      longer = i.longer;
     }
