@@ -14,11 +14,11 @@ use htn_task::{AtomSchema, Formula, FormulaList};
 use std::alloc::{AllocError, Global};
 
 /// A part of a condition under the variables in force. These are in force afterwards too.
-fn formula_of(
+fn formula_of<'a>(
     alloc: Global,
     vocabulary: &Vocabulary,
-    scope: &mut Scope,
-    condition: &Condition,
+    scope: &mut Scope<'a>,
+    condition: &'a Condition,
 ) -> Result<Formula, AllocError>
     requires numbered { IsNumbered vocabulary.now }
     requires in_force { fits (length scope.old) condition.now ≡ true }
@@ -60,18 +60,18 @@ fn formula_of(
 }
 
 /// A conjunction. The variables in force afterwards are those before.
-pub(crate) fn formulas_of(
+pub(crate) fn formulas_of<'a>(
     alloc: Global,
     vocabulary: &Vocabulary,
-    scope: &mut Scope,
-    conditions: &[Condition],
+    scope: &mut Scope<'a>,
+    conditions: &'a [Condition],
 ) -> Result<FormulaList, AllocError>
     requires numbered { IsNumbered vocabulary.now }
     requires in_force { all_fit (length scope.old) conditions.now ≡ true }
     ensures value { IfOk result (λ l. l ≡ building.formulas_of vocabulary.now scope.old conditions.now) }
     ensures kept { scope.new ≡ scope.old }
 {
-    let mut formulas = Vec::new(alloc);
+    let mut formulas = Vec::with_capacity(alloc, conditions.len())?;
     for condition in conditions {
         formulas.push(formula_of(alloc, vocabulary, scope, condition)?)?;
     }
@@ -97,7 +97,7 @@ pub(crate) fn goal_of(
 pub(crate) fn deletes_of(
     alloc: Global,
     vocabulary: &Vocabulary,
-    scope: &Scope,
+    scope: &Scope<'_>,
     effect: &[LiteralText],
 ) -> Result<Vec<AtomSchema>, AllocError>
     requires { IsNumbered vocabulary.now }
@@ -116,7 +116,7 @@ pub(crate) fn deletes_of(
 pub(crate) fn adds_of(
     alloc: Global,
     vocabulary: &Vocabulary,
-    scope: &Scope,
+    scope: &Scope<'_>,
     effect: &[LiteralText],
 ) -> Result<Vec<AtomSchema>, AllocError>
     requires { IsNumbered vocabulary.now }

@@ -90,13 +90,13 @@ fn order_of(alloc: Global, network: &NetworkText) -> Result<Order, AllocError>
 fn subtasks_of(
     alloc: Global,
     vocabulary: &Vocabulary,
-    scope: &Scope,
+    scope: &Scope<'_>,
     subtasks: &[SubtaskText],
 ) -> Result<Vec<TaskSchema>, AllocError>
     requires { IsNumbered vocabulary.now }
     ensures { IfOk result (λ found. found.items ≡ map (λ s. building.subtask_of vocabulary.now scope.now s.task) subtasks.now) }
 {
-    let mut found = Vec::new(alloc);
+    let mut found = Vec::with_capacity(alloc, subtasks.len())?;
     for subtask in subtasks {
         found.push(subtask_of(alloc, vocabulary, scope, &subtask.task)?)?;
     }
@@ -107,7 +107,7 @@ fn subtasks_of(
 pub(crate) fn network_of(
     alloc: Global,
     vocabulary: &Vocabulary,
-    scope: &Scope,
+    scope: &Scope<'_>,
     network: &NetworkText,
 ) -> Result<NetworkSchema, AllocError>
     requires numbered { IsNumbered vocabulary.now }
@@ -123,13 +123,13 @@ pub(crate) fn network_of(
 pub(crate) fn constraints_of(
     alloc: Global,
     vocabulary: &Vocabulary,
-    scope: &Scope,
+    scope: &Scope<'_>,
     constraints: &[EqualityText],
 ) -> Result<Vec<EqualitySchema>, AllocError>
     requires { IsNumbered vocabulary.now }
     ensures { IfOk result (λ found. found.items ≡ map (building.equality_of vocabulary.now scope.now) constraints.now) }
 {
-    let mut found = Vec::new(alloc);
+    let mut found = Vec::with_capacity(alloc, constraints.len())?;
     for equality in constraints {
         found.push(equality_of(alloc, vocabulary, scope, equality)?)?;
     }

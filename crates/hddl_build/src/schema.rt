@@ -135,7 +135,7 @@ pub(crate) fn predicates_of(
     requires { IsNumbered vocabulary.now }
     ensures { IfOk result (λ found. found.items ≡ map (building.predicate_of vocabulary.now) predicates.now) }
 {
-    let mut found = Vec::new(alloc);
+    let mut found = Vec::with_capacity(alloc, predicates.len())?;
     for predicate in predicates {
         found.push(predicate_of(alloc, vocabulary, predicate)?)?;
     }
@@ -151,7 +151,7 @@ pub(crate) fn compounds_of(
     requires { IsNumbered vocabulary.now }
     ensures { IfOk result (λ found. found.items ≡ map (building.compound_of vocabulary.now) tasks.now) }
 {
-    let mut found = Vec::new(alloc);
+    let mut found = Vec::with_capacity(alloc, tasks.len())?;
     for task in tasks {
         found.push(compound_of(alloc, vocabulary, task)?)?;
     }
@@ -167,7 +167,7 @@ pub(crate) fn actions_of(
     requires bounded { All (λ a. IsBounded a.parameters a.precondition) actions.now }
     ensures { IfOk result (λ found. found.items ≡ map (building.action_of vocabulary.now) actions.now) }
 {
-    let mut found = Vec::new(alloc);
+    let mut found = Vec::with_capacity(alloc, actions.len())?;
     for action in actions {
         found.push(action_of(alloc, vocabulary, action)?)?;
     }
@@ -184,7 +184,7 @@ pub(crate) fn methods_of(
     requires acyclic { All (λ m. IsAcyclic (order_pairs m.network)) methods.now }
     ensures { IfOk result (λ found. AllZip (IsMethodOf vocabulary.now) methods.now found.items) }
 {
-    let mut found = Vec::new(alloc);
+    let mut found = Vec::with_capacity(alloc, methods.len())?;
     for method in methods {
         found.push(method_of(alloc, vocabulary, method)?)?;
     }

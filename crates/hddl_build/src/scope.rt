@@ -13,11 +13,11 @@ use std::marker::Model;
 /// The variables in force: the parameters, and then those of each `forall` around. Contracts see their texts. There are
 /// 65,536 at most, so their positions fit sixteen bits.
 #[derive(Drop)]
-pub(crate) struct Scope {
-    variables: hddl_scope::Scope,
+pub(crate) struct Scope<'a> {
+    variables: hddl_scope::Scope<'a>,
 }
 
-impl Model for Scope {
+impl<'a> Model for Scope<'a> {
     ghost use Rattle.std.specs.Prelude.{List, ◌≤◌, length};
     ghost use Rattle.hddl_meaning.specs.Mentions.{Text};
     ghost use Rattle.hddl_build.specs.InForce.{most_in_force};
@@ -30,9 +30,9 @@ impl Model for Scope {
     ghost invariant = { λ scope. length scope.variables ≤ most_in_force };
 }
 
-impl Scope {
+impl<'a> Scope<'a> {
     /// No variable.
-    pub(crate) fn empty(alloc: Global) -> Scope
+    pub(crate) fn empty(alloc: Global) -> Scope<'a>
         ensures { result ≡ [] }
     {
         Scope {
@@ -41,7 +41,7 @@ impl Scope {
     }
 
     /// The parameters of a schema.
-    pub(crate) fn of(alloc: Global, groups: &[VariableGroup]) -> Result<Scope, AllocError>
+    pub(crate) fn of(alloc: Global, groups: &'a [VariableGroup]) -> Result<Scope<'a>, AllocError>
         requires { length (variables_of groups.now) ≤ most_in_force }
         ensures { IfOk result (λ scope. scope ≡ variables_of groups.now) }
     {
@@ -57,7 +57,11 @@ impl Scope {
     }
 
     /// Puts the variables of a `forall` in force. Where memory is refused, none of them is.
-    pub(crate) fn push(&mut self, alloc: Global, groups: &[VariableGroup]) -> Result<(), AllocError>
+    pub(crate) fn push(
+        &mut self,
+        alloc: Global,
+        groups: &'a [VariableGroup],
+    ) -> Result<(), AllocError>
         requires { length self.old + length (variables_of groups.now) ≤ most_in_force }
         ensures ok { OnOk result (self.new ≡ self.old ++ variables_of groups.now) }
         ensures err { OnErr result (self.new ≡ self.old) }

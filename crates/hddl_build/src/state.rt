@@ -34,7 +34,7 @@ fn ground_atom_of(
     ensures { IfOk result (λ a. a ≡ ground_atom [] (building.atom_of vocabulary.now [] atom.now)) }
 {
     let predicate = number_of(alloc, vocabulary.predicates(), &atom.name)?;
-    let mut objects = Vec::new(alloc);
+    let mut objects = Vec::with_capacity(alloc, atom.terms.len())?;
     for term in atom.terms.as_slice() {
         objects.push(object_of(alloc, vocabulary, term)?)?;
     }
@@ -51,7 +51,7 @@ pub(crate) fn state_of(
     requires { IsNumbered vocabulary.now }
     ensures { IfOk result (λ s. s ≡ set_of (map (λ a. ground_atom [] (building.atom_of vocabulary.now [] a)) init.now)) }
 {
-    let mut atoms = Vec::new(alloc);
+    let mut atoms = Vec::with_capacity(alloc, init.len())?;
     for atom in init {
         atoms.push(ground_atom_of(alloc, vocabulary, atom)?)?;
     }

@@ -15,7 +15,7 @@ use std::alloc::{AllocError, Global};
 fn term_of(
     alloc: Global,
     vocabulary: &Vocabulary,
-    scope: &Scope,
+    scope: &Scope<'_>,
     term: &Term,
 ) -> Result<htn_task::Term, AllocError>
     requires { IsNumbered vocabulary.now }
@@ -36,13 +36,13 @@ fn term_of(
 fn terms_of(
     alloc: Global,
     vocabulary: &Vocabulary,
-    scope: &Scope,
+    scope: &Scope<'_>,
     terms: &[Term],
 ) -> Result<TermList, AllocError>
     requires { IsNumbered vocabulary.now }
     ensures { IfOk result (λ l. l ≡ map (building.term_of vocabulary.now scope.now) terms.now) }
 {
-    let mut found = Vec::new(alloc);
+    let mut found = Vec::with_capacity(alloc, terms.len())?;
     for term in terms {
         found.push(term_of(alloc, vocabulary, scope, term)?)?;
     }
@@ -53,7 +53,7 @@ fn terms_of(
 pub(crate) fn atom_of(
     alloc: Global,
     vocabulary: &Vocabulary,
-    scope: &Scope,
+    scope: &Scope<'_>,
     atom: &AtomText,
 ) -> Result<AtomSchema, AllocError>
     requires { IsNumbered vocabulary.now }
@@ -68,7 +68,7 @@ pub(crate) fn atom_of(
 pub(crate) fn subtask_of(
     alloc: Global,
     vocabulary: &Vocabulary,
-    scope: &Scope,
+    scope: &Scope<'_>,
     task: &AtomText,
 ) -> Result<TaskSchema, AllocError>
     requires { IsNumbered vocabulary.now }
@@ -82,7 +82,7 @@ pub(crate) fn subtask_of(
 pub(crate) fn equality_of(
     alloc: Global,
     vocabulary: &Vocabulary,
-    scope: &Scope,
+    scope: &Scope<'_>,
     equality: &EqualityText,
 ) -> Result<EqualitySchema, AllocError>
     requires { IsNumbered vocabulary.now }

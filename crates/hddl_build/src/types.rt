@@ -39,7 +39,7 @@ pub(crate) fn types_of(
     requires { IsNumbered vocabulary.now }
     ensures { IfOk result (λ types. types.items ≡ types_of vocabulary.now groups.now) }
 {
-    let mut types = Vec::new(alloc);
+    let mut types = Vec::with_capacity(alloc, groups.len())?;
     for group in groups {
         push_group(alloc, vocabulary.types(), group, &mut types)?;
     }

@@ -13,8 +13,8 @@ use std::alloc::AllocError;
 
 /// A fault of the names of declarations of one kind.
 pub(crate) fn check_names(
-    context: &Context<'_>,
-    mentions: &[Mention],
+    context: &Context<'_, '_>,
+    mentions: &[Mention<'_>],
 ) -> Result<Option<CheckFault>, AllocError>
     ensures { IfOk result (Finds (AnyFails context.now (name_parts mentions.now))) }
 {
@@ -25,7 +25,7 @@ pub(crate) fn check_names(
 
 /// A fault of the names of compound tasks and actions.
 pub(crate) fn check_task_names(
-    context: &Context<'_>,
+    context: &Context<'_, '_>,
     domain: &DomainText,
 ) -> Result<Option<CheckFault>, AllocError>
     ensures { IfOk result (Finds (AnyFails context.now (task_name_parts domain.now))) }
@@ -42,7 +42,7 @@ pub(crate) fn check_task_names(
 
 /// A fault of a predicate's parameters.
 fn check_predicate(
-    context: &Context<'_>,
+    context: &Context<'_, '_>,
     predicate: &PredicateText,
 ) -> Result<Option<CheckFault>, AllocError>
     ensures { IfOk result (Finds (AnyFails context.now (predicate_parts predicate.now))) }
@@ -55,7 +55,7 @@ fn check_predicate(
 
 /// A fault of the parameters of predicates.
 pub(crate) fn check_predicates(
-    context: &Context<'_>,
+    context: &Context<'_, '_>,
     predicates: &[PredicateText],
 ) -> Result<Option<CheckFault>, AllocError>
     ensures { IfOk result (Finds (AnyFails context.now (flat_map predicate_parts predicates.now))) }
@@ -69,7 +69,7 @@ pub(crate) fn check_predicates(
 
 /// A fault of the parameters of compound tasks.
 pub(crate) fn check_tasks(
-    context: &Context<'_>,
+    context: &Context<'_, '_>,
     tasks: &[TaskText],
 ) -> Result<Option<CheckFault>, AllocError>
     ensures { IfOk result (Finds (AnyFails context.now (flat_map task_parts tasks.now))) }

@@ -16,14 +16,14 @@ use hddl_uses::{Context, Declarations};
 use std::alloc::{AllocError, Global};
 
 /// A fault of the two texts, other than a cycle of types.
-pub(crate) fn fault_among<'a>(
+pub(crate) fn fault_among<'a, 'd>(
     alloc: Global,
     domain: &'a DomainText,
     problem: &'a ProblemText,
     vocabulary: &'a Vocabulary,
     types: &'a TypeHierarchy<'a>,
     objects: Option<&'a DeclaredTypes>,
-    declared: &'a Declarations,
+    declared: &'a Declarations<'d>,
 ) -> Result<Option<CheckFault>, AllocError>
     requires vocabulary { vocabulary.now ≡ vocabulary_of domain.now problem.now }
     requires types { types.now ≡ domain.now }

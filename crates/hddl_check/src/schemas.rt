@@ -17,9 +17,9 @@ use std::alloc::AllocError;
 
 /// A fault of parameters, which are the variables in force.
 fn check_parameters(
-    context: &Context<'_>,
+    context: &Context<'_, '_>,
     groups: &[VariableGroup],
-    scope: &Scope,
+    scope: &Scope<'_>,
 ) -> Result<Option<CheckFault>, AllocError>
     requires { scope.now ≡ parameters_of groups.now }
     ensures { IfOk result (Finds (AnyFails context.now (parameter_parts groups.now))) }
@@ -32,7 +32,7 @@ fn check_parameters(
 
 /// A fault of a method, but for its network's order. What it uses isn't looked at where it has too many parameters.
 fn check_method(
-    context: &Context<'_>,
+    context: &Context<'_, '_>,
     method: &MethodText,
 ) -> Result<Option<CheckFault>, AllocError>
     ensures { IfOk result (Finds (AnyFails context.now (method_parts method.now))) }
@@ -54,7 +54,7 @@ fn check_method(
 
 /// A fault of an action. What it uses isn't looked at where it has too many parameters.
 fn check_action(
-    context: &Context<'_>,
+    context: &Context<'_, '_>,
     action: &ActionText,
 ) -> Result<Option<CheckFault>, AllocError>
     ensures { IfOk result (Finds (AnyFails context.now (action_parts action.now))) }
@@ -72,7 +72,7 @@ fn check_action(
 
 /// A fault of the initial network, but for its order. What it uses isn't looked at where it has too many parameters.
 pub(crate) fn check_initial(
-    context: &Context<'_>,
+    context: &Context<'_, '_>,
     problem: &ProblemText,
 ) -> Result<Option<CheckFault>, AllocError>
     ensures { IfOk result (Finds (AnyFails context.now (schema_parts (schema_of_network problem.now)))) }
@@ -91,7 +91,7 @@ pub(crate) fn check_initial(
 
 /// A fault of the initial atoms and the goal.
 pub(crate) fn check_states(
-    context: &Context<'_>,
+    context: &Context<'_, '_>,
     problem: &ProblemText,
 ) -> Result<Option<CheckFault>, AllocError>
     ensures { IfOk result (Finds (AnyFails context.now (schema_parts (schema_of_states problem.now)))) }
@@ -105,7 +105,7 @@ pub(crate) fn check_states(
 
 /// A fault of methods.
 pub(crate) fn check_methods(
-    context: &Context<'_>,
+    context: &Context<'_, '_>,
     methods: &[MethodText],
 ) -> Result<Option<CheckFault>, AllocError>
     ensures { IfOk result (Finds (AnyFails context.now (flat_map method_parts methods.now))) }
@@ -119,7 +119,7 @@ pub(crate) fn check_methods(
 
 /// A fault of the networks of methods.
 pub(crate) fn check_method_networks(
-    context: &Context<'_>,
+    context: &Context<'_, '_>,
     methods: &[MethodText],
 ) -> Result<Option<CheckFault>, AllocError>
     ensures { IfOk result (Finds (AnyFails context.now (flat_map method_network_parts methods.now))) }
@@ -134,7 +134,7 @@ pub(crate) fn check_method_networks(
 
 /// A fault of actions.
 pub(crate) fn check_actions(
-    context: &Context<'_>,
+    context: &Context<'_, '_>,
     actions: &[ActionText],
 ) -> Result<Option<CheckFault>, AllocError>
     ensures { IfOk result (Finds (AnyFails context.now (flat_map action_parts actions.now))) }

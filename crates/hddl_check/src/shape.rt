@@ -16,7 +16,7 @@ use hddl_uses::{Context, check_name_types, check_network};
 use std::alloc::AllocError;
 
 /// Too many types.
-fn check_types(context: &Context<'_>) -> Result<Option<CheckFault>, AllocError>
+fn check_types(context: &Context<'_, '_>) -> Result<Option<CheckFault>, AllocError>
     ensures { IfOk result (Finds (Fails context.now Types)) }
 {
     let types = types_in(context.alloc, context.domain.types.as_slice())?;
@@ -28,7 +28,7 @@ fn check_types(context: &Context<'_>) -> Result<Option<CheckFault>, AllocError>
 }
 
 /// Too many constants.
-fn check_constants(context: &Context<'_>) -> Result<Option<CheckFault>, AllocError>
+fn check_constants(context: &Context<'_, '_>) -> Result<Option<CheckFault>, AllocError>
     requires { context.now.source ≡ source.Domain }
     ensures { IfOk result (Finds (Fails context.now Objects)) }
 {
@@ -41,7 +41,7 @@ fn check_constants(context: &Context<'_>) -> Result<Option<CheckFault>, AllocErr
 }
 
 /// Too many constants and objects.
-fn check_objects(context: &Context<'_>) -> Result<Option<CheckFault>, AllocError>
+fn check_objects(context: &Context<'_, '_>) -> Result<Option<CheckFault>, AllocError>
     requires { context.now.source ≡ source.Problem }
     ensures { IfOk result (Finds (Fails context.now Objects)) }
 {
@@ -55,7 +55,7 @@ fn check_objects(context: &Context<'_>) -> Result<Option<CheckFault>, AllocError
 }
 
 /// A fault of the names that a domain declares.
-fn check_declared(context: &Context<'_>) -> Result<Option<CheckFault>, AllocError>
+fn check_declared(context: &Context<'_, '_>) -> Result<Option<CheckFault>, AllocError>
     requires { context.now.source ≡ source.Domain }
     ensures { IfOk result (Finds (AnyFails context.now (declared_parts context.now.domain.now))) }
 {
@@ -73,7 +73,7 @@ fn check_declared(context: &Context<'_>) -> Result<Option<CheckFault>, AllocErro
 }
 
 /// A fault in what a domain declares, and what that uses.
-fn check_bodies(context: &Context<'_>) -> Result<Option<CheckFault>, AllocError>
+fn check_bodies(context: &Context<'_, '_>) -> Result<Option<CheckFault>, AllocError>
     ensures { IfOk result (Finds (AnyFails context.now (body_parts context.now.domain.now))) }
 {
     let domain = context.domain;
@@ -87,7 +87,7 @@ fn check_bodies(context: &Context<'_>) -> Result<Option<CheckFault>, AllocError>
 }
 
 /// A fault of a domain.
-pub(crate) fn check_domain(context: &Context<'_>) -> Result<Option<CheckFault>, AllocError>
+pub(crate) fn check_domain(context: &Context<'_, '_>) -> Result<Option<CheckFault>, AllocError>
     requires { context.now.source ≡ source.Domain }
     ensures { IfOk result (Finds (AnyFails context.now (domain_parts context.now.domain.now))) }
 {
@@ -97,7 +97,7 @@ pub(crate) fn check_domain(context: &Context<'_>) -> Result<Option<CheckFault>, 
 }
 
 /// A fault of a problem.
-pub(crate) fn check_problem(context: &Context<'_>) -> Result<Option<CheckFault>, AllocError>
+pub(crate) fn check_problem(context: &Context<'_, '_>) -> Result<Option<CheckFault>, AllocError>
     requires { context.now.source ≡ source.Problem }
     ensures { IfOk result (Finds (AnyFails context.now (problem_parts context.now.problem.now))) }
 {

@@ -9,6 +9,7 @@ pub mod Fronts
 pub mod GroupPairs
 pub mod Junctions
 pub mod Levels
+pub mod Lowercase
 pub mod Nested
 pub mod NumberBits
 pub mod Parents

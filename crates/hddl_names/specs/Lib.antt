@@ -1,5 +1,6 @@
 pub mod Closures
 pub mod Cycles
+pub mod Folding
 pub mod Intervals
 pub mod Members
 pub mod NumberSets

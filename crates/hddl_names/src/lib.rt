@@ -21,5 +21,5 @@ pub use declared_types::DeclaredTypes;
 pub use hierarchy::TypeHierarchy;
 pub use members::ObjectsByType;
 pub use names::Names;
-pub use text::{Folded, fold, fold_into, fold_to_vec};
+pub use text::{Folded, Kept, fold, fold_into, fold_to_vec};
 pub use vocabulary::Vocabulary;

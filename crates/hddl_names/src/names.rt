@@ -5,7 +5,7 @@ ghost use Rattle.htn_model.specs.PlanWord.{IsName};
 ghost use Rattle.hddl_meaning.specs.Mentions.{folded};
 ghost use Rattle.hddl_meaning.specs.Names.{is_same_text, with_name, number_in};
 
-use crate::text::fold_into;
+use crate::text::{fold_into, has_capital};
 use indexmap::IndexSet;
 use std::alloc::{AllocError, AllocFailed, Global};
 use std::marker::Model;
@@ -65,7 +65,8 @@ impl Names {
         self.texts.get_index_of(text)
     }
 
-    /// The number of a name as a text has it, which is folded into the buffer, or an error where memory was refused.
+    /// The number of a name as a text has it, which is folded into the buffer if it has capital letters, or an error
+    /// where memory was refused.
     pub fn number_as_written(
         &self,
         buffer: &mut Vec<u8>,
@@ -73,6 +74,9 @@ impl Names {
     ) -> Result<Option<usize>, AllocError>
         ensures { IfOk result (λ number. number ≡ position (is_same_text (folded bytes.now)) self.now) }
     {
+        if !has_capital(bytes) {
+            return Ok(self.number_of(bytes));
+        }
         fold_into(buffer, bytes)?;
         Ok(self.number_of(buffer.as_slice()))
     }

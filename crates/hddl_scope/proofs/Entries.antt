@@ -101,10 +101,10 @@ first_of_all n few rest =
     ∙ ap (λ k. take n (numbered few) ++ take (n - k) (entries_of rest)) (sym (length-map few entry))
     ∙ sym (take-append n (numbered few) (entries_of rest))
 
--- where fewer than eight are left of the few, none of the others is
-pub few_left : {X Y : Type 0} (n : ℕ) (few : List X) (rest : List Y) → (length few < 8 → rest ≡ []) → length (take n few) < 8
+-- where fewer than the limit are left of the few, none of the others is
+pub few_left : {X Y : Type 0} (limit n : ℕ) (few : List X) (rest : List Y) → (length few < limit → rest ≡ []) → length (take n few) < limit
     → take (n - length few) rest ≡ []
-few_left n few rest none lt = elim (cases_lt (length few) 8) [
+few_left limit n few rest none lt = elim (cases_lt (length few) limit) [
   | inl less ↦ ap (λ r. take (n - length few) r) (none less) ∙ take_all (n - length few) [] (omega arith)
   | inr full ↦ let over : n - length few ≡ 0 = omega (arith, length-take n few, lt, full) in ap (λ k. take k rest) over
 ]

@@ -10,11 +10,12 @@ use crate::numbers::Numbers;
 use crate::repeated::note;
 use std::alloc::{AllocError, Global};
 
-/// The names of mentions.
-fn names_of(alloc: Global, mentions: &[Mention]) -> Result<Numbers, AllocError>
+/// The names of mentions, with room for more of them.
+fn names_of(alloc: Global, mentions: &[Mention<'_>], more: usize) -> Result<Numbers, AllocError>
     ensures { IfOk result (λ known. AreNamesOf known mentions.now) }
 {
-    let mut known = Numbers::new(alloc);
+    let capacity = mentions.len().saturating_add(more);
+    let mut known = Numbers::with_capacity(alloc, capacity)?;
     for mention in mentions {
         note(alloc, &mut known, mention)?;
     }
@@ -22,7 +23,7 @@ fn names_of(alloc: Global, mentions: &[Mention]) -> Result<Numbers, AllocError>
 }
 
 /// Whether there are as many names as there may be, and this is another one.
-fn is_past(known: &Numbers, mention: &Mention) -> bool
+fn is_past(known: &Numbers, mention: &Mention<'_>) -> bool
     ensures { IsTrue result ↔ ((length known.now ≡ 65535) × (number_at known.now mention.now.text ≡ None)) }
 {
     known.len() == MOST_DECLARATIONS && known.get(mention.text()).is_none()
@@ -31,12 +32,12 @@ fn is_past(known: &Numbers, mention: &Mention) -> bool
 /// The place of the first name past the limit, where the first names were there before.
 pub fn past_distinct(
     alloc: Global,
-    first: &[Mention],
-    mentions: &[Mention],
+    first: &[Mention<'_>],
+    mentions: &[Mention<'_>],
 ) -> Result<Option<usize>, AllocError>
     ensures { IfOk result (Finds (IsPastAfter first.now mentions.now)) }
 {
-    let mut known = names_of(alloc, first)?;
+    let mut known = names_of(alloc, first, mentions.len())?;
     for mention in mentions {
         if is_past(&known, mention) {
             return Ok(Some(mention.place()));

@@ -20,8 +20,8 @@ use std::marker::Model;
 
 /// A variable in force, with what was known before it.
 #[derive(Drop)]
-struct Entry {
-    variable: Declared,
+struct Entry<'a> {
+    variable: Declared<'a>,
     /// How many texts the variables before it have.
     texts: usize,
     /// The place of a variable before it whose text stood before, if there is one.
@@ -32,15 +32,15 @@ struct Entry {
 /// force and taken back at the end, and the work is that of these variables alone. Contracts see the list of the
 /// variables.
 #[derive(Drop)]
-pub struct Scope {
-    entries: Vec<Entry>,
+pub struct Scope<'a> {
+    entries: Vec<Entry<'a>>,
     /// The position of the first variable of each text.
     positions: Numbers,
     /// The place of a variable whose text stood before, if there is one.
     repeat: Option<usize>,
 }
 
-impl Model for Scope {
+impl<'a> Model for Scope<'a> {
     ghost use Rattle.std.specs.Prelude.{List};
     ghost use Rattle.hddl_meaning.specs.Uses.{Variable};
     ghost use Rattle.hddl_scope.specs.InForce.{IsScope, variables_of};
@@ -73,9 +73,9 @@ fn number_text(
     Ok(())
 }
 
-impl Scope {
+impl<'a> Scope<'a> {
     /// No variables.
-    pub fn new(alloc: Global) -> Scope
+    pub fn new(alloc: Global) -> Scope<'a>
         ensures { result ≡ [] }
     {
         Scope {
@@ -86,7 +86,7 @@ impl Scope {
     }
 
     /// No variables, with room for so many.
-    fn with_capacity(alloc: Global, capacity: usize) -> Result<Scope, AllocError>
+    fn with_capacity(alloc: Global, capacity: usize) -> Result<Scope<'a>, AllocError>
         ensures { IfOk result (λ scope. scope ≡ []) }
     {
         Ok(Scope {
@@ -97,7 +97,7 @@ impl Scope {
     }
 
     /// The parameters of a schema.
-    pub fn of(alloc: Global, groups: &[VariableGroup]) -> Result<Scope, AllocError>
+    pub fn of(alloc: Global, groups: &'a [VariableGroup]) -> Result<Scope<'a>, AllocError>
         ensures { IfOk result (λ scope. scope ≡ parameters_of groups.now) }
     {
         let mut scope = Scope::with_capacity(alloc, groups.len())?;
@@ -113,14 +113,14 @@ impl Scope {
     }
 
     /// The first variable of a text.
-    pub fn get(&self, text: &[u8]) -> Option<&Declared>
+    pub fn get(&self, text: &[u8]) -> Option<&Declared<'a>>
         ensures { option_map (λ v. v.now) result ≡ variable_in self.now text.now }
     {
         self.at(self.positions.get(text))
     }
 
     /// The variable at a position, if one is given.
-    fn at(&self, position: Option<usize>) -> Option<&Declared>
+    fn at(&self, position: Option<usize>) -> Option<&Declared<'a>>
         ensures { option_map (λ v. v.now) result ≡ option_and_then (slice_get self.now) position }
     {
         match position {
@@ -167,8 +167,8 @@ impl Scope {
     }
 
     /// Puts a variable in force. Where memory is refused, the others are in force as they were.
-    fn push(&mut self, alloc: Global, variable: Declared) -> Result<(), AllocError>
-        ensures ok { OnOk result (self.new ≡ self.old ++ variable ∷ []) }
+    fn push(&mut self, alloc: Global, variable: Declared<'a>) -> Result<(), AllocError>
+        ensures ok { OnOk result (self.new ≡ self.old ++ variable.entry ∷ []) }
         ensures err { OnErr result (self.new ≡ self.old) }
     {
         let first = self.positions.get(variable.text());
@@ -194,7 +194,7 @@ impl Scope {
     fn push_group(
         &mut self,
         alloc: Global,
-        group: &VariableGroup,
+        group: &'a VariableGroup,
         is_quantified: bool,
     ) -> Result<(), AllocError>
         ensures ok { OnOk result (self.new ≡ self.old ++ group_variables is_quantified group.now) }
@@ -211,7 +211,7 @@ impl Scope {
     fn push_groups(
         &mut self,
         alloc: Global,
-        groups: &[VariableGroup],
+        groups: &'a [VariableGroup],
         is_quantified: bool,
     ) -> Result<(), AllocError>
         ensures ok { OnOk result (self.new ≡ self.old ++ flat_map (group_variables is_quantified) groups.now) }
@@ -227,7 +227,7 @@ impl Scope {
     pub fn push_quantified(
         &mut self,
         alloc: Global,
-        groups: &[VariableGroup],
+        groups: &'a [VariableGroup],
     ) -> Result<(), AllocError>
         ensures ok { OnOk result (self.new ≡ self.old ++ quantified_of groups.now) }
         ensures err { OnErr result (self.new ≡ self.old) }

@@ -14,7 +14,7 @@ pub const MOST_PARAMETERS: usize = 32;
 pub const MOST_SUBTASKS: usize = 10_000;
 
 /// The place of the first name past the limit, if there are more.
-pub fn first_past(limit: usize, mentions: &[Mention]) -> Option<usize>
+pub fn first_past(limit: usize, mentions: &[Mention<'_>]) -> Option<usize>
     ensures { Finds (IsPast limit mentions.now) result }
 {
     match mentions.get(limit) {

@@ -10,10 +10,10 @@ use hddl_tree::{
 };
 use std::alloc::{AllocError, Global};
 
-fn push_variables(
+fn push_variables<'a>(
     alloc: Global,
-    mentions: &mut Vec<Mention>,
-    variables: &[Variable],
+    mentions: &mut Vec<Mention<'a>>,
+    variables: &'a [Variable],
 ) -> Result<(), AllocError>
     ensures { OnOk result (mentions.new.items ≡ mentions.old.items ++ map variable_mention variables.now) }
 {
@@ -24,7 +24,11 @@ fn push_variables(
     Ok(())
 }
 
-fn push_names(alloc: Global, mentions: &mut Vec<Mention>, names: &[Name]) -> Result<(), AllocError>
+fn push_names<'a>(
+    alloc: Global,
+    mentions: &mut Vec<Mention<'a>>,
+    names: &'a [Name],
+) -> Result<(), AllocError>
     ensures { OnOk result (mentions.new.items ≡ mentions.old.items ++ map mention_of names.now) }
 {
     mentions.reserve(names.len())?;
@@ -35,7 +39,7 @@ fn push_names(alloc: Global, mentions: &mut Vec<Mention>, names: &[Name]) -> Res
 }
 
 /// The variables of a typed list.
-pub fn variables_in(alloc: Global, groups: &[VariableGroup]) -> Result<Vec<Mention>, AllocError>
+pub fn variables_in(alloc: Global, groups: &[VariableGroup]) -> Result<Vec<Mention<'_>>, AllocError>
     ensures { IfOk result (λ mentions. mentions.items ≡ mentions_of (typed_variables groups.now)) }
 {
     let mut mentions = Vec::with_capacity(alloc, groups.len())?;
@@ -46,7 +50,7 @@ pub fn variables_in(alloc: Global, groups: &[VariableGroup]) -> Result<Vec<Menti
 }
 
 /// The names of a typed list.
-pub fn names_in(alloc: Global, groups: &[NameGroup]) -> Result<Vec<Mention>, AllocError>
+pub fn names_in(alloc: Global, groups: &[NameGroup]) -> Result<Vec<Mention<'_>>, AllocError>
     ensures { IfOk result (λ mentions. mentions.items ≡ mentions_of (typed_names groups.now)) }
 {
     let mut mentions = Vec::with_capacity(alloc, groups.len())?;
@@ -56,10 +60,10 @@ pub fn names_in(alloc: Global, groups: &[NameGroup]) -> Result<Vec<Mention>, All
     Ok(mentions)
 }
 
-fn push_parent(
+fn push_parent<'a>(
     alloc: Global,
-    mentions: &mut Vec<Mention>,
-    parent: &Option<Name>,
+    mentions: &mut Vec<Mention<'a>>,
+    parent: &'a Option<Name>,
 ) -> Result<(), AllocError>
     ensures { OnOk result (mentions.new.items ≡ mentions.old.items ++ optional_mention parent.now) }
 {
@@ -70,7 +74,7 @@ fn push_parent(
 }
 
 /// The types that a typed list declares, with their parents.
-pub fn types_in(alloc: Global, groups: &[NameGroup]) -> Result<Vec<Mention>, AllocError>
+pub fn types_in(alloc: Global, groups: &[NameGroup]) -> Result<Vec<Mention<'_>>, AllocError>
     ensures { IfOk result (λ mentions. mentions.items ≡ flat_map (λ g. map mention_of g.names ++ optional_mention g.of_type) groups.now) }
 {
     let mut mentions = Vec::with_capacity(alloc, groups.len())?;
@@ -85,7 +89,7 @@ pub fn types_in(alloc: Global, groups: &[NameGroup]) -> Result<Vec<Mention>, All
 pub fn predicate_names(
     alloc: Global,
     predicates: &[PredicateText],
-) -> Result<Vec<Mention>, AllocError>
+) -> Result<Vec<Mention<'_>>, AllocError>
     ensures { IfOk result (λ mentions. mentions.items ≡ map (λ x. mention_of x.name) predicates.now) }
 {
     let mut mentions = Vec::with_capacity(alloc, predicates.len())?;
@@ -96,7 +100,7 @@ pub fn predicate_names(
 }
 
 /// The names of methods.
-pub fn method_names(alloc: Global, methods: &[MethodText]) -> Result<Vec<Mention>, AllocError>
+pub fn method_names(alloc: Global, methods: &[MethodText]) -> Result<Vec<Mention<'_>>, AllocError>
     ensures { IfOk result (λ mentions. mentions.items ≡ map (λ x. mention_of x.name) methods.now) }
 {
     let mut mentions = Vec::with_capacity(alloc, methods.len())?;
@@ -107,11 +111,11 @@ pub fn method_names(alloc: Global, methods: &[MethodText]) -> Result<Vec<Mention
 }
 
 /// The names of compound tasks, and then those of actions.
-pub fn task_names(
+pub fn task_names<'a>(
     alloc: Global,
-    tasks: &[TaskText],
-    actions: &[ActionText],
-) -> Result<Vec<Mention>, AllocError>
+    tasks: &'a [TaskText],
+    actions: &'a [ActionText],
+) -> Result<Vec<Mention<'a>>, AllocError>
     ensures { IfOk result (λ mentions. mentions.items ≡ map (λ x. mention_of x.name) tasks.now ++ map (λ x. mention_of x.name) actions.now) }
 {
     let mut mentions = Vec::with_capacity(alloc, tasks.len().saturating_add(actions.len()))?;

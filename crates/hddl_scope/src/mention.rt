@@ -9,20 +9,20 @@ use std::marker::Model;
 
 /// A name or a variable in lower case, with its place. Contracts see the text with the place.
 #[derive(Drop)]
-pub struct Mention {
-    text: Folded,
+pub struct Mention<'a> {
+    text: Folded<'a>,
     place: usize,
 }
 
-impl Model for Mention {
+impl<'a> Model for Mention<'a> {
     ghost Value = { Rattle.hddl_meaning.specs.Mentions.Mention };
 
-    ghost view = { λ mention. record { text = mention.text.items; place = mention.place } };
+    ghost view = { λ mention. record { text = mention.text; place = mention.place } };
 }
 
-impl Mention {
+impl<'a> Mention<'a> {
     /// A name as it is compared.
-    pub fn of_name(alloc: Global, name: &Name) -> Result<Mention, AllocError>
+    pub fn of_name(alloc: Global, name: &'a Name) -> Result<Mention<'a>, AllocError>
         ensures { IfOk result (λ mention. mention ≡ mention_of name.now) }
     {
         let text = fold(alloc, name.text())?;
@@ -33,7 +33,10 @@ impl Mention {
     }
 
     /// A variable as it is compared.
-    pub(crate) fn of_variable(alloc: Global, variable: &Variable) -> Result<Mention, AllocError>
+    pub(crate) fn of_variable(
+        alloc: Global,
+        variable: &'a Variable,
+    ) -> Result<Mention<'a>, AllocError>
         ensures { IfOk result (λ mention. mention ≡ variable_mention variable.now) }
     {
         let text = fold(alloc, variable.text())?;

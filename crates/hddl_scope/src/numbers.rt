@@ -3,25 +3,27 @@ ghost use Rattle.std.specs.Prelude.{◌≡◌, [], ◌∷◌, ◌++◌, None, If
 ghost use Rattle.hddl_meaning.specs.Names.{is_same_text};
 ghost use Rattle.hddl_scope.specs.Numbers.{number_at, numbered};
 
-use hddl_names::Folded;
+use hddl_names::Kept;
 use indexmap::IndexMap;
 use smallvec::SmallVec;
 use std::alloc::{AllocError, Global};
 use std::marker::Model;
 
 /// So many texts are looked through one by one, which takes less than a table of them.
-const FEW: usize = 8;
+const FEW: usize = 16;
 
 /// A text with its number.
 #[derive(Drop)]
 struct Numbered {
-    text: Folded,
+    text: Kept,
     number: usize,
 }
 
 /// Texts, each with a number: the first that was given. Contracts see the list of the texts with their numbers.
 #[derive(Drop)]
 pub struct Numbers {
+    /// How many texts are looked through one by one: none in a list that was to be long.
+    limit: usize,
     /// The first texts: in most lists all.
     few: Vec<Numbered>,
     /// The others.
@@ -36,7 +38,8 @@ impl Model for Numbers {
 
     ghost view = { λ numbers. numbered numbers.few.items ++ entries_of numbers.rest.entries };
 
-    ghost invariant = { λ numbers. (length numbers.few.items ≤ 8) × (length numbers.few.items < 8 → numbers.rest.entries ≡ []) };
+    ghost invariant = { λ numbers. (numbers.limit ≤ 16) × (length numbers.few.items ≤ numbers.limit)
+        × (length numbers.few.items < numbers.limit → numbers.rest.entries ≡ []) };
 }
 
 /// Whether two texts are the same. Those of one list often differ in their last bytes alone, which are looked at first.
@@ -64,18 +67,27 @@ impl Numbers {
         ensures { result ≡ [] }
     {
         Numbers {
+            limit: FEW,
             few: Vec::new(alloc),
             rest: IndexMap::new(alloc),
         }
     }
 
-    /// No texts, with room for so many, or for the first few of them.
-    pub(crate) fn with_capacity(alloc: Global, capacity: usize) -> Result<Numbers, AllocError>
+    /// No texts, with room for so many.
+    pub fn with_capacity(alloc: Global, capacity: usize) -> Result<Numbers, AllocError>
         ensures { IfOk result (λ numbers. numbers ≡ []) }
     {
+        if capacity <= FEW {
+            return Ok(Numbers {
+                limit: FEW,
+                few: Vec::with_capacity(alloc, capacity)?,
+                rest: IndexMap::new(alloc),
+            });
+        }
         Ok(Numbers {
-            few: Vec::with_capacity(alloc, capacity.min(FEW))?,
-            rest: IndexMap::new(alloc),
+            limit: 0,
+            few: Vec::new(alloc),
+            rest: IndexMap::with_capacity(alloc, capacity)?,
         })
     }
 
@@ -93,7 +105,7 @@ impl Numbers {
         match number_among(&self.few, text) {
             Some(number) => Some(number),
             // There are no others, so the text needn't be hashed.
-            None if self.few.len() < FEW => None,
+            None if self.few.len() < self.limit => None,
             None => self.rest.get(text).copied(),
         }
     }
@@ -104,7 +116,7 @@ impl Numbers {
         ensures ok { OnOk result (self.new ≡ self.old ++ (text.now, number) ∷ []) }
         ensures err { OnErr result (self.new ≡ self.old) }
     {
-        if self.few.len() < FEW {
+        if self.few.len() < self.limit {
             let text = SmallVec::from_slice(alloc, text)?;
             self.few.push(Numbered { text, number })?;
             return Ok(());

@@ -33,7 +33,7 @@ pub(crate) fn later(first: Option<usize>, place: usize) -> Option<usize>
 fn note_after(
     alloc: Global,
     known: &mut Numbers,
-    mention: &Mention,
+    mention: &Mention<'_>,
     first: Option<usize>,
 ) -> Result<(), AllocError>
     requires { first ≡ number_at known.old mention.now.text }
@@ -46,7 +46,11 @@ fn note_after(
 }
 
 /// Keeps the place of a name that is new.
-pub(crate) fn note(alloc: Global, known: &mut Numbers, mention: &Mention) -> Result<(), AllocError>
+pub(crate) fn note(
+    alloc: Global,
+    known: &mut Numbers,
+    mention: &Mention<'_>,
+) -> Result<(), AllocError>
     ensures { OnOk result (known.new ≡ noted known.old mention.now) }
 {
     let first = known.get(mention.text());
@@ -54,10 +58,10 @@ pub(crate) fn note(alloc: Global, known: &mut Numbers, mention: &Mention) -> Res
 }
 
 /// The place of a name that stood before, if there is one.
-pub fn first_repeat(alloc: Global, mentions: &[Mention]) -> Result<Option<usize>, AllocError>
+pub fn first_repeat(alloc: Global, mentions: &[Mention<'_>]) -> Result<Option<usize>, AllocError>
     ensures { IfOk result (Finds (IsRepeat mentions.now)) }
 {
-    let mut known = Numbers::new(alloc);
+    let mut known = Numbers::with_capacity(alloc, mentions.len())?;
     let mut found = None;
     for mention in mentions {
         let first = known.get(mention.text());

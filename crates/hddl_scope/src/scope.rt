@@ -11,19 +11,19 @@ use std::marker::Model;
 
 /// A variable in force, with the type that is written for it. Contracts see the variable of the definitions.
 #[derive(Drop)]
-pub struct Declared {
-    mention: Mention,
-    of_type: Option<Mention>,
+pub struct Declared<'a> {
+    mention: Mention<'a>,
+    of_type: Option<Mention<'a>>,
     is_quantified: bool,
 }
 
-impl Model for Declared {
+impl<'a> Model for Declared<'a> {
     ghost Value = { Rattle.hddl_meaning.specs.Uses.Variable };
 
     ghost view = { λ v. record { typed = record { mention = v.mention; of_type = v.of_type }; is_quantified = v.is_quantified } };
 }
 
-fn type_of(alloc: Global, of_type: &Option<Name>) -> Result<Option<Mention>, AllocError>
+fn type_of(alloc: Global, of_type: &Option<Name>) -> Result<Option<Mention<'_>>, AllocError>
     ensures { IfOk result (λ mention. mention ≡ option_map mention_of of_type.now) }
 {
     match of_type {
@@ -32,14 +32,14 @@ fn type_of(alloc: Global, of_type: &Option<Name>) -> Result<Option<Mention>, All
     }
 }
 
-impl Declared {
+impl<'a> Declared<'a> {
     /// A variable with the type that is written for it.
     pub(crate) fn of(
         alloc: Global,
-        variable: &Variable,
-        of_type: &Option<Name>,
+        variable: &'a Variable,
+        of_type: &'a Option<Name>,
         is_quantified: bool,
-    ) -> Result<Declared, AllocError>
+    ) -> Result<Declared<'a>, AllocError>
         ensures { IfOk result (λ v. v ≡ record {
           typed = record { mention = variable_mention variable.now; of_type = option_map mention_of of_type.now };
           is_quantified = is_quantified;
@@ -62,7 +62,7 @@ impl Declared {
     }
 
     /// The type that is written for it.
-    pub fn of_type(&self) -> &Option<Mention>
+    pub fn of_type(&self) -> &Option<Mention<'a>>
         ensures { result.now ≡ self.now.typed.of_type }
     {
         &self.of_type
@@ -84,10 +84,10 @@ impl Declared {
 }
 
 /// Adds the parameters of a group.
-fn push_group(
+fn push_group<'a>(
     alloc: Global,
-    parameters: &mut Vec<Declared>,
-    group: &VariableGroup,
+    parameters: &mut Vec<Declared<'a>>,
+    group: &'a VariableGroup,
 ) -> Result<(), AllocError>
     ensures { OnOk result (parameters.new.items ≡ parameters.old.items ++ group_variables false group.now) }
 {
@@ -98,7 +98,7 @@ fn push_group(
 }
 
 /// The places of a declaration, as parameters.
-pub fn parameters(alloc: Global, groups: &[VariableGroup]) -> Result<Vec<Declared>, AllocError>
+pub fn parameters(alloc: Global, groups: &[VariableGroup]) -> Result<Vec<Declared<'_>>, AllocError>
     ensures { IfOk result (λ parameters. parameters.items ≡ parameters_of groups.now) }
 {
     let mut parameters = Vec::with_capacity(alloc, groups.len())?;

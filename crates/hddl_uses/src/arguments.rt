@@ -21,8 +21,8 @@ use std::alloc::AllocError;
 
 /// A variable that isn't in force.
 fn check_variable(
-    context: &Context<'_>,
-    scope: &Scope,
+    context: &Context<'_, '_>,
+    scope: &Scope<'_>,
     variable: &Variable,
 ) -> Result<Option<CheckFault>, AllocError>
     ensures { IfOk result (Finds (Fails context.now (Side (record { variables = scope.now; term = term.Variable variable.now })))) }
@@ -35,7 +35,7 @@ fn check_variable(
 }
 
 /// A constant or object that isn't declared.
-fn check_object(context: &Context<'_>, name: &Name) -> Result<Option<CheckFault>, AllocError>
+fn check_object(context: &Context<'_, '_>, name: &Name) -> Result<Option<CheckFault>, AllocError>
     ensures { IfOk result (Finds (IsUnknownObject context.now name.now)) }
 {
     let text = fold(context.alloc, name.text())?;
@@ -52,8 +52,8 @@ fn check_object(context: &Context<'_>, name: &Name) -> Result<Option<CheckFault>
 
 /// A variable that isn't in force, or a constant or object that isn't declared.
 pub(crate) fn check_term(
-    context: &Context<'_>,
-    scope: &Scope,
+    context: &Context<'_, '_>,
+    scope: &Scope<'_>,
     term: &Term,
 ) -> Result<Option<CheckFault>, AllocError>
     ensures { IfOk result (Finds (Fails context.now (Side (record { variables = scope.now; term = term.now })))) }
@@ -65,7 +65,7 @@ pub(crate) fn check_term(
 }
 
 /// The number of the type of a variable or a place, if it is declared.
-fn type_number(context: &Context<'_>, declared: &Declared) -> Option<usize>
+fn type_number(context: &Context<'_, '_>, declared: &Declared<'_>) -> Option<usize>
     ensures { result ≡ position (is_same_text (text_or_object declared.now.typed.of_type)) (type_names context.now.domain.now) }
 {
     let types = context.vocabulary.types();
@@ -75,12 +75,27 @@ fn type_number(context: &Context<'_>, declared: &Declared) -> Option<usize>
     }
 }
 
+/// Whether two texts are the same. Most are short, so they are looked through byte by byte.
+fn are_same(a: &[u8], b: &[u8]) -> bool
+    ensures { IsTrue result → a.now ≡ b.now }
+{
+    if a.len() != b.len() {
+        return false;
+    }
+    for (index, byte) in a.iter().enumerate() {
+        if b[index] != *byte {
+            return false;
+        }
+    }
+    true
+}
+
 /// Whether the same type is written for two variables or places.
-fn have_same_type(a: &Declared, b: &Declared) -> bool
+fn have_same_type(a: &Declared<'_>, b: &Declared<'_>) -> bool
     ensures { IsTrue result → text_or_object a.now.typed.of_type ≡ text_or_object b.now.typed.of_type }
 {
     match (a.of_type(), b.of_type()) {
-        (Some(own), Some(wanted)) => own.text() == wanted.text(),
+        (Some(own), Some(wanted)) => are_same(own.text(), wanted.text()),
         (None, None) => true,
         _ => false,
     }
@@ -88,9 +103,9 @@ fn have_same_type(a: &Declared, b: &Declared) -> bool
 
 /// Whether a variable can't stand in a place. Not, where one of the types isn't declared.
 fn is_barred(
-    context: &Context<'_>,
-    variable: &Declared,
-    place: &Declared,
+    context: &Context<'_, '_>,
+    variable: &Declared<'_>,
+    place: &Declared<'_>,
 ) -> Result<bool, AllocError>
     ensures { IfOk result (λ barred. IsTrue barred ↔ (IsTyped context.now.domain.now variable.now.typed × IsTyped context.now.domain.now place.now.typed
         × (MayStand context.now.domain.now variable.now (text_or_object place.now.typed.of_type) → ⊥))) }
@@ -113,7 +128,11 @@ fn is_barred(
 }
 
 /// Whether the constant or object of a number lacks the type of a place. Not, where types aren't declared.
-fn lacks_type(context: &Context<'_>, object: usize, place: &Declared) -> Result<bool, AllocError>
+fn lacks_type(
+    context: &Context<'_, '_>,
+    object: usize,
+    place: &Declared<'_>,
+) -> Result<bool, AllocError>
     ensures { (text : Text) → position (is_same_text text) (object_names context.now.domain.now context.now.problem.now) ≡ Some object
         → IfOk result (λ lacks. IsTrue lacks ↔ (∥ AreKnown context.now.domain.now context.now.problem.now ∥₁ × IsTyped context.now.domain.now place.now.typed
         × IsIn text (object_names context.now.domain.now context.now.problem.now)
@@ -130,10 +149,10 @@ fn lacks_type(context: &Context<'_>, object: usize, place: &Declared) -> Result<
 
 /// A variable that isn't in force, or can't have the type of its place.
 fn check_variable_argument(
-    context: &Context<'_>,
-    scope: &Scope,
+    context: &Context<'_, '_>,
+    scope: &Scope<'_>,
     variable: &Variable,
-    place: &Declared,
+    place: &Declared<'_>,
 ) -> Result<Option<CheckFault>, AllocError>
     ensures { IfOk result (Finds (ArgumentFails context.now scope.now (term.Variable variable.now, place.now))) }
 {
@@ -149,9 +168,9 @@ fn check_variable_argument(
 
 /// A constant or object that isn't declared, or lacks the type of its place.
 fn check_object_argument(
-    context: &Context<'_>,
+    context: &Context<'_, '_>,
     name: &Name,
-    place: &Declared,
+    place: &Declared<'_>,
 ) -> Result<Option<CheckFault>, AllocError>
     ensures { IfOk result (λ found. (variables : List VariableInForce)
         → Finds (ArgumentFails context.now variables (term.Object name.now, place.now)) found) }
@@ -168,10 +187,10 @@ fn check_object_argument(
 
 /// An argument that isn't known, or can't have the type of its place.
 fn check_argument(
-    context: &Context<'_>,
-    scope: &Scope,
+    context: &Context<'_, '_>,
+    scope: &Scope<'_>,
     argument: &Term,
-    place: &Declared,
+    place: &Declared<'_>,
 ) -> Result<Option<CheckFault>, AllocError>
     ensures { IfOk result (Finds (ArgumentFails context.now scope.now (argument.now, place.now))) }
 {
@@ -183,10 +202,10 @@ fn check_argument(
 
 /// A fault of some argument, where there are as many arguments as places.
 pub(crate) fn check_arguments(
-    context: &Context<'_>,
-    scope: &Scope,
+    context: &Context<'_, '_>,
+    scope: &Scope<'_>,
     arguments: &[Term],
-    places: &[Declared],
+    places: &[Declared<'_>],
 ) -> Result<Option<CheckFault>, AllocError>
     requires { length arguments.now ≡ length places.now }
     ensures { IfOk result (Finds (AnyArgumentFails context.now scope.now (zip arguments.now places.now))) }

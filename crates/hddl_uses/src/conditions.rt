@@ -15,10 +15,10 @@ use std::alloc::AllocError;
 
 /// A fault of a condition. The body of a `forall` whose variables have a fault isn't looked at. The variables in force
 /// afterwards are those before.
-fn check_condition(
-    context: &Context<'_>,
-    scope: &mut Scope,
-    condition: &Condition,
+fn check_condition<'a>(
+    context: &Context<'_, '_>,
+    scope: &mut Scope<'a>,
+    condition: &'a Condition,
 ) -> Result<Option<CheckFault>, AllocError>
     ensures found { IfOk result (Finds (AnyFails context.now (condition_parts scope.old condition.now))) }
     ensures kept { scope.new ≡ scope.old }
@@ -50,10 +50,10 @@ fn check_condition(
 }
 
 /// A fault of conditions. The variables in force afterwards are those before.
-pub fn check_conditions(
-    context: &Context<'_>,
-    scope: &mut Scope,
-    conditions: &[Condition],
+pub fn check_conditions<'a>(
+    context: &Context<'_, '_>,
+    scope: &mut Scope<'a>,
+    conditions: &'a [Condition],
 ) -> Result<Option<CheckFault>, AllocError>
     ensures found { IfOk result (Finds (AnyFails context.now (conditions_parts scope.old conditions.now))) }
     ensures kept { scope.new ≡ scope.old }

@@ -10,32 +10,33 @@ use std::alloc::{AllocError, Global};
 
 /// The declarations of a domain, by name.
 #[derive(Drop)]
-pub struct Declarations {
-    pub(crate) predicates: Signatures,
+pub struct Declarations<'a> {
+    pub(crate) predicates: Signatures<'a>,
     /// The compound tasks, and then the actions.
-    pub(crate) tasks: Signatures,
+    pub(crate) tasks: Signatures<'a>,
 }
 
-fn predicates_of(alloc: Global, domain: &DomainText) -> Result<Signatures, AllocError>
+fn predicates_of(alloc: Global, domain: &DomainText) -> Result<Signatures<'_>, AllocError>
     ensures { IfOk result (IsTableOf (predicate_signatures domain.now)) }
 {
-    let mut table = Signatures::new(alloc);
+    let mut table = Signatures::with_capacity(alloc, domain.predicates.len())?;
     table.push_predicates(alloc, domain.predicates.as_slice())?;
     Ok(table)
 }
 
-fn tasks_of(alloc: Global, domain: &DomainText) -> Result<Signatures, AllocError>
+fn tasks_of(alloc: Global, domain: &DomainText) -> Result<Signatures<'_>, AllocError>
     ensures { IfOk result (IsTableOf (task_signatures domain.now)) }
 {
-    let mut table = Signatures::new(alloc);
+    let capacity = domain.tasks.len().saturating_add(domain.actions.len());
+    let mut table = Signatures::with_capacity(alloc, capacity)?;
     table.push_tasks(alloc, domain.tasks.as_slice())?;
     table.push_actions(alloc, domain.actions.as_slice())?;
     Ok(table)
 }
 
-impl Declarations {
+impl<'a> Declarations<'a> {
     /// What a domain declares.
-    pub fn of(alloc: Global, domain: &DomainText) -> Result<Declarations, AllocError>
+    pub fn of(alloc: Global, domain: &'a DomainText) -> Result<Declarations<'a>, AllocError>
         ensures { IfOk result (AreDeclarationsOf domain.now) }
     {
         let predicates = predicates_of(alloc, domain)?;

@@ -12,10 +12,10 @@ use hddl_scope::{Mention, Numbers};
 use hddl_tree::{Name, OrderingText, SubtaskText};
 use std::alloc::{AllocError, Global};
 
-fn push_label(
+fn push_label<'a>(
     alloc: Global,
-    mentions: &mut Vec<Mention>,
-    label: &Option<Name>,
+    mentions: &mut Vec<Mention<'a>>,
+    label: &'a Option<Name>,
 ) -> Result<(), AllocError>
     ensures { OnOk result (mentions.new.items ≡ mentions.old.items ++ optional_mention label.now) }
 {
@@ -26,7 +26,10 @@ fn push_label(
 }
 
 /// The names of subtasks.
-pub(crate) fn labels_in(alloc: Global, subtasks: &[SubtaskText]) -> Result<Vec<Mention>, AllocError>
+pub(crate) fn labels_in(
+    alloc: Global,
+    subtasks: &[SubtaskText],
+) -> Result<Vec<Mention<'_>>, AllocError>
     ensures { IfOk result (λ mentions. mentions.items ≡ flat_map (λ s. optional_mention s.label) subtasks.now) }
 {
     let mut mentions = Vec::new(alloc);
@@ -58,7 +61,7 @@ fn number_label(
 pub(crate) fn label_numbers(alloc: Global, subtasks: &[SubtaskText]) -> Result<Numbers, AllocError>
     ensures { IfOk result (λ numbers. (t : Text) → number_at numbers t ≡ position (λ s. is_text t s.label) subtasks.now) }
 {
-    let mut numbers = Numbers::new(alloc);
+    let mut numbers = Numbers::with_capacity(alloc, subtasks.len())?;
     for (index, subtask) in subtasks.iter().enumerate() {
         number_label(alloc, &mut numbers, &subtask.label, index)?;
     }

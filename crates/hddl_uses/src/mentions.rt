@@ -11,8 +11,8 @@ use std::alloc::AllocError;
 
 /// A name that stands twice.
 pub fn check_different(
-    context: &Context<'_>,
-    mentions: &[Mention],
+    context: &Context<'_, '_>,
+    mentions: &[Mention<'_>],
 ) -> Result<Option<CheckFault>, AllocError>
     ensures { IfOk result (Finds (Fails context.now (Different mentions.now))) }
 {
@@ -24,7 +24,11 @@ pub fn check_different(
 }
 
 /// The first name past a limit.
-pub fn check_limit(context: &Context<'_>, limit: usize, mentions: &[Mention]) -> Option<CheckFault>
+pub fn check_limit(
+    context: &Context<'_, '_>,
+    limit: usize,
+    mentions: &[Mention<'_>],
+) -> Option<CheckFault>
     ensures { Finds (Fails context.now (Limited limit mentions.now)) result }
 {
     match first_past(limit, mentions) {

@@ -22,7 +22,7 @@ use std::alloc::{AllocError, Global};
 
 /// A name that no subtask has.
 fn check_label(
-    context: &Context<'_>,
+    context: &Context<'_, '_>,
     numbers: &Numbers,
     name: &Name,
 ) -> Result<Option<CheckFault>, AllocError>
@@ -37,7 +37,7 @@ fn check_label(
 
 /// A name in orderings that no subtask has.
 fn check_labels(
-    context: &Context<'_>,
+    context: &Context<'_, '_>,
     numbers: &Numbers,
     orderings: &[OrderingText],
 ) -> Result<Option<CheckFault>, AllocError>
@@ -95,7 +95,7 @@ fn has_cycle(
 
 /// A cycle of a network's order.
 fn check_cycle(
-    context: &Context<'_>,
+    context: &Context<'_, '_>,
     place: usize,
     network: &NetworkText,
     numbers: &Numbers,
@@ -113,7 +113,7 @@ fn check_cycle(
 
 /// A cycle of a network's order, or a name in it that no subtask has.
 fn check_order(
-    context: &Context<'_>,
+    context: &Context<'_, '_>,
     place: usize,
     network: &NetworkText,
 ) -> Result<Option<CheckFault>, AllocError>
@@ -126,7 +126,7 @@ fn check_order(
 }
 
 /// The first subtask past the limit.
-fn check_subtasks(context: &Context<'_>, network: &NetworkText) -> Option<CheckFault>
+fn check_subtasks(context: &Context<'_, '_>, network: &NetworkText) -> Option<CheckFault>
     ensures { Finds (Fails context.now (Limited most_subtasks (subtask_mentions network.now))) result }
 {
     match network.subtasks.as_slice().get(MOST_SUBTASKS) {
@@ -137,7 +137,7 @@ fn check_subtasks(context: &Context<'_>, network: &NetworkText) -> Option<CheckF
 
 /// A fault of a network's names or order. The order isn't looked at where there are too many subtasks.
 pub fn check_network(
-    context: &Context<'_>,
+    context: &Context<'_, '_>,
     place: usize,
     network: &NetworkText,
 ) -> Result<Option<CheckFault>, AllocError>

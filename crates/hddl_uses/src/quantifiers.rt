@@ -15,7 +15,7 @@ use hddl_tree::VariableGroup;
 use std::alloc::AllocError;
 
 /// A variable in force whose text stood before.
-pub fn check_repeat(context: &Context<'_>, scope: &Scope) -> Option<CheckFault>
+pub fn check_repeat(context: &Context<'_, '_>, scope: &Scope<'_>) -> Option<CheckFault>
     ensures { Finds (Fails context.now (Different (variable_mentions scope.now))) result }
 {
     match scope.repeat() {
@@ -25,7 +25,7 @@ pub fn check_repeat(context: &Context<'_>, scope: &Scope) -> Option<CheckFault>
 }
 
 /// The first variable in force past a limit.
-pub fn check_count(context: &Context<'_>, limit: usize, scope: &Scope) -> Option<CheckFault>
+pub fn check_count(context: &Context<'_, '_>, limit: usize, scope: &Scope<'_>) -> Option<CheckFault>
     ensures { Finds (Fails context.now (Limited limit (variable_mentions scope.now))) result }
 {
     match scope.first_past(limit) {
@@ -36,8 +36,8 @@ pub fn check_count(context: &Context<'_>, limit: usize, scope: &Scope) -> Option
 
 /// A fault of the variables that a `forall` declares, which are the last of those in force.
 fn check_quantifier(
-    context: &Context<'_>,
-    scope: &Scope,
+    context: &Context<'_, '_>,
+    scope: &Scope<'_>,
     groups: &[VariableGroup],
 ) -> Result<Option<CheckFault>, AllocError>
     ensures { (around : List Variable) → scope.now ≡ around ++ quantified_of groups.now
@@ -53,10 +53,10 @@ fn check_quantifier(
 
 /// Puts the variables of a `forall` in force, and gives a fault of theirs. Where memory is refused, none of them is in
 /// force.
-pub(crate) fn enter(
-    context: &Context<'_>,
-    scope: &mut Scope,
-    groups: &[VariableGroup],
+pub(crate) fn enter<'a>(
+    context: &Context<'_, '_>,
+    scope: &mut Scope<'a>,
+    groups: &'a [VariableGroup],
 ) -> Result<Option<CheckFault>, AllocError>
     ensures found { IfOk result (Finds (AnyFails context.now (quantifier_parts (record { around = scope.old; own = groups.now })))) }
     ensures ok { OnOk result (scope.new ≡ scope.old ++ quantified_of groups.now) }

@@ -1,5 +1,5 @@
 //! Declarations with their places, by name.
-ghost use Rattle.std.specs.Prelude.{◌≡◌, [], ◌∷◌, ◌++◌, List, MatchOption, OnOk, length, map, take};
+ghost use Rattle.std.specs.Prelude.{◌≡◌, [], ◌∷◌, ◌++◌, IfOk, List, MatchOption, OnOk, length, map, take};
 ghost use Rattle.hddl_meaning.specs.Items.{Signature, signature};
 ghost use Rattle.hddl_uses.specs.Tables.{HasPlaces, IsAmong, IsTableOf};
 
@@ -10,19 +10,23 @@ use std::alloc::{AllocError, Global};
 
 /// The places of declarations, and for each name the number of the first one.
 #[derive(Drop)]
-pub(crate) struct Signatures {
+pub(crate) struct Signatures<'a> {
     numbers: Numbers,
-    places: Vec<Vec<Declared>>,
+    places: Vec<Vec<Declared<'a>>>,
 }
 
-impl Signatures {
-    pub(crate) fn new(alloc: Global) -> Signatures
-        ensures { IsTableOf [] result }
+impl<'a> Signatures<'a> {
+    /// No declarations, with room for so many.
+    pub(crate) fn with_capacity(
+        alloc: Global,
+        capacity: usize,
+    ) -> Result<Signatures<'a>, AllocError>
+        ensures { IfOk result (IsTableOf []) }
     {
-        Signatures {
-            numbers: Numbers::new(alloc),
-            places: Vec::new(alloc),
-        }
+        Ok(Signatures {
+            numbers: Numbers::with_capacity(alloc, capacity)?,
+            places: Vec::with_capacity(alloc, capacity)?,
+        })
     }
 
     /// How many declarations there are.
@@ -37,7 +41,7 @@ impl Signatures {
         &mut self,
         alloc: Global,
         name: &Name,
-        groups: &[VariableGroup],
+        groups: &'a [VariableGroup],
     ) -> Result<(), AllocError>
         ensures { OnOk result ((signatures : List Signature) → IsTableOf signatures self.old → IsTableOf (signatures ++ signature name.now groups.now ∷ []) self.new) }
     {
@@ -53,7 +57,7 @@ impl Signatures {
     pub(crate) fn push_predicates(
         &mut self,
         alloc: Global,
-        predicates: &[PredicateText],
+        predicates: &'a [PredicateText],
     ) -> Result<(), AllocError>
         ensures { OnOk result ((signatures : List Signature) → IsTableOf signatures self.old → IsTableOf (signatures ++ map (λ x. signature x.name x.parameters) predicates.now) self.new) }
     {
@@ -63,7 +67,11 @@ impl Signatures {
         Ok(())
     }
 
-    pub(crate) fn push_tasks(&mut self, alloc: Global, tasks: &[TaskText]) -> Result<(), AllocError>
+    pub(crate) fn push_tasks(
+        &mut self,
+        alloc: Global,
+        tasks: &'a [TaskText],
+    ) -> Result<(), AllocError>
         ensures { OnOk result ((signatures : List Signature) → IsTableOf signatures self.old → IsTableOf (signatures ++ map (λ x. signature x.name x.parameters) tasks.now) self.new) }
     {
         for task in tasks {
@@ -75,7 +83,7 @@ impl Signatures {
     pub(crate) fn push_actions(
         &mut self,
         alloc: Global,
-        actions: &[ActionText],
+        actions: &'a [ActionText],
     ) -> Result<(), AllocError>
         ensures { OnOk result ((signatures : List Signature) → IsTableOf signatures self.old → IsTableOf (signatures ++ map (λ x. signature x.name x.parameters) actions.now) self.new) }
     {
@@ -86,7 +94,7 @@ impl Signatures {
     }
 
     /// The places of the first declaration of a name, if it is among the first `count` ones.
-    pub(crate) fn get(&self, count: usize, text: &[u8]) -> Option<&[Declared]>
+    pub(crate) fn get(&self, count: usize, text: &[u8]) -> Option<&[Declared<'a>]>
         ensures { (signatures : List Signature) → IsTableOf signatures self.now
             → MatchOption result (IsAmong (take count signatures) text.now → ⊥) (λ places. IsAmong (take count signatures) text.now × HasPlaces signatures text.now places.now) }
     {

@@ -15,7 +15,7 @@ use hddl_tree::{Name, NameGroup, VariableGroup};
 use std::alloc::AllocError;
 
 /// Whether `:types` names the type, or it is `object`.
-fn is_declared(context: &Context<'_>, name: &Name) -> Result<bool, AllocError>
+fn is_declared(context: &Context<'_, '_>, name: &Name) -> Result<bool, AllocError>
     ensures { IfOk result (λ b. IsTrue b ↔ IsDeclaredType context.now.domain.now (folded name.now.text)) }
 {
     let text = fold(context.alloc, name.text())?;
@@ -25,7 +25,7 @@ fn is_declared(context: &Context<'_>, name: &Name) -> Result<bool, AllocError>
 
 /// A type that isn't declared.
 fn check_type(
-    context: &Context<'_>,
+    context: &Context<'_, '_>,
     of_type: &Option<Name>,
 ) -> Result<Option<CheckFault>, AllocError>
     ensures { IfOk result (Finds (AnyFails context.now (map TypeName (optional_mention of_type.now)))) }
@@ -43,7 +43,7 @@ fn check_type(
 }
 
 fn check_variable_group(
-    context: &Context<'_>,
+    context: &Context<'_, '_>,
     group: &VariableGroup,
 ) -> Result<Option<CheckFault>, AllocError>
     ensures { IfOk result (Finds (AnyFails context.now (variable_group_parts group.now))) }
@@ -56,7 +56,7 @@ fn check_variable_group(
 }
 
 fn check_name_group(
-    context: &Context<'_>,
+    context: &Context<'_, '_>,
     group: &NameGroup,
 ) -> Result<Option<CheckFault>, AllocError>
     ensures { IfOk result (Finds (AnyFails context.now (name_group_parts group.now))) }
@@ -70,7 +70,7 @@ fn check_name_group(
 
 /// A type of parameters or variables that isn't declared.
 pub fn check_variable_types(
-    context: &Context<'_>,
+    context: &Context<'_, '_>,
     groups: &[VariableGroup],
 ) -> Result<Option<CheckFault>, AllocError>
     ensures { IfOk result (Finds (AnyFails context.now (type_parts (typed_variables groups.now)))) }
@@ -84,7 +84,7 @@ pub fn check_variable_types(
 
 /// A type of constants or objects that isn't declared.
 pub fn check_name_types(
-    context: &Context<'_>,
+    context: &Context<'_, '_>,
     groups: &[NameGroup],
 ) -> Result<Option<CheckFault>, AllocError>
     ensures { IfOk result (Finds (AnyFails context.now (type_parts (typed_names groups.now)))) }

@@ -19,10 +19,10 @@ use std::alloc::AllocError;
 
 /// A fault of an atom or a task, of which the name has to be that of one of the first `count` declarations.
 fn check_use(
-    context: &Context<'_>,
-    declared: &Signatures,
+    context: &Context<'_, '_>,
+    declared: &Signatures<'_>,
     count: usize,
-    scope: &Scope,
+    scope: &Scope<'_>,
     atom: &AtomText,
 ) -> Result<Option<CheckFault>, AllocError>
     ensures { IfOk result (λ found. (signatures : List Signature) → IsTableOf signatures declared.now
@@ -42,8 +42,8 @@ fn check_use(
 
 /// A fault of an atom.
 pub(crate) fn check_atom(
-    context: &Context<'_>,
-    scope: &Scope,
+    context: &Context<'_, '_>,
+    scope: &Scope<'_>,
     atom: &AtomText,
 ) -> Result<Option<CheckFault>, AllocError>
     ensures { IfOk result (Finds (Fails context.now (Atom (record { variables = scope.now; atom = atom.now })))) }
@@ -55,8 +55,8 @@ pub(crate) fn check_atom(
 
 /// A fault of the task that a method decomposes: it has to be a compound one.
 pub fn check_decomposed(
-    context: &Context<'_>,
-    scope: &Scope,
+    context: &Context<'_, '_>,
+    scope: &Scope<'_>,
     task: &AtomText,
 ) -> Result<Option<CheckFault>, AllocError>
     ensures { IfOk result (Finds (Fails context.now (Decomposed (record { variables = scope.now; atom = task.now })))) }
@@ -68,8 +68,8 @@ pub fn check_decomposed(
 
 /// A fault of a subtask.
 fn check_subtask(
-    context: &Context<'_>,
-    scope: &Scope,
+    context: &Context<'_, '_>,
+    scope: &Scope<'_>,
     task: &AtomText,
 ) -> Result<Option<CheckFault>, AllocError>
     ensures { IfOk result (Finds (Fails context.now (Subtask (record { variables = scope.now; atom = task.now })))) }
@@ -81,8 +81,8 @@ fn check_subtask(
 
 /// A side of an equality that isn't known.
 pub(crate) fn check_equality(
-    context: &Context<'_>,
-    scope: &Scope,
+    context: &Context<'_, '_>,
+    scope: &Scope<'_>,
     equality: &EqualityText,
 ) -> Result<Option<CheckFault>, AllocError>
     ensures { IfOk result (Finds (AnyFails context.now (map Side (sides scope.now equality.now)))) }
@@ -94,8 +94,8 @@ pub(crate) fn check_equality(
 
 /// A fault of atoms.
 pub fn check_atoms(
-    context: &Context<'_>,
-    scope: &Scope,
+    context: &Context<'_, '_>,
+    scope: &Scope<'_>,
     atoms: &[AtomText],
 ) -> Result<Option<CheckFault>, AllocError>
     ensures { IfOk result (Finds (AnyFails context.now (map Atom (map (λ a. record { variables = scope.now; atom = a }) atoms.now)))) }
@@ -109,8 +109,8 @@ pub fn check_atoms(
 
 /// A fault of the atoms of effects.
 pub fn check_effects(
-    context: &Context<'_>,
-    scope: &Scope,
+    context: &Context<'_, '_>,
+    scope: &Scope<'_>,
     effects: &[LiteralText],
 ) -> Result<Option<CheckFault>, AllocError>
     ensures { IfOk result (Finds (AnyFails context.now (map Atom (map (λ l. record { variables = scope.now; atom = l.atom }) effects.now)))) }
@@ -124,8 +124,8 @@ pub fn check_effects(
 
 /// A fault of the tasks of a network.
 pub fn check_tasks_used(
-    context: &Context<'_>,
-    scope: &Scope,
+    context: &Context<'_, '_>,
+    scope: &Scope<'_>,
     subtasks: &[SubtaskText],
 ) -> Result<Option<CheckFault>, AllocError>
     ensures { IfOk result (Finds (AnyFails context.now (map Subtask (map (λ s. record { variables = scope.now; atom = s.task }) subtasks.now)))) }
@@ -139,8 +139,8 @@ pub fn check_tasks_used(
 
 /// A side of a constraint that isn't known.
 pub fn check_constraints(
-    context: &Context<'_>,
-    scope: &Scope,
+    context: &Context<'_, '_>,
+    scope: &Scope<'_>,
     constraints: &[EqualityText],
 ) -> Result<Option<CheckFault>, AllocError>
     ensures { IfOk result (Finds (AnyFails context.now (map Side (flat_map (sides scope.now) constraints.now)))) }

@@ -16,13 +16,14 @@ group_types names g = map (λ _. number_in names (text_or_object (option_map men
 pub loop-group-preserved : goal.loop-group-preserved
 unfolding group_types
 loop-group-preserved c =
-    flat_step (group_types c.args.vocabulary.now.types) c.new-types.result.items c.loop-group.types.items c.push_group.new.types.items c.args.groups.now
-    c.loop-group.group-index c.group-item.result (search rules) c.group-item.is c.loop-group.invariant (search rules)
+    flat_step (group_types c.args.vocabulary.now.types) c.in_ok-types.types.items c.loop-group.types.items c.push_group.new.types.items c.args.groups.now
+    c.loop-group.group-index c.group-item.result (search rules) c.group-item.is c.loop-group.invariant
+    (c.in_ok-push_group.ensures ∙ ap (λ (names : List Text). c.loop-group.types.items ++ group_types names c.group-item.result) c.types.ensures)
 
 pub returns : goal.returns
 unfolding group_types
 returns c =
-    flat_end (group_types c.args.vocabulary.now.types) c.new-types.result.items c.loop-group.types.items c.args.groups.now c.loop-group.group-index
+    flat_end (group_types c.args.vocabulary.now.types) c.in_ok-types.types.items c.loop-group.types.items c.args.groups.now c.loop-group.group-index
     c.loop-group-test.false c.loop-group.invariant
-    ∙ ap (λ (l : List ℕ). l ++ flat_map (group_types c.args.vocabulary.now.types) c.args.groups.now) c.new-types.ensures.items
+    ∙ ap (λ (l : List ℕ). l ++ flat_map (group_types c.args.vocabulary.now.types) c.args.groups.now) c.in_ok-types.ensures.items
     ∙ sym (types_by_group c.args.vocabulary.now c.args.groups.now)

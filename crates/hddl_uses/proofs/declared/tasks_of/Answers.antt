@@ -9,6 +9,6 @@ pub returns : goal.returns
 returns c =
     let d = c.args.domain.now in
     let tasks : IsTableOf (map (λ x. signature x.name x.parameters) d.tasks) c.push_tasks.new.self =
-    subst (λ (xs : List TaskText). IsTableOf (map (λ x. signature x.name x.parameters) xs) c.push_tasks.new.self) c.as_slice.ensures (c.in_ok-push_tasks.ensures [] c.new-table.ensures) in
+    subst (λ (xs : List TaskText). IsTableOf (map (λ x. signature x.name x.parameters) xs) c.push_tasks.new.self) c.as_slice.ensures (c.in_ok-push_tasks.ensures [] c.in_ok-table.ensures) in
     subst (λ (xs : List ActionText). IsTableOf (map (λ x. signature x.name x.parameters) d.tasks ++ map (λ x. signature x.name x.parameters) xs) c.push_actions.new.self)
     c.as_slice-2.ensures (c.in_ok-push_actions.ensures (map (λ x. signature x.name x.parameters) d.tasks) tasks)

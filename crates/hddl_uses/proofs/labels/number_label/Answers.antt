@@ -13,7 +13,7 @@ returns-after-is_none c =
     let es = c.args.numbers.now in
     let n = c.args.number in
     let named = folded c.in-Some.name.text in
-    let text_is : c.in_ok-text.text.items ≡ named = c.in_ok-text.ensures ∙ ap folded c.text.ensures.value in
+    let text_is : c.in_ok-text.text ≡ named = c.in_ok-text.ensures ∙ ap folded c.text.ensures.value in
     let known : c.get.result ≡ number_at es named = c.get.ensures ∙ ap (number_at es) (c.as_slice.ensures ∙ text_is) in
     λ t.
     elim c.if-is_none.branch [

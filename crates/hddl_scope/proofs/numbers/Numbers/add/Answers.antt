@@ -6,14 +6,14 @@ use Rattle.hddl_scope.specs.declared.numbers.Numbered.{Numbered}
 use Rattle.hddl_scope.proofs.Entries.{absent_after, added_first, added_later, number_at-entries}
 use Rattle.hddl_scope.proofs.numbers.Numbers.add.Goals as goal
 
-pub returns-then-len-lt-FEW-clause-ok : goal.returns-then-len-lt-FEW-clause-ok
-returns-then-len-lt-FEW-clause-ok c =
+pub returns-then-len-self-clause-ok : goal.returns-then-len-self-clause-ok
+returns-then-len-self-clause-ok c =
     let few = c.self.inside.few.items in
     let rest = c.self.inside.rest.entries in
     let added : Numbered = record { text = c.in_ok-text.text; number = c.args.number } in
     let text : c.in_ok-text.text.items ≡ c.args.text.now = c.in_ok-text.ensures.ok in
     ap (λ ns. numbered ns ++ entries_of rest) c.in_ok-push.ensures.items
-    ∙ added_first few rest added (c.self.invariant.1 (omega (arith, c.len.ensures, c.self.inside.few.ok.0, c.if-len-lt-FEW.true)))
+    ∙ added_first few rest added (c.self.invariant.2 (omega (arith, c.len.ensures, c.self.inside.few.ok.0, c.if-len-self.true)))
     ∙ (λ i. c.self.view_is i ++ (text i, c.args.number) ∷ [])
 
 pub returns-clause-ok : goal.returns-clause-ok

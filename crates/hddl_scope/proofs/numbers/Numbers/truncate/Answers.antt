@@ -11,8 +11,11 @@ invariant_of-self c =
     let rest = c.self.inside.rest.entries in
     let left : c.saturating_sub.result ≡ n - length few = c.saturating_sub.ensures ∙ ap (λ k. n - k) (c.len.ensures ∙ c.self.inside.few.ok.0) in
     let items : c.truncate-2.new.self.items ≡ take n few = c.truncate-2.ensures.items in (
-      omega (arith, length-take n few, ap length items, c.self.invariant.0),
-      λ lt. c.truncate.ensures.entries ∙ ap (λ k. take k rest) left ∙ few_left n few rest c.self.invariant.1 (subst (λ l. length l < 8) items lt),
+      c.self.invariant.0,
+      omega (arith, length-take n few, ap length items, c.self.invariant.1),
+      λ lt.
+          c.truncate.ensures.entries ∙ ap (λ k. take k rest) left
+          ∙ few_left c.self.inside.limit n few rest c.self.invariant.2 (subst (λ l. length l < c.self.inside.limit) items lt),
     )
 
 pub returns : goal.returns

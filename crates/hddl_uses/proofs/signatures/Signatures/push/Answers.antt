@@ -14,7 +14,7 @@ pub returns : goal.returns
 returns c = λ signatures table.
     let old = c.args.self.now in
     let named = folded c.args.name.now.text in
-    let text_is : c.in_ok-text.text.items ≡ named = c.in_ok-text.ensures ∙ ap folded c.text.ensures.value in
+    let text_is : c.in_ok-text.text ≡ named = c.in_ok-text.ensures ∙ ap folded c.text.ensures.value in
     let known : c.get.result ≡ number_at old.numbers named = c.get.ensures ∙ ap (number_at old.numbers) (c.as_slice.ensures ∙ text_is) in
     let long : old.places.len ≡ length old.places.items = old.places.ok.0 in
     let kept : c.if-is_none.self.places.items ≡ old.places.items =
