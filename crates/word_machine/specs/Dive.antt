@@ -24,6 +24,6 @@ module _ {Configuration : Type 0} (m : WordMachine Configuration) where
 abbrev pub IsVisited : {C R P : Type 0} → WordMachine P → (P → Type 0) → Meaning C R P → C → Type 0
 IsVisited m belongs meaning c = IsOwned meaning belongs c × IsReached m (meaning.point c)
 
--- each is visited, and they are all that a word reaches that has fewer steps than these, with what is left of it at least
+-- each is visited, and whatever a word reaches that has fewer steps than these, with what is left of it at least, is one
 abbrev pub AreAllBelow : {C R P : Type 0} → WordMachine P → (P → Type 0) → (P → ℕ) → Meaning C R P → ℕ → List C → Type 0
 AreAllBelow m belongs lower meaning least keys = All (IsVisited m belongs meaning) keys × AreKeptBelow m lower least (map meaning.point keys)

@@ -156,8 +156,8 @@ impl<C: Eq + Hash + Drop> Closed<C> {
         self.configurations.contains(configuration)
     }
 
-    /// Whether leaving out another one, past the room by so much, tells nothing more: it is so far past it that it is not
-    /// counted, and some was left out that was no further.
+    /// Whether to leave out another one, past the room by so much, tells nothing more: some was left out that was no
+    /// further past it, and how far each is isn't counted so far past it.
     pub fn has_cut_within(&self, past: u64) -> bool
         ensures any { result ≡ true → self.now.cut.any ≡ true }
         ensures past { result ≡ true → self.now.cut.past ≤ past }
@@ -170,8 +170,8 @@ impl<C: Eq + Hash + Drop> Closed<C> {
         self.edge.ranks()
     }
 
-    /// How far past the bound a search lets in as many of those that were cut off as were kept; None if fewer than these
-    /// were less than 64 past it.
+    /// How far past the bound a search lets in as many of those that were cut off as were kept; None if fewer than
+    /// these were less than 64 past it.
     pub fn reach(&self) -> Option<u64> {
         self.overshoots.reach(self.configurations.len() as u64)
     }

@@ -29,8 +29,8 @@ fn least_bound<M: Machine>(machine: &M, tables: &M::Tables, initials: &[M::Confi
     least
 }
 
-// The bound of the next search, which is no less than the least that a word may need: as far as one that lets in as many
-// as were kept; and where so many weren't left out little past the bound, so many steps on.
+// The bound of the next search, which is no less than the least that a word may need: as far as one that lets in as
+// many as were kept; and where so many weren't left out little past the bound, so many steps on.
 fn next_bound(least: u64, wide: Option<u64>, step: u64) -> u64
     ensures { least ≤ result }
 {
@@ -82,9 +82,9 @@ fn search_open_nodes<M: Machine, G: Gate, R: Threads + Wait + Sync>(
 /// The answer of `find_word`, in tables that the caller goes on with. It searches by the machine's own bound on the
 /// steps that are left, within bounds that grow from the least of the initial configurations on, each so far that about
 /// as many more are looked at, or where few are little past one by steps that grow. Only where no word is found so, a
-/// dive looks for a configuration that tells that the bound was met, and where it finds none, a search by the open nodes
-/// tells whether it was. All go by the same tables. None where it is given up, once one of the searches has kept more
-/// than `most_kept` configurations; never where that is the greatest number.
+/// dive looks, among what these searches left out, for a configuration that tells that the bound was met, and where it
+/// finds none, a search by the open nodes tells whether it was. All go by the same tables. None where it is given up,
+/// once one of the searches has kept more than `most_kept` configurations; never where that is the greatest number.
 pub fn find_word_in<M: Machine, G: Gate, R: Threads + Wait + Sync>(
     rt: &R,
     alloc: Global,

@@ -160,8 +160,8 @@ fn keep_all<M: Machine>(
     Ok(())
 }
 
-// Keeps the successors of a configuration that a search left out. If one of them is done they are not listed, and none is
-// kept.
+// Keeps the successors of a configuration that a search left out. If one of them is done they are not listed, and none
+// is kept.
 fn expand<M: Machine>(
     alloc: Global,
     machine: &M,

@@ -60,7 +60,8 @@ fn number_if<M: Machine>(
 }
 
 /// Offers what workers reached to the closed list, in their order. There is room for so many steps more, by this
-/// measure. What is past it gets no number: where the tables have none for it, it is not in the list.
+/// measure. What is past it gets no number: where the tables have none for it, it is not in the list. What is far past
+/// it is passed over, once some was left out that was no further.
 pub fn merge<M: Machine>(
     machine: &M,
     tables: &mut M::Tables,

@@ -51,9 +51,10 @@ fn word_of_one(alloc: Global, number: u64) -> Result<Vec<u64>, AllocError>
 }
 
 /// The least finishing word within the bound, in a search that leaves out what this measure puts past it. Where none is
-/// known to finish within the bound, it ends with the level in which the first is left out. It is given up before a level
-/// where it has kept more than the limit, and never where the limit is the greatest number. The closed list is cleared first: searches within growing bounds use its room
-/// again.
+/// known to finish within the bound, it ends with the level in which the first is left out; else, where some were left
+/// out, the closed list has all that come before these. It is given up before a level where it has kept more than the
+/// limit, and never where the limit is the greatest number. The closed list is cleared first: searches within growing
+/// bounds use its room again.
 pub fn search<M: Machine, G: Gate, R: Threads + Wait + Sync>(
     rt: &R,
     alloc: Global,
