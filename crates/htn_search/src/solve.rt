@@ -1,5 +1,5 @@
 //! The search of a task.
-ghost use Rattle.std.specs.Prelude.{◌≡◌, ◌-◌, ◌^◌, ◌<◌, ◌↔◌, ◌⊎◌, IfErr, IfNone, IfOk, IfSome, IsTrue};
+ghost use Rattle.std.specs.Prelude.{◌≡◌, ℕ, ◌-◌, ◌^◌, ◌<◌, ◌↔◌, ◌⊎◌, IfErr, IfNone, IfOk, IfSome, IsTrue};
 ghost use Rattle.htn_answer.specs.Answered.{IsAnswered, IsExact};
 ghost use Rattle.htn_model.specs.Grounding.{problem_of};
 ghost use Rattle.htn_model.specs.Machine.{Finishes};
@@ -22,9 +22,9 @@ use task_machine::{Tables, TaskMachine};
 use tree_sizes::enumerate;
 use word_machine::{Bounds, Found, Gate, Machine, SearchFault, find_word_in};
 
-// How much is listed at most to find sizes and needs, and how many configurations a search by these keeps at most, before
-// more is listed. To list as much as a stage does takes no longer than to keep some times as many configurations; so
-// little is listed where little is needed, and no search takes much longer by what is listed for it.
+// How much is listed at most to find sizes and needs, and how many configurations a search by these keeps at most,
+// before more is listed. To list as much as a stage does takes no longer than to keep some times as many
+// configurations; so little is listed where little is needed, and no search takes much longer by what is listed for it.
 #[derive(Clone, Copy)]
 struct Stage {
     listed: u64,
@@ -151,6 +151,30 @@ pub fn find_word<G: Gate, R: Threads + Wait + Sync>(
     }
 }
 
+/// The answer that a search found, with the solution of its word by the tables of the search.
+fn answer_from(
+    alloc: Global,
+    task: &Task,
+    searched: &Searched<Tables>,
+) -> Result<Answer, AllocError>
+    requires own { AreTables task.now searched.now.tables }
+    requires found { (bound : ℕ) × IsAnswer (listing_machine task.now) bound searched.now.found }
+    ensures { IfOk result (λ answer. (bound : ℕ) → IsAnswer (listing_machine task.now) bound searched.now.found
+        → Answers task.now bound answer) }
+{
+    let _typed = task.objects();
+    match &searched.found {
+        Found::Word(ranks) => Ok(Answer::Plan(rebuild_listed(
+            alloc,
+            task,
+            &searched.tables,
+            ranks,
+        )?)),
+        Found::None => Ok(Answer::None),
+        Found::Unsolvable => Ok(Answer::Unsolvable),
+    }
+}
+
 /// The solution of fewest nodes and then of least code; or that none is within the bound, or none
 /// at all. `SearchFault::NoThread` never comes with one worker. No number of an instance is counted.
 pub fn search<G: Gate, R: Threads + Wait + Sync>(
@@ -163,13 +187,9 @@ pub fn search<G: Gate, R: Threads + Wait + Sync>(
     ensures answer { IfOk result (Answers task.now bounds.nodes) }
     ensures no_thread { IfErr result (λ e. e ≡ NoThread → 1 < bounds.workers) }
 {
-    let _typed = task.objects();
-    let Searched { found, tables } = find_ranks(rt, alloc, task, bounds, gate)?;
-    match found {
-        Found::Word(ranks) => Ok(Answer::Plan(rebuild_listed(alloc, task, &tables, &ranks)?)),
-        Found::None => Ok(Answer::None),
-        Found::Unsolvable => Ok(Answer::Unsolvable),
-    }
+    let searched = find_ranks(rt, alloc, task, bounds, gate)?;
+    let answer = answer_from(alloc, task, &searched)?;
+    Ok(answer)
 }
 
 /// Whether a word finishes: the numbers lead from an initial network to no open nodes with the goal
