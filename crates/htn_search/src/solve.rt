@@ -1,5 +1,5 @@
 //! The search of a task.
-ghost use Rattle.std.specs.Prelude.{◌≡◌, ℕ, ◌-◌, ◌^◌, ◌<◌, ◌↔◌, ◌⊎◌, IfErr, IfNone, IfOk, IfSome, IsTrue};
+ghost use Rattle.std.specs.Prelude.{◌≡◌, ℕ, ◌-◌, ◌^◌, ◌<◌, ◌↔◌, IfErr, IfNone, IfOk, IfSome, IsTrue, false, true};
 ghost use Rattle.htn_answer.specs.Answered.{IsAnswered, IsExact};
 ghost use Rattle.htn_model.specs.Grounding.{problem_of};
 ghost use Rattle.htn_model.specs.Machine.{Finishes};
@@ -75,9 +75,10 @@ fn search_by<M: Machine, G: Gate, R: Threads + Wait + Sync>(
     }
 }
 
-/// How many configurations are kept at most, where more would be listed with a greater limit or not.
+/// How many configurations are kept at most: as many as are held where more would not be listed with a greater limit.
 fn most_kept(stage: Stage, is_cut: bool) -> usize
-    ensures { result ≡ stage.kept ⊎ result ≡ 2 ^ 64 - 1 }
+    ensures cut { is_cut ≡ true → result ≡ stage.kept }
+    ensures whole { is_cut ≡ false → result ≡ 2 ^ 64 - 1 }
 {
     if is_cut { stage.kept } else { usize::MAX }
 }

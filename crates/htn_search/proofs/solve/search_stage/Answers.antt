@@ -1,5 +1,5 @@
 use denote.Param.Send.{arg_sync, param_sync, recorded_sync, shr_sync, struct_sync}
-use Rattle.std.proofs.Common.{◌≡◌, ◌⊎◌, ℕ, ◌<◌, ◌^◌, ◌-◌, subst, arith}
+use Rattle.std.proofs.Common.{◌≡◌, ℕ, Bool, true, false, ◌<◌, ◌^◌, ◌-◌, refl, subst, arith}
 use Rattle.std.specs.Prelude.{IfNone, IfOk, IfSome}
 use Rattle.std.proofs.lemmas.Option.{IfSome_then}
 use Rattle.std.proofs.lemmas.Result.{IfOk-weaker}
@@ -11,9 +11,11 @@ use Rattle.task_machine.specs.Tables.{AreTables}
 use Rattle.htn_search.proofs.Shared.{beside, both, task_sync}
 use Rattle.htn_search.proofs.solve.search_stage.Goals as goal
 
--- a limit that is the stage's, or the greatest number, is past only where the stage's is less than that
-less : (most_kept kept : ℕ) → (most_kept ≡ kept) ⊎ (most_kept ≡ 2 ^ 64 - 1) → most_kept < 2 ^ 64 - 1 → kept < 2 ^ 64 - 1
-less most_kept kept is l = omega arith
+-- a search that is given up past its limit is given up past the stage's
+less : (is_cut : Bool) (most_kept kept : ℕ) → (is_cut ≡ true → most_kept ≡ kept) → (is_cut ≡ false → most_kept ≡ 2 ^ 64 - 1)
+    → most_kept < 2 ^ 64 - 1 → kept < 2 ^ 64 - 1
+less true most_kept kept cut whole l = omega (arith, cut refl)
+less false most_kept kept cut whole l = omega (arith, whole refl)
 
 pub search_by-requires-sync-M : goal.search_by-requires-sync-M
 search_by-requires-sync-M g c κs within = search (both, tt, param_sync, arg_sync, recorded_sync, struct_sync, shr_sync, task_sync, beside) depth 60 fits 20000
@@ -33,7 +35,7 @@ pub returns-clause-given_up : goal.returns-clause-given_up
 returns-clause-given_up g c =
     let limit = c.most_kept-kept.result in
     IfOk-weaker c.search_by.result (λ o. IfNone o (limit < 2 ^ 64 - 1)) (λ o. IfNone o (c.args.stage.kept < 2 ^ 64 - 1))
-    (λ o h. IfNone-weaker o (less limit c.args.stage.kept c.most_kept-kept.ensures) h)
+    (λ o h. IfNone-weaker o (less c.is_cut.result limit c.args.stage.kept c.most_kept-kept.ensures.cut c.most_kept-kept.ensures.whole) h)
     c.search_by.ensures.given_up
 
 pub returns-clause-no_thread : goal.returns-clause-no_thread
