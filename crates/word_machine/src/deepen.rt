@@ -40,12 +40,16 @@ fn next_bound(least: u64, wide: Option<u64>, step: u64) -> u64
     }
 }
 
-// How many steps on the next bound is to be, the next time that few are left out little past one: none at first, and
-// then about four times as many each time.
+// The longest step: a bound that goes further lets in nearly all, and so it may let in all.
+const LONGEST_STEP: u64 = 15;
+
+// How many steps on the next bound is to be, the next time that few are left out little past one: none at first, then
+// about four times as many each time, and in the end as many as there may be.
 fn next_step(wide: Option<u64>, step: u64) -> u64 {
     match wide {
         Some(_) => 0,
-        None => step.saturating_mul(4).saturating_add(3),
+        None if step < LONGEST_STEP => step.saturating_mul(4).saturating_add(3),
+        None => u64::MAX,
     }
 }
 
