@@ -103,7 +103,18 @@ fn lay<W: Expand>(
     }
 }
 
-// Puts the slots end to end.
+// How many the slots hold, as far as a number goes.
+fn total_len<S: Drop>(slots: &[Option<Vec<S>>]) -> usize {
+    let mut total: usize = 0;
+    for slot in slots {
+        if let Some(successors) = slot {
+            total = total.saturating_add(successors.len());
+        }
+    }
+    total
+}
+
+// Puts the slots end to end, in room that is made for all of them at once.
 fn join_slots<W: Expand>(
     alloc: Global,
     level: Level<W>,
@@ -115,7 +126,7 @@ fn join_slots<W: Expand>(
     requires cover { level.last ≤ level.first + vec_len slots * level.piece }
     ensures { IfOk result (λ successors. AreSuccessors (W.has_successors level.entry.work.now) level.entry.first level.entry.last successors.items) }
 {
-    let mut all = Vec::new(alloc);
+    let mut all = Vec::with_capacity(alloc, total_len(&slots))?;
     for slot in slots {
         let Some(mut successors) = slot else {
             unreachable!()

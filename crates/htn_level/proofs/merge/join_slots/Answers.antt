@@ -16,7 +16,7 @@ loop-slot-init g c =
         counted = let same = whole.1 in omega arith;
         full = subst (All IsSome) (sym whole.0) c.requires.full;
         held = subst (HoldsFrom has_successors level.first level.last level.piece 0) (sym whole.0) (from_start has_successors level.first level.last level.piece c.args.slots.items c.requires.held);
-        joined = of_none has_successors level.first level.last level.piece c.new-all.result.items c.requires.ordered (subst (AreSuccessors has_successors level.first level.first) (sym c.new-all.ensures.items) (no_ranks has_successors level.first));
+        joined = of_none has_successors level.first level.last level.piece c.in_ok-all.all.items c.requires.ordered (subst (AreSuccessors has_successors level.first level.first) (sym c.in_ok-all.ensures.items) (no_ranks has_successors level.first));
       },
     )
 
