@@ -201,10 +201,10 @@ module _ (target : ℕ) (initials : List Tally) (c : Tally) (free : c.stuck ≡ 
   }
 
   -- and where it is not, these are the successors
-  pub both_successors : (rank : ℕ) (s t : Successor Tally) → s.origin ≡ Stepped rank 0 → s.configuration ≡ carried c → t.origin ≡ Stepped rank 1 → t.configuration ≡ doubled c
+  pub both_successors : (beyond : Tally → Type 0) (rank : ℕ) (s t : Successor Tally) → s.origin ≡ Stepped rank 0 → s.configuration ≡ carried c → t.origin ≡ Stepped rank 1 → t.configuration ≡ doubled c
       → (IsDone (counting target initials) (carried c) → ⊥)
-      → IsExpansionOf (IsLiveStep (counting target initials)) (IsDone (counting target initials)) rank c (s ∷ t ∷ [])
-  both_successors rank s t s_from s_is t_from t_is undone =
+      → IsExpansionOf (IsLiveStep (counting target initials)) (IsDone (counting target initials)) beyond rank c (s ∷ t ∷ [])
+  both_successors beyond rank s t s_from s_is t_from t_is undone =
       let both = both_numbers target initials c free some in
       let first : IsSuccessor (IsLiveStep (counting target initials)) (IsDone (counting target initials)) rank c 0 s = record {
         origin = s_from;
@@ -216,11 +216,11 @@ module _ (target : ℕ) (initials : List Tally) (c : Tally) (free : c.stuck ≡ 
         step = subst (IsLiveStep (counting target initials) c 1) (sym t_is) (doubles c free some, λ dead. true≢false (sym dead));
         unfinished = λ done. (let none : (doubled c).tasks ≡ 0 = (lawful_closed target initials (doubled c) (subst (IsDone (counting target initials)) t_is done)) in omega arith);
       } in
-      record { numbers = 0 ∷ 1 ∷ []; ascending = both.ascending; each = (first, (second, tt)); all = both.all }
+      record { numbers = 0 ∷ 1 ∷ []; ascending = both.ascending; each = (first, (second, tt)); all = λ n d step. inl (both.all n d step) }
 
 -- none where it was given up or all is carried out
-pub no_successors : (target : ℕ) (initials : List Tally) (c : Tally) → (c.stuck ≡ true) ⊎ (c.tasks ≡ 0) → (rank : ℕ)
-    → IsExpansionOf (IsLiveStep (counting target initials)) (IsDone (counting target initials)) rank c []
-no_successors target initials c over rank =
+pub no_successors : (target : ℕ) (initials : List Tally) (c : Tally) → (c.stuck ≡ true) ⊎ (c.tasks ≡ 0) → (beyond : Tally → Type 0) (rank : ℕ)
+    → IsExpansionOf (IsLiveStep (counting target initials)) (IsDone (counting target initials)) beyond rank c []
+no_successors target initials c over beyond rank =
     let none = no_numbers target initials c over in
-    record { numbers = []; ascending = none.ascending; each = tt; all = none.all }
+    record { numbers = []; ascending = none.ascending; each = tt; all = λ n d step. inl (none.all n d step) }

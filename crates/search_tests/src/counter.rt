@@ -6,7 +6,7 @@ ghost use Rattle.word_machine.specs.declared.closed.Origin.TheVariants.{Step};
 
 use crate::tallies::{Numbered, Reached, Tallies, Tally};
 use std::alloc::{AllocError, Global};
-use word_machine::{Machine, Origin, Successor};
+use word_machine::{Horizon, Machine, Origin, Successor};
 
 /// Two tallies to begin with, tasks and values below 1,000, and the value that is wanted.
 #[derive(Clone, Copy, Debug)]
@@ -143,6 +143,7 @@ impl Machine for Counter {
         tables: &Tallies,
         rank: usize,
         from: Numbered,
+        _horizon: Horizon,
         successors: &mut Vec<Successor<Reached>>,
     ) -> Result<Option<u64>, AllocError> {
         let tally = tables.tally(from);

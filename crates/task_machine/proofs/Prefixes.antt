@@ -60,17 +60,17 @@ rises_push xs x rises below k inside =
           omega arith)
     ]
 
-module _ {C : Type 0} (m : WordMachine C) (p : ℕ) (c : C) where
+module _ {C : Type 0} (m : WordMachine C) (beyond : C → Type 0) (p : ℕ) (c : C) where
   -- a number leads to one at most
   one_live : (n : ℕ) (d e : C) → IsLiveStep m c n d → IsLiveStep m c n e → d ≡ e
   one_live n d e s t = same_Some d e (sym s.0 ∙ t.0)
 
   -- a successor by a number below the bound
   abbrev IsBelow : ℕ → ℕ → Successor C → Type 0
-  IsBelow bound = IsSuccessor (StepBelow m bound) (IsDone m) p c
+  IsBelow bound = IsSuccessor (StepBelow m beyond bound) (IsDone m) p c
 
   -- none by no numbers
-  pub prefix_none : IsPrefix m p c 0 []
+  pub prefix_none : IsPrefix m beyond p c 0 []
   prefix_none = record {
     numbers = [];
     ascending = λ k inside. absurd (omega arith);
@@ -87,8 +87,8 @@ module _ {C : Type 0} (m : WordMachine C) (p : ℕ) (c : C) where
   }
 
   -- a number that leads nowhere changes nothing
-  pub prefix_skip : (bound : ℕ) (xs : List (Successor C)) → IsPrefix m p c bound xs
-      → ((d : C) → IsLiveStep m c bound d → ⊥) → IsPrefix m p c (bound + 1) xs
+  pub prefix_skip : (bound : ℕ) (xs : List (Successor C)) → IsPrefix m beyond p c bound xs
+      → ((d : C) → IsLiveStep m c bound d → ⊥) → IsPrefix m beyond p c (bound + 1) xs
   prefix_skip bound xs of none = record {
     numbers = of.numbers;
     ascending = of.ascending;
@@ -102,15 +102,32 @@ module _ {C : Type 0} (m : WordMachine C) (p : ℕ) (c : C) where
     ];
   }
 
+  -- a number that leads to what may be left out changes nothing
+  pub prefix_past : (bound : ℕ) (xs : List (Successor C)) → IsPrefix m beyond p c bound xs → (d : C) → IsLiveStep m c bound d
+      → (IsDone m d → ⊥) × beyond d → IsPrefix m beyond p c (bound + 1) xs
+  prefix_past bound xs of d step missed = record {
+    numbers = of.numbers;
+    ascending = of.ascending;
+    each = all_zip_by (IsBelow bound) (IsBelow (bound + 1)) (raised bound) of.numbers xs of.each;
+    all = λ n e leads. elim (cases_lt n bound) [
+      | inl low ↦ of.all n e (leads.0, low)
+      | inr high ↦ (
+          let under : n < bound + 1 = leads.1 in
+          let same : n ≡ bound = omega arith in
+          let own : d ≡ e = one_live bound d e step (subst (λ k. IsLiveStep m c k e) same leads.0) in
+          inr (subst (λ x. (IsDone m x → ⊥) × beyond x) own missed))
+    ];
+  }
+
   -- a number of the prefix is below the bound
-  under : (bound : ℕ) (xs : List (Successor C)) (of : IsPrefix m p c bound xs) (k : ℕ) → k < length of.numbers
+  under : (bound : ℕ) (xs : List (Successor C)) (of : IsPrefix m beyond p c bound xs) (k : ℕ) → k < length of.numbers
       → get_or of.numbers k 0 < bound
   under bound xs of k inside = (all_zip_beside (IsBelow bound) of.numbers xs k 0 of.each inside).1.step.1
 
   -- the successor by the next number goes last
-  pub prefix_more : (bound : ℕ) (xs : List (Successor C)) → IsPrefix m p c bound xs → (d : C)
+  pub prefix_more : (bound : ℕ) (xs : List (Successor C)) → IsPrefix m beyond p c bound xs → (d : C)
       → IsLiveStep m c bound d → (IsDone m d → ⊥)
-      → IsPrefix m p c (bound + 1) (xs ++ record { origin = Stepped p bound; configuration = d } ∷ [])
+      → IsPrefix m beyond p c (bound + 1) (xs ++ record { origin = Stepped p bound; configuration = d } ∷ [])
   prefix_more bound xs of d step unfinished = record {
     numbers = of.numbers ++ bound ∷ [];
     ascending = rises_push of.numbers bound of.ascending (under bound xs of);
@@ -119,18 +136,21 @@ module _ {C : Type 0} (m : WordMachine C) (p : ℕ) (c : C) where
         (all_zip_by (IsBelow bound) (IsBelow (bound + 1)) (raised bound) of.numbers xs of.each)
         (record { origin = refl; step = (step, omega arith); unfinished = unfinished });
     all = λ n e leads. elim (cases_lt n bound) [
-      | inl low ↦ Contains-append_left of.numbers (bound ∷ []) n (of.all n e (leads.0, low))
+      | inl low ↦ elim (of.all n e (leads.0, low)) [
+        | inl there ↦ inl (Contains-append_left of.numbers (bound ∷ []) n there)
+        | inr missed ↦ inr missed
+      ]
       | inr high ↦ (
           let low : n < bound + 1 = leads.1 in
           let same : bound ≡ n = omega arith in
           let inside : 0 < length (bound ∷ []) = omega arith in
-          Contains-append_right of.numbers (bound ∷ []) n (0, inside, same))
+          inl (Contains-append_right of.numbers (bound ∷ []) n (0, inside, same)))
     ];
   }
 
   -- past all that leads on, they are the whole expansion
-  pub prefix_whole : (bound : ℕ) (xs : List (Successor C)) → IsPrefix m p c bound xs
-      → ((n : ℕ) (d : C) → IsLiveStep m c n d → n < bound) → IsExpansionOf (IsLiveStep m) (IsDone m) p c xs
+  pub prefix_whole : (bound : ℕ) (xs : List (Successor C)) → IsPrefix m beyond p c bound xs
+      → ((n : ℕ) (d : C) → IsLiveStep m c n d → n < bound) → IsExpansionOf (IsLiveStep m) (IsDone m) beyond p c xs
   prefix_whole bound xs of within = record {
     numbers = of.numbers;
     ascending = of.ascending;
@@ -141,22 +161,24 @@ module _ {C : Type 0} (m : WordMachine C) (p : ℕ) (c : C) where
   }
 
   -- the next number is the least that leads to a done one
-  pub prefix_done : (bound : ℕ) (xs : List (Successor C)) → IsPrefix m p c bound xs → (d : C)
+  pub prefix_done : (bound : ℕ) (xs : List (Successor C)) → IsPrefix m beyond p c bound xs → (d : C)
       → IsLiveStep m c bound d → IsDone m d → IsLeastDone (IsLiveStep m) (IsDone m) c bound
   prefix_done bound xs of d step done = record {
     to = d;
     step = step;
     done = done;
-    least = λ n e low leads finish. (
-        let place = of.all n e (leads, low) in
-        let beside = all_zip_beside (IsBelow bound) of.numbers xs place.0 n of.each place.1 in
-        let live = subst (λ k. IsLiveStep m c k beside.0.configuration) place.2 beside.1.step.0 in
-        beside.1.unfinished (subst (IsDone m) (one_live n e beside.0.configuration leads live) finish));
+    least = λ n e low leads finish. elim (of.all n e (leads, low)) [
+      | inl place ↦
+          let beside = all_zip_beside (IsBelow bound) of.numbers xs place.0 n of.each place.1 in
+          let live = subst (λ k. IsLiveStep m c k beside.0.configuration) place.2 beside.1.step.0 in
+          beside.1.unfinished (subst (IsDone m) (one_live n e beside.0.configuration leads live) finish)
+      | inr missed ↦ missed.0 finish
+    ];
   }
 
 -- ## By what the successors stand for
 
-module _ {C R P : Type 0} (m : WordMachine P) (meaning : Meaning C R P)
+module _ {C R P : Type 0} (m : WordMachine P) (meaning : Meaning C R P) (beyond : P → Type 0)
     (undead : (c : P) (n : ℕ) → m.is_dead c n ≡ false) (p : ℕ) (c : C) where
   -- the tables have what it reached
   abbrev IsAllowed : Successor R → Type 0
@@ -171,35 +193,35 @@ module _ {C R P : Type 0} (m : WordMachine P) (meaning : Meaning C R P)
   alive n d leads = (leads, λ dead. true≢false (sym dead ∙ undead (meaning.point c) n))
 
   -- at first there are none
-  pub made_none : (old : List (Successor R)) → IsMade m meaning p c 0 old old
+  pub made_none : (old : List (Successor R)) → IsMade m meaning beyond p c 0 old old
   made_none old = record {
     more = [];
     pushed = sym (append-nil old);
     allowed = All-nil IsAllowed;
-    prefix = prefix_none m p (meaning.point c);
+    prefix = prefix_none m beyond p (meaning.point c);
   }
 
-  module _ (n : ℕ) (old new : List (Successor R)) (so : IsMade m meaning p c n old new) where
+  module _ (n : ℕ) (old new : List (Successor R)) (so : IsMade m meaning beyond p c n old new) where
     -- past all that leads on, all of them were made
     pub made_whole : ((k : ℕ) → n ≤ k → m.step (meaning.point c) k ≡ None)
-        → (more : List (Successor R)) × (new ≡ old ++ more) × AreSuccessors m meaning p c more
+        → (more : List (Successor R)) × (new ≡ old ++ more) × AreSuccessors m meaning beyond p c more
     made_whole none =
         let low = λ (k : ℕ) (d : P) (step : IsLiveStep m (meaning.point c) k d). elim (cases_lt k n) as (λ _. k < n) [
           | inl low ↦ low
           | inr high ↦ absurd (none-some d (sym (none k high) ∙ step.0))
         ] in
-        (so.more, so.pushed, (so.allowed, prefix_whole m p (meaning.point c) n (views so.more) so.prefix low))
+        (so.more, so.pushed, (so.allowed, prefix_whole m beyond p (meaning.point c) n (views so.more) so.prefix low))
 
     module _ (o : Option R) (at : IsReached m meaning c n o) where
       -- a number that leads nowhere
-      pub made_skip : o ≡ None → IsMade m meaning p c (n + 1) old new
+      pub made_skip : o ≡ None → IsMade m meaning beyond p c (n + 1) old new
       made_skip none =
           let nowhere : m.step (meaning.point c) n ≡ None = at.leads ∙ ap (option_map meaning.point_of) none in
           record {
             more = so.more;
             pushed = so.pushed;
             allowed = so.allowed;
-            prefix = prefix_skip m p (meaning.point c) n (views so.more) so.prefix
+            prefix = prefix_skip m beyond p (meaning.point c) n (views so.more) so.prefix
                 (λ d step. none-some d (sym nowhere ∙ step.0));
           }
 
@@ -209,24 +231,34 @@ module _ {C R P : Type 0} (m : WordMachine P) (meaning : Meaning C R P)
         leads_to = alive n (meaning.point_of r) (at.leads ∙ ap (option_map meaning.point_of) some)
 
         -- a number that leads to what is not done
-        pub made_more : m.is_done (meaning.point_of r) ≡ false
-            → IsMade m meaning p c (n + 1) old (new ++ record { origin = Stepped p n; configuration = r } ∷ [])
-        made_more unfinished =
-            let s : Successor R = record { origin = Stepped p n; configuration = r } in
-            let may : meaning.allows r = subst (λ x. IfSome x meaning.allows) some at.allowed in
+        pub made_more : m.is_done (meaning.point_of r) ≡ false → (q : R) → meaning.allows q → meaning.point_of q ≡ meaning.point_of r
+            → IsMade m meaning beyond p c (n + 1) old (new ++ record { origin = Stepped p n; configuration = q } ∷ [])
+        made_more unfinished q may same =
+            let s : Successor R = record { origin = Stepped p n; configuration = q } in
             record {
               more = so.more ++ s ∷ [];
               pushed = ap (λ l. l ++ s ∷ []) so.pushed ∙ append_assoc old so.more (s ∷ []);
               allowed = All-append IsAllowed so.more (s ∷ []) so.allowed
                   (All-cons IsAllowed s [] may (All-nil IsAllowed));
-              prefix = subst (IsPrefix m p (meaning.point c) (n + 1))
+              prefix = subst (IsPrefix m beyond p (meaning.point c) (n + 1))
                   (sym (map-append (successor_at meaning.point_of) so.more (s ∷ [])))
-                  (prefix_more m p (meaning.point c) n (views so.more) so.prefix (meaning.point_of r) leads_to
-                  (λ done. true≢false (sym done ∙ unfinished)));
+                  (prefix_more m beyond p (meaning.point c) n (views so.more) so.prefix (meaning.point_of q)
+                  (subst (IsLiveStep m (meaning.point c) n) (sym same) leads_to)
+                  (λ done. true≢false (sym done ∙ ap m.is_done same ∙ unfinished)));
             }
+
+        -- a number that leads to what is beyond, and not done
+        pub made_past : m.is_done (meaning.point_of r) ≡ false → beyond (meaning.point_of r) → IsMade m meaning beyond p c (n + 1) old new
+        made_past unfinished far = record {
+          more = so.more;
+          pushed = so.pushed;
+          allowed = so.allowed;
+          prefix = prefix_past m beyond p (meaning.point c) n (views so.more) so.prefix (meaning.point_of r) leads_to
+              (λ done. true≢false (sym done ∙ unfinished), far);
+        }
 
         -- a number that leads to what is done is the least
         pub made_done : m.is_done (meaning.point_of r) ≡ true
             → IsLeastDone (IsLiveStep m) (IsDone m) (meaning.point c) n
         made_done done =
-            prefix_done m p (meaning.point c) n (views so.more) so.prefix (meaning.point_of r) leads_to done
+            prefix_done m beyond p (meaning.point c) n (views so.more) so.prefix (meaning.point_of r) leads_to done

@@ -5,23 +5,23 @@ use Rattle.word_machine.specs.Expansion.{IsExpansionOf}
 use Rattle.word_machine.specs.Machine.{WordMachine, IsDone, IsLiveStep}
 use Rattle.word_machine.specs.Meaning.{Meaning, successor_at}
 
-module _ {C : Type 0} (m : WordMachine C) where
+module _ {C : Type 0} (m : WordMachine C) (beyond : C → Type 0) where
   -- a step by a number below the bound
   abbrev pub StepBelow : ℕ → C → ℕ → C → Type 0
   StepBelow bound c n d = IsLiveStep m c n d × (n < bound)
 
   -- the successors of c, which has this rank, by the numbers below the bound: one for each that leads on, in order,
-  -- none of them done
+  -- none of them done; what is beyond something may be left out
   abbrev pub IsPrefix : ℕ → C → ℕ → List (Successor C) → Type 0
-  IsPrefix rank c bound successors = IsExpansionOf (StepBelow bound) (IsDone m) rank c successors
+  IsPrefix rank c bound successors = IsExpansionOf (StepBelow bound) (IsDone m) beyond rank c successors
 
 -- what a list got of the successors of c so far: those by the numbers below the bound
-pub record IsMade {C R P : Type 0} (m : WordMachine P) (meaning : Meaning C R P) (rank : ℕ) (c : C) (bound : ℕ)
-    (old new : List (Successor R)) : Type 0 where
+pub record IsMade {C R P : Type 0} (m : WordMachine P) (meaning : Meaning C R P) (beyond : P → Type 0)
+    (rank : ℕ) (c : C) (bound : ℕ) (old new : List (Successor R)) : Type 0 where
   pub more : List (Successor R)
   pub pushed : new ≡ old ++ more
   pub allowed : All (λ s. meaning.allows s.configuration) more
-  pub prefix : IsPrefix m rank (meaning.point c) bound (map (successor_at meaning.point_of) more)
+  pub prefix : IsPrefix m beyond rank (meaning.point c) bound (map (successor_at meaning.point_of) more)
 
 -- the number leads to this, if it leads on
 pub record IsReached {C R P : Type 0} (m : WordMachine P) (meaning : Meaning C R P) (c : C) (number : ℕ)

@@ -1,5 +1,5 @@
 //! The successors of a configuration.
-ghost use Rattle.std.specs.Prelude.{◌≡◌, ◌<◌, ◌++◌, List, length, option_map, IfOk, IfSome, IfNone, IsSome, OnErr};
+ghost use Rattle.std.specs.Prelude.{true, false, ◌≡◌, ◌<◌, ◌++◌, List, length, option_map, IfOk, IfSome, IfNone, IsSome, OnErr};
 ghost use Rattle.htn_model.specs.Grounding.{problem_of};
 ghost use Rattle.htn_model.specs.Levels.{is_done};
 ghost use Rattle.htn_model.specs.Literal.{Action as ModelAction};
@@ -14,6 +14,8 @@ ghost use Rattle.word_machine.specs.Expansion.{IsLeastDone};
 ghost use Rattle.word_machine.specs.Machine.{IsDone, IsLiveStep};
 ghost use Rattle.word_machine.specs.Meaning.{AreSuccessors};
 ghost use Rattle.word_machine.specs.declared.closed.Successor.{Successor};
+ghost use Rattle.task_machine.specs.Bounds.{BelongsTo, lies_beyond};
+ghost use Rattle.task_machine.specs.Owned.{AreOwned};
 ghost use Rattle.task_machine.specs.Meaning.{allows, config_in, knows, meaning, point, point_of, state_at};
 ghost use Rattle.task_machine.specs.Prefix.{IsReached};
 ghost use Rattle.task_machine.specs.Steps.{rank_count, removed};
@@ -27,23 +29,25 @@ use crate::tables::Tables;
 use network_table::{Expansion, Removal};
 use state_table::{BitState, CompiledAction};
 use std::alloc::AllocError;
-use word_machine::{Origin, Successor};
+use word_machine::{Horizon, Machine, Measure, Origin, Successor};
 
 impl Tables {
-    /// A state with a network, by its number if it has one. It takes no memory.
-    fn reached(&self, state: BitState, network: u32) -> Reached
-        requires set { IsSetOf self.now.atoms state }
-        requires known { Knows self.now.networks network }
+    /// What was reached, by the number of its state if that has one. It takes no memory.
+    fn looked_up(&self, reached: Reached) -> Reached
+        requires { allows self.now reached }
         ensures allowed { allows self.now result }
-        ensures point { point_of self.now result ≡ config_in self.now state network }
+        ensures point { point_of self.now result ≡ point_of self.now reached }
     {
+        let Reached::New(state, network) = reached else {
+            return reached;
+        };
         match self.states.number_of(&state) {
             Some(state) => Reached::Known(Configuration { state, network }),
             None => Reached::New(state, network),
         }
     }
 
-    /// Where an action leads, with this network, if its precondition holds.
+    /// Where an action leads, with this network, if its precondition holds: its state is written out.
     fn acted(
         &self,
         before: &BitState,
@@ -64,7 +68,7 @@ impl Tables {
             return Ok(None);
         }
         let after = action.after(before)?;
-        Ok(Some(self.reached(after, network)))
+        Ok(Some(Reached::New(after, network)))
     }
 }
 
@@ -148,21 +152,44 @@ impl<'a> TaskMachine<'a> {
         }
     }
 
+    /// Whether more steps are left at least of what was reached than the horizon has.
+    fn is_beyond(&self, tables: &Tables, reached: &Reached, horizon: Horizon) -> bool
+        requires own { AreOwned self.now.task.now self.now.sizes self.now.prospects tables.now }
+        requires allowed { allows tables.now reached.now }
+        requires belongs { BelongsTo self.now.task.now self.now.prospects (point_of tables.now reached.now) }
+        ensures beyond { result ≡ true
+            → lies_beyond self.now.task.now self.now.sizes self.now.prospects horizon (point_of tables.now reached.now) }
+        ensures within { result ≡ false
+            → lies_beyond self.now.task.now self.now.sizes self.now.prospects horizon (point_of tables.now reached.now) → ⊥ }
+    {
+        let Some(most) = horizon.most_left else {
+            return false;
+        };
+        let left = match horizon.measure {
+            Measure::OpenNodes => self.open_len_of(tables, reached),
+            Measure::LowerBound => self.lower_bound_of(tables, reached),
+        };
+        left > most
+    }
+
     /// Adds the successors of a configuration in the order of their ranks, each with this rank for its
-    /// parent's. If one is done, it returns the least number that leads to a done one.
+    /// parent's, without those beyond the horizon. If one is done, it returns the least number that leads to a done one.
     pub(crate) fn add_successors(
         &self,
         tables: &Tables,
         rank: usize,
         from: Configuration,
+        horizon: Horizon,
         successors: &mut Vec<Successor<Reached>>,
     ) -> Result<Option<u64>, AllocError>
-        requires own { AreTables self.now.task.now tables.now }
+        requires own { AreOwned self.now.task.now self.now.sizes self.now.prospects tables.now }
         requires known { knows tables.now from }
+        requires belongs { BelongsTo self.now.task.now self.now.prospects (point tables.now from) }
         requires ready { IsSome (expansion_at tables.now.networks from.network) }
         ensures whole { IfOk result (λ done. IfNone done ((more : List (Successor Reached))
             × (successors.new.items ≡ successors.old.items ++ more)
-            × AreSuccessors (listing_machine self.now.task.now) (meaning tables.now) rank from more)) }
+            × AreSuccessors (listing_machine self.now.task.now) (meaning tables.now)
+            (lies_beyond self.now.task.now self.now.sizes self.now.prospects horizon) rank from more)) }
         ensures done { IfOk result (λ done. IfSome done (IsLeastDone
             (IsLiveStep (listing_machine self.now.task.now)) (IsDone (listing_machine self.now.task.now))
             (point tables.now from))) }
@@ -179,13 +206,16 @@ impl<'a> TaskMachine<'a> {
             if self.is_done_at(tables, &reached) {
                 return Ok(Some(number as u64));
             }
+            if self.is_beyond(tables, &reached, horizon) {
+                continue;
+            }
             let origin = Origin::Step {
                 parent: rank,
                 number: number as u64,
             };
             successors.push(Successor {
                 origin,
-                configuration: reached,
+                configuration: tables.looked_up(reached),
             })?;
         }
         Ok(None)

@@ -15,7 +15,7 @@ use htn_task::Task;
 use needs_table::Prospects;
 use std::alloc::{AllocError, Global};
 use tree_sizes::{Enumeration, TreeSizes};
-use word_machine::{Machine, Successor};
+use word_machine::{Horizon, Machine, Successor};
 
 /// The word machine of a task as a search takes it: from a configuration a rank leads to the next
 /// one. Of instances with equal networks only the first is listed, and so no number is counted.
@@ -116,9 +116,10 @@ impl<'a> Machine for TaskMachine<'a> {
         tables: &Tables,
         rank: usize,
         from: Configuration,
+        horizon: Horizon,
         successors: &mut Vec<Successor<Reached>>,
     ) -> Result<Option<u64>, AllocError> {
-        self.add_successors(tables, rank, from, successors)
+        self.add_successors(tables, rank, from, horizon, successors)
     }
 
     fn keep(&self, tables: &mut Tables, reached: Reached) -> Result<Configuration, AllocError> {

@@ -207,17 +207,17 @@ module _ {C : Type 0} (m : WordMachine C) (belongs : C → Type 0) (laws : IsLaw
           reaches_belong (get_or (words_of contents.origins) k []) c (closed.kept.reached k c (get_or (words_of contents.origins) k []) at)
 
       -- and so is each successor, whose parent stands in the list
-      pub successors_belong : (last : ℕ) (successors : List (Successor C)) → IsExpansion (IsLiveStep m) (IsDone m) contents.keys low last successors → All (λ s. belongs s.configuration) successors
-      successors_belong last successors expanded = λ k d inside. (
+      pub successors_belong : (beyond : C → Type 0) (last : ℕ) (successors : List (Successor C)) → IsExpansion (IsLiveStep m) (IsDone m) beyond contents.keys low last successors → All (λ s. belongs s.configuration) successors
+      successors_belong beyond last successors expanded = λ k d inside. (
           let s = get_or successors k d in
           let e = expanded.each k s (slice_get-get_or successors k d inside) in
           let at = word_at S contents level low closed e.0 e.2 e.5 in
           laws.stays e.2 s.configuration e.1 (reaches_belong (get_or (words_of contents.origins) e.0 []) e.2 (closed.kept.reached e.0 e.2 (get_or (words_of contents.origins) e.0 []) at)) e.6.step.0)
 
       -- the parent of each stands in the list
-      pub successors_within : (successors : List (Successor C)) → IsExpansion (IsLiveStep m) (IsDone m) contents.keys low (length contents.keys) successors
+      pub successors_within : (beyond : C → Type 0) (successors : List (Successor C)) → IsExpansion (IsLiveStep m) (IsDone m) beyond contents.keys low (length contents.keys) successors
           → All (λ s. IsOriginWithin (length contents.keys) s.origin) successors
-      successors_within successors expanded = λ k d inside. (
+      successors_within beyond successors expanded = λ k d inside. (
           let s = get_or successors k d in
           let e = expanded.each k s (slice_get-get_or successors k d inside) in
           let own : IsOriginWithin (length contents.keys) (Stepped e.0 e.1) = e.4 in

@@ -76,9 +76,9 @@ module _ {C R P : Type 0} (m : WordMachine P) (belongs : P → Type 0) (laws : I
       (all_owned meaning belongs initials known (subst (All belongs) (sym is) laws.starts) k d inside, (k ∷ [], (meaning.point c, at, refl))))
 
   -- the successors of a visited one are the machine's own too, and reached
-  pub successors_reached : (meaning : Meaning C R P) (rank : ℕ) (c : C) (more : List (Successor R)) → IsVisited m belongs meaning c → AreSuccessors m meaning rank c more
+  pub successors_reached : (meaning : Meaning C R P) (beyond : P → Type 0) (rank : ℕ) (c : C) (more : List (Successor R)) → IsVisited m belongs meaning c → AreSuccessors m meaning beyond rank c more
       → All (λ (s : Successor R). belongs (meaning.point_of s.configuration)) more × All (λ (s : Successor R). IsReached m (meaning.point_of s.configuration)) more
-  successors_reached meaning rank c more visited successors = (
+  successors_reached meaning beyond rank c more visited successors = (
     (λ k d inside. laws.stays (meaning.point c) (meaning.point_of (get_or more k d).configuration) (step k d inside).0 visited.0.1 (step k d inside).1.0),
     (λ k d inside. reached_step m (meaning.point c) (meaning.point_of (get_or more k d).configuration) (step k d inside).0 visited.1 (step k d inside).1),
   )

@@ -18,9 +18,9 @@ use Rattle.word_machine.specs.Ranks.{StandsAt, AreReadyFrom, HasSuccessorsAt, Fi
 use Rattle.word_machine.proofs.Meanings.{slice_get-map, slice_get-map_back, map-flat_map}
 use Rattle.word_machine.proofs.Places.{slice_get-append_left, slice_get-append_right, slice_get-append_cases, all_zip_at, all_zip_back}
 
-module _ {C : Type 0} (Step : C → ℕ → C → Type 0) (IsDone : C → Type 0) (keys : List C) where
+module _ {C : Type 0} (Step : C → ℕ → C → Type 0) (IsDone beyond : C → Type 0) (keys : List C) where
   -- no rank has no successors
-  pub IsExpansion-none : (p : ℕ) → IsExpansion Step IsDone keys p p []
+  pub IsExpansion-none : (p : ℕ) → IsExpansion Step IsDone beyond keys p p []
   IsExpansion-none p = record {
     each = λ i s at. absurd (none-some s at);
     all = λ q n c d from before at step. absurd (omega arith);
@@ -29,7 +29,7 @@ module _ {C : Type 0} (Step : C → ℕ → C → Type 0) (IsDone : C → Type 0
 
   -- the expansion of one rank
   pub IsExpansion-one : (deterministic : (c d e : C) (n : ℕ) → Step c n d → Step c n e → d ≡ e) (p : ℕ) (c : C) (more : List (Successor C))
-      → slice_get keys p ≡ Some c → IsExpansionOf Step IsDone p c more → IsExpansion Step IsDone keys p (p + 1) more
+      → slice_get keys p ≡ Some c → IsExpansionOf Step IsDone beyond p c more → IsExpansion Step IsDone beyond keys p (p + 1) more
   IsExpansion-one deterministic p c more here of = record {
     each = λ i s at. (let found = all_zip_back (IsSuccessor Step IsDone p c) of.numbers more i s of.each at in
         (p, found.0, c, omega arith, omega arith, here, found.2));
@@ -37,9 +37,12 @@ module _ {C : Type 0} (Step : C → ℕ → C → Type 0) (IsDone : C → Type 0
         let same : p ≡ q = omega arith in
         let same_key : d ≡ c = same_Some d c (sym at ∙ ap (slice_get keys) (sym same) ∙ here) in
         let own : Step c n e = subst (λ x. Step x n e) same_key step in
-        let place = of.all n e own in
-        let found = all_zip_at (IsSuccessor Step IsDone p c) of.numbers more place.0 n of.each (slice_get-get_or of.numbers place.0 n place.1 ∙ ap Some place.2) in
-        (place.0, found.0, found.1, found.2.origin ∙ ap (λ r. Stepped r n) same, deterministic c found.0.configuration e n found.2.step own));
+        elim (of.all n e own) [
+          | inl place ↦
+              let found = all_zip_at (IsSuccessor Step IsDone p c) of.numbers more place.0 n of.each (slice_get-get_or of.numbers place.0 n place.1 ∙ ap Some place.2) in
+              inl (place.0, found.0, found.1, found.2.origin ∙ ap (λ r. Stepped r n) same, deterministic c found.0.configuration e n found.2.step own)
+          | inr missed ↦ inr missed
+        ]);
     ascending = λ i j s t less at other. (
         let first = all_zip_back (IsSuccessor Step IsDone p c) of.numbers more i s of.each at in
         let second = all_zip_back (IsSuccessor Step IsDone p c) of.numbers more j t of.each other in
@@ -53,15 +56,21 @@ module _ {C : Type 0} (Step : C → ℕ → C → Type 0) (IsDone : C → Type 0
 
   -- the expansions of two parts, one after the other, are that of the whole
   pub IsExpansion-append : (first middle last : ℕ) (xs ys : List (Successor C)) → first ≤ middle → middle ≤ last
-      → IsExpansion Step IsDone keys first middle xs → IsExpansion Step IsDone keys middle last ys → IsExpansion Step IsDone keys first last (xs ++ ys)
+      → IsExpansion Step IsDone beyond keys first middle xs → IsExpansion Step IsDone beyond keys middle last ys → IsExpansion Step IsDone beyond keys first last (xs ++ ys)
   IsExpansion-append first middle last xs ys low high left right = record {
     each = λ i s at. elim (slice_get-append_cases xs ys i s at) [
       | inl in_left ↦ (let e = left.each i s in_left in (e.0, e.1, e.2, e.3, (let b : e.0 < middle = e.4 in omega arith), e.5, e.6))
       | inr in_right ↦ (let e = right.each in_right.0 s in_right.2 in (e.0, e.1, e.2, (let b : middle ≤ e.0 = e.3 in omega arith), e.4, e.5, e.6))
     ];
     all = λ p n c d from before at step. elim (cases_lt p middle) [
-      | inl early ↦ (let e = left.all p n c d from early at step in (e.0, e.1, slice_get-append_left xs ys e.0 e.1 e.2, e.3, e.4))
-      | inr late ↦ (let e = right.all p n c d late before at step in (length xs + e.0, e.1, slice_get-append_right xs ys e.0 ∙ e.2, e.3, e.4))
+      | inl early ↦ elim (left.all p n c d from early at step) [
+        | inl e ↦ inl (e.0, e.1, slice_get-append_left xs ys e.0 e.1 e.2, e.3, e.4)
+        | inr missed ↦ inr missed
+      ]
+      | inr late ↦ elim (right.all p n c d late before at step) [
+        | inl e ↦ inl (length xs + e.0, e.1, slice_get-append_right xs ys e.0 ∙ e.2, e.3, e.4)
+        | inr missed ↦ inr missed
+      ]
     ];
     ascending = λ i j s t less at other. elim (slice_get-append_cases xs ys i s at) [
       | inl in_left ↦ elim (slice_get-append_cases xs ys j t other) [
@@ -84,7 +93,7 @@ module _ {C : Type 0} (Step : C → ℕ → C → Type 0) (IsDone : C → Type 0
   }
 
   -- a place after ranks that were expanded, none of whose successors is done, is the first with a done successor
-  pub IsFirstDone-after : (first p n last : ℕ) (xs : List (Successor C)) (c : C) → first ≤ p → p < last → IsExpansion Step IsDone keys first p xs
+  pub IsFirstDone-after : (first p n last : ℕ) (xs : List (Successor C)) (c : C) → first ≤ p → p < last → IsExpansion Step IsDone beyond keys first p xs
       → slice_get keys p ≡ Some c → IsLeastDone Step IsDone c n → IsFirstDone Step IsDone keys first last p n
   IsFirstDone-after first p n last xs c from before expanded at number = record {
     from_first = from;
@@ -92,9 +101,10 @@ module _ {C : Type 0} (Step : C → ℕ → C → Type 0) (IsDone : C → Type 0
     configuration = c;
     at = at;
     number = number;
-    place = λ q m e d low less here step done. (
-        let found = expanded.all q m e d low less here step in
-        (expanded.each found.0 found.1 found.2).6.unfinished (subst IsDone (sym found.4) done));
+    place = λ q m e d low less here step done. elim (expanded.all q m e d low less here step) [
+      | inl found ↦ (expanded.each found.0 found.1 found.2).6.unfinished (subst IsDone (sym found.4) done)
+      | inr missed ↦ missed.0 done
+    ];
   }
 
 module _ {C : Type 0} (m : WordMachine C) where
@@ -103,53 +113,57 @@ module _ {C : Type 0} (m : WordMachine C) where
   one_live_step c d e n s t = same_Some d e (sym s.0 ∙ t.0)
 
   -- none of the successors of an expanded configuration is done
-  pub none_done : (p : ℕ) (c : C) (successors : List (Successor C)) → IsExpansionOf (IsLiveStep m) (IsDone m) p c successors → (n : ℕ) (d : C) → IsLiveStep m c n d → IsDone m d → ⊥
-  none_done p c successors of n d step done =
-      let place = of.all n d step in
-      let found = all_zip_at (IsSuccessor (IsLiveStep m) (IsDone m) p c) of.numbers successors place.0 n of.each (slice_get-get_or of.numbers place.0 n place.1 ∙ ap Some place.2) in
-      found.2.unfinished (subst (IsDone m) (one_live_step c d found.0.configuration n step found.2.step) done)
+  pub none_done : (beyond : C → Type 0) (p : ℕ) (c : C) (successors : List (Successor C)) → IsExpansionOf (IsLiveStep m) (IsDone m) beyond p c successors
+      → (n : ℕ) (d : C) → IsLiveStep m c n d → IsDone m d → ⊥
+  none_done beyond p c successors of n d step done =
+      elim (of.all n d step) [
+        | inl place ↦
+            let found = all_zip_at (IsSuccessor (IsLiveStep m) (IsDone m) p c) of.numbers successors place.0 n of.each (slice_get-get_or of.numbers place.0 n place.1 ∙ ap Some place.2) in
+            found.2.unfinished (subst (IsDone m) (one_live_step c d found.0.configuration n step found.2.step) done)
+        | inr missed ↦ missed.0 done
+      ]
 
-  module _ (keys : List C) where
+  module _ (beyond : C → Type 0) (keys : List C) where
     -- the point at the rank has these successors
     abbrev HasPointsAt : ℕ → List (Successor C) → Type 0
-    HasPointsAt rank successors = StandsAt (λ c. IsExpansionOf (IsLiveStep m) (IsDone m) rank c successors) keys rank
+    HasPointsAt rank successors = StandsAt (λ c. IsExpansionOf (IsLiveStep m) (IsDone m) beyond rank c successors) keys rank
 
     -- the ranks were expanded one by one
     pub level_whole : (first : ℕ) (lists : List (List (Successor C))) → ((i : ℕ) (xs : List (Successor C)) → slice_get lists i ≡ Some xs → HasPointsAt (first + i) xs)
-        → IsExpansion (IsLiveStep m) (IsDone m) keys first (first + length lists) (flat_map (λ xs. xs) lists)
+        → IsExpansion (IsLiveStep m) (IsDone m) beyond keys first (first + length lists) (flat_map (λ xs. xs) lists)
     level_whole first [] each =
         let e : first ≡ first + 0 = omega arith in
-        subst (λ last. IsExpansion (IsLiveStep m) (IsDone m) keys first last []) e (IsExpansion-none (IsLiveStep m) (IsDone m) keys first)
+        subst (λ last. IsExpansion (IsLiveStep m) (IsDone m) beyond keys first last []) e (IsExpansion-none (IsLiveStep m) (IsDone m) beyond keys first)
     level_whole first (xs ∷ lists) each =
         let here = each 0 xs refl in
         let own : first + 0 ≡ first = omega arith in
         let last : (first + 1) + length lists ≡ first + suc (length lists) = omega arith in
-        let rest : IsExpansion (IsLiveStep m) (IsDone m) keys (first + 1) (first + suc (length lists)) (flat_map (λ xs. xs) lists) =
-        subst (λ l. IsExpansion (IsLiveStep m) (IsDone m) keys (first + 1) l (flat_map (λ xs. xs) lists)) last
+        let rest : IsExpansion (IsLiveStep m) (IsDone m) beyond keys (first + 1) (first + suc (length lists)) (flat_map (λ xs. xs) lists) =
+        subst (λ l. IsExpansion (IsLiveStep m) (IsDone m) beyond keys (first + 1) l (flat_map (λ xs. xs) lists)) last
         (level_whole (first + 1) lists (λ i ys at. (let next : first + suc i ≡ (first + 1) + i = omega arith in subst (λ r. HasPointsAt r ys) next (each (suc i) ys at)))) in
-        IsExpansion-append (IsLiveStep m) (IsDone m) keys first (first + 1) (first + suc (length lists)) xs (flat_map (λ xs. xs) lists) (omega arith) (omega arith)
-        (IsExpansion-one (IsLiveStep m) (IsDone m) keys one_live_step first here.0 xs (ap (slice_get keys) (sym own) ∙ here.1) (subst (λ r. IsExpansionOf (IsLiveStep m) (IsDone m) r here.0 xs) own here.2)) rest
+        IsExpansion-append (IsLiveStep m) (IsDone m) beyond keys first (first + 1) (first + suc (length lists)) xs (flat_map (λ xs. xs) lists) (omega arith) (omega arith)
+        (IsExpansion-one (IsLiveStep m) (IsDone m) beyond keys one_live_step first here.0 xs (ap (slice_get keys) (sym own) ∙ here.1) (subst (λ r. IsExpansionOf (IsLiveStep m) (IsDone m) beyond r here.0 xs) own here.2)) rest
 
 -- what holds in each list holds in all joined
 all_flat : {X : Type 0} (P : X → Type 0) (lists : List (List X)) → ((i : ℕ) (xs : List X) → slice_get lists i ≡ Some xs → All P xs) → All P (flat_map (λ xs. xs) lists)
 all_flat P [] each = All-nil P
 all_flat P (xs ∷ lists) each = All-append P xs (flat_map (λ xs. xs) lists) (each 0 xs refl) (all_flat P lists (λ i ys at. each (suc i) ys at))
 
-module _ {C R P : Type 0} (m : WordMachine P) (meaning : Meaning C R P) (keys : List C) where
+module _ {C R P : Type 0} (m : WordMachine P) (meaning : Meaning C R P) (beyond : P → Type 0) (keys : List C) where
   -- the lists of successors, by what they stand for
-  points_at : (lists : List (List (Successor R))) (first : ℕ) → ((i : ℕ) (xs : List (Successor R)) → slice_get lists i ≡ Some xs → HasSuccessorsAt m meaning keys (first + i) xs)
-      → (i : ℕ) (ys : List (Successor P)) → slice_get (map (map (successor_at meaning.point_of)) lists) i ≡ Some ys → HasPointsAt m (map meaning.point keys) (first + i) ys
+  points_at : (lists : List (List (Successor R))) (first : ℕ) → ((i : ℕ) (xs : List (Successor R)) → slice_get lists i ≡ Some xs → HasSuccessorsAt m meaning beyond keys (first + i) xs)
+      → (i : ℕ) (ys : List (Successor P)) → slice_get (map (map (successor_at meaning.point_of)) lists) i ≡ Some ys → HasPointsAt m beyond (map meaning.point keys) (first + i) ys
   points_at lists first of_rank i ys at =
       let back = slice_get-map_back (map (successor_at meaning.point_of)) lists i ys at in
       let here = of_rank i back.0 back.1 in (
         meaning.point here.0,
         slice_get-map meaning.point keys (first + i) here.0 here.1,
-        subst (IsExpansionOf (IsLiveStep m) (IsDone m) (first + i) (meaning.point here.0)) back.2 here.2.1,
+        subst (IsExpansionOf (IsLiveStep m) (IsDone m) beyond (first + i) (meaning.point here.0)) back.2 here.2.1,
       )
 
   -- what a level's expansion is by ranks, as one of points
-  pub level_expanded : (first last : ℕ) (e : Expanded (Successor R) ℕ) → IsLevelExpanded (HasSuccessorsAt m meaning keys) (FinishesAt m meaning keys) first last e
-      → IsExpandedBy m meaning keys first last e
+  pub level_expanded : (first last : ℕ) (e : Expanded (Successor R) ℕ) → IsLevelExpanded (HasSuccessorsAt m meaning beyond keys) (FinishesAt m meaning keys) first last e
+      → IsExpandedBy m meaning beyond keys first last e
   level_expanded first last (Whole successors) level =
       let view = successor_at meaning.point_of in
       let points = map meaning.point keys in
@@ -158,9 +172,9 @@ module _ {C R P : Type 0} (m : WordMachine P) (meaning : Meaning C R P) (keys : 
       let count : first + length lists ≡ last = ap (λ n. first + n) (length-map level.lists (map view)) ∙ level.count in (
         subst (All (λ (s : Successor R). meaning.allows s.configuration)) (sym level.joined)
             (all_flat (λ (s : Successor R). meaning.allows s.configuration) level.lists (λ i xs at. (level.of_rank i xs at).2.0)),
-        subst (λ l. IsExpansion (IsLiveStep m) (IsDone m) points first l (map view successors.items)) count
-            (subst (IsExpansion (IsLiveStep m) (IsDone m) points first (first + length lists)) joined
-            (level_whole m points first lists (points_at level.lists first level.of_rank))),
+        subst (λ l. IsExpansion (IsLiveStep m) (IsDone m) beyond points first l (map view successors.items)) count
+            (subst (IsExpansion (IsLiveStep m) (IsDone m) beyond points first (first + length lists)) joined
+            (level_whole m beyond points first lists (points_at level.lists first level.of_rank))),
       )
   level_expanded first last (Done rank number) level = record {
     from_first = level.from_first;
@@ -171,7 +185,7 @@ module _ {C R P : Type 0} (m : WordMachine P) (meaning : Meaning C R P) (keys : 
     place = λ q n c d low less at step done. (
         let e = level.before q low less in
         let same : c ≡ meaning.point e.1.0 = same_Some c (meaning.point e.1.0) (sym at ∙ slice_get-map meaning.point keys q e.1.0 e.1.1) in
-        none_done m q (meaning.point e.1.0) (map (successor_at meaning.point_of) e.0) e.1.2.1 n d (subst (λ x. IsLiveStep m x n d) same step) done);
+        none_done m beyond q (meaning.point e.1.0) (map (successor_at meaning.point_of) e.0) e.1.2.1 n d (subst (λ x. IsLiveStep m x n d) same step) done);
   }
 
 -- at each rank from `first` on stands a configuration that is ready

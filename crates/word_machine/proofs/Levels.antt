@@ -1,5 +1,5 @@
 -- From one level to the next, and the level of the initial configurations.
-use Rattle.std.proofs.Common.{◌≡◌, ℕ, suc, zero, ◌+◌, ◌<◌, ◌≤◌, ◌⊎◌, false, List, [], ◌∷◌, ◌++◌, length, refl, sym, ap, subst, ◌∙◌, inl, inr, arith, slice_get, Some, get_or, length-append, All, map}
+use Rattle.std.proofs.Common.{◌≡◌, ℕ, suc, zero, ◌+◌, ◌<◌, ◌≤◌, ◌⊎◌, true, false, List, [], ◌∷◌, ◌++◌, length, refl, sym, ap, subst, ◌∙◌, inl, inr, arith, slice_get, Some, get_or, length-append, All, map}
 use Rattle.std.proofs.lemmas.List.Elements.{All-cons, All-head, All-tail}
 use Rattle.std.proofs.lemmas.Bool.{cases_lt}
 use Rattle.std.proofs.lemmas.Option.{none-some, same_Some, slice_get_within, slice_get-get_or, get_or_from_slice_get}
@@ -14,6 +14,10 @@ use Rattle.word_machine.specs.Expansion.{IsEarlier, IsExpansion}
 use Rattle.word_machine.proofs.Places.{slice_get-append_cases}
 use Rattle.word_machine.proofs.Order.{Precedes-push, Precedes-last, Reaches-push}
 use Rattle.word_machine.proofs.Merging.{IsMerged, IsAccounted-append}
+
+-- a successor at this level is past the bound, by as much as the least that was cut off
+abbrev pub IsPast : {C : Type 0} → Search C → Contents C → ℕ → C → Type 0
+IsPast S old level d = (old.cut.any ≡ true) × (S.bound + 1 < (level + 2) + S.open_len d) × (S.bound + 1 + old.cut.past ≤ (level + 2) + S.open_len d)
 
 module _ {C : Type 0} (S : Search C) (old : Contents C) (level low : ℕ) (closed : IsClosedTo S old.keys (words_of old.origins) old.cut level low) where
   -- what stands at a rank, with its word
@@ -31,7 +35,8 @@ module _ {C : Type 0} (S : Search C) (old : Contents C) (level low : ℕ) (close
         | inr after ↦ (let long : length w ≡ level + 1 = closed.current r w after at in omega arith)
       ]
 
-  module _ (successors : List (Successor C)) (expanded : IsExpansion S.Step S.IsDone old.keys low (length old.keys) successors) where
+  module _ (beyond : C → Type 0) (past : (d : C) → beyond d → IsPast S old level d) (successors : List (Successor C))
+      (expanded : IsExpansion S.Step S.IsDone beyond old.keys low (length old.keys) successors) where
     -- each successor is one for the next level
     candidate : (i : ℕ) (s : Successor C) → slice_get successors i ≡ Some s → IsCandidate S (words_of old.origins) (level + 2) s
     candidate i s at =
@@ -78,6 +83,16 @@ module _ {C : Type 0} (S : Search C) (old : Contents C) (level low : ℕ) (close
           rises s.origin t.origin (expanded.ascending i j s t less at other) e.0 e.1 f.0 f.1 e.2 f.2 e.6.origin f.6.origin e.5 f.5);
     }
 
+    -- by the word of a rank of the level and a number
+    past_so : (r : ℕ) (w : List ℕ) (n : ℕ) → low ≤ r → slice_get (words_of old.origins) r ≡ Some w → (d : C) → IsPast S old level d
+        → (old.cut.any ≡ true) × (S.bound + 1 < length (w ++ n ∷ []) + S.open_len d) × (S.bound + 1 + old.cut.past ≤ length (w ++ n ∷ []) + S.open_len d)
+    past_so r w n late word d far =
+        let long : length w ≡ level + 1 = closed.current r w late word in
+        let grown : length (w ++ n ∷ []) ≡ length w + 1 = length-append w (n ∷ []) in
+        let more : S.bound + 1 < (level + 2) + S.open_len d = far.1 in
+        let least : S.bound + 1 + old.cut.past ≤ (level + 2) + S.open_len d = far.2 in
+        (far.0, omega arith, omega arith)
+
     -- once they are merged, the next level is closed
     pub next_level : (new : Contents C) → IsMerged S old successors new → IsClosedTo S new.keys (words_of new.origins) new.cut (level + 1) (length old.keys)
     next_level new merged =
@@ -112,11 +127,13 @@ module _ {C : Type 0} (S : Search C) (old : Contents C) (level low : ℕ) (close
             | inl word ↦ elim (slice_get-append_cases old.keys more_keys r c (ap (λ l. slice_get l r) (sym merged.keys_are) ∙ at.key)) [
               | inl key ↦ elim (cases_lt r low) [
                 | inl early ↦ keep d (w ++ n ∷ []) (closed.expanded r c d w n early (record { key = key; word = word }) step)
-                | inr late ↦
-                    let found = expanded.all r n c d late before key step in
-                    let is_word : word_of words found.1.origin ≡ w ++ n ∷ [] = ap (word_of words) found.3 ∙ ap (λ v. v ++ n ∷ []) (get_or_from_slice_get words r w [] word) in
-                    subst (λ v. IsAccounted S new.keys (words_of new.origins) new.cut d v) is_word
-                    (subst (λ x. IsAccounted S new.keys (words_of new.origins) new.cut x (word_of words found.1.origin)) found.4 (merged.accounted found.0 found.1 found.2))
+                | inr late ↦ elim (expanded.all r n c d late before key step) [
+                  | inl found ↦
+                      let is_word : word_of words found.1.origin ≡ w ++ n ∷ [] = ap (word_of words) found.3 ∙ ap (λ v. v ++ n ∷ []) (get_or_from_slice_get words r w [] word) in
+                      subst (λ v. IsAccounted S new.keys (words_of new.origins) new.cut d v) is_word
+                      (subst (λ x. IsAccounted S new.keys (words_of new.origins) new.cut x (word_of words found.1.origin)) found.4 (merged.accounted found.0 found.1 found.2))
+                  | inr missed ↦ keep d (w ++ n ∷ []) (inr (past_so r w n late word d (past d missed.1)))
+                ]
               ]
               | inr added ↦ (let e : r ≡ length old.keys + added.0 = added.1 in absurd (omega arith))
             ]

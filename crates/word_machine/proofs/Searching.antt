@@ -14,7 +14,7 @@ use Rattle.word_machine.specs.Meaning.{Meaning}
 use Rattle.word_machine.specs.Ranks.{IsExpandedBy}
 use Rattle.word_machine.proofs.Complete.{CountsOpen, complete}
 use Rattle.word_machine.proofs.Merging.{merges}
-use Rattle.word_machine.proofs.Levels.{empty, start_batch, start_closed, numbered_start, older_than_next, expansion_batch, next_level}
+use Rattle.word_machine.proofs.Levels.{empty, start_batch, start_closed, numbered_start, older_than_next, IsPast, expansion_batch, next_level}
 
 module _ {C : Type 0} (S : Search C) where
   -- an empty list is in order
@@ -45,26 +45,27 @@ module _ {C : Type 0} (S : Search C) where
 
   -- and each later one
   pub later_level : CountsOpen S → (old : Contents C) (level low : ℕ) → IsClosedTo S old.keys (words_of old.origins) old.cut level low
-      → (successors : List (Successor C)) → IsExpansion S.Step S.IsDone old.keys low (length old.keys) successors
+      → (beyond : C → Type 0) → ((d : C) → beyond d → IsPast S old level d)
+      → (successors : List (Successor C)) → IsExpansion S.Step S.IsDone beyond old.keys low (length old.keys) successors
       → (room : ℕ) → (level + 2) + room ≡ S.bound + 1 → (new : Contents C) → AreOffered S.open_len room old successors new
       → IsClosedTo S new.keys (words_of new.origins) new.cut (level + 1) (length old.keys)
-  later_level laws old level low closed successors expanded room room_is new offered =
-      next_level S old level low closed successors expanded new
+  later_level laws old level low closed beyond past successors expanded room room_is new offered =
+      next_level S old level low closed beyond past successors expanded new
       (merges S old (level + 2) room room_is (older_than_next S old level low closed)
       (complete S laws old.keys (words_of old.origins) old.cut level low closed)
-      successors new (expansion_batch S old level low closed successors expanded) closed.kept closed.met offered)
+      successors new (expansion_batch S old level low closed beyond past successors expanded) closed.kept closed.met offered)
 
 -- what an expansion by ranks says of the list that lends the configurations
-module _ {C R P : Type 0} (m : WordMachine P) (meaning : Meaning C R P) (keys lent counted : List C) (same_keys : lent ≡ keys) (same_count : counted ≡ keys) (low : ℕ) (e : Expanded (Successor R) ℕ)
-    (expanded : IsExpandedBy m meaning lent low (length counted) e) where
+module _ {C R P : Type 0} (m : WordMachine P) (meaning : Meaning C R P) (beyond : P → Type 0) (keys lent counted : List C) (same_keys : lent ≡ keys) (same_count : counted ≡ keys) (low : ℕ) (e : Expanded (Successor R) ℕ)
+    (expanded : IsExpandedBy m meaning beyond lent low (length counted) e) where
   -- the same, of the list
-  of_keys : IsExpandedBy m meaning keys low (length keys) e
-  of_keys = subst (λ l. IsExpandedBy m meaning l low (length keys) e) same_keys (subst (λ l. IsExpandedBy m meaning lent low (length l) e) same_count expanded)
+  of_keys : IsExpandedBy m meaning beyond keys low (length keys) e
+  of_keys = subst (λ l. IsExpandedBy m meaning beyond l low (length keys) e) same_keys (subst (λ l. IsExpandedBy m meaning beyond lent low (length l) e) same_count expanded)
 
   -- where all were expanded
-  pub whole : (successors : Vec (Successor R) Global) → e ≡ Whole successors → IsExpandedBy m meaning keys low (length keys) (Whole successors)
-  whole successors is = subst (IsExpandedBy m meaning keys low (length keys)) is of_keys
+  pub whole : (successors : Vec (Successor R) Global) → e ≡ Whole successors → IsExpandedBy m meaning beyond keys low (length keys) (Whole successors)
+  whole successors is = subst (IsExpandedBy m meaning beyond keys low (length keys)) is of_keys
 
   -- where a done one was found
-  pub first_done : (p n : ℕ) → e ≡ Done p n → IsExpandedBy m meaning keys low (length keys) (Done p n)
-  first_done p n is = subst (IsExpandedBy m meaning keys low (length keys)) is of_keys
+  pub first_done : (p n : ℕ) → e ≡ Done p n → IsExpandedBy m meaning beyond keys low (length keys) (Done p n)
+  first_done p n is = subst (IsExpandedBy m meaning beyond keys low (length keys)) is of_keys

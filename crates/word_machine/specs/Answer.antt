@@ -1,5 +1,5 @@
 -- What a search answers.
-use Rattle.std.specs.Prelude.{ℕ, ◌<◌, ◌≤◌, List, Option}
+use Rattle.std.specs.Prelude.{◌≡◌, ℕ, ◌<◌, ◌≤◌, List, Option}
 use Rattle.std.specs.declared.option.Option.TheVariants as option
 use Rattle.word_machine.specs.Words.{Precedes, MeetsBound, step_count}
 use Rattle.word_machine.specs.Machine.{WordMachine, IsFinishing, IsLiveStep, IsMet}
@@ -7,6 +7,7 @@ use Rattle.word_machine.specs.declared.found.Found.{Found}
 use Rattle.word_machine.specs.declared.found.Found.TheVariants.{Word, None, Unsolvable}
 use Rattle.word_machine.specs.declared.found.Outcome.{Outcome}
 use Rattle.word_machine.specs.declared.found.Outcome.TheVariants.{Finished, Past, Exhausted, GivenUp}
+use Rattle.word_machine.specs.declared.measure.Horizon.{Horizon}
 use Rattle.word_machine.specs.declared.measure.Measure.{Measure}
 use Rattle.word_machine.specs.declared.measure.Measure.TheVariants.{OpenNodes, LowerBound}
 
@@ -46,6 +47,10 @@ module _ {Configuration : Type 0} (m : WordMachine Configuration) where
   abbrev pub measure_of : (Configuration → ℕ) → Measure → Configuration → ℕ
   measure_of lower_bound OpenNodes = m.open_len
   measure_of lower_bound LowerBound = lower_bound
+
+  -- more is left at least of a configuration than the horizon has; nothing is beyond one that has no end
+  abbrev pub IsBeyond : (Configuration → ℕ) → Horizon → Configuration → Type 0
+  IsBeyond lower_bound horizon c = (most : ℕ) × (horizon.most_left ≡ option.Some most) × (most < measure_of lower_bound horizon.measure c)
 
 -- an outcome by the open nodes, as an answer, unless it was given up
 abbrev pub found_of : Outcome → Option Found

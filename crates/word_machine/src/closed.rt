@@ -1,5 +1,5 @@
 //! The closed list: all configurations that a search kept, each with where it came from.
-ghost use Rattle.std.specs.Prelude.{◌≡◌, ℕ, ◌+◌, ◌-◌, ◌^◌, ◌<◌, ◌≤◌, Some, false, true, length, slice_get, [], OnOk, OnErr};
+ghost use Rattle.std.specs.Prelude.{◌≡◌, ℕ, ◌+◌, ◌-◌, ◌^◌, ◌<◌, ◌≤◌, Some, false, true, length, slice_get, [], IfSome, OnOk, OnErr};
 ghost use Rattle.std.specs.List.{list_any};
 ghost use Rattle.indexmap.specs.IndexSet.{contains};
 ghost use Rattle.word_machine.specs.Contents.{origin_of};
@@ -107,16 +107,20 @@ impl<C: Eq + Hash + Drop> Closed<C> {
         }
     }
 
-    /// Lets all go but the room for as many.
-    pub fn clear(&mut self)
-        ensures { self.new ≡ record { keys = []; origins = []; cut = record { any = false; past = 2 ^ 64 - 1 } } }
+    /// Lets all go, and makes room for twice as many.
+    pub fn restart(&mut self) -> Result<(), AllocError>
+        ensures { OnOk result (self.new ≡ record { keys = []; origins = []; cut = record { any = false; past = 2 ^ 64 - 1 } }) }
     {
+        let room = self.links.len().saturating_mul(2);
         self.configurations.clear();
         self.links.clear();
         self.was_cut = false;
         self.least_past = u64::MAX;
         self.overshoots = Overshoots::new();
         self.edge = Edge::new();
+        self.links.reserve(room)?;
+        self.configurations.reserve(room)?;
+        Ok(())
     }
 
     /// The configurations by rank.
@@ -163,6 +167,18 @@ impl<C: Eq + Hash + Drop> Closed<C> {
         ensures past { result ≡ true → self.now.cut.past ≤ past }
     {
         past >= NEAR && self.was_cut && self.least_past <= past
+    }
+
+    /// The most steps that may be left of a successor, where there is room for so many, if it is not to be passed over:
+    /// one that is more is as far past the room as `has_cut_within` asks. None where none is passed over.
+    pub fn most_left(&self, room: u64) -> Option<u64>
+        ensures any { IfSome result (λ most. self.now.cut.any ≡ true) }
+        ensures past { IfSome result (λ most. (left : ℕ) → most < left → (room < left) × (self.now.cut.past ≤ left - room)) }
+    {
+        if !self.was_cut {
+            return None;
+        }
+        room.checked_add(self.least_past.max(NEAR) - 1)
     }
 
     /// Ranks from which configurations were reached that were cut off little past the bound: the last of them.

@@ -1,6 +1,7 @@
 //! The search with growing bounds.
 ghost use Rattle.std.specs.Prelude.{◌≡◌, ◌-◌, ◌^◌, ◌<◌, ◌≤◌, All, map, IfOk, IfErr, IfSome, IfNone, OnOk};
 ghost use Rattle.word_machine.specs.Answer.{IsAnswer, NoneFinishes};
+ghost use Rattle.word_machine.specs.Dive.{AreAllBelow};
 ghost use Rattle.word_machine.specs.Ranks.{IsOwned};
 ghost use Rattle.word_machine.specs.declared.found.SearchFault.TheVariants.{NoThread};
 
@@ -8,6 +9,7 @@ use crate::bounds::Bounds;
 use crate::closed::Closed;
 use crate::dive::dive;
 use crate::found::{Found, Outcome, SearchFault};
+use crate::growth::Growth;
 use crate::machine::Machine;
 use crate::measure::{Limits, Measure};
 use crate::search::search;
@@ -29,49 +31,37 @@ fn least_bound<M: Machine>(machine: &M, tables: &M::Tables, initials: &[M::Confi
     least
 }
 
-// The bound of the next search, which is no less than the least that a word may need: as far as one that lets in as
-// many as were kept; and where so many weren't left out little past the bound, so many steps on.
-fn next_bound(least: u64, wide: Option<u64>, step: u64) -> u64
-    ensures { least ≤ result }
-{
-    match wide {
-        Some(wide) => wide.max(least),
-        None => least.saturating_add(step).max(least),
-    }
-}
-
-// The longest step: a bound that goes further lets in nearly all, and so it may let in all.
-const LONGEST_STEP: u64 = 15;
-
-// How many steps on the next bound is to be, the next time that few are left out little past one: none at first, then
-// about four times as many each time, and in the end as many as there may be.
-fn next_step(wide: Option<u64>, step: u64) -> u64 {
-    match wide {
-        Some(_) => 0,
-        None if step < LONGEST_STEP => step.saturating_mul(4).saturating_add(3),
-        None => u64::MAX,
-    }
-}
-
-// The answer where no word finishes within the bound. A search by the open nodes tells whether the bound was met, and
-// ends where it is. It goes on with the tables: what becomes of most networks stands there already.
-fn search_open_nodes<M: Machine, G: Gate, R: Threads + Wait + Sync>(
+// The answer where no word finishes within the bound, nor in fewer steps than `least`. A dive looks, among what the last
+// search left out, for a configuration that tells that the bound was met. Where it finds none, a search by the open nodes
+// tells whether the bound was met, and ends where it is. Both go on with the tables: what becomes of most networks
+// stands there already.
+fn none_or_unsolvable<M: Machine, G: Gate, R: Threads + Wait + Sync>(
     rt: &R,
     alloc: Global,
     machine: &M,
     tables: &mut M::Tables,
+    initials: &[M::Configuration],
     closed: &mut Closed<M::Configuration>,
+    least: u64,
     bounds: Bounds,
     most_kept: usize,
     gate: &G,
 ) -> Result<Option<Found>, SearchFault>
     requires own { M.owns machine.now tables.old }
+    requires known { All (M.meaning machine.now tables.old).knows initials.now }
+    requires initials { map (M.meaning machine.now tables.old).point initials.now ≡ (M.words machine.now).initials }
+    requires below { AreAllBelow (M.words machine.now) (M.belongs machine.now) (M.estimate machine.now)
+        (M.meaning machine.now tables.old) least closed.old.keys }
     requires none { NoneFinishes (M.words machine.now) bounds.nodes }
     ensures owned { OnOk result (M.owns machine.now tables.new) }
     ensures answer { IfOk result (λ o. IfSome o (IsAnswer (M.words machine.now) bounds.nodes)) }
     ensures given_up { IfOk result (λ o. IfNone o (most_kept < 2 ^ 64 - 1)) }
     ensures no_thread { IfErr result (λ e. e ≡ NoThread → 1 < bounds.workers) }
 {
+    let bound = bounds.nodes;
+    if dive(alloc, machine, tables, initials, closed, least, bound)? {
+        return Ok(Some(Found::None));
+    }
     let initials = machine.initials(tables)?;
     let limits = Limits {
         bounds,
@@ -104,59 +94,33 @@ pub fn find_word_in<M: Machine, G: Gate, R: Threads + Wait + Sync>(
     ensures given_up { IfOk result (λ o. IfNone o (most_kept < 2 ^ 64 - 1)) }
     ensures no_thread { IfErr result (λ e. e ≡ NoThread → 1 < bounds.workers) }
 {
-    let initials = machine.initials(tables)?;
-    let first = least_bound(machine, tables, &initials);
-    // No word finishes in fewer steps than `least`.
-    let mut least = first;
-    let mut nodes = first;
-    let mut step = 0;
-    let mut closed = Closed::new(alloc);
-    while least <= bounds.nodes {
-        let within = bounds.within(nodes.min(bounds.nodes));
+    let starts = machine.initials(tables)?;
+    let mut growth = Growth::from(least_bound(machine, tables, &starts));
+    let mut kept = Closed::new(alloc);
+    while growth.least <= bounds.nodes {
+        let within = bounds.within(growth.nodes.min(bounds.nodes));
         let limits = Limits {
             bounds: within,
             measure: Measure::LowerBound,
             none_within: false,
             most_kept,
         };
-        let outcome = search(
-            rt,
-            alloc,
-            machine,
-            tables,
-            &initials,
-            &mut closed,
-            limits,
-            gate,
-        )?;
+        let outcome = search(rt, alloc, machine, tables, &starts, &mut kept, limits, gate)?;
         match outcome {
             Outcome::Finished(word) => return Ok(Some(Found::Word(word))),
             Outcome::Exhausted => return Ok(Some(Found::Unsolvable)),
             Outcome::GivenUp => return Ok(None),
-            Outcome::Past { least: past, wide } => {
-                least = past.max(within.nodes + 1);
-                nodes = next_bound(least, wide, step);
-                step = next_step(wide, step);
-            }
+            Outcome::Past { least, wide } => growth = growth.after(within.nodes, least, wide),
         }
     }
-    if dive(
-        alloc,
-        machine,
-        tables,
-        &initials,
-        &closed,
-        least,
-        bounds.nodes,
-    )? {
-        return Ok(Some(Found::None));
-    }
-    search_open_nodes(
+    none_or_unsolvable(
         rt,
         alloc,
         machine,
         tables,
-        &mut closed,
+        &starts,
+        &mut kept,
+        growth.least,
         bounds,
         most_kept,
         gate,

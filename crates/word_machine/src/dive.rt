@@ -8,6 +8,7 @@ ghost use Rattle.word_machine.specs.Ranks.{IsOwned};
 
 use crate::closed::{Closed, Successor};
 use crate::machine::Machine;
+use crate::measure::{Horizon, Measure};
 use indexmap::IndexSet;
 use std::alloc::{AllocError, Global};
 use std::collections::BinaryHeap;
@@ -183,8 +184,12 @@ fn expand<M: Machine>(
         frontier.new.kept.keys) }
 {
     machine.prepare(tables, from)?;
+    let horizon = Horizon {
+        measure: Measure::LowerBound,
+        most_left: None,
+    };
     let mut successors = Vec::new(alloc);
-    match machine.expand(tables, 0, from, &mut successors)? {
+    match machine.expand(tables, 0, from, horizon, &mut successors)? {
         None => keep_all(machine, tables, frontier, closed, successors, least),
         Some(_) => Ok(()),
     }

@@ -28,6 +28,7 @@ impl Edge {
         let Origin::Step { parent, .. } = origin else {
             return;
         };
+        // For the prover alone: it is below that anyway.
         let last = self.last % MOST;
         if self.ranks[last] != parent {
             let next = (last + 1) % MOST;

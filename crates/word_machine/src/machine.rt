@@ -2,10 +2,12 @@
 ghost use Rattle.std.specs.Prelude.{◌≡◌, ℕ, ◌++◌, List, true, map, All, IfOk, OnOk, OnErr, IfSome, IfNone};
 ghost use Rattle.word_machine.specs.Machine.{WordMachine, IsLawful, IsLowerBound, IsLiveStep, IsDone};
 ghost use Rattle.word_machine.specs.Meaning.{Meaning, IsGrown, IsOneToOne, AreSuccessors};
+ghost use Rattle.word_machine.specs.Answer.{IsBeyond};
 ghost use Rattle.word_machine.specs.Expansion.{IsLeastDone};
 ghost use Rattle.word_machine.specs.declared.closed.Successor.{Successor};
 
 use crate::closed::Successor;
+use crate::measure::Horizon;
 use std::alloc::AllocError;
 use std::hash::Hash;
 
@@ -64,21 +66,22 @@ pub trait Machine: Sync {
         ensures ready { OnOk result (is_ready self.now tables.new at) }
         ensures kept { OnOk result ((c : Self.Configuration) → is_ready self.now tables.old c → is_ready self.now tables.new c) };
 
-    /// Adds the successors by the numbers that are not dead, ascending, each with this rank for its parent's. If one is
-    /// done, it returns the least number that leads to a done one. Where memory is refused, those that were there still
-    /// stand there, at the front.
+    /// Adds the successors by the numbers that are not dead, ascending, each with this rank for its parent's; it may leave
+    /// out what is beyond the horizon. If one is done, it returns the least number that leads to a done one. Where memory
+    /// is refused, those that were there still stand there, at the front.
     fn expand(
         &self,
         tables: &Self::Tables,
         rank: usize,
         from: Self::Configuration,
+        horizon: Horizon,
         successors: &mut Vec<Successor<Self::Reached>>,
     ) -> Result<Option<u64>, AllocError>
         requires own { owns self.now tables.now }
         requires known { (meaning self.now tables.now).knows from }
         requires belongs { belongs self.now ((meaning self.now tables.now).point from) }
         requires ready { is_ready self.now tables.now from }
-        ensures whole { IfOk result (λ done. IfNone done ((more : List (Successor Self.Reached)) × (successors.new.items ≡ successors.old.items ++ more) × AreSuccessors (words self.now) (meaning self.now tables.now) rank from more)) }
+        ensures whole { IfOk result (λ done. IfNone done ((more : List (Successor Self.Reached)) × (successors.new.items ≡ successors.old.items ++ more) × AreSuccessors (words self.now) (meaning self.now tables.now) (IsBeyond (words self.now) (estimate self.now) horizon) rank from more)) }
         ensures done { IfOk result (λ done. IfSome done (IsLeastDone (IsLiveStep (words self.now)) (IsDone (words self.now)) ((meaning self.now tables.now).point from))) }
         ensures refused { OnErr result ((more : List (Successor Self.Reached)) × (successors.new.items ≡ successors.old.items ++ more)) };
 

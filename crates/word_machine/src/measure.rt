@@ -15,6 +15,14 @@ pub enum Measure {
     LowerBound,
 }
 
+/// Which successors a search wants: what has more steps left than these, by the measure, tells it nothing more. None
+/// where it wants all.
+#[derive(Clone, Copy, Debug)]
+pub struct Horizon {
+    pub measure: Measure,
+    pub most_left: Option<u64>,
+}
+
 /// How far a search goes, by which measure of what is left, and whether it is known that no word finishes within.
 #[derive(Clone, Copy, Debug)]
 pub struct Limits {

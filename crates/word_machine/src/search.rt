@@ -1,5 +1,5 @@
 //! The search for the least finishing word, level by level.
-ghost use Rattle.std.specs.Prelude.{◌≡◌, ℕ, ◌+◌, ◌-◌, ◌^◌, ◌<◌, ◌≤◌, ◌∷◌, [], true, false, map, max, All, Option, Some, slice_get, IfOk, IfErr, IfSome, IfNone, OnOk};
+ghost use Rattle.std.specs.Prelude.{◌≡◌, ℕ, ◌+◌, ◌-◌, ◌^◌, ◌<◌, ◌≤◌, ◌∷◌, [], true, false, length, map, max, All, Option, Some, slice_get, IfOk, IfErr, IfSome, IfNone, OnOk};
 ghost use Rattle.word_machine.specs.Machine.{IsDone};
 ghost use Rattle.word_machine.specs.Meaning.{IsGrown};
 ghost use Rattle.word_machine.specs.Ranks.{IsOwned};
@@ -13,7 +13,7 @@ use crate::closed::Closed;
 use crate::expand::{expand_ranks, prepare_ranks};
 use crate::found::{Found, Outcome, SearchFault};
 use crate::machine::Machine;
-use crate::measure::{Limits, Measure};
+use crate::measure::{Horizon, Limits, Measure};
 use crate::merge::{merge, offer_initials};
 use crate::word::read_word;
 use htn_level::{Expanded, Gate};
@@ -75,7 +75,7 @@ pub fn search<M: Machine, G: Gate, R: Threads + Wait + Sync>(
     ensures left_out { IfOk result (λ o. limits.none_within ≡ false → (steps : ℕ) (wide : Option ℕ) → o ≡ Past steps wide
         → AreAllBelow (M.words machine.now) (M.belongs machine.now) (measure_of (M.words machine.now) (M.estimate machine.now) limits.measure)
         (M.meaning machine.now tables.new) (max steps (limits.bounds.nodes + 1)) closed.new.keys) }
-    ensures given_up { IfOk result (λ o. o ≡ GivenUp → limits.most_kept < 2 ^ 64 - 1) }
+    ensures given_up { IfOk result (λ o. o ≡ GivenUp → (limits.most_kept < length closed.new.keys) × (limits.most_kept < 2 ^ 64 - 1)) }
     ensures no_thread { IfErr result (λ e. e ≡ NoThread → 1 < limits.bounds.workers) }
 {
     if let Some(initial) = first_done(machine, tables, initials) {
@@ -84,7 +84,7 @@ pub fn search<M: Machine, G: Gate, R: Threads + Wait + Sync>(
     let bounds = limits.bounds;
     let measure = limits.measure;
     let bound = bounds.nodes;
-    closed.clear();
+    closed.restart()?;
     offer_initials(machine, tables, closed, initials, measure, bound)?;
     let mut low = 0;
     for level in 0..bound {
@@ -98,11 +98,13 @@ pub fn search<M: Machine, G: Gate, R: Threads + Wait + Sync>(
         if high > limits.most_kept {
             return Ok(Outcome::GivenUp);
         }
+        let room = bound - level - 1;
+        let most_left = closed.most_left(room);
+        let horizon = Horizon { measure, most_left };
         let kept = closed.configurations();
         prepare_ranks(machine, tables, kept, low)?;
-        match expand_ranks(rt, alloc, machine, tables, kept, low, bounds, gate)? {
+        match expand_ranks(rt, alloc, machine, tables, kept, low, horizon, bounds, gate)? {
             Expanded::Whole(successors) => {
-                let room = bound - level - 1;
                 merge(machine, tables, closed, successors, measure, room)?;
             }
             Expanded::Done { rank, finish } => {

@@ -1,4 +1,4 @@
-use Rattle.std.proofs.Common.{rules, refl, ap, ◌≡◌, ◌+◌, ◌≤◌, All, sym, ◌∙◌, subst, arith}
+use Rattle.std.proofs.Common.{refl, ap, ◌≡◌, ◌+◌, ◌≤◌, All, sym, ◌∙◌, subst, arith}
 use Rattle.word_machine.specs.Machine.{IsLawful, IsLowerBound}
 use Rattle.std.specs.Prelude.{max}
 use Rattle.word_machine.specs.declared.found.Outcome.TheVariants.{Past}
@@ -20,56 +20,54 @@ laws g machine = (g.met.M.Machine g.world.𝓛 g.world.𝓜 g.world.𝓡 ((λ s 
 bounded : (g : given.Over) (machine : g.row.M.Denot) → IsLowerBound (g.M.Machine.words machine) (g.M.Machine.estimate machine)
 bounded g machine = (g.met.M.Machine g.world.𝓛 g.world.𝓜 g.world.𝓡 ((λ s x. x), (λ x. x), (λ x. x), λ x. x)).bounded machine
 
-pub least_bound-first-requires-clause-known : goal.least_bound-first-requires-clause-known
-least_bound-first-requires-clause-known g c = λ _ _.
+pub least_bound-requires-clause-known : goal.least_bound-requires-clause-known
+least_bound-requires-clause-known g c = λ _ _.
     let machine = c.args.machine.now in
     let meaning = g.M.Machine.meaning machine c.initials.new.tables in
     let belongs = g.M.Machine.belongs machine in
     subst (All (IsOwned meaning belongs)) (sym c.deref.ensures.value)
-    (all_owned meaning belongs c.in_ok-initials.initials.items c.in_ok-initials.ensures.known
-    (subst (All belongs) (sym c.in_ok-initials.ensures.initials) (laws g machine).starts))
+    (all_owned meaning belongs c.in_ok-starts.starts.items c.in_ok-starts.ensures.known
+    (subst (All belongs) (sym c.in_ok-starts.ensures.initials) (laws g machine).starts))
 
-pub loop-least-init : goal.loop-least-init
-loop-least-init g c =
+pub loop-growth-init : goal.loop-growth-init
+loop-growth-init g c =
     let machine = c.args.machine.now in
     let meaning = g.M.Machine.meaning machine c.initials.new.tables in
-    let least = c.least_bound-first.result in
+    let least = c.least_bound.result in
     let lower = g.M.Machine.estimate machine in
-    let listed = c.in_ok-initials.initials.items in
+    let listed = c.in_ok-starts.starts.items in
     let each : All (λ (x : g.row.M-Configuration.Denot). least ≤ lower (meaning.point x)) listed =
-    subst (All (λ (x : g.row.M-Configuration.Denot). least ≤ lower (meaning.point x))) c.deref.ensures.value c.least_bound-first.ensures in
+    subst (All (λ (x : g.row.M-Configuration.Denot). least ≤ lower (meaning.point x))) c.deref.ensures.value c.least_bound.ensures in
     let m = g.M.Machine.words machine in
     let belongs = g.M.Machine.belongs machine in
     let first : All (λ p. least ≤ lower p) m.initials =
-    subst (All (λ p. least ≤ lower p)) c.in_ok-initials.ensures.initials (all_map meaning.point (λ p. least ≤ lower p) listed each) in
+    subst (All (λ p. least ≤ lower p)) c.in_ok-starts.ensures.initials (all_map meaning.point (λ p. least ≤ lower p) listed each) in
     record {
-      own = c.in_ok-initials.ensures.owned;
-      known = c.in_ok-initials.ensures.known;
-      none = none_before_least m belongs (laws g machine) lower (bounded g machine) least first;
-      below = subst (AreAllBelow m belongs lower meaning least) (sym (ap (λ (n : Contents g.row.M-Configuration.Denot). n.keys) c.new-closed.ensures))
-          ((λ k d inside. absurd (omega arith)), none_below m lower (bounded g machine) least first);
-      rising = omega arith;
-      initials = c.in_ok-initials.ensures.initials;
+      own = c.in_ok-starts.ensures.owned;
+      known = c.in_ok-starts.ensures.known;
+      none = subst (NoneFinishesBefore m) (sym c.from-growth.ensures) (none_before_least m belongs (laws g machine) lower (bounded g machine) least first);
+      below = subst (λ n. AreAllBelow m belongs lower meaning n c.new-kept.result.keys) (sym c.from-growth.ensures) (subst (AreAllBelow m belongs lower meaning least) (sym (ap (λ (n : Contents g.row.M-Configuration.Denot). n.keys) c.new-kept.ensures))
+          ((λ k d inside. absurd (omega arith)), none_below m lower (bounded g machine) least first));
+      initials = c.in_ok-starts.ensures.initials;
     }
 
-pub loop-least-preserved : goal.loop-least-preserved
-loop-least-preserved g c =
+pub loop-growth-preserved : goal.loop-growth-preserved
+loop-growth-preserved g c =
     let machine = c.args.machine.now in
     let m = g.M.Machine.words machine in
-    let old = g.M.Machine.meaning machine c.loop-least.tables in
+    let old = g.M.Machine.meaning machine c.loop-growth.tables in
     let new = g.M.Machine.meaning machine c.search.new.tables in
-    let initials = c.in_ok-initials.initials.items in
-    let i = c.loop-least.invariant in
+    let initials = c.in_ok-starts.starts.items in
+    let i = c.loop-growth.invariant in
     let bound = c.within-within.result.nodes in
-    let told : IsOutcome m (g.M.Machine.estimate machine) bound (Past c.in-Past.past c.in-Past.wide) =
+    let told : IsOutcome m (g.M.Machine.estimate machine) bound (Past c.in-Past.least c.in-Past.wide) =
     subst (IsOutcome m (g.M.Machine.estimate machine) bound) c.in-Past.is c.in_ok-outcome.ensures.outcome in
-    let least : max c.in-Past.past (bound + 1) ≡ c.max-least.result = search rules in
+    let least : max c.in-Past.least (bound + 1) ≡ c.after-growth.result.least = sym c.after-growth.ensures in
     record {
       own = c.in_ok-outcome.ensures.owned;
       known = known_still old new c.in_ok-outcome.ensures.grown initials i.known;
-      none = subst (NoneFinishesBefore m) least (none_before_more m bound c.in-Past.past told.0 told.2);
-      rising = c.next_bound-nodes.ensures;
+      none = subst (NoneFinishesBefore m) least (none_before_more m bound c.in-Past.least told.0 told.2);
       below = subst (λ n. AreAllBelow m (g.M.Machine.belongs machine) (g.M.Machine.estimate machine) new n c.search.new.closed.keys) least
-          (c.in_ok-outcome.ensures.left_out refl c.in-Past.past c.in-Past.wide c.in-Past.is);
+          (c.in_ok-outcome.ensures.left_out refl c.in-Past.least c.in-Past.wide c.in-Past.is);
       initials = same_points old new c.in_ok-outcome.ensures.grown initials i.known ∙ i.initials;
     }

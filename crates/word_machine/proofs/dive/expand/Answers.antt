@@ -1,7 +1,10 @@
-use Rattle.std.proofs.Common.{◌≡◌, ◌++◌, ap, ◌∙◌, sym, subst, All}
+use Rattle.std.proofs.Common.{◌≡◌, ◌++◌, ap, ◌∙◌, sym, subst, All, None}
 use Rattle.std.proofs.lemmas.Option.{MatchOption-at_none}
 use Rattle.word_machine.specs.declared.closed.Successor.{Successor}
 use Rattle.word_machine.specs.Machine.{IsLawful}
+use Rattle.word_machine.specs.declared.measure.Horizon.{Horizon}
+use Rattle.word_machine.specs.declared.measure.Measure.TheVariants.{LowerBound}
+use Rattle.word_machine.specs.Answer.{IsBeyond}
 use Rattle.word_machine.specs.Dive.{IsReached}
 use Rattle.std.proofs.lemmas.Result.{on_ok_weaker}
 use Rattle.word_machine.proofs.Meanings.{grown_more}
@@ -12,6 +15,10 @@ use Rattle.word_machine.proofs.dive.expand.Goals as goal
 -- the machine's laws
 laws : (g : given.Over) (machine : g.row.M.Denot) → IsLawful (g.M.Machine.words machine) (g.M.Machine.belongs machine)
 laws g machine = (g.met.M.Machine g.world.𝓛 g.world.𝓜 g.world.𝓡 ((λ s x. x), (λ x. x), (λ x. x), λ x. x)).lawful machine
+
+-- a dive's horizon has no end
+abbrev no_end : Horizon
+no_end = record { measure = LowerBound; most_left = None }
 
 pub keep_all-requires-clause-kept : goal.keep_all-requires-clause-kept
 keep_all-requires-clause-kept g c = λ _ _.
@@ -29,7 +36,7 @@ keep_all-requires-clause-belongs g c = λ _ _.
     let all : c.expand.new.successors.items ≡ listed.0 = listed.1 ∙ ap (λ l. l ++ listed.0) c.new-successors.ensures.items in
     let from = visited_still m belongs (g.M.Machine.meaning machine c.args.tables.now) new c.in_ok-prepare.ensures.grown c.args.from c.requires.from in
     subst (All (λ (s : Successor g.row.M-Reached.Denot). belongs (new.point_of s.configuration))) (sym all)
-    (successors_reached m belongs (laws g machine) new 0 c.args.from listed.0 from listed.2).0
+    (successors_reached m belongs (laws g machine) new (IsBeyond m (g.M.Machine.estimate machine) no_end) 0 c.args.from listed.0 from listed.2).0
 
 pub keep_all-requires-clause-reached : goal.keep_all-requires-clause-reached
 keep_all-requires-clause-reached g c = λ _ _.
@@ -41,7 +48,7 @@ keep_all-requires-clause-reached g c = λ _ _.
     let all : c.expand.new.successors.items ≡ listed.0 = listed.1 ∙ ap (λ l. l ++ listed.0) c.new-successors.ensures.items in
     let from = visited_still m belongs (g.M.Machine.meaning machine c.args.tables.now) new c.in_ok-prepare.ensures.grown c.args.from c.requires.from in
     subst (All (λ (s : Successor g.row.M-Reached.Denot). IsReached m (new.point_of s.configuration))) (sym all)
-    (successors_reached m belongs (laws g machine) new 0 c.args.from listed.0 from listed.2).1
+    (successors_reached m belongs (laws g machine) new (IsBeyond m (g.M.Machine.estimate machine) no_end) 0 c.args.from listed.0 from listed.2).1
 
 pub returns-in-Some-clause-kept : goal.returns-in-Some-clause-kept
 returns-in-Some-clause-kept g c =

@@ -1,6 +1,5 @@
-use Rattle.std.proofs.Common.{rules, ap, ◌∙◌, sym, subst, All}
+use Rattle.std.proofs.Common.{sym, subst, All}
 use Rattle.word_machine.specs.Dive.{IsVisited}
-use Rattle.word_machine.proofs.Meanings.{all_at}
 use Rattle.word_machine.proofs.dive.keep_starts.Goals as goal
 use Rattle.word_machine.proofs.dive.keep_starts.Goals.{in-Some+in_ok-keep_start-2, in_default}
 

@@ -1,9 +1,12 @@
-use Rattle.std.proofs.Common.{rules, ℕ, ◌+◌, ◌-◌, ◌<◌, length, ap, ◌∙◌, sym, subst, inl, inr, arith, All}
+use Rattle.std.proofs.Common.{rules, ℕ, ◌+◌, ◌-◌, ◌<◌, length, ap, ◌∙◌, sym, subst, inl, inr, arith, All, Option}
+use Rattle.std.proofs.lemmas.Option.{MatchOption-at_some}
 use Rattle.word_machine.specs.Machine.{IsLawful}
 use Rattle.word_machine.specs.Contents.{Contents, initial_successors, offer_all}
 use Rattle.word_machine.specs.Closed.{search_by}
 use Rattle.word_machine.specs.Ranks.{IsOwned}
-use Rattle.word_machine.specs.Answer.{IsLeastFinishing, IsOutcome, measure_of}
+use Rattle.word_machine.specs.declared.measure.Horizon.{Horizon}
+use Rattle.word_machine.specs.declared.measure.Measure.{Measure}
+use Rattle.word_machine.specs.Answer.{IsBeyond, IsLeastFinishing, IsOutcome, measure_of}
 use Rattle.word_machine.proofs.Complete.{CountsOpen}
 use Rattle.word_machine.proofs.Answering.{counts_by}
 use Rattle.word_machine.proofs.Meanings.{grown_none, grown_more, known_still}
@@ -21,6 +24,10 @@ counts : (g : given.Over) (machine : g.row.M.Denot) (measure : _) (bound : ℕ) 
 counts g machine measure bound =
     counts_by (g.M.Machine.words machine) (g.M.Machine.belongs machine) (laws g machine) (g.M.Machine.estimate machine)
     ((g.met.M.Machine g.world.𝓛 g.world.𝓜 g.world.𝓡 ((λ s x. x), (λ x. x), (λ x. x), λ x. x)).bounded machine) measure bound
+
+-- the horizon of a level
+abbrev level_horizon : Measure → Option ℕ → Horizon
+level_horizon measure most_left = record { measure = measure; most_left = most_left }
 
 pub first_done-requires-clause-known : goal.first_done-requires-clause-known
 first_done-requires-clause-known g c = λ _ _.
@@ -57,7 +64,7 @@ loop-level-init g c =
     meaning c.args.initials.now c.requires.known c.requires.initials eq met.same
     (g.met.M.Configuration.Eq g.world.𝓛 g.world.𝓜 g.world.𝓡 ((λ s x. x), (λ x. x), (λ x. x), λ x. x)).laws.refl
     (met.one_to_one machine c.args.tables.now c.requires.own) c.in_default.ensures.none c.offer_initials.new.closed
-    (c.in_ok-offer_initials.ensures ∙ ap (λ (n : Contents g.row.M-Configuration.Denot). offer_all eq (λ x. left (meaning.point x)) c.args.limits.bounds.nodes n (initial_successors 0 c.args.initials.now)) c.clear.ensures) in
+    (c.in_ok-offer_initials.ensures ∙ ap (λ (n : Contents g.row.M-Configuration.Denot). offer_all eq (λ x. left (meaning.point x)) c.args.limits.bounds.nodes n (initial_successors 0 c.args.initials.now)) c.in_ok-restart.ensures) in
     record {
       closed = first.closed;
       known = first.known;
@@ -133,10 +140,10 @@ returns-in-Done-clause-outcome g c =
     let count = counts g machine c.args.limits.measure c.args.limits.bounds.nodes in
     let now = searched_still m (g.M.Machine.belongs machine) (laws g machine) left c.args.limits.bounds.nodes count
     old meaning c.in_ok-prepare_ranks.ensures.grown c.loop-level.closed c.loop-level.level c.loop-level.low (record { closed = i.closed; known = i.known }) in
-    let first = first_done m meaning c.loop-level.closed.keys c.configurations-kept.result.now c.configurations-kept.result.now
+    let first = first_done m meaning (IsBeyond (g.M.Machine.words machine) (g.M.Machine.estimate machine) (level_horizon c.args.limits.measure c.most_left-most_left.result)) c.loop-level.closed.keys c.configurations-kept.result.now c.configurations-kept.result.now
     c.configurations-kept.ensures c.configurations-kept.ensures c.loop-level.low c.in_ok-successors.field-0 c.in_ok-successors.ensures.expanded c.in-Done.rank c.in-Done.finish c.in-Done.is in
     let found = word_found m (g.M.Machine.belongs machine) (laws g machine) left c.args.limits.bounds.nodes count
-    meaning c.loop-level.closed c.loop-level.level c.loop-level.low now c.in-Done.rank c.in-Done.finish c.loop-level-test.true first in
+    meaning c.loop-level.closed c.loop-level.level c.loop-level.low now (IsBeyond (g.M.Machine.words machine) (g.M.Machine.estimate machine) (level_horizon c.args.limits.measure c.most_left-most_left.result)) c.in-Done.rank c.in-Done.finish c.loop-level-test.true first in
     subst (IsLeastFinishing m c.args.limits.bounds.nodes) (sym c.in_ok-word-in-Done.ensures) found
 
 pub merge-requires-clause-known : goal.merge-requires-clause-known
@@ -149,7 +156,7 @@ merge-requires-clause-known g c = λ _ _.
 pub merge-requires-clause-allowed : goal.merge-requires-clause-allowed
 merge-requires-clause-allowed g c = λ _ _.
     let machine = c.args.machine.now in
-    (whole (g.M.Machine.words machine) (g.M.Machine.meaning machine c.prepare_ranks.new.tables) c.loop-level.closed.keys c.configurations-kept.result.now c.configurations-kept.result.now
+    (whole (g.M.Machine.words machine) (g.M.Machine.meaning machine c.prepare_ranks.new.tables) (IsBeyond (g.M.Machine.words machine) (g.M.Machine.estimate machine) (level_horizon c.args.limits.measure c.most_left-most_left.result)) c.loop-level.closed.keys c.configurations-kept.result.now c.configurations-kept.result.now
     c.configurations-kept.ensures c.configurations-kept.ensures c.loop-level.low c.in_ok-successors.field-0 c.in_ok-successors.ensures.expanded c.in-Whole.successors c.in-Whole.is).0
 
 pub merge-requires-clause-belongs : goal.merge-requires-clause-belongs
@@ -163,9 +170,9 @@ merge-requires-clause-belongs g c = λ _ _.
     let count = counts g machine c.args.limits.measure c.args.limits.bounds.nodes in
     let now = searched_still m (g.M.Machine.belongs machine) (laws g machine) left c.args.limits.bounds.nodes count
     old meaning c.in_ok-prepare_ranks.ensures.grown c.loop-level.closed c.loop-level.level c.loop-level.low (record { closed = i.closed; known = i.known }) in
-    let all = whole m meaning c.loop-level.closed.keys c.configurations-kept.result.now c.configurations-kept.result.now
+    let all = whole m meaning (IsBeyond (g.M.Machine.words machine) (g.M.Machine.estimate machine) (level_horizon c.args.limits.measure c.most_left-most_left.result)) c.loop-level.closed.keys c.configurations-kept.result.now c.configurations-kept.result.now
     c.configurations-kept.ensures c.configurations-kept.ensures c.loop-level.low c.in_ok-successors.field-0 c.in_ok-successors.ensures.expanded c.in-Whole.successors c.in-Whole.is in
-    successors_own m (g.M.Machine.belongs machine) (laws g machine) left c.args.limits.bounds.nodes count meaning c.loop-level.closed c.loop-level.level c.loop-level.low now c.in-Whole.successors all
+    successors_own m (g.M.Machine.belongs machine) (laws g machine) left c.args.limits.bounds.nodes count meaning c.loop-level.closed c.loop-level.level c.loop-level.low now (IsBeyond (g.M.Machine.words machine) (g.M.Machine.estimate machine) (level_horizon c.args.limits.measure c.most_left-most_left.result)) c.in-Whole.successors all
 
 pub merge-requires-clause-within : goal.merge-requires-clause-within
 merge-requires-clause-within g c = λ _ _.
@@ -178,9 +185,9 @@ merge-requires-clause-within g c = λ _ _.
     let count = counts g machine c.args.limits.measure c.args.limits.bounds.nodes in
     let now = searched_still m (g.M.Machine.belongs machine) (laws g machine) left c.args.limits.bounds.nodes count
     old meaning c.in_ok-prepare_ranks.ensures.grown c.loop-level.closed c.loop-level.level c.loop-level.low (record { closed = i.closed; known = i.known }) in
-    let all = whole m meaning c.loop-level.closed.keys c.configurations-kept.result.now c.configurations-kept.result.now
+    let all = whole m meaning (IsBeyond (g.M.Machine.words machine) (g.M.Machine.estimate machine) (level_horizon c.args.limits.measure c.most_left-most_left.result)) c.loop-level.closed.keys c.configurations-kept.result.now c.configurations-kept.result.now
     c.configurations-kept.ensures c.configurations-kept.ensures c.loop-level.low c.in_ok-successors.field-0 c.in_ok-successors.ensures.expanded c.in-Whole.successors c.in-Whole.is in
-    reached_within m (g.M.Machine.belongs machine) (laws g machine) left c.args.limits.bounds.nodes count meaning c.loop-level.closed c.loop-level.level c.loop-level.low now c.in-Whole.successors all
+    reached_within m (g.M.Machine.belongs machine) (laws g machine) left c.args.limits.bounds.nodes count meaning c.loop-level.closed c.loop-level.level c.loop-level.low now (IsBeyond (g.M.Machine.words machine) (g.M.Machine.estimate machine) (level_horizon c.args.limits.measure c.most_left-most_left.result)) c.in-Whole.successors all
 
 pub loop-level-preserved : goal.loop-level-preserved
 loop-level-preserved g c =
@@ -195,11 +202,14 @@ loop-level-preserved g c =
     let short : c.loop-level.level < c.args.limits.bounds.nodes = c.loop-level-test.true in
     let now = searched_still m (g.M.Machine.belongs machine) (laws g machine) left c.args.limits.bounds.nodes count
     old meaning c.in_ok-prepare_ranks.ensures.grown c.loop-level.closed c.loop-level.level c.loop-level.low (record { closed = i.closed; known = i.known }) in
-    let all = whole m meaning c.loop-level.closed.keys c.configurations-kept.result.now c.configurations-kept.result.now
+    let all = whole m meaning (IsBeyond (g.M.Machine.words machine) (g.M.Machine.estimate machine) (level_horizon c.args.limits.measure c.most_left-most_left.result)) c.loop-level.closed.keys c.configurations-kept.result.now c.configurations-kept.result.now
     c.configurations-kept.ensures c.configurations-kept.ensures c.loop-level.low c.in_ok-successors.field-0 c.in_ok-successors.ensures.expanded c.in-Whole.successors c.in-Whole.is in
     let later : IsSearched m (g.M.Machine.belongs machine) (laws g machine) left c.args.limits.bounds.nodes count new c.merge.new.closed (c.loop-level.level + 1) (length c.loop-level.closed.keys) =
-    next_searched m (g.M.Machine.belongs machine) (laws g machine) left c.args.limits.bounds.nodes count meaning c.loop-level.closed c.loop-level.level c.loop-level.low now c.in-Whole.successors all
-    new c.in_ok-merge-in-Whole.ensures.grown (c.args.limits.bounds.nodes - c.loop-level.level - 1) (omega arith) c.merge.new.closed c.in_ok-merge-in-Whole.ensures.known c.in_ok-merge-in-Whole.ensures.offered in
+    next_searched m (g.M.Machine.belongs machine) (laws g machine) left c.args.limits.bounds.nodes count meaning c.loop-level.closed c.loop-level.level c.loop-level.low now (IsBeyond (g.M.Machine.words machine) (g.M.Machine.estimate machine) (level_horizon c.args.limits.measure c.most_left-most_left.result)) c.in-Whole.successors all
+    new c.in_ok-merge-in-Whole.ensures.grown (c.args.limits.bounds.nodes - c.loop-level.level - 1) (omega arith)
+    (λ d is. (
+    let past = MatchOption-at_some _ _ _ is.1 c.most_left-most_left.ensures.past (left d) is.2 in
+    (MatchOption-at_some _ _ _ is.1 c.most_left-most_left.ensures.any, past.0, past.1))) c.merge.new.closed c.in_ok-merge-in-Whole.ensures.known c.in_ok-merge-in-Whole.ensures.offered in
     let held : IsSearched m (g.M.Machine.belongs machine) (laws g machine) left c.args.limits.bounds.nodes count new c.merge.new.closed (c.loop-level.level + 1) (length c.configurations-high.result.now) =
     subst (IsSearched m (g.M.Machine.belongs machine) (laws g machine) left c.args.limits.bounds.nodes count new c.merge.new.closed (c.loop-level.level + 1)) (sym (ap length c.configurations-high.ensures)) later in
     record {

@@ -16,9 +16,9 @@ returns-then-not-applies-clause-leads c = λ model compiled.
     let to = λ (next : State). config_at next (network_at tables.networks c.args.network) in
     sym (ap (λ b. option_map to (cond b (Some (after state model)) None)) fails)
 
-pub reached-requires-clause-set : goal.reached-requires-clause-set
-reached-requires-clause-set c =
-    c.in_ok-after.ensures.within c.args.self.now.atoms c.requires.compiled.0 c.requires.compiled.1 c.requires.set
+pub returns-clause-allowed : goal.returns-clause-allowed
+returns-clause-allowed c =
+    (c.in_ok-after.ensures.within c.args.self.now.atoms c.requires.compiled.0 c.requires.compiled.1 c.requires.set, c.requires.known)
 
 pub returns-clause-leads : goal.returns-clause-leads
 returns-clause-leads c = λ model compiled.
@@ -30,4 +30,4 @@ returns-clause-leads c = λ model compiled.
     let next = c.in_ok-after.ensures.state tables.atoms model c.requires.table compiled in
     let to = λ (s : State). config_at s (network_at tables.networks c.args.network) in
     let does = ap (λ b. option_map to (cond b (Some (after state model)) None)) holds in
-    ap Some (c.reached.ensures.point ∙ ap to next) ∙ sym does
+    ap Some (ap to next) ∙ sym does
