@@ -2,3 +2,4 @@ pub mod Kept
 pub mod NeededLists
 pub mod Noted
 pub mod Ending
+pub mod Found

@@ -6,6 +6,7 @@
 //! network's needs are put together from that.
 #![tactic(auto)]
 
+mod keep_up_all;
 mod laws;
 mod needed;
 mod node;

@@ -22,13 +22,13 @@ use std::alloc::{AllocError, Global};
 /// What each network of a table needs from the start, for its nodes and for a goal.
 #[derive(Drop)]
 pub struct NeedsTable {
-    goal: LiteralList,
+    pub(crate) goal: LiteralList,
     /// The goal's literals by numbers; none before the first network.
-    goals: Vec<Want>,
+    pub(crate) goals: Vec<Want>,
     /// By the number of a node, what is known of it.
-    nodes: Vec<Node>,
+    pub(crate) nodes: Vec<Node>,
     /// By the number of a network; nothing where one of its nodes never ends.
-    needs: Vec<Option<CompiledLiterals>>,
+    pub(crate) needs: Vec<Option<CompiledLiterals>>,
 }
 
 impl NeedsTable {
@@ -48,7 +48,7 @@ impl NeedsTable {
     }
 
     /// Sees that the goal's literals stand there by numbers.
-    fn keep_goal(
+    pub(crate) fn keep_goal(
         &mut self,
         alloc: Global,
         needs: &Needs,
@@ -74,7 +74,7 @@ impl NeedsTable {
     }
 
     /// Sees that it is known of each node that has a number where its row stands and what it wants.
-    fn keep_nodes(
+    pub(crate) fn keep_nodes(
         &mut self,
         alloc: Global,
         prospects: &Prospects,
@@ -100,7 +100,7 @@ impl NeedsTable {
     }
 
     /// What a network needs, from what is known of its nodes.
-    fn needed_by(
+    pub(crate) fn needed_by(
         &self,
         alloc: Global,
         prospects: &Prospects,
@@ -128,7 +128,7 @@ impl NeedsTable {
     }
 
     /// Sees that each network that has a number has what it needs, where all is known of nodes and the goal.
-    fn keep_networks(
+    pub(crate) fn keep_networks(
         &mut self,
         alloc: Global,
         prospects: &Prospects,

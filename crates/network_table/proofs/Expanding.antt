@@ -210,7 +210,7 @@ grown_itself t = record {
 }
 
 -- so have equal ones
-kept_same : (old new : ChildTable) → new ≡ old → AreKept old new
+pub kept_same : (old new : ChildTable) → new ≡ old → AreKept old new
 kept_same old new same =
     record {
       more = [];

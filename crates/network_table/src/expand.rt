@@ -3,12 +3,15 @@ ghost use Rattle.std.specs.Prelude.{◌≡◌, ◌<◌, ℕ, List, All, IfOk, If
 ghost use Rattle.std.specs.Option.{option_map};
 ghost use Rattle.htn_model.specs.Problem.{GroundTask, task};
 ghost use Rattle.htn_model.specs.Choice.{child_of};
-ghost use Rattle.network_table.specs.Numbered.{IsWithin};
-ghost use Rattle.network_table.specs.Networks.{children, expansion_at, IsGrown, IsMore, IsWhole, Knows, network_at, numbered_at};
+ghost use Rattle.network_table.specs.Drafts.{AreKnownOf, inner_at};
+ghost use Rattle.network_table.specs.Numbered.{IsWithin, replaced_numbered};
+ghost use Rattle.network_table.specs.Networks.{children, expansion_at, IsGrown, IsMore, IsNumberOf, IsWhole, Knows, network_at, numbered_at};
 ghost use Rattle.network_table.specs.Expansions.{AreDecompositions, AreInstances, AreRemovals, IsExpansion, IsSound, Live, first_free, free_positions};
 
+use crate::draft::{Draft, Job};
 use crate::expansion::{Expansion, Removal};
 use crate::network::Network;
+use crate::notes::{Notes, noted_number};
 use crate::table::NetworkTable;
 use htn_ground::{Child, GroundTask};
 use htn_order::Order;
@@ -36,7 +39,7 @@ impl NetworkTable {
     }
 
     /// The number of the node at a position of a network.
-    fn node_at(&self, number: u32, position: usize) -> u32
+    pub(crate) fn node_at(&self, number: u32, position: usize) -> u32
         requires known { Knows self.now number }
         requires placed { position < length (numbered_at self.now number).nodes }
         ensures { result ≡ get_or (numbered_at self.now number).nodes position 0 }
@@ -46,7 +49,7 @@ impl NetworkTable {
     }
 
     /// The position of the first free compound task of a network.
-    fn first_free_position(&self, number: u32) -> Option<usize>
+    pub(crate) fn first_free_position(&self, number: u32) -> Option<usize>
         requires whole { IsWhole self.now }
         requires known { Knows self.now number }
         ensures position { result ≡ first_free (network_at self.now number) }
@@ -57,77 +60,159 @@ impl NetworkTable {
         Some(position)
     }
 
+    /// The number of a draft's network, in which this one takes the node's place: as noted at a
+    /// place, or found now.
+    fn successor(
+        &mut self,
+        alloc: Global,
+        job: Job,
+        notes: Notes,
+        at: usize,
+        draft: Draft,
+        inner: &Network,
+    ) -> Result<u32, AllocError>
+        requires whole { IsWhole self.old }
+        requires known { Knows self.old job.network }
+        requires noted { AreKnownOf self.old job notes }
+        requires job { draft.job ≡ notes.job }
+        requires placed { draft.position < length (numbered_at self.old job.network).nodes }
+        requires inner { inner.now ≡ inner_at job.instances.now draft.instance }
+        requires within { IsWithin (children self.old) inner.now }
+        ensures whole { OnOk result (IsWhole self.new) }
+        ensures more { OnOk result (IsMore self.old self.new) }
+        ensures noted { OnOk result (AreKnownOf self.new job.entry notes.entry) }
+        ensures number { IfOk result (λ n. IsNumberOf self.new n
+            (replaced_numbered (numbered_at self.old job.entry.network) draft.position inner.now)) }
+    {
+        if let Some(number) = noted_number(notes.noted, at, draft) {
+            return Ok(number);
+        }
+        let next = self
+            .network(job.network)
+            .replaced(alloc, draft.position, inner)?;
+        let number = self.keep(next)?;
+        Ok(number)
+    }
+
     /// The networks in which the nodes of an instance stand in the place of the node at a position.
     fn decompositions(
         &mut self,
         alloc: Global,
-        number: u32,
+        job: Job,
+        notes: Notes,
         position: usize,
-        instances: &[Network],
     ) -> Result<Vec<u32>, AllocError>
         requires whole { IsWhole self.old }
-        requires known { Knows self.old number }
-        requires placed { position < length (numbered_at self.old number).nodes }
-        requires within { All (IsWithin (children self.old)) instances.now }
+        requires known { Knows self.old job.network }
+        requires noted { AreKnownOf self.old job notes }
+        requires placed { position < length (numbered_at self.old job.network).nodes }
+        requires within { All (IsWithin (children self.old)) job.instances.now }
         ensures whole { OnOk result (IsWhole self.new) }
         ensures more { OnOk result (IsMore self.old self.new) }
         ensures each { IfOk result (λ v.
-            AreDecompositions self.new (numbered_at self.old number) position instances.now v.items) }
+            AreDecompositions self.new (numbered_at self.old job.entry.network) position job.entry.instances.now v.items) }
     {
-        let mut successors = Vec::with_capacity(alloc, instances.len())?;
-        for instance in instances {
-            let next = self.network(number).replaced(alloc, position, instance)?;
-            successors.push(self.keep(next)?)?;
+        let mut successors = Vec::with_capacity(alloc, job.instances.len())?;
+        for (place, instance) in job.instances.iter().enumerate() {
+            let draft = Draft {
+                job: notes.job,
+                position,
+                instance: Some(place),
+            };
+            let at = notes.first.wrapping_add(place);
+            successors.push(self.successor(alloc, job, notes, at, draft, instance)?)?;
         }
         Ok(successors)
     }
 
     /// The networks without each of the free nodes.
-    fn removals(&mut self, alloc: Global, number: u32) -> Result<Vec<Removal>, AllocError>
+    fn removals(
+        &mut self,
+        alloc: Global,
+        job: Job,
+        notes: Notes,
+    ) -> Result<Vec<Removal>, AllocError>
         requires whole { IsWhole self.old }
-        requires known { Knows self.old number }
+        requires known { Knows self.old job.network }
+        requires noted { AreKnownOf self.old job notes }
         ensures whole { OnOk result (IsWhole self.new) }
         ensures more { OnOk result (IsMore self.old self.new) }
-        ensures each { IfOk result (λ v. AreRemovals self.new (numbered_at self.old number)
-            (free_positions (length (numbered_at self.old number).nodes) (numbered_at self.old number).order) v.items) }
+        ensures each { IfOk result (λ v. AreRemovals self.new (numbered_at self.old job.entry.network)
+            (free_positions (length (numbered_at self.old job.entry.network).nodes) (numbered_at self.old job.entry.network).order)
+            v.items) }
     {
-        let free = self.network(number).order().free_positions(alloc)?;
+        let free = self.network(job.network).order().free_positions(alloc)?;
         let none = Network::new(Vec::new(alloc), Order::empty());
         let mut removals = Vec::with_capacity(alloc, free.len())?;
+        let mut at = notes.first;
         for position in &free {
-            let node = self.node_at(number, *position);
-            let next = self.network(number).replaced(alloc, *position, &none)?;
-            let network = self.keep(next)?;
+            let node = self.node_at(job.network, *position);
+            let draft = Draft {
+                job: notes.job,
+                position: *position,
+                instance: None,
+            };
+            let network = self.successor(alloc, job, notes, at, draft, &none)?;
             removals.push(Removal { node, network })?;
+            at = at.wrapping_add(1);
         }
         Ok(removals)
     }
 
-    /// What becomes of a network, where these are the instances of its first free compound task.
+    /// What becomes of a job's network.
     fn find_expansion(
         &mut self,
         alloc: Global,
-        number: u32,
-        instances: &[Network],
+        job: Job,
+        notes: Notes,
     ) -> Result<Expansion, AllocError>
         requires whole { IsWhole self.old }
-        requires known { Knows self.old number }
-        requires within { All (IsWithin (children self.old)) instances.now }
+        requires known { Knows self.old job.network }
+        requires noted { AreKnownOf self.old job notes }
+        requires within { All (IsWithin (children self.old)) job.instances.now }
         ensures whole { OnOk result (IsWhole self.new) }
         ensures more { OnOk result (IsMore self.old self.new) }
-        ensures right { IfOk result (λ e. (live : Live) → AreInstances live self.old number instances.now
-            → IsExpansion live self.new number e) }
+        ensures right { IfOk result (λ e. (live : Live) → AreInstances live self.old job.entry.network job.entry.instances.now
+            → IsExpansion live self.new job.entry.network e) }
     {
-        match self.first_free_position(number) {
+        match self.first_free_position(job.network) {
             Some(position) => {
-                let successors = self.decompositions(alloc, number, position, instances)?;
+                let successors = self.decompositions(alloc, job, notes, position)?;
                 Ok(Expansion::Decomposed(position, successors))
             }
             None => {
-                let removals = self.removals(alloc, number)?;
+                let removals = self.removals(alloc, job, notes)?;
                 Ok(Expansion::Performed(removals))
             }
         }
+    }
+
+    /// Finds what becomes of a job's network, unless that is known.
+    pub(crate) fn expand_job(
+        &mut self,
+        alloc: Global,
+        job: Job,
+        notes: Notes,
+    ) -> Result<(), AllocError>
+        requires whole { IsWhole self.old }
+        requires known { Knows self.old job.network }
+        requires noted { AreKnownOf self.old job notes }
+        requires within { All (IsWithin (children self.old)) job.instances.now }
+        ensures whole { OnOk result (IsWhole self.new) }
+        ensures grown { OnOk result (IsGrown self.old self.new) }
+        ensures ready { OnOk result (IsSome (expansion_at self.new job.entry.network)) }
+        ensures sound { OnOk result ((live : Live) → AreInstances live self.old job.entry.network job.entry.instances.now
+            → IsSound live self.old → IsSound live self.new) }
+        ensures others { OnOk result ((n : ℕ) → (n ≡ job.entry.network → ⊥)
+            → expansion_at self.new n ≡ expansion_at self.old n) }
+        ensures children { OnOk result (self.new.children ≡ self.old.children) }
+    {
+        if self.expansion(job.network).is_some() {
+            return Ok(());
+        }
+        let expansion = self.find_expansion(alloc, job, notes)?;
+        self.remember(job.network, expansion);
+        Ok(())
     }
 
     /// Finds what becomes of a network, unless that is known, where these are the instances that
@@ -152,11 +237,18 @@ impl NetworkTable {
         // no node gets a number
         ensures children { OnOk result (self.new.children ≡ self.old.children) }
     {
-        if self.expansion(number).is_some() {
-            return Ok(());
-        }
-        let expansion = self.find_expansion(alloc, number, instances)?;
-        self.remember(number, expansion);
-        Ok(())
+        let notes = Notes {
+            noted: &[],
+            job: 0,
+            first: 0,
+        };
+        self.expand_job(
+            alloc,
+            Job {
+                network: number,
+                instances,
+            },
+            notes,
+        )
     }
 }

@@ -8,13 +8,18 @@
 #![tactic(auto)]
 
 mod child_table;
+mod draft;
 mod expand;
+mod expand_all;
 mod expansion;
 mod laws;
+mod made;
 mod network;
+mod notes;
 mod table;
 
 pub use child_table::ChildTable;
+pub use draft::Job;
 pub use expansion::{Expansion, Removal};
 pub use laws::{numbers_differ, numbers_stay, replaces_as_model};
 pub use network::Network;

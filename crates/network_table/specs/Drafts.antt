@@ -1,0 +1,66 @@
+-- Networks that others become, listed before they are made.
+use Rattle.std.specs.Prelude.{◌≡◌, ℕ, ◌<◌, List, map, length, get_or, slice_get, All, IfOk, IfSome, IsSome, Option, None, Some, Result}
+use Rattle.std.specs.declared.alloc.AllocError.{AllocError}
+use Rattle.network_table.specs.Numbered.{Numbered, IsWithin, replaced_numbered}
+use Rattle.network_table.specs.Networks.{children, expansion_at, nothing, numbered_at, IsGrown, IsNumberOf, IsWhole, Knows}
+use Rattle.network_table.specs.Expansions.{AreInstances, IsSound, Live}
+use Rattle.network_table.specs.declared.draft.Draft.{Draft}
+use Rattle.network_table.specs.declared.draft.Job.{Job}
+use Rattle.network_table.specs.declared.made.Made.{Made}
+use Rattle.network_table.specs.declared.made.Place.{Place}
+use Rattle.network_table.specs.declared.notes.Known.{Known}
+use Rattle.network_table.specs.declared.notes.Notes.{Notes}
+use Rattle.network_table.specs.declared.table.NetworkTable.{NetworkTable}
+
+-- what takes the place of the node: an instance, or no node
+abbrev pub inner_at : List Numbered → Option ℕ → Numbered
+inner_at instances None = nothing
+inner_at instances (Some k) = get_or instances k nothing
+
+-- the network that a job's becomes, or none without a job
+abbrev pub drafted : NetworkTable → Draft → Option Job → Numbered
+drafted t d None = nothing
+drafted t d (Some job) = replaced_numbered (numbered_at t job.network) d.position (inner_at job.instances.now d.instance)
+
+-- the network that a draft of some jobs stands for
+abbrev pub draft_network : NetworkTable → List Job → Draft → Numbered
+draft_network t jobs d = drafted t d (slice_get jobs d.job)
+
+-- the draft's network stands at this place
+abbrev pub IsPlaced : NetworkTable → List Job → List Numbered → Place → Type 0
+IsPlaced t jobs networks p = (p.network < length networks) × (get_or networks p.network nothing ≡ draft_network t jobs p.draft)
+
+-- networks whose nodes have numbers, with places of drafts among them
+pub record AreMade (t : NetworkTable) (jobs : List Job) (networks : List Numbered) (places : List Place) : Type 0 where
+  pub within : All (IsWithin (children t)) networks
+  pub placed : All (IsPlaced t jobs networks) places
+
+-- what a worker gives, if its memory does not run out
+abbrev pub HoldsMade : NetworkTable → List Job → Result Made AllocError → Type 0
+HoldsMade t jobs r = IfOk r (λ m. AreMade t jobs m.networks.items m.places.items)
+
+-- the number is that of the draft's network
+abbrev pub IsKnown : NetworkTable → List Job → Known → Type 0
+IsKnown t jobs k = IsNumberOf t k.number (draft_network t jobs k.draft)
+
+-- so are those that are noted
+abbrev pub AreKnown : NetworkTable → List Job → List (Option Known) → Type 0
+AreKnown t jobs noted = All (λ o. IfSome o (IsKnown t jobs)) noted
+
+-- so are those of a job
+abbrev pub AreKnownOf : NetworkTable → Job → Notes → Type 0
+AreKnownOf t job notes = All (λ o. IfSome o (λ k. k.draft.job ≡ notes.job → IsNumberOf t k.number (drafted t k.draft (Some job)))) notes.noted.now
+
+-- the networks have these numbers, in their order
+pub record AreNumbersOf (t : NetworkTable) (numbers : List ℕ) (networks : List Numbered) : Type 0 where
+  pub known : All (Knows t) numbers
+  pub each : map (numbered_at t) numbers ≡ networks
+
+-- what becomes of the jobs' networks is known, and all else is as it was
+pub record AreExpanded (old new : NetworkTable) (jobs : List Job) : Type 0 where
+  pub whole : IsWhole new
+  pub grown : IsGrown old new
+  pub children : new.children ≡ old.children
+  pub ready : All (λ j. IsSome (expansion_at new j.network)) jobs
+  pub sound : (live : Live) → All (λ (j : Job). AreInstances live old j.network j.instances.now) jobs → IsSound live old → IsSound live new
+  pub others : (n : ℕ) → All (λ (j : Job). n ≡ j.network → ⊥) jobs → expansion_at new n ≡ expansion_at old n

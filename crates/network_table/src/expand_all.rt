@@ -1,0 +1,196 @@
+//! What becomes of many networks, found by several workers.
+ghost use Rattle.std.specs.Prelude.{◌≡◌, ◌<◌, ℕ, All, IfOk, OnOk, IsSome};
+ghost use Rattle.network_table.specs.Numbered.{IsWithin};
+ghost use Rattle.network_table.specs.Networks.{children, expansion_at, IsGrown, IsMore, IsWhole, Knows};
+ghost use Rattle.network_table.specs.Expansions.{AreInstances, IsSound, Live};
+ghost use Rattle.network_table.specs.Drafts.{AreExpanded, AreKnown, AreMade, AreNumbersOf, HoldsMade};
+
+use crate::draft::{Job, Listed, start_of};
+use crate::made::Made;
+use crate::network::Network;
+use crate::notes::{Known, Notes};
+use crate::table::NetworkTable;
+use std::alloc::{AllocError, Global};
+use std::thread::{Threads, map_indices};
+
+impl NetworkTable {
+    /// The numbers of networks, which they may get only now.
+    fn keep_all(&mut self, alloc: Global, networks: Vec<Network>) -> Result<Vec<u32>, AllocError>
+        requires whole { IsWhole self.old }
+        requires within { All (IsWithin (children self.old)) networks.items }
+        ensures whole { OnOk result (IsWhole self.new) }
+        ensures more { OnOk result (IsMore self.old self.new) }
+        ensures each { IfOk result (λ v. AreNumbersOf self.new v.items networks.items) }
+    {
+        let mut numbers = Vec::with_capacity(alloc, networks.len())?;
+        for network in networks {
+            numbers.push(self.keep(network)?)?;
+        }
+        Ok(numbers)
+    }
+
+    /// Numbers what was made, and notes for each draft the number of its network.
+    fn note_made(
+        &mut self,
+        alloc: Global,
+        jobs: &[Job],
+        made: Made,
+        noted: &mut Vec<Option<Known>>,
+    ) -> Result<(), AllocError>
+        requires whole { IsWhole self.old }
+        requires known { All (λ j. Knows self.old j.network) jobs.now }
+        requires made { AreMade self.old jobs.now made.networks.items made.places.items }
+        requires noted { AreKnown self.old jobs.now noted.old.items }
+        ensures whole { OnOk result (IsWhole self.new) }
+        ensures more { OnOk result (IsMore self.old self.new) }
+        ensures noted { OnOk result (AreKnown self.new jobs.now noted.new.items) }
+    {
+        let Made { networks, places } = made;
+        let numbers = self.keep_all(alloc, networks)?;
+        for place in &places {
+            if place.at < noted.len() {
+                noted[place.at] = Some(Known {
+                    draft: place.draft,
+                    number: numbers[place.network],
+                });
+            }
+        }
+        Ok(())
+    }
+
+    /// Numbers what all workers made, and notes for each draft the number of its network.
+    fn note_all(
+        &mut self,
+        alloc: Global,
+        jobs: &[Job],
+        shards: Vec<Result<Made, AllocError>>,
+        count: usize,
+    ) -> Result<Vec<Option<Known>>, AllocError>
+        requires whole { IsWhole self.old }
+        requires known { All (λ j. Knows self.old j.network) jobs.now }
+        requires made { All (HoldsMade self.old jobs.now) shards.items }
+        ensures whole { OnOk result (IsWhole self.new) }
+        ensures more { OnOk result (IsMore self.old self.new) }
+        ensures noted { IfOk result (λ v. AreKnown self.new jobs.now v.items) }
+    {
+        let mut noted: Vec<Option<Known>> = vec![in alloc; None; count]?;
+        for made in shards {
+            self.note_made(alloc, jobs, made?, &mut noted)?;
+        }
+        Ok(noted)
+    }
+
+    /// Remembers what becomes of the jobs' networks.
+    fn remember_all(
+        &mut self,
+        alloc: Global,
+        jobs: &[Job],
+        drafts: &[Listed],
+        noted: &[Option<Known>],
+    ) -> Result<(), AllocError>
+        requires whole { IsWhole self.old }
+        requires known { All (λ j. Knows self.old j.network) jobs.now }
+        requires within { All (λ j. All (IsWithin (children self.old)) j.instances.now) jobs.now }
+        requires noted { AreKnown self.old jobs.now noted.now }
+        ensures { OnOk result (AreExpanded self.old self.new jobs.now) }
+    {
+        let mut first = 0;
+        for number in 0..jobs.len() {
+            first = start_of(drafts, number, first);
+            self.expand_job(
+                alloc,
+                jobs[number],
+                Notes {
+                    noted,
+                    job: number,
+                    first,
+                },
+            )?;
+        }
+        Ok(())
+    }
+
+    /// Lists what the jobs' networks become, by so many workers.
+    fn list_all<R: Threads + Sync>(
+        &self,
+        rt: &R,
+        alloc: Global,
+        jobs: &[Job],
+        workers: usize,
+    ) -> Result<Vec<Listed>, AllocError>
+        requires whole { IsWhole self.now }
+        requires known { All (λ j. Knows self.now j.network) jobs.now }
+        requires workers { 0 < workers }
+    {
+        let size = jobs.len().div_ceil(workers);
+        let list = |part: usize| -> Result<Vec<Listed>, AllocError>
+            requires { IsWhole self.now × All (λ j. Knows self.now j.network) jobs.now }
+        { self.list_jobs(alloc, jobs, part.saturating_mul(size), size) };
+        let parts = map_indices(rt, alloc, workers, &list)?;
+        let mut drafts = Vec::new(alloc);
+        for part in parts {
+            let mut more = part?;
+            drafts.append(&mut more)?;
+        }
+        Ok(drafts)
+    }
+
+    /// Makes the networks of drafts, by so many workers.
+    fn make_all<R: Threads + Sync>(
+        &self,
+        rt: &R,
+        alloc: Global,
+        jobs: &[Job],
+        drafts: &[Listed],
+        workers: usize,
+    ) -> Result<Vec<Result<Made, AllocError>>, AllocError>
+        requires whole { IsWhole self.now }
+        requires known { All (λ j. Knows self.now j.network) jobs.now }
+        requires within { All (λ j. All (IsWithin (children self.now)) j.instances.now) jobs.now }
+        requires workers { 0 < workers }
+        ensures { IfOk result (λ v. All (HoldsMade self.now jobs.now) v.items) }
+    {
+        let make = |shard: usize| -> Result<Made, AllocError>
+            requires { IsWhole self.now × All (λ j. Knows self.now j.network) jobs.now
+                × All (λ j. All (IsWithin (children self.now)) j.instances.now) jobs.now × 0 < workers }
+            ensures { HoldsMade self.entry.now jobs.entry.now result }
+        { self.make_shard(alloc, jobs, drafts, shard, workers) };
+        map_indices(rt, alloc, workers, &make)
+    }
+
+    /// Finds what becomes of networks, by so many workers.
+    pub fn expand_all<R: Threads + Sync>(
+        &mut self,
+        rt: &R,
+        alloc: Global,
+        jobs: &[Job],
+        workers: usize,
+    ) -> Result<(), AllocError>
+        requires whole { IsWhole self.old }
+        requires known { All (λ j. Knows self.old j.network) jobs.now }
+        requires within { All (λ j. All (IsWithin (children self.old)) j.instances.now) jobs.now }
+        requires workers { 0 < workers }
+        ensures whole { OnOk result (IsWhole self.new) }
+        ensures grown { OnOk result (IsGrown self.old self.new) }
+        ensures ready { OnOk result (All (λ j. IsSome (expansion_at self.new j.network)) jobs.now) }
+        ensures sound { OnOk result ((live : Live)
+            → All (λ j. AreInstances live self.old j.network j.instances.now) jobs.now
+            → IsSound live self.old → IsSound live self.new) }
+        // nothing else is found
+        ensures others { OnOk result ((n : ℕ) → All (λ j. n ≡ j.network → ⊥) jobs.now
+            → expansion_at self.new n ≡ expansion_at self.old n) }
+        // no node gets a number
+        ensures children { OnOk result (self.new.children ≡ self.old.children) }
+    {
+        if workers == 1 {
+            // One worker makes a network where it is numbered: nothing has to be told apart beforehand.
+            self.remember_all(alloc, jobs, &[], &[])?;
+            return Ok(());
+        }
+        let drafts = self.list_all(rt, alloc, jobs, workers)?;
+        let shards = self.make_all(rt, alloc, jobs, drafts.as_slice(), workers)?;
+        let noted = self.note_all(alloc, jobs, shards, drafts.len())?;
+        self.remember_all(alloc, jobs, drafts.as_slice(), noted.as_slice())?;
+        Ok(())
+    }
+}
