@@ -206,23 +206,6 @@ module _ {C : Type 0} (m : WordMachine C) (belongs : C → Type 0) (laws : IsLaw
           let at = word_at S contents level low closed k c (slice_get-get_or contents.keys k d inside) in
           reaches_belong (get_or (words_of contents.origins) k []) c (closed.kept.reached k c (get_or (words_of contents.origins) k []) at)
 
-      -- and so is each successor, whose parent stands in the list
-      pub successors_belong : (beyond : C → Type 0) (last : ℕ) (successors : List (Successor C)) → IsExpansion (IsLiveStep m) (IsDone m) beyond contents.keys low last successors → All (λ s. belongs s.configuration) successors
-      successors_belong beyond last successors expanded = λ k d inside. (
-          let s = get_or successors k d in
-          let e = expanded.each k s (slice_get-get_or successors k d inside) in
-          let at = word_at S contents level low closed e.0 e.2 e.5 in
-          laws.stays e.2 s.configuration e.1 (reaches_belong (get_or (words_of contents.origins) e.0 []) e.2 (closed.kept.reached e.0 e.2 (get_or (words_of contents.origins) e.0 []) at)) e.6.step.0)
-
-      -- the parent of each stands in the list
-      pub successors_within : (beyond : C → Type 0) (successors : List (Successor C)) → IsExpansion (IsLiveStep m) (IsDone m) beyond contents.keys low (length contents.keys) successors
-          → All (λ s. IsOriginWithin (length contents.keys) s.origin) successors
-      successors_within beyond successors expanded = λ k d inside. (
-          let s = get_or successors k d in
-          let e = expanded.each k s (slice_get-get_or successors k d inside) in
-          let own : IsOriginWithin (length contents.keys) (Stepped e.0 e.1) = e.4 in
-          subst (IsOriginWithin (length contents.keys)) (sym e.6.origin) own)
-
 -- no word finishes with fewer steps than are left at least at each initial configuration
 pub none_before_least : {C : Type 0} (m : WordMachine C) (belongs : C → Type 0) (laws : IsLawful m belongs) (lower : C → ℕ) (is_lower : IsLowerBound m lower) (least : ℕ)
     → All (λ c. least ≤ lower c) m.initials → NoneFinishesBefore m least

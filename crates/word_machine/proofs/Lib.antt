@@ -7,7 +7,10 @@ pub mod Offering
 pub mod Merging
 pub mod Levels
 pub mod ReadingBack
+pub mod Advancing
 pub mod Answering
 pub mod Searching
 pub mod Numbered
 pub mod Diving
+pub mod Keeping
+pub mod Aside

@@ -2,7 +2,6 @@
 use Rattle.std.proofs.Common.{◌≡◌, ℕ, suc, zero, ◌+◌, ◌-◌, ◌<◌, ◌≤◌, ◌⊎◌, Bool, true, false, true≢false, if◌then◌else◌, List, [], ◌∷◌, ◌++◌, length, refl, sym, ap, subst, ◌∙◌, inl, inr, arith, slice_get, Some, get_or, append_assoc, length-append}
 use Rattle.std.specs.Prelude.{nat_le}
 use Rattle.std.proofs.Math.Nat.{min-le_left, min-le_right}
-use Rattle.std.specs.List.{list_any}
 use Rattle.std.proofs.lemmas.Bool.Decides.{leb_tells}
 use Rattle.std.proofs.lemmas.Bool.{cases_lt}
 use Rattle.std.proofs.lemmas.List.{append-nil, get_or_append_left}
@@ -12,7 +11,7 @@ use Rattle.word_machine.specs.declared.closed.Origin.{Origin}
 use Rattle.word_machine.specs.declared.closed.Origin.TheVariants.{Initial, Step as Stepped}
 use Rattle.word_machine.specs.declared.closed.Successor.{Successor}
 use Rattle.word_machine.specs.Words.{Precedes, Reaches, MeetsBound, step_count}
-use Rattle.word_machine.specs.Contents.{Contents, CutOff, cut_more, offer, IsOffered, AreOffered, word_of, words_of, IsForest, IsOriginWithin}
+use Rattle.word_machine.specs.Contents.{Contents, CutOff, cut_more, IsOffered, AreOffered, word_of, words_of, IsForest, IsOriginWithin}
 use Rattle.word_machine.specs.Closed.{Search, IsAt, IsCovered, FitsBound, IsAccounted, IsKept, IsCompleteBelow, IsCandidate, IsBatch}
 use Rattle.word_machine.proofs.Places.{slice_get-append_left, slice_get-append_right, slice_get-append_cases, slice_get-pushed}
 use Rattle.word_machine.proofs.Order.{step_count-reached}
@@ -330,16 +329,3 @@ module _ {C : Type 0} where
           → IsKept S old.keys (words_of old.origins) → (old.cut.any ≡ true → MeetsBound S.Step S.open_len S.initials S.bound)
           → AreOffered S.open_len room old batch new → IsMerged batch new
       merges batch new is_batch kept met offered = merged_all [] batch old new is_batch (IsMerged-none kept met) offered
-
--- one successor more that is offered
-module _ {C : Type 0} (eq : C → C → Bool) where
-  -- no offer takes anything away
-  pub offer_grows : (contents : Contents C) (s : Successor C) (left room : ℕ) → length contents.keys ≤ length (offer eq contents s left room).keys
-  offer_grows contents s left room = by (list_any (eq s.configuration) contents.keys) (nat_le left room)
-    where
-      by : (known fits : Bool) → length contents.keys ≤ length (if known then contents
-          else if fits then record { keys = contents.keys ++ s.configuration ∷ []; origins = contents.origins ++ s.origin ∷ []; cut = contents.cut }
-          else record { keys = contents.keys; origins = contents.origins; cut = cut_more contents.cut (left - room) }).keys
-      by true fits = omega arith
-      by false true = omega (arith, length-append contents.keys (s.configuration ∷ []))
-      by false false = omega arith

@@ -1,27 +1,25 @@
 -- The levels of a search whose configurations are numbers.
 use Rattle.std.proofs.Common.{◌≡◌, ℕ, ◌+◌, ◌-◌, ◌<◌, ◌≤◌, ◌⊎◌, Bool, true, false, true≢false, List, [], ◌∷◌, ◌++◌, length, map, refl, max, sym, ap, subst, ◌∙◌, inl, inr, arith, slice_get, Some, get_or, All, Option, None}
-use Rattle.std.specs.Prelude.{Vec}
-use Rattle.std.specs.declared.alloc.Global.{Global}
 use Rattle.std.proofs.lemmas.List.{length-map}
 use Rattle.std.proofs.lemmas.Option.{slice_get-get_or}
-use Rattle.htn_level.specs.declared.order.Expanded.TheVariants.{Whole, Done}
 use Rattle.word_machine.specs.declared.closed.Successor.{Successor}
 use Rattle.word_machine.specs.declared.found.Outcome.{Outcome}
 use Rattle.word_machine.specs.declared.found.Outcome.TheVariants.{Finished, Past, Exhausted, GivenUp}
 use Rattle.word_machine.specs.Machine.{WordMachine, IsLawful, IsLiveStep, IsDone}
 use Rattle.word_machine.specs.Meaning.{Meaning, IsGrown, IsOneToOne, successor_at, contents_at}
-use Rattle.word_machine.specs.Contents.{Contents, AreOffered, offer_all, initial_successors, words_of, IsOriginWithin}
+use Rattle.word_machine.specs.Contents.{Contents, AreOffered, offer_all, initial_successors, words_of}
 use Rattle.word_machine.specs.Closed.{search_by, IsClosedTo}
 use Rattle.word_machine.specs.Expansion.{IsExpansion, IsFirstDone}
-use Rattle.word_machine.specs.Ranks.{IsOwned, IsExpandedBy}
+use Rattle.word_machine.specs.Advance.{HasAdvanced}
+use Rattle.word_machine.specs.Ranks.{IsOwned}
 use Rattle.word_machine.specs.Words.{step_count}
 use Rattle.word_machine.specs.Answer.{IsOutcome, IsLeastFinishing, NoneFinishes}
 use Rattle.word_machine.proofs.Complete.{CountsOpen}
-use Rattle.word_machine.proofs.Meanings.{slice_get-map, slice_get-map_back, all_of_map, same_points, known_still, all_owned}
+use Rattle.word_machine.proofs.Meanings.{slice_get-map, slice_get-map_back, same_points, known_still, all_owned}
 use Rattle.word_machine.proofs.Offering.{offers}
 use Rattle.word_machine.specs.Dive.{AreAllBelow, AreKeptBelow, IsVisited}
 use Rattle.word_machine.proofs.Levels.{numbered_each, numbered_map, empty, word_at, IsPast}
-use Rattle.word_machine.proofs.Answering.{answer_initial, answer_found, kept_below, outcome, keys_belong, successors_belong, successors_within}
+use Rattle.word_machine.proofs.Answering.{answer_initial, answer_found, kept_below, outcome, keys_belong}
 use Rattle.word_machine.proofs.Searching.{first_level, later_level}
 
 -- the least steps that are told where something was left out
@@ -137,54 +135,31 @@ module _ {C R P : Type 0} (m : WordMachine P) (belongs : P → Type 0) (laws : I
     ended_early cut none = (none, s.closed.met cut, λ word finish. (let over : bound < step_count word = none word finish in omega arith))
 
     -- the first done successor gives the answer
-    pub word_found : (beyond : P → Type 0) (p n : ℕ) → level < bound → IsExpandedBy {C = C} {R = R} m meaning beyond contents.keys low (length contents.keys) (Done p n)
+    pub word_found : (p n : ℕ) → level < bound → IsFirstDone (IsLiveStep m) (IsDone m) (map meaning.point contents.keys) low (length contents.keys) p n
         → IsLeastFinishing m bound (get_or (words_of contents.origins) p [] ++ n ∷ [])
-    word_found beyond p n short first =
+    word_found p n short first =
         answer_found m belongs laws measure bound counts (contents_at meaning.point contents) level low s.closed p n short
         (subst (λ l. IsFirstDone (IsLiveStep m) (IsDone m) (map meaning.point contents.keys) low l p n) (sym many) first)
 
-    module _ (beyond : P → Type 0) (successors : Vec (Successor R) Global) (expanded : IsExpandedBy m meaning beyond contents.keys low (length contents.keys) (Whole successors)) where
-      -- the expansion of the level, by points
-      expansion : IsExpansion (IsLiveStep m) (IsDone m) beyond (map meaning.point contents.keys) low (length (map meaning.point contents.keys)) (map (successor_at meaning.point_of) successors.items)
-      expansion = subst (λ l. IsExpansion (IsLiveStep m) (IsDone m) beyond (map meaning.point contents.keys) low l (map (successor_at meaning.point_of) successors.items)) (sym many) expanded.1
-
-      -- each point that was reached is the machine's
-      reached_belong : All (λ (t : Successor P). belongs t.configuration) (map (successor_at meaning.point_of) successors.items)
-      reached_belong =
-          successors_belong m belongs laws measure bound counts (contents_at meaning.point contents) level low s.closed beyond (length (map meaning.point contents.keys))
-          (map (successor_at meaning.point_of) successors.items) expansion
-
-      -- and so for what the workers handed back
-      pub successors_own : All (λ (t : Successor R). belongs (meaning.point_of t.configuration)) successors.items
-      successors_own = all_of_map (successor_at meaning.point_of) (λ (t : Successor P). belongs t.configuration) successors.items reached_belong
-
-      -- their parents stand in the list
-      pub reached_within : All (λ (t : Successor R). IsOriginWithin (length contents.keys) t.origin) successors.items
-      reached_within =
-          let each : All (λ (t : Successor P). IsOriginWithin (length (map meaning.point contents.keys)) t.origin) (map (successor_at meaning.point_of) successors.items) =
-          successors_within m belongs laws measure bound counts (contents_at meaning.point contents) level low s.closed beyond (map (successor_at meaning.point_of) successors.items) expansion in
-          all_of_map (successor_at meaning.point_of) (λ (t : Successor P). IsOriginWithin (length contents.keys) t.origin) successors.items
-          (subst (λ n. All (λ (t : Successor P). IsOriginWithin n t.origin) (map (successor_at meaning.point_of) successors.items)) many each)
-
-      -- once they are merged, the next level is closed
-      pub next_searched : (new : Meaning C R P) → IsGrown meaning new → (room : ℕ) → (level + 2) + room ≡ bound + 1
-          → ((d : P) → beyond d → (contents.cut.any ≡ true) × (room < measure d) × (contents.cut.past ≤ measure d - room))
-          → (after : Contents C) → All new.knows after.keys
-          → AreOffered measure room (contents_at new.point contents) (map (successor_at meaning.point_of) successors.items) (contents_at new.point after)
-          → IsSearched new after (level + 1) (length contents.keys)
-      next_searched new g room room_is far after known offered =
-          let S = search_by m measure bound in
-          let now = searched_still meaning new g contents level low s in
-          let reached = map (successor_at meaning.point_of) successors.items in
-          let whole : IsExpansion (IsLiveStep m) (IsDone m) beyond (map new.point contents.keys) low (length (map new.point contents.keys)) reached =
-          subst (λ l. IsExpansion (IsLiveStep m) (IsDone m) beyond l low (length l) reached) (sym (same_points meaning new g contents.keys s.known)) expansion in
-          let past : (d : P) → beyond d → IsPast S (contents_at new.point contents) level d =
-          λ d is. (
-          let more : room < measure d = (far d is).1 in
-          let least : contents.cut.past ≤ measure d - room = (far d is).2 in
-          ((far d is).0, omega arith, omega arith)) in
-          let later = later_level S counts (contents_at new.point contents) level low now.closed beyond past reached whole room room_is (contents_at new.point after) offered in
-          record {
-            closed = subst (λ n. IsClosedTo S (map new.point after.keys) (words_of after.origins) after.cut (level + 1) n) (length-map contents.keys new.point) later;
-            known = known;
-          }
+    -- once the level is expanded, and what it reaches offered, the next one is closed
+    pub next_searched : (beyond : P → Type 0) (new : Meaning C R P) → IsGrown meaning new → (room : ℕ) → (level + 2) + room ≡ bound + 1
+        → ((d : P) → beyond d → (contents.cut.any ≡ true) × (room < measure d) × (contents.cut.past ≤ measure d - room))
+        → (after : Contents C) → All new.knows after.keys
+        → HasAdvanced m beyond measure room (map new.point contents.keys) low (length contents.keys) (contents_at new.point contents) (contents_at new.point after)
+        → IsSearched new after (level + 1) (length contents.keys)
+    next_searched beyond new g room room_is far after known advanced =
+        let S = search_by m measure bound in
+        let now = searched_still meaning new g contents level low s in
+        let count : length (map new.point contents.keys) ≡ length contents.keys = length-map contents.keys new.point in
+        let whole : IsExpansion (IsLiveStep m) (IsDone m) beyond (map new.point contents.keys) low (length (map new.point contents.keys)) advanced.0 =
+        subst (λ l. IsExpansion (IsLiveStep m) (IsDone m) beyond (map new.point contents.keys) low l advanced.0) (sym count) advanced.1 in
+        let past : (d : P) → beyond d → IsPast S (contents_at new.point contents) level d =
+        λ d is. (
+        let more : room < measure d = (far d is).1 in
+        let least : contents.cut.past ≤ measure d - room = (far d is).2 in
+        ((far d is).0, omega arith, omega arith)) in
+        let later = later_level S counts (contents_at new.point contents) level low now.closed beyond past advanced.0 whole room room_is (contents_at new.point after) advanced.2 in
+        record {
+          closed = subst (λ n. IsClosedTo S (map new.point after.keys) (words_of after.origins) after.cut (level + 1) n) count later;
+          known = known;
+        }

@@ -8,8 +8,8 @@ use Rattle.std.proofs.lemmas.List.Elements.{All-head, All-tail, All-append, All-
 use Rattle.std.proofs.lemmas.Option.{none-some, same_Some}
 use Rattle.word_machine.specs.declared.closed.Successor.{Successor}
 use Rattle.word_machine.specs.Contents.{Contents, cut_more, offer, offer_all, IsOffered, AreOffered}
-use Rattle.word_machine.specs.Meaning.{Meaning, IsGrown, IsOneToOne, successor_at, contents_at}
-use Rattle.word_machine.proofs.Meanings.{slice_get-map, slice_get-map_back, all_at, known_still, same_points}
+use Rattle.word_machine.specs.Meaning.{Meaning, IsGrown, successor_at, contents_at}
+use Rattle.word_machine.proofs.Meanings.{slice_get-map, slice_get-map_back, all_at, same_points}
 
 -- true beside anything
 or_true : (b : Bool) → (b || true) ≡ true
@@ -19,7 +19,7 @@ or_true false = refl
 module _ {C P : Type 0} (eq : C → C → Bool) (same : (c d : C) → eq c d ≡ true → c ≡ d) (reflexive : (c : C) → eq c c ≡ true)
     (knows : C → Type 0) (point : C → P) (one_to_one : (c d : C) → knows c → knows d → point c ≡ point d → c ≡ d) where
   -- a key that is among those of the list has a place
-  found : (ks : List C) (k : C) → list_any (eq k) ks ≡ true → (r : ℕ) × (slice_get ks r ≡ Some k)
+  pub found : (ks : List C) (k : C) → list_any (eq k) ks ≡ true → (r : ℕ) × (slice_get ks r ≡ Some k)
   found [] k h = absurd (true≢false (sym h))
   found (x ∷ xs) k h = by (eq k x) refl (λ later. found xs k later)
     where
@@ -41,7 +41,7 @@ module _ {C P : Type 0} (eq : C → C → Bool) (same : (c d : C) → eq c d ≡
       present ks c r (back.1 ∙ ap Some alike)
 
   -- one offer, by points
-  offer_point : (contents : Contents C) (s : Successor C) (left room : ℕ) → All knows contents.keys → knows s.configuration
+  pub offer_point : (contents : Contents C) (s : Successor C) (left room : ℕ) → All knows contents.keys → knows s.configuration
       → IsOffered (contents_at point contents) (successor_at point s) left room (contents_at point (offer eq contents s left room))
   offer_point contents s left room known own = by (list_any (eq s.configuration) contents.keys) refl
     where
@@ -93,7 +93,7 @@ module _ {P : Type 0} (measure : P → ℕ) (room : ℕ) where
   offered_push old middle new (x ∷ batch) s before own = (before.0, before.1, offered_push before.0 middle new batch s before.2 own)
 
 -- what is past the room and not in the list is cut off
-offered_past : {P : Type 0} (contents : Contents P) (s : Successor P) (left room : ℕ) → ((r : ℕ) → slice_get contents.keys r ≡ Some s.configuration → ⊥) → room < left
+pub offered_past : {P : Type 0} (contents : Contents P) (s : Successor P) (left room : ℕ) → ((r : ℕ) → slice_get contents.keys r ≡ Some s.configuration → ⊥) → room < left
     → IsOffered contents s left room (record { keys = contents.keys; origins = contents.origins; cut = cut_more contents.cut (left - room) })
 offered_past {P} contents s left room absent over = inr (inl (absent, by (nat_le left room) (leb_tells left room)))
   where
@@ -111,50 +111,19 @@ module _ {C R P : Type 0} (measure : P → ℕ) (room : ℕ) where
   contents_same a b g contents known = ap (λ l. record { keys = l; origins = contents.origins; cut = contents.cut }) (sym (same_points a b g contents.keys known))
 
   -- and so what was offered to it
-  offered_still : (a b : Meaning C R P) → IsGrown a b → (old new : Contents C) (batch : List (Successor P)) → All a.knows old.keys → All a.knows new.keys
+  pub offered_still : (a b : Meaning C R P) → IsGrown a b → (old new : Contents C) (batch : List (Successor P)) → All a.knows old.keys → All a.knows new.keys
       → AreOffered measure room (contents_at a.point old) batch (contents_at a.point new) → AreOffered measure room (contents_at b.point old) batch (contents_at b.point new)
   offered_still a b g old new batch known known' offered =
       subst (λ c. AreOffered measure room c batch (contents_at b.point new)) (contents_same a b g old known)
       (subst (λ c. AreOffered measure room (contents_at a.point old) batch c) (contents_same a b g new known') offered)
 
-  -- one more that a worker reached, whose numbers the tables have now, or have not
+  -- one more that a worker reached
   module _ (a b : Meaning C R P) (g : IsGrown a b) (point_of : R → P) (old now : Contents C) (done : List (Successor R)) (s : Successor R)
       (known : All a.knows old.keys) (known' : All a.knows now.keys) (before : AreOffered measure room (contents_at a.point old) (map (successor_at point_of) done) (contents_at a.point now)) where
     -- the offers so far, and one more
-    more : (new : Contents C) → IsOffered (contents_at b.point now) (successor_at point_of s) (measure (point_of s.configuration)) room (contents_at b.point new)
+    pub offered_more : (new : Contents C) → IsOffered (contents_at b.point now) (successor_at point_of s) (measure (point_of s.configuration)) room (contents_at b.point new)
         → AreOffered measure room (contents_at b.point old) (map (successor_at point_of) (done ++ s ∷ [])) (contents_at b.point new)
-    more new own =
+    offered_more new own =
         subst (λ l. AreOffered measure room (contents_at b.point old) l (contents_at b.point new)) (sym (map-append (successor_at point_of) done (s ∷ [])))
         (offered_push measure room (contents_at b.point old) (contents_at b.point now) (contents_at b.point new) (map (successor_at point_of) done) (successor_at point_of s)
         (offered_still a b g old now (map (successor_at point_of) done) known known' before) own)
-
-    -- one that has its numbers now
-    pub more_kept : (eq : C → C → Bool) → ((c d : C) → eq c d ≡ true → c ≡ d) → ((c : C) → eq c c ≡ true) → IsOneToOne b
-        → (c : C) → b.knows c → b.point c ≡ point_of s.configuration
-        → AreOffered measure room (contents_at b.point old) (map (successor_at point_of) (done ++ s ∷ []))
-        (contents_at b.point (offer eq now (record { origin = s.origin; configuration = c }) (measure (point_of s.configuration)) room))
-        × All b.knows (offer eq now (record { origin = s.origin; configuration = c }) (measure (point_of s.configuration)) room).keys
-    more_kept eq same reflexive one c own is =
-        let left = measure (point_of s.configuration) in
-        let t : Successor C = record { origin = s.origin; configuration = c } in
-        let still : All b.knows now.keys = known_still a b g now.keys known' in
-        let offered = offer_point eq same reflexive b.knows b.point one now t left room still own in (
-          more (offer eq now t left room)
-              (subst (λ p. IsOffered (contents_at b.point now) (record { origin = s.origin; configuration = p }) left room (contents_at b.point (offer eq now t left room))) is offered),
-          offer_known eq same reflexive b.knows b.point one now t left room still own,
-        )
-
-    -- one that is past the room as far as one that was cut off
-    pub more_past : now.cut.any ≡ true → room < measure (point_of s.configuration) → now.cut.past ≤ measure (point_of s.configuration) - room
-        → AreOffered measure room (contents_at b.point old) (map (successor_at point_of) (done ++ s ∷ [])) (contents_at b.point now)
-    more_past cut over far = more now (inr (inr (cut, over, far, refl)))
-
-    -- one that has none, and is past the room
-    pub more_cut : ((c : C) → b.knows c → b.point c ≡ point_of s.configuration → ⊥) → room < measure (point_of s.configuration)
-        → AreOffered measure room (contents_at b.point old) (map (successor_at point_of) (done ++ s ∷ []))
-        (contents_at b.point (record { keys = now.keys; origins = now.origins; cut = cut_more now.cut (measure (point_of s.configuration) - room) }))
-    more_cut none over =
-        let still : All b.knows now.keys = known_still a b g now.keys known' in
-        more (record { keys = now.keys; origins = now.origins; cut = cut_more now.cut (measure (point_of s.configuration) - room) })
-        (offered_past (contents_at b.point now) (successor_at point_of s) (measure (point_of s.configuration)) room
-        (λ r at. (let back = slice_get-map_back b.point now.keys r (point_of s.configuration) at in none back.0 (all_at b.knows now.keys still r back.0 back.1) back.2)) over)

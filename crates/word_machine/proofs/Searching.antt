@@ -4,14 +4,7 @@ use Rattle.std.proofs.lemmas.Option.{none-some}
 use Rattle.word_machine.specs.declared.closed.Successor.{Successor}
 use Rattle.word_machine.specs.Contents.{Contents, AreOffered, initial_successors, words_of}
 use Rattle.word_machine.specs.Closed.{Search, IsKept, IsClosedTo, IsCompleteBelow}
-use Rattle.std.specs.Prelude.{Vec}
-use Rattle.std.specs.declared.alloc.Global.{Global}
-use Rattle.htn_level.specs.declared.order.Expanded.{Expanded}
-use Rattle.htn_level.specs.declared.order.Expanded.TheVariants.{Whole, Done}
 use Rattle.word_machine.specs.Expansion.{IsExpansion}
-use Rattle.word_machine.specs.Machine.{WordMachine}
-use Rattle.word_machine.specs.Meaning.{Meaning}
-use Rattle.word_machine.specs.Ranks.{IsExpandedBy}
 use Rattle.word_machine.proofs.Complete.{CountsOpen, complete}
 use Rattle.word_machine.proofs.Merging.{merges}
 use Rattle.word_machine.proofs.Levels.{empty, start_batch, start_closed, numbered_start, older_than_next, IsPast, expansion_batch, next_level}
@@ -54,18 +47,3 @@ module _ {C : Type 0} (S : Search C) where
       (merges S old (level + 2) room room_is (older_than_next S old level low closed)
       (complete S laws old.keys (words_of old.origins) old.cut level low closed)
       successors new (expansion_batch S old level low closed beyond past successors expanded) closed.kept closed.met offered)
-
--- what an expansion by ranks says of the list that lends the configurations
-module _ {C R P : Type 0} (m : WordMachine P) (meaning : Meaning C R P) (beyond : P → Type 0) (keys lent counted : List C) (same_keys : lent ≡ keys) (same_count : counted ≡ keys) (low : ℕ) (e : Expanded (Successor R) ℕ)
-    (expanded : IsExpandedBy m meaning beyond lent low (length counted) e) where
-  -- the same, of the list
-  of_keys : IsExpandedBy m meaning beyond keys low (length keys) e
-  of_keys = subst (λ l. IsExpandedBy m meaning beyond l low (length keys) e) same_keys (subst (λ l. IsExpandedBy m meaning beyond lent low (length l) e) same_count expanded)
-
-  -- where all were expanded
-  pub whole : (successors : Vec (Successor R) Global) → e ≡ Whole successors → IsExpandedBy m meaning beyond keys low (length keys) (Whole successors)
-  whole successors is = subst (IsExpandedBy m meaning beyond keys low (length keys)) is of_keys
-
-  -- where a done one was found
-  pub first_done : (p n : ℕ) → e ≡ Done p n → IsExpandedBy m meaning beyond keys low (length keys) (Done p n)
-  first_done p n is = subst (IsExpandedBy m meaning beyond keys low (length keys)) is of_keys

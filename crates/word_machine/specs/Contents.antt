@@ -78,6 +78,18 @@ abbrev pub IsOriginWithin : ℕ → Origin → Type 0
 IsOriginWithin ranks (Initial number) = Unit {0}
 IsOriginWithin ranks (Step parent number) = parent < ranks
 
+-- those of a list that are marked
+abbrev pub picked : {X : Type 0} → List X → List Bool → List X
+picked [] marks = []
+picked (x ∷ xs) [] = []
+picked (x ∷ xs) (b ∷ marks) = if b then x ∷ picked xs marks else picked xs marks
+
+-- configurations, each with where it came from
+abbrev pub fitting : {C : Type 0} → List Link → List C → List (Successor C)
+fitting [] cs = []
+fitting (l ∷ ls) [] = []
+fitting (l ∷ ls) (c ∷ cs) = record { origin = origin_of l; configuration = c } ∷ fitting ls cs
+
 -- the successors by which a search starts
 abbrev pub initial_successors : {C : Type 0} → ℕ → List C → List (Successor C)
 initial_successors first [] = []

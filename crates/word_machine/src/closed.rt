@@ -1,16 +1,18 @@
 //! The closed list: all configurations that a search kept, each with where it came from.
-ghost use Rattle.std.specs.Prelude.{◌≡◌, ℕ, ◌+◌, ◌-◌, ◌^◌, ◌<◌, ◌≤◌, Some, false, true, length, slice_get, [], IfSome, OnOk, OnErr};
+ghost use Rattle.std.specs.Prelude.{◌≡◌, ℕ, ◌+◌, ◌-◌, ◌^◌, ◌<◌, ◌≤◌, ◌++◌, ◌∷◌, Some, false, true, All, length, slice_get, [], if◌then◌else◌, IfOk, IfSome, OnOk, OnErr, vec_capacity};
 ghost use Rattle.std.specs.List.{list_any};
 ghost use Rattle.indexmap.specs.IndexSet.{contains};
-ghost use Rattle.word_machine.specs.Contents.{origin_of};
+ghost use Rattle.word_machine.specs.Contents.{origin_of, picked};
+ghost use Rattle.word_machine.specs.declared.closed.Link.{Link};
 ghost use Rattle.word_machine.specs.declared.closed.Origin.TheVariants.{Step};
 
 use crate::edge::Edge;
 use crate::overshoots::Overshoots;
-use indexmap::IndexSet;
+use sharded_set::ShardedSet;
 use std::alloc::{AllocError, Global};
 use std::hash::Hash;
 use std::marker::Model;
+use std::thread::Threads;
 
 /// Where a configuration came from: it is an initial one, or a number led to it from the configuration of another rank.
 #[derive(Clone, Copy, Debug)]
@@ -66,11 +68,68 @@ impl Link {
     }
 }
 
+/// Configurations for which there is room, each with where it came from.
+#[derive(Drop)]
+pub struct Fitting<C> {
+    pub links: Vec<Link>,
+    pub configurations: Vec<C>,
+}
+
+impl<C: Drop> Fitting<C> {
+    /// None, with room for so many.
+    pub fn with_capacity(alloc: Global, count: usize) -> Result<Fitting<C>, AllocError>
+        ensures { IfOk result (λ fits. (fits.links.items ≡ []) × (fits.configurations.items ≡ [])) }
+    {
+        Ok(Fitting {
+            links: Vec::with_capacity(alloc, count)?,
+            configurations: Vec::with_capacity(alloc, count)?,
+        })
+    }
+
+    /// Adds a configuration that came from there.
+    pub fn push(&mut self, origin: Origin, configuration: C) -> Result<(), AllocError>
+        requires { (parent number : ℕ) → origin ≡ Step parent number → parent < 2 ^ 64 - 1 }
+        ensures links { OnOk result ((link : Link) × (self.new.links.items ≡ self.old.links.items ++ link ∷ []) × (origin_of link ≡ origin)) }
+        ensures configurations { OnOk result (self.new.configurations.items ≡ self.old.configurations.items ++ configuration ∷ []) }
+    {
+        self.links.push(Link::new(origin))?;
+        self.configurations.push(configuration)?;
+        Ok(())
+    }
+}
+
+// So few are kept by one worker.
+const FEW: usize = 2_000;
+
+// Adds a link if it is that of a new one; there is room for it.
+fn push_link(links: &mut Vec<Link>, link: Link, is_new: bool)
+    requires { length links.old.items < vec_capacity links.old }
+    ensures items { links.new.items ≡ links.old.items ++ (if is_new then link ∷ [] else []) }
+    ensures room { vec_capacity links.old ≤ vec_capacity links.new }
+{
+    if is_new && links.push(link).is_err() {
+        unreachable!()
+    }
+}
+
+// Adds the links of those that are new; there is room for all.
+fn push_links(links: &mut Vec<Link>, more: &[Link], is_new: &[bool])
+    requires long { length more.now ≡ length is_new.now }
+    requires room { length links.old.items + length more.now ≤ vec_capacity links.old }
+    ensures { links.new.items ≡ links.old.items ++ picked more.now is_new.now }
+{
+    for place in 0..more.len() {
+        let link = more[place];
+        let fresh = is_new[place];
+        push_link(links, link, fresh);
+    }
+}
+
 /// The configurations that were kept, in the order in which they were found, none of them twice. The position of one is
 /// its rank.
 #[derive(Drop)]
 pub struct Closed<C: Eq + Hash> {
-    configurations: IndexSet<C>,
+    configurations: ShardedSet<C>,
     links: Vec<Link>,
     was_cut: bool,
     // By how much the least that was cut off was past the bound.
@@ -86,30 +145,33 @@ impl<C: Eq + Hash> Model for Closed<C> {
 
     ghost Value = { Contents C };
 
-    ghost view = { λ a. record { keys = a.configurations.keys; origins = map origin_of a.links.items; cut = record { any = a.was_cut; past = a.least_past } } };
+    ghost view = { λ a. record { keys = a.configurations; origins = map origin_of a.links.items; cut = record { any = a.was_cut; past = a.least_past } } };
 
-    ghost invariant = { λ a. record { as_many : length a.links.items ≡ length a.configurations.keys; forest : IsForest (map origin_of a.links.items) } };
+    ghost invariant = { λ a. record { as_many : length a.links.items ≡ length a.configurations; forest : IsForest (map origin_of a.links.items) } };
 }
 
-impl<C: Eq + Hash + Drop> Closed<C> {
-    ghost use Rattle.word_machine.specs.Contents.{cut_more, offer, IsForest, IsOriginWithin};
+impl<C: Eq + Hash + Copy + Drop + Send + Sync> Closed<C> {
+    ghost use Rattle.word_machine.specs.Contents.{cut_more, fitting, offer, offer_all, origin_of, IsForest, IsOriginWithin};
 
-    pub fn new(alloc: Global) -> Self
-        ensures { result ≡ record { keys = []; origins = []; cut = record { any = false; past = 2 ^ 64 - 1 } } }
+    /// An empty list, for so many workers.
+    pub fn new(alloc: Global, workers: usize) -> Result<Self, AllocError>
+        requires { 0 < workers }
+        ensures { IfOk result (λ list. list ≡ record { keys = []; origins = []; cut = record { any = false; past = 2 ^ 64 - 1 } }) }
     {
-        Closed {
-            configurations: IndexSet::new(alloc),
+        Ok(Closed {
+            configurations: ShardedSet::new(alloc, workers)?,
             links: Vec::new(alloc),
             was_cut: false,
             least_past: u64::MAX,
             overshoots: Overshoots::new(),
             edge: Edge::new(),
-        }
+        })
     }
 
-    /// Lets all go, and makes room for twice as many.
-    pub fn restart(&mut self) -> Result<(), AllocError>
-        ensures { OnOk result (self.new ≡ record { keys = []; origins = []; cut = record { any = false; past = 2 ^ 64 - 1 } }) }
+    /// Lets all go, and makes room for twice as many as far as there is memory: where that is refused, the list grows
+    /// as it is filled, since so much may never be needed.
+    pub fn restart(&mut self)
+        ensures { self.new ≡ record { keys = []; origins = []; cut = record { any = false; past = 2 ^ 64 - 1 } } }
     {
         let room = self.links.len().saturating_mul(2);
         self.configurations.clear();
@@ -118,16 +180,15 @@ impl<C: Eq + Hash + Drop> Closed<C> {
         self.least_past = u64::MAX;
         self.overshoots = Overshoots::new();
         self.edge = Edge::new();
-        self.links.reserve(room)?;
-        self.configurations.reserve(room)?;
-        Ok(())
+        let _refused = self.links.reserve(room);
+        let _refused = self.configurations.reserve(room);
     }
 
     /// The configurations by rank.
     pub fn configurations(&self) -> &[C]
         ensures { result.now ≡ self.now.keys }
     {
-        self.configurations.as_slice()
+        self.configurations.values()
     }
 
     /// Where the configuration of this rank came from.
@@ -189,11 +250,41 @@ impl<C: Eq + Hash + Drop> Closed<C> {
     /// How far past the bound a search lets in as many of those that were cut off as were kept; None if fewer than
     /// these were less than 64 past it.
     pub fn reach(&self) -> Option<u64> {
-        self.overshoots.reach(self.configurations.len() as u64)
+        self.overshoots.reach(self.links.len() as u64)
+    }
+
+    /// Keeps those of a batch that are new, one after another, by so many workers. There is room for each.
+    pub fn keep_all<R: Threads + Sync>(
+        &mut self,
+        rt: &R,
+        alloc: Global,
+        batch: &Fitting<C>,
+        workers: usize,
+    ) -> Result<(), AllocError>
+        requires workers { 0 < workers }
+        requires long { length batch.now.links.items ≡ length batch.now.configurations.items }
+        requires within { All (λ l. IsOriginWithin (length self.old.keys) (origin_of l)) batch.now.links.items }
+        ensures ok { OnOk result (self.new ≡ offer_all C.eq (λ c. 0) 0 self.old (fitting batch.now.links.items batch.now.configurations.items)) }
+        ensures err { OnErr result (self.new ≡ self.old) }
+    {
+        let threads = if batch.links.len() < FEW { 1 } else { workers };
+        self.links.reserve(batch.links.len())?;
+        let is_new = self
+            .configurations
+            .insert_all(rt, alloc, &batch.configurations, threads)?;
+        push_links(&mut self.links, &batch.links, &is_new);
+        Ok(())
     }
 
     /// Offers a configuration to the list, which keeps it if it is new and there is room for what is left of it.
-    pub fn keep(&mut self, successor: Successor<C>, left: u64, room: u64) -> Result<(), AllocError>
+    pub fn keep<R: Threads + Sync>(
+        &mut self,
+        rt: &R,
+        alloc: Global,
+        successor: Successor<C>,
+        left: u64,
+        room: u64,
+    ) -> Result<(), AllocError>
         requires { IsOriginWithin (length self.old.keys) successor.origin }
         ensures ok { OnOk result (self.new ≡ offer C.eq self.old successor left room) }
         ensures err { OnErr result (self.new ≡ self.old) }
@@ -202,16 +293,27 @@ impl<C: Eq + Hash + Drop> Closed<C> {
             origin,
             configuration,
         } = successor;
-        if left <= room {
-            self.links.reserve(1)?;
-            let (_, added) = self.configurations.insert_full(configuration)?;
-            if added {
-                self.links.push(Link::new(origin))?;
-            }
-        } else if !self.configurations.contains(&configuration) {
-            self.cut_off(origin, left - room);
+        if left > room {
+            self.leave_out(&configuration, origin, left - room);
+            return Ok(());
         }
-        Ok(())
+        // For the prover alone: a list has no more ranks than a link can name.
+        let ranks = self.configurations().len();
+        prove!(ranks <= NO_RANK);
+        let mut one = Fitting::with_capacity(alloc, 1)?;
+        one.push(origin, configuration)?;
+        self.keep_all(rt, alloc, &one, 1)
+    }
+
+    /// Leaves out a configuration that came from there, if it is not in the list. It is past the room by so much.
+    pub fn leave_out(&mut self, configuration: &C, origin: Origin, past: u64)
+        ensures there { list_any (C.eq configuration.now) self.old.keys ≡ true → self.new ≡ self.old }
+        ensures cut { list_any (C.eq configuration.now) self.old.keys ≡ false
+            → self.new ≡ record { keys = self.old.keys; origins = self.old.origins; cut = cut_more self.old.cut past } }
+    {
+        if !self.configurations.contains(configuration) {
+            self.cut_off(origin, past);
+        }
     }
 
     /// Leaves out one that came from there and is not in the list, and is past the room by so much.

@@ -31,10 +31,10 @@ fn least_bound<M: Machine>(machine: &M, tables: &M::Tables, initials: &[M::Confi
     least
 }
 
-// The answer where no word finishes within the bound, nor in fewer steps than `least`. A dive looks, among what the last
-// search left out, for a configuration that tells that the bound was met. Where it finds none, a search by the open nodes
-// tells whether the bound was met, and ends where it is. Both go on with the tables: what becomes of most networks
-// stands there already.
+// The answer where no word finishes within the bound, nor in fewer steps than `least`. A dive looks, among what the
+// last search left out, for a configuration that tells that the bound was met. Where it finds none, a search by the
+// open nodes tells whether the bound was met, and ends where it is. Both go on with the tables: what becomes of most
+// networks stands there already.
 fn none_or_unsolvable<M: Machine, G: Gate, R: Threads + Wait + Sync>(
     rt: &R,
     alloc: Global,
@@ -96,7 +96,7 @@ pub fn find_word_in<M: Machine, G: Gate, R: Threads + Wait + Sync>(
 {
     let starts = machine.initials(tables)?;
     let mut growth = Growth::from(least_bound(machine, tables, &starts));
-    let mut kept = Closed::new(alloc);
+    let mut kept = Closed::new(alloc, bounds.workers as usize)?;
     while growth.least <= bounds.nodes {
         let within = bounds.within(growth.nodes.min(bounds.nodes));
         let limits = Limits {

@@ -1,6 +1,7 @@
 //! The least finishing word of a word machine, by a search in levels.
 #![tactic(auto)]
 
+mod advance;
 mod bounds;
 mod closed;
 mod deepen;

@@ -1,5 +1,6 @@
 //! Word machines: a number leads from a configuration to the next one.
-ghost use Rattle.std.specs.Prelude.{◌≡◌, ℕ, ◌++◌, List, true, map, All, IfOk, OnOk, OnErr, IfSome, IfNone};
+ghost use Rattle.std.specs.Prelude.{◌≡◌, ℕ, ◌<◌, ◌++◌, List, true, map, All, IfOk, OnOk, OnErr, IfSome, IfNone};
+ghost use Rattle.std.specs.Thread.{IsSync};
 ghost use Rattle.word_machine.specs.Machine.{WordMachine, IsLawful, IsLowerBound, IsLiveStep, IsDone};
 ghost use Rattle.word_machine.specs.Meaning.{Meaning, IsGrown, IsOneToOne, AreSuccessors};
 ghost use Rattle.word_machine.specs.Answer.{IsBeyond};
@@ -10,6 +11,7 @@ use crate::closed::Successor;
 use crate::measure::Horizon;
 use std::alloc::AllocError;
 use std::hash::Hash;
+use std::thread::Threads;
 
 /// A machine whose steps are numbered. A word is the number of an initial configuration, and then one number for each
 /// step. A search numbers the configurations too, in tables that grow, and goes by these numbers.
@@ -66,9 +68,27 @@ pub trait Machine: Sync {
         ensures ready { OnOk result (is_ready self.now tables.new at) }
         ensures kept { OnOk result ((c : Self.Configuration) → is_ready self.now tables.old c → is_ready self.now tables.new c) };
 
-    /// Adds the successors by the numbers that are not dead, ascending, each with this rank for its parent's; it may leave
-    /// out what is beyond the horizon. If one is done, it returns the least number that leads to a done one. Where memory
-    /// is refused, those that were there still stand there, at the front.
+    /// Puts into the tables what the steps at these configurations need, by so many workers.
+    fn prepare_all<R: Threads + Sync>(
+        &self,
+        rt: &R,
+        tables: &mut Self::Tables,
+        at: &[Self::Configuration],
+        workers: usize,
+    ) -> Result<(), AllocError>
+        // what the bound of R says, which a body that meets this contract is not told otherwise
+        requires threads { IsSync R.row }
+        requires workers { 0 < workers }
+        requires own { owns self.now tables.old }
+        requires known { All (meaning self.now tables.old).knows at.now }
+        requires belongs { All (λ c. belongs self.now ((meaning self.now tables.old).point c)) at.now }
+        ensures owned { OnOk result (owns self.now tables.new) }
+        ensures grown { OnOk result (IsGrown (meaning self.now tables.old) (meaning self.now tables.new)) }
+        ensures ready { OnOk result (All (is_ready self.now tables.new) at.now) };
+
+    /// Adds the successors by the numbers that are not dead, ascending, each with this rank for its parent's; it may
+    /// leave out what is beyond the horizon. If one is done, it returns the least number that leads to a done one.
+    /// Where memory is refused, those that were there still stand there, at the front.
     fn expand(
         &self,
         tables: &Self::Tables,

@@ -1,18 +1,23 @@
 //! The merge of a level's successors into the closed list.
-ghost use Rattle.std.specs.Prelude.{◌≡◌, false, length, map, All, OnOk, IfOk, IfSome, IfNone};
+ghost use Rattle.std.specs.Prelude.{◌≡◌, ◌<◌, ◌++◌, List, length, map, All, OnOk};
 ghost use Rattle.word_machine.specs.Answer.{measure_of};
-ghost use Rattle.word_machine.specs.Contents.{offer_all, initial_successors, AreOffered, IsOriginWithin};
+ghost use Rattle.word_machine.specs.Aside.{IsAside, with_aside};
+ghost use Rattle.word_machine.specs.Contents.{offer_all, initial_successors, AreOffered, IsOffered, IsOriginWithin};
 ghost use Rattle.word_machine.specs.Meaning.{IsGrown, contents_at, successor_at};
 ghost use Rattle.word_machine.specs.Ranks.{IsOwned};
+ghost use Rattle.word_machine.specs.declared.closed.Origin.{Origin};
 
-use crate::closed::{Closed, Origin, Successor};
+use crate::closed::{Closed, Fitting, Origin, Successor};
 use crate::machine::Machine;
 use crate::measure::{Measure, measured, measured_of};
-use std::alloc::AllocError;
+use std::alloc::{AllocError, Global};
+use std::thread::Threads;
 
 /// Offers the initial configurations to the closed list, each with its number. There is room for so many steps, by this
 /// measure.
-pub fn offer_initials<M: Machine>(
+pub fn offer_initials<M: Machine, R: Threads + Sync>(
+    rt: &R,
+    alloc: Global,
     machine: &M,
     tables: &M::Tables,
     closed: &mut Closed<M::Configuration>,
@@ -31,38 +36,72 @@ pub fn offer_initials<M: Machine>(
             origin,
             configuration: *initial,
         };
-        closed.keep(successor, left, room)?;
+        closed.keep(rt, alloc, successor, left, room)?;
     }
     Ok(())
 }
 
-// The numbers of what a worker reached: it gets them where it fits, and else they are those that the tables have.
-fn number_if<M: Machine>(
+// Puts one that a worker reached aside, to be kept with the others, if there is room for it; and else leaves it out.
+fn put_aside<M: Machine>(
     machine: &M,
     tables: &mut M::Tables,
-    reached: M::Reached,
-    fits: bool,
-) -> Result<Option<M::Configuration>, AllocError>
+    closed: &mut Closed<M::Configuration>,
+    fits: &mut Fitting<M::Configuration>,
+    successor: Successor<M::Reached>,
+    measure: Measure,
+    room: u64,
+) -> Result<(), AllocError>
     requires own { M.owns machine.now tables.old }
-    requires allowed { (M.meaning machine.now tables.old).allows reached }
-    requires belongs { M.belongs machine.now ((M.meaning machine.now tables.old).point_of reached) }
+    requires known { All (M.meaning machine.now tables.old).knows closed.old.keys }
+    requires allowed { (M.meaning machine.now tables.old).allows successor.configuration }
+    requires belongs { M.belongs machine.now ((M.meaning machine.now tables.old).point_of successor.configuration) }
+    requires within { IsOriginWithin (length closed.old.keys) successor.origin }
+    requires aside { IsAside (M.meaning machine.now tables.old)
+        (measure_of (M.words machine.now) (M.estimate machine.now) measure) room (length closed.old.keys) fits.old }
     ensures owned { OnOk result (M.owns machine.now tables.new) }
     ensures grown { OnOk result (IsGrown (M.meaning machine.now tables.old) (M.meaning machine.now tables.new)) }
-    ensures known { IfOk result (λ numbered. IfSome numbered (M.meaning machine.now tables.new).knows) }
-    ensures same { IfOk result (λ numbered. IfSome numbered (λ c. (M.meaning machine.now tables.new).point c ≡ (M.meaning machine.now tables.old).point_of reached)) }
-    ensures none { IfOk result (λ numbered. IfNone numbered ((fits ≡ false) × ((c : M.Configuration) → (M.meaning machine.now tables.new).knows c → (M.meaning machine.now tables.new).point c ≡ (M.meaning machine.now tables.old).point_of reached → ⊥))) }
+    ensures keys { OnOk result (closed.new.keys ≡ closed.old.keys) }
+    ensures origins { OnOk result (closed.new.origins ≡ closed.old.origins) }
+    ensures aside { OnOk result (IsAside (M.meaning machine.now tables.new)
+        (measure_of (M.words machine.now) (M.estimate machine.now) measure) room (length closed.old.keys) fits.new) }
+    ensures offered { OnOk result (
+        let point = (M.meaning machine.now tables.new).point in
+        let reached = successor_at (M.meaning machine.now tables.old).point_of successor in
+        IsOffered (contents_at point (with_aside M.Configuration.eq closed.old fits.old)) reached
+        (measure_of (M.words machine.now) (M.estimate machine.now) measure reached.configuration) room
+        (contents_at point (with_aside M.Configuration.eq closed.new fits.new))) }
 {
-    if fits {
-        let numbered = machine.keep(tables, reached)?;
-        return Ok(Some(numbered));
+    let Successor {
+        origin,
+        configuration,
+    } = successor;
+    let left = measured_of(machine, tables, measure, &configuration);
+    if left <= room {
+        // For the prover alone: a list has no more ranks than a number can name.
+        let ranks = closed.configurations().len();
+        prove!(ranks <= usize::MAX);
+        let kept = machine.keep(tables, configuration)?;
+        fits.push(origin, kept)?;
+        return Ok(());
     }
-    Ok(machine.find(tables, &reached))
+    if closed.has_cut_within(left - room) {
+        return Ok(());
+    }
+    let Some(found) = machine.find(tables, &configuration) else {
+        closed.cut_off(origin, left - room);
+        return Ok(());
+    };
+    closed.leave_out(&found, origin, left - room);
+    Ok(())
 }
 
 /// Offers what workers reached to the closed list, in their order. There is room for so many steps more, by this
 /// measure. What is past it gets no number: where the tables have none for it, it is not in the list. What is far past
 /// it is passed over, once some was left out that was no further.
-pub fn merge<M: Machine>(
+pub fn merge<M: Machine, R: Threads + Sync>(
+    rt: &R,
+    alloc: Global,
+    workers: usize,
     machine: &M,
     tables: &mut M::Tables,
     closed: &mut Closed<M::Configuration>,
@@ -70,6 +109,7 @@ pub fn merge<M: Machine>(
     measure: Measure,
     room: u64,
 ) -> Result<(), AllocError>
+    requires workers { 0 < workers }
     requires own { M.owns machine.now tables.old }
     requires known { All (M.meaning machine.now tables.old).knows closed.old.keys }
     requires allowed { All (λ s. (M.meaning machine.now tables.old).allows s.configuration) batch.items }
@@ -79,26 +119,12 @@ pub fn merge<M: Machine>(
     ensures grown { OnOk result (IsGrown (M.meaning machine.now tables.old) (M.meaning machine.now tables.new)) }
     ensures known { OnOk result (All (M.meaning machine.now tables.new).knows closed.new.keys) }
     ensures offered { OnOk result (AreOffered (measure_of (M.words machine.now) (M.estimate machine.now) measure) room (contents_at (M.meaning machine.now tables.new).point closed.old) (map (successor_at (M.meaning machine.now tables.old).point_of) batch.items) (contents_at (M.meaning machine.now tables.new).point closed.new)) }
+    ensures keys { OnOk result ((more : List M.Configuration) × (closed.new.keys ≡ closed.old.keys ++ more)) }
+    ensures origins { OnOk result ((more : List Origin) × (closed.new.origins ≡ closed.old.origins ++ more)) }
 {
+    let mut fits = Fitting::with_capacity(alloc, batch.len())?;
     for successor in batch {
-        let Successor {
-            origin,
-            configuration,
-        } = successor;
-        let left = measured_of(machine, tables, measure, &configuration);
-        if left > room && closed.has_cut_within(left - room) {
-            continue;
-        }
-        match number_if(machine, tables, configuration, left <= room)? {
-            Some(configuration) => {
-                let numbered = Successor {
-                    origin,
-                    configuration,
-                };
-                closed.keep(numbered, left, room)?;
-            }
-            None => closed.cut_off(origin, left - room),
-        }
+        put_aside(machine, tables, closed, &mut fits, successor, measure, room)?;
     }
-    Ok(())
+    closed.keep_all(rt, alloc, &fits, workers)
 }

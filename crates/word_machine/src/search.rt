@@ -8,15 +8,15 @@ ghost use Rattle.word_machine.specs.Answer.{IsAnswer, IsOutcome, NoneFinishes, m
 ghost use Rattle.word_machine.specs.declared.found.SearchFault.TheVariants.{NoThread};
 ghost use Rattle.word_machine.specs.declared.found.Outcome.TheVariants.{Past, Exhausted, GivenUp};
 
+use crate::advance::advance;
 use crate::bounds::Bounds;
 use crate::closed::Closed;
-use crate::expand::{expand_ranks, prepare_ranks};
 use crate::found::{Found, Outcome, SearchFault};
 use crate::machine::Machine;
 use crate::measure::{Horizon, Limits, Measure};
-use crate::merge::{merge, offer_initials};
+use crate::merge::offer_initials;
 use crate::word::read_word;
-use htn_level::{Expanded, Gate};
+use htn_level::Gate;
 use std::alloc::{AllocError, Global};
 use std::hash::Hash;
 use std::sync::Wait;
@@ -84,8 +84,8 @@ pub fn search<M: Machine, G: Gate, R: Threads + Wait + Sync>(
     let bounds = limits.bounds;
     let measure = limits.measure;
     let bound = bounds.nodes;
-    closed.restart()?;
-    offer_initials(machine, tables, closed, initials, measure, bound)?;
+    closed.restart();
+    offer_initials(rt, alloc, machine, tables, closed, initials, measure, bound)?;
     let mut low = 0;
     for level in 0..bound {
         if limits.none_within && closed.was_cut() {
@@ -101,16 +101,11 @@ pub fn search<M: Machine, G: Gate, R: Threads + Wait + Sync>(
         let room = bound - level - 1;
         let most_left = closed.most_left(room);
         let horizon = Horizon { measure, most_left };
-        let kept = closed.configurations();
-        prepare_ranks(machine, tables, kept, low)?;
-        match expand_ranks(rt, alloc, machine, tables, kept, low, horizon, bounds, gate)? {
-            Expanded::Whole(successors) => {
-                merge(machine, tables, closed, successors, measure, room)?;
-            }
-            Expanded::Done { rank, finish } => {
-                let word = read_word(alloc, closed, rank, finish)?;
-                return Ok(Outcome::Finished(word));
-            }
+        if let Some(done) = advance(
+            rt, alloc, machine, tables, closed, low, horizon, room, bounds, gate,
+        )? {
+            let word = read_word(alloc, closed, done.rank, done.number)?;
+            return Ok(Outcome::Finished(word));
         }
         low = high;
     }
@@ -126,7 +121,7 @@ fn bound_past(bound: u64, reach: Option<u64>) -> Option<u64> {
 }
 
 // The outcome where nothing is left to expand.
-fn exhausted<C: Eq + Hash + Drop>(closed: &Closed<C>, bound: u64) -> Outcome
+fn exhausted<C: Eq + Hash + Copy + Drop + Send + Sync>(closed: &Closed<C>, bound: u64) -> Outcome
     ensures cut { closed.now.cut.any ≡ true → (least : ℕ) × (wide : Option ℕ) × (result ≡ Past least wide) × (least ≤ bound + closed.now.cut.past) }
     ensures uncut { closed.now.cut.any ≡ false → result ≡ Exhausted }
     ensures ended { result ≡ GivenUp → ⊥ }
@@ -161,7 +156,7 @@ pub fn find_word<M: Machine, G: Gate, R: Threads + Wait + Sync>(
         none_within: false,
         most_kept: usize::MAX,
     };
-    let mut closed = Closed::new(alloc);
+    let mut closed = Closed::new(alloc, bounds.workers as usize)?;
     let outcome = search(
         rt,
         alloc,

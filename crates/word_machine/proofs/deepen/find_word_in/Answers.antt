@@ -1,9 +1,10 @@
-use Rattle.std.proofs.Common.{refl, ap, ◌≡◌, ◌+◌, ◌≤◌, All, sym, ◌∙◌, subst, arith}
+use Rattle.std.proofs.Common.{refl, ap, ◌≡◌, ◌+◌, ◌<◌, ◌≤◌, All, sym, ◌∙◌, subst, arith}
 use Rattle.word_machine.specs.Machine.{IsLawful, IsLowerBound}
 use Rattle.std.specs.Prelude.{max}
-use Rattle.word_machine.specs.declared.found.Outcome.TheVariants.{Past}
+use Rattle.word_machine.specs.declared.found.Outcome.TheVariants.{Past, Exhausted}
 use Rattle.word_machine.specs.Answer.{IsOutcome, NoneFinishesBefore}
 use Rattle.word_machine.specs.Contents.{Contents}
+use Rattle.word_machine.specs.Words.{step_count}
 use Rattle.word_machine.specs.Dive.{AreAllBelow}
 use Rattle.word_machine.specs.Ranks.{IsOwned}
 use Rattle.word_machine.proofs.Diving.{none_below}
@@ -46,7 +47,7 @@ loop-growth-init g c =
       own = c.in_ok-starts.ensures.owned;
       known = c.in_ok-starts.ensures.known;
       none = subst (NoneFinishesBefore m) (sym c.from-growth.ensures) (none_before_least m belongs (laws g machine) lower (bounded g machine) least first);
-      below = subst (λ n. AreAllBelow m belongs lower meaning n c.new-kept.result.keys) (sym c.from-growth.ensures) (subst (AreAllBelow m belongs lower meaning least) (sym (ap (λ (n : Contents g.row.M-Configuration.Denot). n.keys) c.new-kept.ensures))
+      below = subst (λ n. AreAllBelow m belongs lower meaning n c.in_ok-kept.kept.keys) (sym c.from-growth.ensures) (subst (AreAllBelow m belongs lower meaning least) (sym (ap (λ (n : Contents g.row.M-Configuration.Denot). n.keys) c.in_ok-kept.ensures))
           ((λ k d inside. absurd (omega arith)), none_below m lower (bounded g machine) least first));
       initials = c.in_ok-starts.ensures.initials;
     }
@@ -71,3 +72,26 @@ loop-growth-preserved g c =
           (c.in_ok-outcome.ensures.left_out refl c.in-Past.least c.in-Past.wide c.in-Past.is);
       initials = same_points old new c.in_ok-outcome.ensures.grown initials i.known ∙ i.initials;
     }
+
+pub returns-in-Exhausted-clause-answer : goal.returns-in-Exhausted-clause-answer
+returns-in-Exhausted-clause-answer g c =
+    let machine = c.args.machine.now in
+    let m = g.M.Machine.words machine in
+    let bound = c.within-within.result.nodes in
+    let told : IsOutcome m (g.M.Machine.estimate machine) bound Exhausted = subst (IsOutcome m (g.M.Machine.estimate machine) bound) c.in-Exhausted.is c.in_ok-outcome.ensures.outcome in
+    let fewer : bound ≤ c.args.bounds.nodes = omega (arith, c.within-within.ensures.nodes, c.min.ensures) in (
+      told.0,
+      λ met. told.1 (
+        met.0,
+        met.1,
+        met.2,
+        λ other reached. (
+            let past : c.args.bounds.nodes < step_count other + m.open_len met.1 = met.3 other reached in
+            let above : m.open_len met.1 ≤ g.M.Machine.estimate machine met.1 = (bounded g machine).above_open met.1 in
+            omega arith),
+      ),
+    )
+
+pub none_or_unsolvable-requires-clause-known : goal.none_or_unsolvable-requires-clause-known
+none_or_unsolvable-requires-clause-known g c = λ _ _.
+    subst (All (g.M.Machine.meaning c.args.machine.now c.loop-growth.tables).knows) (sym c.deref-2.ensures.value) c.loop-growth.invariant.known

@@ -1,17 +1,18 @@
-use Rattle.std.proofs.Common.{rules, ℕ, ◌+◌, ◌-◌, ◌<◌, length, ap, ◌∙◌, sym, subst, inl, inr, arith, All, Option}
-use Rattle.std.proofs.lemmas.Option.{MatchOption-at_some}
+use Rattle.std.proofs.Common.{◌≡◌, ℕ, ◌+◌, ◌-◌, ◌<◌, ◌++◌, ◌∷◌, [], length, map, get_or, ap, ◌∙◌, sym, subst, inl, inr, arith, Option}
+use Rattle.std.proofs.lemmas.List.{length-map}
+use Rattle.std.proofs.lemmas.Option.{MatchOption-at_some, MatchOption-at_none}
 use Rattle.word_machine.specs.Machine.{IsLawful}
-use Rattle.word_machine.specs.Contents.{Contents, initial_successors, offer_all}
+use Rattle.word_machine.specs.Contents.{Contents, initial_successors, offer_all, words_of}
 use Rattle.word_machine.specs.Closed.{search_by}
-use Rattle.word_machine.specs.Ranks.{IsOwned}
 use Rattle.word_machine.specs.declared.measure.Horizon.{Horizon}
 use Rattle.word_machine.specs.declared.measure.Measure.{Measure}
-use Rattle.word_machine.specs.Answer.{IsBeyond, IsLeastFinishing, IsOutcome, measure_of}
+use Rattle.word_machine.specs.Answer.{IsBeyond, IsLeastFinishing, measure_of}
 use Rattle.word_machine.proofs.Complete.{CountsOpen}
 use Rattle.word_machine.proofs.Answering.{counts_by}
-use Rattle.word_machine.proofs.Meanings.{grown_none, grown_more, known_still}
-use Rattle.word_machine.proofs.Searching.{whole, first_done}
-use Rattle.word_machine.proofs.Numbered.{IsSearched, searched_still, initials_owned, initial_found, started, keys_owned, ended, ended_early, left_out, word_found, successors_own, reached_within, next_searched}
+use Rattle.word_machine.proofs.Meanings.{grown_none, grown_more}
+use Rattle.word_machine.proofs.Advancing.{owned_known, word_before}
+use Rattle.word_machine.proofs.ReadingBack.{length-words_of}
+use Rattle.word_machine.proofs.Numbered.{IsSearched, searched_still, initials_owned, initial_found, started, keys_owned, ended, left_out, word_found, next_searched}
 use Rattle.word_machine.proofs.search.search.Given as given
 use Rattle.word_machine.proofs.search.search.Goals as goal
 
@@ -64,23 +65,13 @@ loop-level-init g c =
     meaning c.args.initials.now c.requires.known c.requires.initials eq met.same
     (g.met.M.Configuration.Eq g.world.𝓛 g.world.𝓜 g.world.𝓡 ((λ s x. x), (λ x. x), (λ x. x), λ x. x)).laws.refl
     (met.one_to_one machine c.args.tables.now c.requires.own) c.in_default.ensures.none c.offer_initials.new.closed
-    (c.in_ok-offer_initials.ensures ∙ ap (λ (n : Contents g.row.M-Configuration.Denot). offer_all eq (λ x. left (meaning.point x)) c.args.limits.bounds.nodes n (initial_successors 0 c.args.initials.now)) c.in_ok-restart.ensures) in
+    (c.in_ok-offer_initials.ensures ∙ ap (λ (n : Contents g.row.M-Configuration.Denot). offer_all eq (λ x. left (meaning.point x)) c.args.limits.bounds.nodes n (initial_successors 0 c.args.initials.now)) c.restart.ensures) in
     record {
       closed = first.closed;
       known = first.known;
       own = c.requires.own;
       grown = grown_none meaning;
     }
-
-pub returns-then-was_cut-clause-outcome : goal.returns-then-was_cut-clause-outcome
-returns-then-was_cut-clause-outcome g c =
-    let machine = c.args.machine.now in
-    let m = g.M.Machine.words machine in
-    let i = c.loop-level.invariant in
-    subst (IsOutcome m (measure_of m (g.M.Machine.estimate machine) c.args.limits.measure) c.args.limits.bounds.nodes) (sym c.past.ensures)
-    (ended_early m (g.M.Machine.belongs machine) (laws g machine) (measure_of m (g.M.Machine.estimate machine) c.args.limits.measure) c.args.limits.bounds.nodes (counts g machine c.args.limits.measure c.args.limits.bounds.nodes)
-    (g.M.Machine.meaning machine c.loop-level.tables) c.loop-level.closed c.loop-level.level c.loop-level.low (record { closed = i.closed; known = i.known })
-    (search rules) (c.requires.none (search rules)))
 
 pub returns-then-low-high-clause-outcome : goal.returns-then-low-high-clause-outcome
 returns-then-low-high-clause-outcome g c =
@@ -100,124 +91,71 @@ returns-clause-outcome g c =
     (g.M.Machine.meaning machine c.loop-level.tables) c.loop-level.closed c.loop-level.level c.loop-level.low (record { closed = i.closed; known = i.known })
     (inl c.loop-level-test.false) c.exhausted-2.result c.exhausted-2.ensures.cut c.exhausted-2.ensures.uncut
 
-pub prepare_ranks-requires-clause-known : goal.prepare_ranks-requires-clause-known
-prepare_ranks-requires-clause-known g c = λ _ _.
+pub advance-requires-clause-known : goal.advance-requires-clause-known
+advance-requires-clause-known g c = λ _ _.
     let machine = c.args.machine.now in
     let m = g.M.Machine.words machine in
-    let meaning = g.M.Machine.meaning machine c.loop-level.tables in
-    let i = c.loop-level.invariant in
-    subst (All (IsOwned meaning (g.M.Machine.belongs machine))) (sym c.configurations-kept.ensures)
-    (keys_owned m (g.M.Machine.belongs machine) (laws g machine) (measure_of m (g.M.Machine.estimate machine) c.args.limits.measure) c.args.limits.bounds.nodes (counts g machine c.args.limits.measure c.args.limits.bounds.nodes)
-    meaning c.loop-level.closed c.loop-level.level c.loop-level.low (record { closed = i.closed; known = i.known }))
-
-pub expand_ranks-requires-clause-known : goal.expand_ranks-requires-clause-known
-expand_ranks-requires-clause-known g c = λ _ _.
-    let machine = c.args.machine.now in
-    let m = g.M.Machine.words machine in
-    let old = g.M.Machine.meaning machine c.loop-level.tables in
-    let meaning = g.M.Machine.meaning machine c.prepare_ranks.new.tables in
-    let i = c.loop-level.invariant in
-    subst (All (IsOwned meaning (g.M.Machine.belongs machine))) (sym c.configurations-kept.ensures)
-    (keys_owned m (g.M.Machine.belongs machine) (laws g machine) (measure_of m (g.M.Machine.estimate machine) c.args.limits.measure) c.args.limits.bounds.nodes (counts g machine c.args.limits.measure c.args.limits.bounds.nodes)
-    meaning c.loop-level.closed c.loop-level.level c.loop-level.low
-    (searched_still m (g.M.Machine.belongs machine) (laws g machine) (measure_of m (g.M.Machine.estimate machine) c.args.limits.measure) c.args.limits.bounds.nodes (counts g machine c.args.limits.measure c.args.limits.bounds.nodes)
-    old meaning c.in_ok-prepare_ranks.ensures.grown c.loop-level.closed c.loop-level.level c.loop-level.low (record { closed = i.closed; known = i.known })))
-
-pub returns-in-Done-clause-grown : goal.returns-in-Done-clause-grown
-returns-in-Done-clause-grown g c =
-    let machine = c.args.machine.now in
-    grown_more (g.M.Machine.meaning machine c.args.tables.now) (g.M.Machine.meaning machine c.loop-level.tables) (g.M.Machine.meaning machine c.prepare_ranks.new.tables)
-    c.loop-level.invariant.grown c.in_ok-prepare_ranks.ensures.grown
-
-pub returns-in-Done-clause-outcome : goal.returns-in-Done-clause-outcome
-returns-in-Done-clause-outcome g c =
-    let machine = c.args.machine.now in
-    let m = g.M.Machine.words machine in
-    let old = g.M.Machine.meaning machine c.loop-level.tables in
-    let meaning = g.M.Machine.meaning machine c.prepare_ranks.new.tables in
-    let i = c.loop-level.invariant in
+    let belongs = g.M.Machine.belongs machine in
     let left = measure_of m (g.M.Machine.estimate machine) c.args.limits.measure in
-    let count = counts g machine c.args.limits.measure c.args.limits.bounds.nodes in
-    let now = searched_still m (g.M.Machine.belongs machine) (laws g machine) left c.args.limits.bounds.nodes count
-    old meaning c.in_ok-prepare_ranks.ensures.grown c.loop-level.closed c.loop-level.level c.loop-level.low (record { closed = i.closed; known = i.known }) in
-    let first = first_done m meaning (IsBeyond (g.M.Machine.words machine) (g.M.Machine.estimate machine) (level_horizon c.args.limits.measure c.most_left-most_left.result)) c.loop-level.closed.keys c.configurations-kept.result.now c.configurations-kept.result.now
-    c.configurations-kept.ensures c.configurations-kept.ensures c.loop-level.low c.in_ok-successors.field-0 c.in_ok-successors.ensures.expanded c.in-Done.rank c.in-Done.finish c.in-Done.is in
-    let found = word_found m (g.M.Machine.belongs machine) (laws g machine) left c.args.limits.bounds.nodes count
-    meaning c.loop-level.closed c.loop-level.level c.loop-level.low now (IsBeyond (g.M.Machine.words machine) (g.M.Machine.estimate machine) (level_horizon c.args.limits.measure c.most_left-most_left.result)) c.in-Done.rank c.in-Done.finish c.loop-level-test.true first in
-    subst (IsLeastFinishing m c.args.limits.bounds.nodes) (sym c.in_ok-word-in-Done.ensures) found
-
-pub merge-requires-clause-known : goal.merge-requires-clause-known
-merge-requires-clause-known g c = λ _ _.
-    let machine = c.args.machine.now in
+    let bound = c.args.limits.bounds.nodes in
+    let count = counts g machine c.args.limits.measure bound in
     let old = g.M.Machine.meaning machine c.loop-level.tables in
-    let meaning = g.M.Machine.meaning machine c.prepare_ranks.new.tables in
-    known_still old meaning c.in_ok-prepare_ranks.ensures.grown c.loop-level.closed.keys c.loop-level.invariant.known
+    let i = c.loop-level.invariant in
+    keys_owned m belongs (laws g machine) left bound count old c.loop-level.closed c.loop-level.level c.loop-level.low (record { closed = i.closed; known = i.known })
 
-pub merge-requires-clause-allowed : goal.merge-requires-clause-allowed
-merge-requires-clause-allowed g c = λ _ _.
-    let machine = c.args.machine.now in
-    (whole (g.M.Machine.words machine) (g.M.Machine.meaning machine c.prepare_ranks.new.tables) (IsBeyond (g.M.Machine.words machine) (g.M.Machine.estimate machine) (level_horizon c.args.limits.measure c.most_left-most_left.result)) c.loop-level.closed.keys c.configurations-kept.result.now c.configurations-kept.result.now
-    c.configurations-kept.ensures c.configurations-kept.ensures c.loop-level.low c.in_ok-successors.field-0 c.in_ok-successors.ensures.expanded c.in-Whole.successors c.in-Whole.is).0
-
-pub merge-requires-clause-belongs : goal.merge-requires-clause-belongs
-merge-requires-clause-belongs g c = λ _ _.
+pub returns-in-Some-2-clause-outcome : goal.returns-in-Some-2-clause-outcome
+returns-in-Some-2-clause-outcome g c =
     let machine = c.args.machine.now in
     let m = g.M.Machine.words machine in
-    let old = g.M.Machine.meaning machine c.loop-level.tables in
-    let meaning = g.M.Machine.meaning machine c.prepare_ranks.new.tables in
-    let i = c.loop-level.invariant in
+    let belongs = g.M.Machine.belongs machine in
     let left = measure_of m (g.M.Machine.estimate machine) c.args.limits.measure in
-    let count = counts g machine c.args.limits.measure c.args.limits.bounds.nodes in
-    let now = searched_still m (g.M.Machine.belongs machine) (laws g machine) left c.args.limits.bounds.nodes count
-    old meaning c.in_ok-prepare_ranks.ensures.grown c.loop-level.closed c.loop-level.level c.loop-level.low (record { closed = i.closed; known = i.known }) in
-    let all = whole m meaning (IsBeyond (g.M.Machine.words machine) (g.M.Machine.estimate machine) (level_horizon c.args.limits.measure c.most_left-most_left.result)) c.loop-level.closed.keys c.configurations-kept.result.now c.configurations-kept.result.now
-    c.configurations-kept.ensures c.configurations-kept.ensures c.loop-level.low c.in_ok-successors.field-0 c.in_ok-successors.ensures.expanded c.in-Whole.successors c.in-Whole.is in
-    successors_own m (g.M.Machine.belongs machine) (laws g machine) left c.args.limits.bounds.nodes count meaning c.loop-level.closed c.loop-level.level c.loop-level.low now (IsBeyond (g.M.Machine.words machine) (g.M.Machine.estimate machine) (level_horizon c.args.limits.measure c.most_left-most_left.result)) c.in-Whole.successors all
-
-pub merge-requires-clause-within : goal.merge-requires-clause-within
-merge-requires-clause-within g c = λ _ _.
-    let machine = c.args.machine.now in
-    let m = g.M.Machine.words machine in
+    let bound = c.args.limits.bounds.nodes in
+    let count = counts g machine c.args.limits.measure bound in
     let old = g.M.Machine.meaning machine c.loop-level.tables in
-    let meaning = g.M.Machine.meaning machine c.prepare_ranks.new.tables in
     let i = c.loop-level.invariant in
-    let left = measure_of m (g.M.Machine.estimate machine) c.args.limits.measure in
-    let count = counts g machine c.args.limits.measure c.args.limits.bounds.nodes in
-    let now = searched_still m (g.M.Machine.belongs machine) (laws g machine) left c.args.limits.bounds.nodes count
-    old meaning c.in_ok-prepare_ranks.ensures.grown c.loop-level.closed c.loop-level.level c.loop-level.low (record { closed = i.closed; known = i.known }) in
-    let all = whole m meaning (IsBeyond (g.M.Machine.words machine) (g.M.Machine.estimate machine) (level_horizon c.args.limits.measure c.most_left-most_left.result)) c.loop-level.closed.keys c.configurations-kept.result.now c.configurations-kept.result.now
-    c.configurations-kept.ensures c.configurations-kept.ensures c.loop-level.low c.in_ok-successors.field-0 c.in_ok-successors.ensures.expanded c.in-Whole.successors c.in-Whole.is in
-    reached_within m (g.M.Machine.belongs machine) (laws g machine) left c.args.limits.bounds.nodes count meaning c.loop-level.closed c.loop-level.level c.loop-level.low now (IsBeyond (g.M.Machine.words machine) (g.M.Machine.estimate machine) (level_horizon c.args.limits.measure c.most_left-most_left.result)) c.in-Whole.successors all
+    let new = g.M.Machine.meaning machine c.advance.new.tables in
+    let closed = c.loop-level.closed in
+    let now = searched_still m belongs (laws g machine) left bound count old new c.in_ok-done.ensures.grown closed c.loop-level.level c.loop-level.low (record { closed = i.closed; known = i.known }) in
+    let first = MatchOption-at_some _ _ _ c.in-Some-2.is c.in_ok-done.ensures.done in
+    let rank = c.in-Some-2.done.rank in
+    let before : rank < length closed.keys = first.before_last in
+    let ranks : length (map new.point closed.keys) ≡ length closed.keys = length-map closed.keys new.point in
+    let as_many : length (words_of closed.origins) ≡ length (map new.point closed.keys) = now.closed.kept.as_many in
+    let words : length (words_of closed.origins) ≡ length closed.origins = length-words_of closed.origins in
+    let same : get_or (words_of c.advance.new.closed.origins) rank [] ≡ get_or (words_of closed.origins) rank [] =
+    ap (λ l. get_or (words_of l) rank []) c.in_ok-done.ensures.origins.1 ∙ word_before closed.origins c.in_ok-done.ensures.origins.0 rank (omega arith) in
+    subst (IsLeastFinishing m bound) (sym (c.in_ok-word.ensures ∙ ap (λ l. l ++ c.in-Some-2.done.number ∷ []) same))
+    (word_found m belongs (laws g machine) left bound count new closed c.loop-level.level c.loop-level.low now rank c.in-Some-2.done.number c.loop-level-test.true first)
 
 pub loop-level-preserved : goal.loop-level-preserved
 loop-level-preserved g c =
     let machine = c.args.machine.now in
     let m = g.M.Machine.words machine in
-    let old = g.M.Machine.meaning machine c.loop-level.tables in
-    let meaning = g.M.Machine.meaning machine c.prepare_ranks.new.tables in
-    let new = g.M.Machine.meaning machine c.merge.new.tables in
-    let i = c.loop-level.invariant in
+    let belongs = g.M.Machine.belongs machine in
     let left = measure_of m (g.M.Machine.estimate machine) c.args.limits.measure in
-    let count = counts g machine c.args.limits.measure c.args.limits.bounds.nodes in
-    let short : c.loop-level.level < c.args.limits.bounds.nodes = c.loop-level-test.true in
-    let now = searched_still m (g.M.Machine.belongs machine) (laws g machine) left c.args.limits.bounds.nodes count
-    old meaning c.in_ok-prepare_ranks.ensures.grown c.loop-level.closed c.loop-level.level c.loop-level.low (record { closed = i.closed; known = i.known }) in
-    let all = whole m meaning (IsBeyond (g.M.Machine.words machine) (g.M.Machine.estimate machine) (level_horizon c.args.limits.measure c.most_left-most_left.result)) c.loop-level.closed.keys c.configurations-kept.result.now c.configurations-kept.result.now
-    c.configurations-kept.ensures c.configurations-kept.ensures c.loop-level.low c.in_ok-successors.field-0 c.in_ok-successors.ensures.expanded c.in-Whole.successors c.in-Whole.is in
-    let later : IsSearched m (g.M.Machine.belongs machine) (laws g machine) left c.args.limits.bounds.nodes count new c.merge.new.closed (c.loop-level.level + 1) (length c.loop-level.closed.keys) =
-    next_searched m (g.M.Machine.belongs machine) (laws g machine) left c.args.limits.bounds.nodes count meaning c.loop-level.closed c.loop-level.level c.loop-level.low now (IsBeyond (g.M.Machine.words machine) (g.M.Machine.estimate machine) (level_horizon c.args.limits.measure c.most_left-most_left.result)) c.in-Whole.successors all
-    new c.in_ok-merge-in-Whole.ensures.grown (c.args.limits.bounds.nodes - c.loop-level.level - 1) (omega arith)
+    let bound = c.args.limits.bounds.nodes in
+    let count = counts g machine c.args.limits.measure bound in
+    let old = g.M.Machine.meaning machine c.loop-level.tables in
+    let i = c.loop-level.invariant in
+    let new = g.M.Machine.meaning machine c.advance.new.tables in
+    let closed = c.loop-level.closed in
+    let short : c.loop-level.level < bound = c.loop-level-test.true in
+    let later : IsSearched m belongs (laws g machine) left bound count new c.advance.new.closed (c.loop-level.level + 1) (length closed.keys) =
+    next_searched m belongs (laws g machine) left bound count old closed c.loop-level.level c.loop-level.low (record { closed = i.closed; known = i.known })
+    (IsBeyond m (g.M.Machine.estimate machine) (level_horizon c.args.limits.measure c.most_left-most_left.result)) new c.in_ok-done.ensures.grown
+    (bound - c.loop-level.level - 1) (omega arith)
     (λ d is. (
     let past = MatchOption-at_some _ _ _ is.1 c.most_left-most_left.ensures.past (left d) is.2 in
-    (MatchOption-at_some _ _ _ is.1 c.most_left-most_left.ensures.any, past.0, past.1))) c.merge.new.closed c.in_ok-merge-in-Whole.ensures.known c.in_ok-merge-in-Whole.ensures.offered in
-    let held : IsSearched m (g.M.Machine.belongs machine) (laws g machine) left c.args.limits.bounds.nodes count new c.merge.new.closed (c.loop-level.level + 1) (length c.configurations-high.result.now) =
-    subst (IsSearched m (g.M.Machine.belongs machine) (laws g machine) left c.args.limits.bounds.nodes count new c.merge.new.closed (c.loop-level.level + 1)) (sym (ap length c.configurations-high.ensures)) later in
+    (MatchOption-at_some _ _ _ is.1 c.most_left-most_left.ensures.any, past.0, past.1)))
+    c.advance.new.closed (owned_known new belongs c.advance.new.closed.keys c.in_ok-done.ensures.known)
+    (MatchOption-at_none _ _ c.in_default-2.is c.in_ok-done.ensures.whole) in
+    let held : IsSearched m belongs (laws g machine) left bound count new c.advance.new.closed (c.loop-level.level + 1) (length c.configurations-high.result.now) =
+    subst (IsSearched m belongs (laws g machine) left bound count new c.advance.new.closed (c.loop-level.level + 1)) (sym (ap length c.configurations-high.ensures)) later in
     record {
       closed = held.closed;
       known = held.known;
-      own = c.in_ok-merge-in-Whole.ensures.owned;
-      grown = grown_more (g.M.Machine.meaning machine c.args.tables.now) meaning new
-          (grown_more (g.M.Machine.meaning machine c.args.tables.now) old meaning i.grown c.in_ok-prepare_ranks.ensures.grown) c.in_ok-merge-in-Whole.ensures.grown;
+      own = c.in_ok-done.ensures.owned;
+      grown = grown_more (g.M.Machine.meaning machine c.args.tables.now) old new i.grown c.in_ok-done.ensures.grown;
     }
 
 pub returns-then-low-high-clause-left_out : goal.returns-then-low-high-clause-left_out

@@ -1,0 +1,121 @@
+//! The step from one level to the next: its ranks are expanded block by block, and what a block reaches is offered to
+//! the closed list before the next one is expanded, so that no more than a block's successors are held at once.
+ghost use Rattle.std.specs.Prelude.{◌≡◌, ◌<◌, ◌≤◌, ◌++◌, List, length, map, All, IfOk, IfErr, IfSome, IfNone, OnOk};
+ghost use Rattle.word_machine.specs.Machine.{IsDone, IsLiveStep};
+ghost use Rattle.word_machine.specs.Answer.{IsBeyond, measure_of};
+ghost use Rattle.word_machine.specs.Advance.{HasAdvanced};
+ghost use Rattle.word_machine.specs.Expansion.{IsFirstDone};
+ghost use Rattle.word_machine.specs.Meaning.{IsGrown, contents_at};
+ghost use Rattle.word_machine.specs.Ranks.{IsOwned};
+ghost use Rattle.word_machine.specs.declared.closed.Origin.{Origin};
+ghost use Rattle.word_machine.specs.declared.found.SearchFault.TheVariants.{NoThread};
+
+use crate::bounds::Bounds;
+use crate::closed::Closed;
+use crate::expand::{expand_ranks, prepare_ranks};
+use crate::found::SearchFault;
+use crate::machine::Machine;
+use crate::measure::Horizon;
+use crate::merge::merge;
+use htn_level::{Expanded, Gate};
+use std::alloc::Global;
+use std::sync::Wait;
+use std::thread::Threads;
+
+/// So many ranks make a block.
+const BLOCK: usize = 32_768;
+
+/// The first rank with a done successor, and the least number that leads to one.
+#[derive(Clone, Copy, Debug)]
+pub struct FirstDone {
+    pub rank: usize,
+    pub number: u64,
+}
+
+/// Expands the ranks from `from` on and below `to`, and offers what they reach to the closed list; there is room for so
+/// many steps more. Where one has a done successor, nothing is offered.
+pub fn advance_block<M: Machine, G: Gate, R: Threads + Wait + Sync>(
+    rt: &R,
+    alloc: Global,
+    machine: &M,
+    tables: &mut M::Tables,
+    closed: &mut Closed<M::Configuration>,
+    from: usize,
+    to: usize,
+    horizon: Horizon,
+    room: u64,
+    bounds: Bounds,
+    gate: &G,
+) -> Result<Option<FirstDone>, SearchFault>
+    requires ordered { from ≤ to }
+    requires within { to ≤ length closed.old.keys }
+    requires own { M.owns machine.now tables.old }
+    requires known { All (IsOwned (M.meaning machine.now tables.old) (M.belongs machine.now)) closed.old.keys }
+    ensures owned { OnOk result (M.owns machine.now tables.new) }
+    ensures grown { OnOk result (IsGrown (M.meaning machine.now tables.old) (M.meaning machine.now tables.new)) }
+    ensures known { OnOk result (All (IsOwned (M.meaning machine.now tables.new) (M.belongs machine.now)) closed.new.keys) }
+    ensures whole { IfOk result (λ done. IfNone done (HasAdvanced (M.words machine.now) (IsBeyond (M.words machine.now) (M.estimate machine.now) horizon) (measure_of (M.words machine.now) (M.estimate machine.now) horizon.measure) room (map (M.meaning machine.now tables.new).point closed.old.keys) from to (contents_at (M.meaning machine.now tables.new).point closed.old) (contents_at (M.meaning machine.now tables.new).point closed.new))) }
+    ensures done { IfOk result (λ done. IfSome done (λ first. IsFirstDone (IsLiveStep (M.words machine.now)) (IsDone (M.words machine.now)) (map (M.meaning machine.now tables.new).point closed.old.keys) from to first.rank first.number)) }
+    ensures keys { OnOk result ((more : List M.Configuration) × (closed.new.keys ≡ closed.old.keys ++ more)) }
+    ensures origins { OnOk result ((more : List Origin) × (closed.new.origins ≡ closed.old.origins ++ more)) }
+    ensures no_thread { IfErr result (λ e. e ≡ NoThread → 1 < bounds.workers) }
+{
+    let workers = bounds.workers as usize;
+    let kept = &closed.configurations()[..to];
+    prepare_ranks(rt, machine, tables, kept, from, workers)?;
+    match expand_ranks(
+        rt, alloc, machine, tables, kept, from, horizon, bounds, gate,
+    )? {
+        Expanded::Whole(reached) => {
+            let measure = horizon.measure;
+            merge(
+                rt, alloc, workers, machine, tables, closed, reached, measure, room,
+            )?;
+            Ok(None)
+        }
+        Expanded::Done { rank, finish } => Ok(Some(FirstDone {
+            rank,
+            number: finish,
+        })),
+    }
+}
+
+/// Expands the ranks from `low` on, which are those of a level, and offers what they reach to the closed list; there is
+/// room for so many steps more. Where one has a done successor, it ends with the block of the first such rank.
+pub fn advance<M: Machine, G: Gate, R: Threads + Wait + Sync>(
+    rt: &R,
+    alloc: Global,
+    machine: &M,
+    tables: &mut M::Tables,
+    closed: &mut Closed<M::Configuration>,
+    low: usize,
+    horizon: Horizon,
+    room: u64,
+    bounds: Bounds,
+    gate: &G,
+) -> Result<Option<FirstDone>, SearchFault>
+    requires ordered { low ≤ length closed.old.keys }
+    requires own { M.owns machine.now tables.old }
+    requires known { All (IsOwned (M.meaning machine.now tables.old) (M.belongs machine.now)) closed.old.keys }
+    ensures owned { OnOk result (M.owns machine.now tables.new) }
+    ensures grown { OnOk result (IsGrown (M.meaning machine.now tables.old) (M.meaning machine.now tables.new)) }
+    ensures known { OnOk result (All (IsOwned (M.meaning machine.now tables.new) (M.belongs machine.now)) closed.new.keys) }
+    ensures whole { IfOk result (λ done. IfNone done (HasAdvanced (M.words machine.now) (IsBeyond (M.words machine.now) (M.estimate machine.now) horizon) (measure_of (M.words machine.now) (M.estimate machine.now) horizon.measure) room (map (M.meaning machine.now tables.new).point closed.old.keys) low (length closed.old.keys) (contents_at (M.meaning machine.now tables.new).point closed.old) (contents_at (M.meaning machine.now tables.new).point closed.new))) }
+    ensures done { IfOk result (λ done. IfSome done (λ first. IsFirstDone (IsLiveStep (M.words machine.now)) (IsDone (M.words machine.now)) (map (M.meaning machine.now tables.new).point closed.old.keys) low (length closed.old.keys) first.rank first.number)) }
+    ensures keys { OnOk result ((more : List M.Configuration) × (closed.new.keys ≡ closed.old.keys ++ more)) }
+    ensures origins { OnOk result ((more : List Origin) × (closed.new.origins ≡ closed.old.origins ++ more)) }
+    ensures no_thread { IfErr result (λ e. e ≡ NoThread → 1 < bounds.workers) }
+{
+    let high = closed.configurations().len();
+    let mut from = low;
+    while from < high {
+        let to = from.saturating_add(BLOCK).min(high);
+        if let Some(done) = advance_block(
+            rt, alloc, machine, tables, closed, from, to, horizon, room, bounds, gate,
+        )? {
+            return Ok(Some(done));
+        }
+        from = to;
+    }
+    Ok(None)
+}
