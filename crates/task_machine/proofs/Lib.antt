@@ -1,3 +1,4 @@
+pub mod Blocks
 pub mod Estimates
 pub mod Listings
 pub mod Owned

@@ -1,7 +1,8 @@
 -- The tables stay right as they grow.
-use Rattle.std.proofs.Common.{◌≡◌, ◌∙◌, ◌<◌, ◌&&◌, ◌⊎◌, inl, inr, ℕ, List, [], ◌++◌, All, Option, Some, None, IsSome, unwrap_or, true≢false, not, ap, ap₂, sym, subst, map, length, get_or, slice_get, refl, arith, append-nil, append_assoc, length-append}
+use Rattle.std.proofs.Common.{◌≡◌, ◌∙◌, ◌<◌, ◌&&◌, ◌⊎◌, inl, inr, ℕ, List, [], ◌∷◌, ◌++◌, All, Option, Some, None, IsSome, unwrap_or, true≢false, not, ap, ap₂, sym, subst, map, length, get_or, slice_get, refl, arith, append-nil, append_assoc, length-append}
 use Rattle.std.specs.Option.{option_map}
 use Rattle.std.proofs.lemmas.List.{get_or_append_left}
+use Rattle.std.proofs.lemmas.List.Elements.{All-cons, All-head, All-nil, All-tail}
 use Rattle.std.proofs.lemmas.Bool.{cases_eq}
 use Rattle.std.proofs.lemmas.Option.{get_or_from_slice_get, same_Some, slice_get-get_or}
 use Rattle.std.proofs.lemmas.Simd.{map-map}
@@ -235,6 +236,15 @@ module _ (t : Task) (old new : Tables) (own : AreTables t old) (later : AreLater
 
 -- ## One more thing at a number
 
+-- what was there stays
+pub put_keeps : {A : Type 0} (old new : List (Option A)) (number : ℕ) (value : A) → slot new number ≡ Some value
+    → ((n : ℕ) → (n ≡ number → ⊥) → slot new n ≡ slot old n) → (n : ℕ) → IsSome (slot old n) → IsSome (slot new n)
+put_keeps {A} old new number value here others n there =
+    elim (cases_eq n number) [
+      | inl same ↦ subst (λ (o : Option A). IsSome o) (sym (ap (slot new) same ∙ here)) refl
+      | inr apart ↦ subst (λ (o : Option A). IsSome o) (sym (others n apart)) there
+    ]
+
 -- one more performer
 pub performers_put : (t : Task) (atoms : Table) (networks : NetworkTable) (old new : List (Option Performer)) (number : ℕ) (performer : Performer)
     → slot new number ≡ Some performer → ((n : ℕ) → (n ≡ number → ⊥) → slot new n ≡ slot old n) → number < length (children networks)
@@ -280,16 +290,16 @@ known_expansion live t n (Performed removals) of =
     all_more (IsKnownRemoval t) (λ (r : Removal). r.node < length (children t)) (λ r known. known.1) removals.items of.known
 
 -- performers that were there still are
-has_more : (old new : List (Option Performer)) → ((n : ℕ) → IsSome (slot old n) → IsSome (slot new n)) → (e : Expansion) → HasPerformers old e → HasPerformers new e
+pub has_more : (old new : List (Option Performer)) → ((n : ℕ) → IsSome (slot old n) → IsSome (slot new n)) → (e : Expansion) → HasPerformers old e → HasPerformers new e
 has_more old new kept (Decomposed position successors) has = tt
 has_more old new kept (Performed removals) has =
     all_more (λ (r : Removal). IsSome (slot old r.node)) (λ (r : Removal). IsSome (slot new r.node)) (λ r there. kept r.node there) removals.items has
 
--- the tables with an expansion more
-pub expanded : (t : Task) (s : Tables) (network : ℕ) (networks : NetworkTable) → IsWhole networks → IsGrown s.networks networks
+-- the tables with the expansions more of some networks
+pub expanded : (t : Task) (s : Tables) (pending : List ℕ) (networks : NetworkTable) → IsWhole networks → IsGrown s.networks networks
     → IsSound (live_networks t) networks
-    → ((n : ℕ) → (n ≡ network → ⊥) → expansion_at networks n ≡ expansion_at s.networks n) → AreTables t s → AreExpanded t (record s { networks = networks }) network
-expanded t s network networks whole grown sound others own = record {
+    → ((n : ℕ) → All (λ m. n ≡ m → ⊥) pending → expansion_at networks n ≡ expansion_at s.networks n) → AreTables t s → AreExpanded t (record s { networks = networks }) pending
+expanded t s pending networks whole grown sound others own = record {
   atoms = own.atoms;
   numbering = own.numbering;
   sets = own.sets;
@@ -301,15 +311,24 @@ expanded t s network networks whole grown sound others own = record {
   instances = listings_wider t s.networks networks grown s.instances.items own.instances;
 }
 
--- the nodes that go from the network have their performers
-pub performed_all : (networks : NetworkTable) (network : ℕ) (old new : List (Option Performer))
-    → ((n : ℕ) (e : Expansion) → (n ≡ network → ⊥) → expansion_at networks n ≡ Some e → HasPerformers old e)
-    → ((n : ℕ) → IsSome (slot old n) → IsSome (slot new n)) → ((e : Expansion) → expansion_at networks network ≡ Some e → HasPerformers new e)
+-- the nodes that go from the networks have their performers
+pub performed_all : (networks : NetworkTable) (pending : List ℕ) (old new : List (Option Performer))
+    → ((n : ℕ) (e : Expansion) → All (λ m. n ≡ m → ⊥) pending → expansion_at networks n ≡ Some e → HasPerformers old e)
+    → ((n : ℕ) → IsSome (slot old n) → IsSome (slot new n)) → All (λ n. (e : Expansion) → expansion_at networks n ≡ Some e → HasPerformers new e) pending
     → (n : ℕ) (e : Expansion) → expansion_at networks n ≡ Some e → HasPerformers new e
-performed_all networks network old new others kept there n e is =
-    elim (cases_eq n network) [
-      | inl same ↦ there e (ap (expansion_at networks) (sym same) ∙ is)
-      | inr apart ↦ has_more old new kept e (others n e apart is)
+performed_all networks pending old new others kept there n e is = by pending (λ apart. has_more old new kept e (others n e apart is)) there
+  where
+    apart_from : ℕ → Type 0
+    apart_from m = n ≡ m → ⊥
+
+    has_its : ℕ → Type 0
+    has_its m = (x : Expansion) → expansion_at networks m ≡ Some x → HasPerformers new x
+
+    by : (ms : List ℕ) → (All apart_from ms → HasPerformers new e) → All has_its ms → HasPerformers new e
+    by [] rest have = rest (All-nil apart_from)
+    by (m ∷ ms) rest have = elim (cases_eq n m) [
+      | inl same ↦ All-head has_its m ms have e (ap (expansion_at networks) (sym same) ∙ is)
+      | inr apart ↦ by ms (λ all. rest (All-cons apart_from m ms apart all)) (All-tail has_its m ms have)
     ]
 
 -- ## What a worker reached

@@ -1,5 +1,6 @@
 -- What the tables of a search have, and when they are right.
-use Rattle.std.specs.Prelude.{◌≡◌, ℕ, ◌<◌, ◌^◌, ◌&&◌, not, List, length, map, get_or, All, Option, Some, None, IsSome, slice_get}
+use Rattle.std.specs.Prelude.{◌≡◌, ℕ, ◌<◌, ◌^◌, ◌&&◌, not, List, length, map, get_or, All, Option, Some, None, [], IsSome, slice_get, unwrap_or}
+use Rattle.std.specs.Option.{option_map}
 use Rattle.htn_model.specs.Atom.{Atom}
 use Rattle.htn_model.specs.Choice.{child_of}
 use Rattle.htn_model.specs.Grounding as ground
@@ -16,6 +17,7 @@ use Rattle.state_table.specs.Table.{Table, IsLater, IsSetOf, IsTable, is_changed
 use Rattle.network_table.specs.Children.{IsNumber}
 use Rattle.network_table.specs.Expansions.{first_free, IsSound}
 use Rattle.network_table.specs.Networks.{children, expansion_at, IsGrown, IsWhole, network_at}
+use Rattle.network_table.specs.Numbered.{Numbered}
 use Rattle.network_table.specs.declared.expansion.Expansion.{Expansion}
 use Rattle.network_table.specs.declared.expansion.Expansion.TheVariants.{Decomposed, Performed}
 use Rattle.network_table.specs.declared.table.NetworkTable.{NetworkTable}
@@ -74,6 +76,10 @@ AreListings t table listings =
     (n : ℕ) (found : Listing) → slot listings n ≡ Some found
     → (n < length (children table)) × ((g : GroundTask) → child_of (children table) n ≡ task g → IsListing t table g found)
 
+-- the networks of those at a number; none where nothing is
+abbrev pub listed_at : List (Option Listing) → ℕ → List Numbered
+listed_at listings n = unwrap_or (option_map (λ (l : Listing). l.networks.items) (slot listings n)) []
+
 -- they have these instances of a compound task, by the number of its node
 abbrev pub HasListing : Tables → GroundTask → Listing → Type 0
 HasListing tables g found =
@@ -109,8 +115,8 @@ pub record AreTables (t : Task) (tables : Tables) : Type 0 where
   pub performed : (n : ℕ) (e : Expansion) → expansion_at tables.networks n ≡ Some e → HasPerformers tables.performers.items e
   pub instances : AreListings t tables.networks tables.instances.items
 
--- the same, but that what becomes of one network is known, and the nodes that go from it may have no performers
-pub record AreExpanded (t : Task) (tables : Tables) (network : ℕ) : Type 0 where
+-- the same, but that the nodes may have no performers that go from some networks
+pub record AreExpanded (t : Task) (tables : Tables) (pending : List ℕ) : Type 0 where
   pub atoms : AreAtoms t tables.atoms
   pub numbering : IsNumbering tables.states
   pub sets : (i : ℕ) (words : List ℕ) → slice_get tables.states i ≡ Some words → IsSetOf tables.atoms words
@@ -118,7 +124,7 @@ pub record AreExpanded (t : Task) (tables : Tables) (network : ℕ) : Type 0 whe
   pub sound : IsSound (live_networks t) tables.networks
   pub goal : AreCompiled tables.atoms tables.goal (problem_of t).goal
   pub performers : ArePerformers t tables.atoms tables.networks tables.performers.items
-  pub performed : (n : ℕ) (e : Expansion) → (n ≡ network → ⊥) → expansion_at tables.networks n ≡ Some e → HasPerformers tables.performers.items e
+  pub performed : (n : ℕ) (e : Expansion) → All (λ m. n ≡ m → ⊥) pending → expansion_at tables.networks n ≡ Some e → HasPerformers tables.performers.items e
   pub instances : AreListings t tables.networks tables.instances.items
 
 -- the tables with more in them

@@ -172,8 +172,8 @@ impl<'a> TaskMachine<'a> {
         left > most
     }
 
-    /// Adds the successors of a configuration in the order of their ranks, each with this rank for its
-    /// parent's, without those beyond the horizon. If one is done, it returns the least number that leads to a done one.
+    /// Adds the successors of a configuration in the order of their ranks, each with this rank for its parent's,
+    /// without those beyond the horizon. If one is done, it returns the least number that leads to a done one.
     pub(crate) fn add_successors(
         &self,
         tables: &Tables,

@@ -8,6 +8,7 @@ mod listing;
 mod machine;
 mod performer;
 mod prepare;
+mod prepare_all;
 mod slots;
 mod tables;
 

@@ -14,6 +14,7 @@ use crate::tables::Tables;
 use htn_task::Task;
 use needs_table::Prospects;
 use std::alloc::{AllocError, Global};
+use std::thread::Threads;
 use tree_sizes::{Enumeration, TreeSizes};
 use word_machine::{Horizon, Machine, Successor};
 
@@ -109,6 +110,24 @@ impl<'a> Machine for TaskMachine<'a> {
         tables.prepare(self.alloc, self.task, &self.sizes, at.network)?;
         tables.prepare_needs(self.alloc, &self.prospects)?;
         Ok(())
+    }
+
+    fn prepare_all<R: Threads + Sync>(
+        &self,
+        rt: &R,
+        tables: &mut Tables,
+        at: &[Configuration],
+        workers: usize,
+    ) -> Result<(), AllocError> {
+        tables.prepare_all(
+            rt,
+            self.alloc,
+            self.task,
+            &self.sizes,
+            &self.prospects,
+            at,
+            workers,
+        )
     }
 
     fn expand(

@@ -128,3 +128,31 @@ pub(crate) fn prepare_performers(
     prepare_nodes(alloc, task, atoms, networks, performers, removals)?;
     Ok(())
 }
+
+/// The same for a block of networks, by their numbers.
+pub(crate) fn prepare_all_performers(
+    alloc: Global,
+    task: &Task,
+    atoms: &mut AtomTable,
+    networks: &NetworkTable,
+    performers: &mut Vec<Option<Performer>>,
+    block: &[u32],
+) -> Result<(), AllocError>
+    requires atoms { AreAtoms task.now atoms.old }
+    requires whole { IsWhole networks.now }
+    requires known { All (Knows networks.now) block.now }
+    requires nodes { All (λ n. (e : Remembered)
+        → expansion_at networks.now n ≡ Some e → IsKnownExpansion networks.now e) block.now }
+    requires performers { ArePerformers task.now atoms.old networks.now performers.old.items }
+    ensures later { OnOk result (IsLater atoms.old atoms.new) }
+    ensures performers { OnOk result (ArePerformers task.now atoms.new networks.now performers.new.items) }
+    ensures kept { OnOk result ((n : ℕ) → IsSome (slot performers.old.items n) → IsSome (slot performers.new.items n)) }
+    ensures there { OnOk result (All (λ n. (e : Remembered)
+        → expansion_at networks.now n ≡ Some e → HasPerformers performers.new.items e) block.now) }
+{
+    let _count = atoms.len();
+    for network in block {
+        prepare_performers(alloc, task, atoms, networks, performers, *network)?;
+    }
+    Ok(())
+}

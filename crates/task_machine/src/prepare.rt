@@ -1,6 +1,5 @@
 //! What the steps at a configuration need.
-ghost use Rattle.std.specs.Prelude.{◌≡◌, ◌<◌, ℕ, [], All, IfOk, IfNone, IfSome, IsSome, None, OnOk, Some, length, map, unwrap_or};
-ghost use Rattle.std.specs.Option.{option_map};
+ghost use Rattle.std.specs.Prelude.{◌≡◌, ◌<◌, ◌∷◌, ℕ, [], All, IfOk, IfNone, IfSome, IsSome, None, OnOk, length, map};
 ghost use Rattle.htn_model.specs.Grounding.{problem_of};
 ghost use Rattle.htn_model.specs.Task as model;
 ghost use Rattle.needs_table.specs.Kept.{AreKept, AreNoted};
@@ -11,7 +10,7 @@ ghost use Rattle.htn_net.specs.Listed.{listing_machine};
 ghost use Rattle.tree_sizes.specs.declared.tree_sizes.TreeSizes.{TreeSizes};
 ghost use Rattle.task_machine.specs.Owned.{AreOwned, HasSizes};
 ghost use Rattle.task_machine.specs.Meaning.{knows, point};
-ghost use Rattle.task_machine.specs.Tables.{AreExpanded, AreLater, AreTables, IsFirstTask, slot};
+ghost use Rattle.task_machine.specs.Tables.{AreExpanded, AreLater, AreTables, IsFirstTask, listed_at, slot};
 
 use crate::configuration::Configuration;
 use crate::instances::{configurations_of, instances_of, number_networks};
@@ -28,7 +27,7 @@ use std::alloc::{AllocError, Global};
 use tree_sizes::TreeSizes;
 
 /// The number of a network's first free compound task.
-fn first_task(networks: &NetworkTable, network: u32) -> Option<u32>
+pub(crate) fn first_task(networks: &NetworkTable, network: u32) -> Option<u32>
     requires whole { IsWhole networks.now }
     requires known { Knows networks.now network }
     ensures some { IfSome result (IsFirstTask networks.now network) }
@@ -40,8 +39,8 @@ fn first_task(networks: &NetworkTable, network: u32) -> Option<u32>
 }
 
 /// The networks of the instances that stand at a number; none where nothing does.
-fn listed(instances: &[Option<Listing>], node: u32) -> &[Network]
-    ensures { result.now ≡ unwrap_or (option_map (λ l. l.networks.items) (slot instances.now node)) [] }
+pub(crate) fn listed(instances: &[Option<Listing>], node: u32) -> &[Network]
+    ensures { result.now ≡ listed_at instances.now node }
 {
     match instances.get(node as usize) {
         Some(Some(found)) => found.networks.as_slice(),
@@ -75,7 +74,7 @@ impl Tables {
     }
 
     /// Sees that the instances of a compound task are listed, by the number of its node.
-    fn prepare_instances(
+    pub(crate) fn prepare_instances(
         &mut self,
         alloc: Global,
         task: &Task,
@@ -90,6 +89,8 @@ impl Tables {
         ensures later { OnOk result (AreLater self.old self.new) }
         ensures needs { OnOk result (self.new.needs ≡ self.old.needs) }
         ensures remembered { OnOk result ((n : ℕ) → expansion_at self.new.networks n ≡ expansion_at self.old.networks n) }
+        ensures kept { OnOk result ((n : ℕ)
+            → IsSome (slot self.old.instances.items n) → IsSome (slot self.new.instances.items n)) }
         ensures there { OnOk result (IsSome (slot self.new.instances.items node)) }
     {
         if is_taken(&self.instances, node) {
@@ -113,7 +114,7 @@ impl Tables {
         requires own { AreTables task.now self.old }
         requires sized { HasSizes sizes.now self.old.networks }
         requires known { Knows self.old.networks network }
-        ensures expanded { OnOk result (AreExpanded task.now self.new network) }
+        ensures expanded { OnOk result (AreExpanded task.now self.new (network ∷ [])) }
         ensures sized { OnOk result (HasSizes sizes.now self.new.networks) }
         ensures later { OnOk result (AreLater self.old self.new) }
         ensures needs { OnOk result (self.new.needs ≡ self.old.needs) }

@@ -1,5 +1,6 @@
-use Rattle.std.proofs.Common.{◌∙◌, [], ap, subst, sym, unwrap_or}
+use Rattle.std.proofs.Common.{◌≡◌, ◌∙◌, ◌∷◌, [], ap, subst, sym, unwrap_or}
 use Rattle.std.specs.Option.{option_map}
+use Rattle.std.proofs.lemmas.List.Elements.{All-head}
 use Rattle.std.proofs.lemmas.Option.{none-some}
 use Rattle.state_table.proofs.Keys.{if_none}
 use Rattle.network_table.specs.Children.{AreBounds}
@@ -17,8 +18,9 @@ returns-in_default-clause-expanded c =
     let own = c.requires.own in
     let did = c.in_ok-expand.ensures in
     let none = if_none c.first_task.result c.first_task.ensures.none c.in_default.not-Some in
-    expanded t s c.args.network c.expand.new.self did.whole did.grown
-    (did.sound (live_networks t) (λ position g first stands. absurd (none-some position (sym none ∙ first))) own.sound) did.others own
+    expanded t s (c.args.network ∷ []) c.expand.new.self did.whole did.grown
+    (did.sound (live_networks t) (λ position g first stands. absurd (none-some position (sym none ∙ first))) own.sound)
+    (λ n apart. did.others n (All-head (λ m. n ≡ m → ⊥) c.args.network [] apart)) own
 
 pub expand-requires-2-clause-within : goal.expand-requires-2-clause-within
 expand-requires-2-clause-within c =
@@ -38,7 +40,8 @@ returns-clause-expanded c =
     let last = c.in_ok-expand-2.ensures in
     let first = first_stays s.networks u.networks c.args.network c.in-Some.node c.requires.own.networks did.later.networks c.requires.known c.in-Some.ensures.some in
     let given = (listed_right t u.networks c.args.network c.in-Some.node first u.instances.items did.owned.instances did.there c.listed-instances.result.now (c.listed-instances.ensures ∙ ap (λ l. unwrap_or (option_map (λ (x : Listing). x.networks.items) (slot l c.in-Some.node)) []) c.deref.ensures.value)).1 in
-    expanded t u c.args.network c.expand-2.new.self last.whole last.grown (last.sound (live_networks t) given did.owned.sound) last.others did.owned
+    expanded t u (c.args.network ∷ []) c.expand-2.new.self last.whole last.grown (last.sound (live_networks t) given did.owned.sound)
+    (λ n apart. last.others n (All-head (λ m. n ≡ m → ⊥) c.args.network [] apart)) did.owned
 
 pub returns-clause-later : goal.returns-clause-later
 returns-clause-later c =

@@ -7,7 +7,7 @@ use Rattle.state_table.proofs.States.{later_itself}
 use Rattle.task_machine.specs.Growing.{StandFor}
 use Rattle.task_machine.specs.Tables.{source_of}
 use Rattle.task_machine.specs.declared.listing.Listing.{Listing}
-use Rattle.task_machine.proofs.Owned.{later_tables_itself, listings_put, networks_listed, with_networks}
+use Rattle.task_machine.proofs.Owned.{later_tables_itself, listings_put, networks_listed, put_keeps, with_networks}
 use Rattle.task_machine.proofs.Wider.{node_stays}
 use Rattle.task_machine.proofs.tables.Tables.prepare_instances.Goals as goal
 
@@ -50,3 +50,9 @@ returns-clause-later c =
       states = ([], sym (append-nil s.states));
       networks = c.in_ok-networks.ensures.wider.grown;
     }
+
+pub returns-clause-kept : goal.returns-clause-kept
+returns-clause-kept c =
+    let old = c.args.self.now.instances.items in
+    let new = c.put.new.slots.items in
+    put_keeps old new c.args.node (record { networks = c.in_ok-networks.networks; sources = c.in_ok-sources.sources }) c.in_ok-put.ensures.here c.in_ok-put.ensures.others
