@@ -6,6 +6,7 @@ ghost use Rattle.word_machine.specs.declared.closed.Origin.TheVariants.{Step};
 
 use crate::tallies::{Numbered, Reached, Tallies, Tally};
 use std::alloc::{AllocError, Global};
+use std::thread::Threads;
 use word_machine::{Horizon, Machine, Origin, Successor};
 
 /// Two tallies to begin with, tasks and values below 1,000, and the value that is wanted.
@@ -135,6 +136,16 @@ impl Machine for Counter {
     }
 
     fn prepare(&self, _tables: &mut Tallies, _at: Numbered) -> Result<(), AllocError> {
+        Ok(())
+    }
+
+    fn prepare_all<R: Threads + Sync>(
+        &self,
+        _rt: &R,
+        _tables: &mut Tallies,
+        _at: &[Numbered],
+        _workers: usize,
+    ) -> Result<(), AllocError> {
         Ok(())
     }
 

@@ -1,0 +1,19 @@
+use sharded_set::ShardedSet;
+use std::test::*;
+
+#[test]
+fn a_value_is_added_once(rt: HostRuntime) -> Result<(), Fail> {
+    let mut set: ShardedSet<u64> = ShardedSet::new(rt.alloc(), 4)?;
+    set.reserve(8)?;
+    let first = set.insert_all(&rt, rt.alloc(), &[5, 7, 5, 9], 1)?;
+    assert_eq!(rt; first.as_slice(), [true, true, false, true].as_slice());
+    let second = set.insert_all(&rt, rt.alloc(), &[9, 1, 7, 1], 4)?;
+    assert_eq!(rt; second.as_slice(), [false, true, false, false].as_slice());
+    assert_eq!(rt; set.values(), [5, 7, 9, 1].as_slice());
+    assert!(rt; set.contains(&7));
+    assert!(rt; !set.contains(&8));
+    set.clear();
+    assert!(rt; set.values().is_empty());
+    assert!(rt; !set.contains(&7));
+    Ok(())
+}
