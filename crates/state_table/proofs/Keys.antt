@@ -7,6 +7,7 @@ use Rattle.std.proofs.lemmas.List.{append-nil, length_push}
 use Rattle.std.proofs.lemmas.Bool.{cases_lt, lt-ltb, le-ltb, true≢false}
 use Rattle.std.proofs.lemmas.Option.{slice_get_within, slice_get-get_or, get_or_from_slice_get}
 use Rattle.std.proofs.lemmas.List.Folds.{list_any_none}
+use Rattle.std.proofs.lemmas.Map.Keys.{any_passes_from_place}
 use Rattle.std.proofs.lemmas.List.Sums.{passes_at_first, fails_before_first}
 use Rattle.htn_model.specs.PlanFile.{IsIn, IsWithoutRepeats}
 use Rattle.htn_model.proofs.Ascending.{at_in, in_at}
@@ -108,3 +109,32 @@ module _ {A : Type 0} (eq : A → A → Bool) (decides : (x y : A) → Decides (
   -- a new key goes last
   pub inserted : ((n : ℕ) → slice_get xs n ≡ Some q → ⊥) → insert_key eq xs q ≡ xs ++ q ∷ []
   inserted none = ap (λ b. if b then xs else xs ++ q ∷ []) (not_any none)
+
+  -- a key that is equal to none has no place
+  pub none_at : list_any (eq q) xs ≡ false → (n : ℕ) → slice_get xs n ≡ Some q → ⊥
+  none_at is n at = true≢false (sym (any_passes_from_place (eq q) xs n q at ((decides q q).1 refl)) ∙ is)
+
+  -- a key that is put among others was there, or has no place and goes last
+  pub inserted_cases : (insert_key eq xs q ≡ xs) ⊎ ((insert_key eq xs q ≡ xs ++ q ∷ []) × ((n : ℕ) → slice_get xs n ≡ Some q → ⊥))
+  inserted_cases = by (list_any (eq q) xs) refl
+    where
+      by : (b : Bool) → list_any (eq q) xs ≡ b → (insert_key eq xs q ≡ xs) ⊎ ((insert_key eq xs q ≡ xs ++ q ∷ []) × ((n : ℕ) → slice_get xs n ≡ Some q → ⊥))
+      by true is = inl (ap (λ b. if b then xs else xs ++ q ∷ []) is)
+      by false is = inr (ap (λ b. if b then xs else xs ++ q ∷ []) is, none_at is)
+
+  -- where there is a number left, all have one still
+  pub numbering_inserted : IsNumbering xs → length xs < 2 ^ 32 → IsNumbering (insert_key eq xs q)
+  numbering_inserted numbering room = elim inserted_cases [
+    | inl same ↦ subst (λ (l : List A). IsNumbering l) (sym same) numbering
+    | inr new ↦ subst (λ (l : List A). IsNumbering l) (sym new.0) (numbering_push xs q numbering room new.1)
+  ]
+
+  -- nothing else has got a place
+  pub others_inserted : (n : ℕ) (a : A) → slice_get (insert_key eq xs q) n ≡ Some a → (slice_get xs n ≡ Some a) ⊎ (a ≡ q)
+  others_inserted n a at = elim inserted_cases [
+    | inl same ↦ inl (ap (λ (l : List A). slice_get l n) (sym same) ∙ at)
+    | inr new ↦ elim (at_push xs q n a (ap (λ (l : List A). slice_get l n) (sym new.0) ∙ at)) [
+      | inl before ↦ inl before
+      | inr here ↦ inr (sym here.1)
+    ]
+  ]

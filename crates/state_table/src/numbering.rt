@@ -61,13 +61,11 @@ impl StateTable {
             → (slice_get self.old n ≡ Some other) ⊎ (other ≡ state)) }
         ensures unchanged { OnErr result (self.new ≡ self.old) }
     {
-        if let Some(number) = self.number_of(&state) {
-            return Ok(number);
+        if self.states.len() > u32::MAX as usize {
+            // Every number is given.
+            return self.number_of(&state).ok_or(AllocError);
         }
-        let Ok(number) = u32::try_from(self.states.len()) else {
-            return Err(AllocError);
-        };
-        self.states.insert(state)?;
-        Ok(number)
+        let (place, _) = self.states.insert_full(state)?;
+        Ok(place as u32)
     }
 }
