@@ -15,6 +15,21 @@ use state_table::{AtomTable, CompiledLiterals};
 use std::alloc::{AllocError, Global};
 use std::thread::{Threads, map_indices};
 
+/// The work of several workers is cut into so many parts for each, so that none waits long for another.
+const PARTS: usize = 4;
+
+/// How many parts so many workers take.
+fn parts_for(workers: usize) -> usize
+    requires { 0 < workers }
+    ensures { 0 < result }
+{
+    if workers == 1 {
+        1
+    } else {
+        workers.saturating_mul(PARTS)
+    }
+}
+
 /// What the networks need from a number on.
 #[derive(Drop)]
 pub(crate) struct Found {
@@ -60,12 +75,13 @@ impl NeedsTable {
         requires workers { 0 < workers }
         ensures { IfOk result (λ v. All (HoldsFound prospects.now self.now networks.now) v.items) }
     {
+        let parts = parts_for(workers);
         let known = self.needs.len();
         let size = networks
             .networks()
             .len()
             .saturating_sub(known)
-            .div_ceil(workers);
+            .div_ceil(parts);
         let find = |part: usize| -> Result<Found, AllocError>
             requires { IsWhole networks.now × length (children networks.now) ≤ length self.now.nodes.items }
             ensures { HoldsFound prospects.entry.now self.entry.now networks.entry.now result }
@@ -73,7 +89,7 @@ impl NeedsTable {
             let from = known.saturating_add(part.saturating_mul(size));
             self.find(alloc, prospects, networks, from, size)
         };
-        map_indices(rt, alloc, workers, &find)
+        map_indices(rt, alloc, parts, &find)
     }
 
     /// Puts down what was found, if it is that of the networks that come next.

@@ -47,6 +47,13 @@ impl NeedsTable {
         }
     }
 
+    /// Of how many networks it is known what they need.
+    pub fn len(&self) -> usize
+        ensures { result ≡ length self.now.needs.items }
+    {
+        self.needs.len()
+    }
+
     /// Sees that the goal's literals stand there by numbers.
     pub(crate) fn keep_goal(
         &mut self,

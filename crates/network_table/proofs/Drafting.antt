@@ -147,20 +147,6 @@ KeepsNumbers s t = (x : ℕ) → Knows s x → Knows t x × (numbered_at t x ≡
 pub keeps_more : (s t : NetworkTable) → IsMore s t → KeepsNumbers s t
 keeps_more s t more x known = (more_known s t x more known, more_same s t x more known)
 
--- what is noted of a job stays right
-pub known_of_kept : (s t : NetworkTable) (job : Job) (notes : Notes) → KeepsNumbers s t → Knows s job.network → AreKnownOf s job notes → AreKnownOf t job notes
-known_of_kept s t job notes keeps known are =
-    all_more (λ o. IfSome o (λ k. k.draft.job ≡ notes.job → IsNumberOf s k.number (drafted s k.draft (Some job))))
-    (λ o. IfSome o (λ k. k.draft.job ≡ notes.job → IsNumberOf t k.number (drafted t k.draft (Some job)))) each notes.noted.now are
-  where
-    each : (o : Option Known) → IfSome o (λ k. k.draft.job ≡ notes.job → IsNumberOf s k.number (drafted s k.draft (Some job)))
-        → IfSome o (λ k. k.draft.job ≡ notes.job → IsNumberOf t k.number (drafted t k.draft (Some job)))
-    each None own = tt
-    each (Some k) own = λ same.
-        let was = own same in
-        let after = keeps k.number was.0 in
-        (after.0, after.1 ∙ was.1 ∙ sym (ap (λ m. replaced_numbered m k.draft.position (inner_at job.instances.now k.draft.instance)) (keeps job.network known).1))
-
 -- a number that was noted of a draft is that of its network
 pub known_there : (t : NetworkTable) (job : Job) (notes : Notes) (at n : ℕ) (draft : Draft) (k : Known) (inner : Numbered) → AreKnownOf t job notes
     → slice_get notes.noted.now at ≡ Some (Some k) → k.number ≡ n → k.draft ≡ draft → draft.job ≡ notes.job → inner ≡ inner_at job.instances.now draft.instance

@@ -161,7 +161,7 @@ performed_right s t n xs more known first are =
 -- ## What is remembered, as the table grows
 
 -- an expansion stays right while networks are added
-expansion_more : (live : Live) (s t : NetworkTable) (n : ℕ) (e : Expansion) → IsMore s t → Knows s n → IsExpansion live s n e → IsExpansion live t n e
+pub expansion_more : (live : Live) (s t : NetworkTable) (n : ℕ) (e : Expansion) → IsMore s t → Knows s n → IsExpansion live s n e → IsExpansion live t n e
 expansion_more live s t n (Decomposed i successors) more known are =
     let same = same_network s t n more known in
     record {

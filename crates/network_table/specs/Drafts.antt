@@ -1,9 +1,12 @@
 -- Networks that others become, listed before they are made.
 use Rattle.std.specs.Prelude.{◌≡◌, ℕ, ◌<◌, List, map, length, get_or, slice_get, All, IfOk, IfSome, IsSome, Option, None, Some, Result}
 use Rattle.std.specs.declared.alloc.AllocError.{AllocError}
+use Rattle.std.specs.declared.alloc.Global.{Global}
+use Rattle.std.specs.declared.vec.Vec.{Vec}
 use Rattle.network_table.specs.Numbered.{Numbered, IsWithin, replaced_numbered}
 use Rattle.network_table.specs.Networks.{children, expansion_at, nothing, numbered_at, IsGrown, IsNumberOf, IsWhole, Knows}
-use Rattle.network_table.specs.Expansions.{AreInstances, IsSound, Live}
+use Rattle.network_table.specs.Expansions.{AreInstances, IsExpansion, IsSound, Live}
+use Rattle.network_table.specs.declared.assemble.Found.{Found}
 use Rattle.network_table.specs.declared.draft.Draft.{Draft}
 use Rattle.network_table.specs.declared.draft.Job.{Job}
 use Rattle.network_table.specs.declared.made.Made.{Made}
@@ -55,6 +58,25 @@ AreKnownOf t job notes = All (λ o. IfSome o (λ k. k.draft.job ≡ notes.job �
 pub record AreNumbersOf (t : NetworkTable) (numbers : List ℕ) (networks : List Numbered) : Type 0 where
   pub known : All (Knows t) numbers
   pub each : map (numbered_at t) numbers ≡ networks
+
+-- what becomes of the network of one of the jobs, where the job's instances are those that are listed
+abbrev pub IsFound : NetworkTable → List Job → Found → Type 0
+IsFound t jobs found =
+    (found.job < length jobs)
+    × ((job : Job) → slice_get jobs found.job ≡ Some job → (live : Live) → AreInstances live t job.network job.instances.now
+    → IsExpansion live t job.network found.expansion)
+
+-- what a worker found, if its memory does not run out
+abbrev pub HoldsFound : NetworkTable → List Job → Result (Vec Found Global) AllocError → Type 0
+HoldsFound t jobs r = IfOk r (λ v. All (IsFound t jobs) v.items)
+
+-- more may be known of what becomes of the jobs' networks, and all else is as it was
+pub record AreRemembered (old new : NetworkTable) (jobs : List Job) : Type 0 where
+  pub whole : IsWhole new
+  pub grown : IsGrown old new
+  pub children : new.children ≡ old.children
+  pub sound : (live : Live) → All (λ (j : Job). AreInstances live old j.network j.instances.now) jobs → IsSound live old → IsSound live new
+  pub others : (n : ℕ) → All (λ (j : Job). n ≡ j.network → ⊥) jobs → expansion_at new n ≡ expansion_at old n
 
 -- what becomes of the jobs' networks is known, and all else is as it was
 pub record AreExpanded (old new : NetworkTable) (jobs : List Job) : Type 0 where

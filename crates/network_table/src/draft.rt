@@ -59,14 +59,19 @@ pub(crate) fn shard_of(digest: u64, count: usize) -> usize
     ((digest.wrapping_mul(0xd131_0ba6_98df_b5ad) >> 32) % count as u64) as usize
 }
 
-/// The place of the first draft, from a place on, of a job or a later one.
-pub(crate) fn start_of(drafts: &[Listed], job: usize, from: usize) -> usize {
-    for at in from..drafts.len() {
-        if drafts[at].draft.job >= job {
-            return at;
+/// By job, where its drafts begin, of so many jobs.
+pub(crate) fn starts_of(
+    alloc: Global,
+    drafts: &[Listed],
+    count: usize,
+) -> Result<Vec<usize>, AllocError> {
+    let mut starts = Vec::with_capacity(alloc, count)?;
+    for at in 0..drafts.len() {
+        while starts.len() <= drafts[at].draft.job && starts.len() < count {
+            starts.push(at)?;
         }
     }
-    drafts.len()
+    Ok(starts)
 }
 
 impl NetworkTable {

@@ -3,15 +3,13 @@ ghost use Rattle.std.specs.Prelude.{◌≡◌, ◌<◌, ℕ, List, All, IfOk, If
 ghost use Rattle.std.specs.Option.{option_map};
 ghost use Rattle.htn_model.specs.Problem.{GroundTask, task};
 ghost use Rattle.htn_model.specs.Choice.{child_of};
-ghost use Rattle.network_table.specs.Drafts.{AreKnownOf, inner_at};
 ghost use Rattle.network_table.specs.Numbered.{IsWithin, replaced_numbered};
 ghost use Rattle.network_table.specs.Networks.{children, expansion_at, IsGrown, IsMore, IsNumberOf, IsWhole, Knows, network_at, numbered_at};
 ghost use Rattle.network_table.specs.Expansions.{AreDecompositions, AreInstances, AreRemovals, IsExpansion, IsSound, Live, first_free, free_positions};
 
-use crate::draft::{Draft, Job};
+use crate::draft::Job;
 use crate::expansion::{Expansion, Removal};
 use crate::network::Network;
-use crate::notes::{Notes, noted_number};
 use crate::table::NetworkTable;
 use htn_ground::{Child, GroundTask};
 use htn_order::Order;
@@ -60,36 +58,25 @@ impl NetworkTable {
         Some(position)
     }
 
-    /// The number of a draft's network, in which this one takes the node's place: as noted at a
-    /// place, or found now.
+    /// The number of a job's network in which this one takes the place of the node at a position, which it may get only
+    /// now.
     fn successor(
         &mut self,
         alloc: Global,
         job: Job,
-        notes: Notes,
-        at: usize,
-        draft: Draft,
+        position: usize,
         inner: &Network,
     ) -> Result<u32, AllocError>
         requires whole { IsWhole self.old }
         requires known { Knows self.old job.network }
-        requires noted { AreKnownOf self.old job notes }
-        requires job { draft.job ≡ notes.job }
-        requires placed { draft.position < length (numbered_at self.old job.network).nodes }
-        requires inner { inner.now ≡ inner_at job.instances.now draft.instance }
+        requires placed { position < length (numbered_at self.old job.network).nodes }
         requires within { IsWithin (children self.old) inner.now }
         ensures whole { OnOk result (IsWhole self.new) }
         ensures more { OnOk result (IsMore self.old self.new) }
-        ensures noted { OnOk result (AreKnownOf self.new job.entry notes.entry) }
         ensures number { IfOk result (λ n. IsNumberOf self.new n
-            (replaced_numbered (numbered_at self.old job.entry.network) draft.position inner.now)) }
+            (replaced_numbered (numbered_at self.old job.entry.network) position inner.now)) }
     {
-        if let Some(number) = noted_number(notes.noted, at, draft) {
-            return Ok(number);
-        }
-        let next = self
-            .network(job.network)
-            .replaced(alloc, draft.position, inner)?;
+        let next = self.network(job.network).replaced(alloc, position, inner)?;
         let number = self.keep(next)?;
         Ok(number)
     }
@@ -99,12 +86,10 @@ impl NetworkTable {
         &mut self,
         alloc: Global,
         job: Job,
-        notes: Notes,
         position: usize,
     ) -> Result<Vec<u32>, AllocError>
         requires whole { IsWhole self.old }
         requires known { Knows self.old job.network }
-        requires noted { AreKnownOf self.old job notes }
         requires placed { position < length (numbered_at self.old job.network).nodes }
         requires within { All (IsWithin (children self.old)) job.instances.now }
         ensures whole { OnOk result (IsWhole self.new) }
@@ -113,28 +98,16 @@ impl NetworkTable {
             AreDecompositions self.new (numbered_at self.old job.entry.network) position job.entry.instances.now v.items) }
     {
         let mut successors = Vec::with_capacity(alloc, job.instances.len())?;
-        for (place, instance) in job.instances.iter().enumerate() {
-            let draft = Draft {
-                job: notes.job,
-                position,
-                instance: Some(place),
-            };
-            let at = notes.first.wrapping_add(place);
-            successors.push(self.successor(alloc, job, notes, at, draft, instance)?)?;
+        for instance in job.instances {
+            successors.push(self.successor(alloc, job, position, instance)?)?;
         }
         Ok(successors)
     }
 
     /// The networks without each of the free nodes.
-    fn removals(
-        &mut self,
-        alloc: Global,
-        job: Job,
-        notes: Notes,
-    ) -> Result<Vec<Removal>, AllocError>
+    fn removals(&mut self, alloc: Global, job: Job) -> Result<Vec<Removal>, AllocError>
         requires whole { IsWhole self.old }
         requires known { Knows self.old job.network }
-        requires noted { AreKnownOf self.old job notes }
         ensures whole { OnOk result (IsWhole self.new) }
         ensures more { OnOk result (IsMore self.old self.new) }
         ensures each { IfOk result (λ v. AreRemovals self.new (numbered_at self.old job.entry.network)
@@ -144,31 +117,18 @@ impl NetworkTable {
         let free = self.network(job.network).order().free_positions(alloc)?;
         let none = Network::new(Vec::new(alloc), Order::empty());
         let mut removals = Vec::with_capacity(alloc, free.len())?;
-        let mut at = notes.first;
         for position in &free {
             let node = self.node_at(job.network, *position);
-            let draft = Draft {
-                job: notes.job,
-                position: *position,
-                instance: None,
-            };
-            let network = self.successor(alloc, job, notes, at, draft, &none)?;
+            let network = self.successor(alloc, job, *position, &none)?;
             removals.push(Removal { node, network })?;
-            at = at.wrapping_add(1);
         }
         Ok(removals)
     }
 
     /// What becomes of a job's network.
-    fn find_expansion(
-        &mut self,
-        alloc: Global,
-        job: Job,
-        notes: Notes,
-    ) -> Result<Expansion, AllocError>
+    fn find_expansion(&mut self, alloc: Global, job: Job) -> Result<Expansion, AllocError>
         requires whole { IsWhole self.old }
         requires known { Knows self.old job.network }
-        requires noted { AreKnownOf self.old job notes }
         requires within { All (IsWithin (children self.old)) job.instances.now }
         ensures whole { OnOk result (IsWhole self.new) }
         ensures more { OnOk result (IsMore self.old self.new) }
@@ -177,26 +137,20 @@ impl NetworkTable {
     {
         match self.first_free_position(job.network) {
             Some(position) => {
-                let successors = self.decompositions(alloc, job, notes, position)?;
+                let successors = self.decompositions(alloc, job, position)?;
                 Ok(Expansion::Decomposed(position, successors))
             }
             None => {
-                let removals = self.removals(alloc, job, notes)?;
+                let removals = self.removals(alloc, job)?;
                 Ok(Expansion::Performed(removals))
             }
         }
     }
 
     /// Finds what becomes of a job's network, unless that is known.
-    pub(crate) fn expand_job(
-        &mut self,
-        alloc: Global,
-        job: Job,
-        notes: Notes,
-    ) -> Result<(), AllocError>
+    pub(crate) fn expand_job(&mut self, alloc: Global, job: Job) -> Result<(), AllocError>
         requires whole { IsWhole self.old }
         requires known { Knows self.old job.network }
-        requires noted { AreKnownOf self.old job notes }
         requires within { All (IsWithin (children self.old)) job.instances.now }
         ensures whole { OnOk result (IsWhole self.new) }
         ensures grown { OnOk result (IsGrown self.old self.new) }
@@ -210,7 +164,7 @@ impl NetworkTable {
         if self.expansion(job.network).is_some() {
             return Ok(());
         }
-        let expansion = self.find_expansion(alloc, job, notes)?;
+        let expansion = self.find_expansion(alloc, job)?;
         self.remember(job.network, expansion);
         Ok(())
     }
@@ -237,18 +191,12 @@ impl NetworkTable {
         // no node gets a number
         ensures children { OnOk result (self.new.children ≡ self.old.children) }
     {
-        let notes = Notes {
-            noted: &[],
-            job: 0,
-            first: 0,
-        };
         self.expand_job(
             alloc,
             Job {
                 network: number,
                 instances,
             },
-            notes,
         )
     }
 }

@@ -3,15 +3,19 @@ ghost use Rattle.std.specs.Prelude.{◌≡◌, ◌<◌, ℕ, All, IfOk, OnOk, Is
 ghost use Rattle.network_table.specs.Numbered.{IsWithin};
 ghost use Rattle.network_table.specs.Networks.{children, expansion_at, IsGrown, IsMore, IsWhole, Knows};
 ghost use Rattle.network_table.specs.Expansions.{AreInstances, IsSound, Live};
-ghost use Rattle.network_table.specs.Drafts.{AreExpanded, AreKnown, AreMade, AreNumbersOf, HoldsMade};
+ghost use Rattle.network_table.specs.Drafts.{AreExpanded, AreKnown, AreMade, AreNumbersOf, AreRemembered, HoldsFound, HoldsMade, IsFound};
 
-use crate::draft::{Job, Listed, start_of};
+use crate::assemble::Found;
+use crate::draft::{Job, Listed, starts_of};
 use crate::made::Made;
 use crate::network::Network;
-use crate::notes::{Known, Notes};
+use crate::notes::Known;
 use crate::table::NetworkTable;
 use std::alloc::{AllocError, Global};
 use std::thread::{Threads, map_indices};
+
+/// The work is cut into so many parts for each worker, so that all end at about the same time.
+const PARTS: usize = 4;
 
 impl NetworkTable {
     /// The numbers of networks, which they may get only now.
@@ -80,32 +84,85 @@ impl NetworkTable {
         Ok(noted)
     }
 
-    /// Remembers what becomes of the jobs' networks.
-    fn remember_all(
-        &mut self,
+    /// Finds what becomes of the jobs' networks, one after another.
+    fn expand_each(&mut self, alloc: Global, jobs: &[Job]) -> Result<(), AllocError>
+        requires whole { IsWhole self.old }
+        requires known { All (λ j. Knows self.old j.network) jobs.now }
+        requires within { All (λ j. All (IsWithin (children self.old)) j.instances.now) jobs.now }
+        ensures { OnOk result (AreExpanded self.old self.new jobs.now) }
+    {
+        for job in jobs {
+            self.expand_job(alloc, *job)?;
+        }
+        Ok(())
+    }
+
+    /// Finds what becomes of the jobs' networks by the numbers that are noted, by so many workers.
+    fn assemble_all<R: Threads + Sync>(
+        &self,
+        rt: &R,
         alloc: Global,
         jobs: &[Job],
         drafts: &[Listed],
         noted: &[Option<Known>],
+        workers: usize,
+    ) -> Result<Vec<Result<Vec<Found>, AllocError>>, AllocError>
+        requires whole { IsWhole self.now }
+        requires known { All (λ j. Knows self.now j.network) jobs.now }
+        requires noted { AreKnown self.now jobs.now noted.now }
+        requires workers { 0 < workers }
+        ensures { IfOk result (λ v. All (HoldsFound self.now jobs.now) v.items) }
+    {
+        let starts = starts_of(alloc, drafts, jobs.len())?;
+        let starts = starts.as_slice();
+        let size = jobs.len().div_ceil(workers);
+        let assemble = |part: usize| -> Result<Vec<Found>, AllocError>
+            requires { IsWhole self.now × All (λ j. Knows self.now j.network) jobs.now × AreKnown self.now jobs.now noted.now }
+            ensures { HoldsFound self.entry.now jobs.entry.now result }
+        { self.assemble_part(alloc, jobs, starts, noted, part.saturating_mul(size), size) };
+        map_indices(rt, alloc, workers, &assemble)
+    }
+
+    /// Remembers what was found of the network of a job, but where that is known.
+    fn remember_one(&mut self, jobs: &[Job], found: Found)
+        requires whole { IsWhole self.old }
+        requires known { All (λ j. Knows self.old j.network) jobs.now }
+        requires found { IsFound self.old jobs.now found }
+        ensures { AreRemembered self.old self.new jobs.now }
+    {
+        let Found { job, expansion } = found;
+        let network = jobs[job].network;
+        if self.expansion(network).is_some() {
+            return;
+        }
+        self.remember(network, expansion);
+    }
+
+    /// Remembers what was found, but where that is known.
+    fn remember_found(&mut self, jobs: &[Job], found: Vec<Found>)
+        requires whole { IsWhole self.old }
+        requires known { All (λ j. Knows self.old j.network) jobs.now }
+        requires found { All (IsFound self.old jobs.now) found.items }
+        ensures { AreRemembered self.old self.new jobs.now }
+    {
+        for one in found {
+            self.remember_one(jobs, one);
+        }
+    }
+
+    /// Remembers what all workers found, but where that is known.
+    fn remember_all(
+        &mut self,
+        jobs: &[Job],
+        all: Vec<Result<Vec<Found>, AllocError>>,
     ) -> Result<(), AllocError>
         requires whole { IsWhole self.old }
         requires known { All (λ j. Knows self.old j.network) jobs.now }
-        requires within { All (λ j. All (IsWithin (children self.old)) j.instances.now) jobs.now }
-        requires noted { AreKnown self.old jobs.now noted.now }
-        ensures { OnOk result (AreExpanded self.old self.new jobs.now) }
+        requires found { All (HoldsFound self.old jobs.now) all.items }
+        ensures { OnOk result (AreRemembered self.old self.new jobs.now) }
     {
-        let mut first = 0;
-        for number in 0..jobs.len() {
-            first = start_of(drafts, number, first);
-            self.expand_job(
-                alloc,
-                jobs[number],
-                Notes {
-                    noted,
-                    job: number,
-                    first,
-                },
-            )?;
+        for found in all {
+            self.remember_found(jobs, found?);
         }
         Ok(())
     }
@@ -184,13 +241,17 @@ impl NetworkTable {
     {
         if workers == 1 {
             // One worker makes a network where it is numbered: nothing has to be told apart beforehand.
-            self.remember_all(alloc, jobs, &[], &[])?;
+            self.expand_each(alloc, jobs)?;
             return Ok(());
         }
-        let drafts = self.list_all(rt, alloc, jobs, workers)?;
+        let parts = workers.saturating_mul(PARTS);
+        let drafts = self.list_all(rt, alloc, jobs, parts)?;
         let shards = self.make_all(rt, alloc, jobs, drafts.as_slice(), workers)?;
         let noted = self.note_all(alloc, jobs, shards, drafts.len())?;
-        self.remember_all(alloc, jobs, drafts.as_slice(), noted.as_slice())?;
+        let all = self.assemble_all(rt, alloc, jobs, drafts.as_slice(), noted.as_slice(), parts)?;
+        self.remember_all(jobs, all)?;
+        // What is not found yet is found here: nothing, but where a note was missing.
+        self.expand_each(alloc, jobs)?;
         Ok(())
     }
 }

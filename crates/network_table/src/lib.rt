@@ -7,6 +7,7 @@
 //! nodes. What becomes of a network is the same in every state, so it is found once.
 #![tactic(auto)]
 
+mod assemble;
 mod child_table;
 mod draft;
 mod expand;

@@ -2,12 +2,13 @@
 ghost use Rattle.std.specs.Prelude.{◌≡◌, ◌<◌, ◌∷◌, [], OnOk};
 ghost use Rattle.search_tests.specs.Counter.{carried, clipped, counting, doubled, estimate};
 ghost use Rattle.search_tests.specs.Tallies.{is_written, written};
+ghost use Rattle.word_machine.specs.Answer.{measure_of};
 ghost use Rattle.word_machine.specs.declared.closed.Origin.TheVariants.{Step};
 
 use crate::tallies::{Numbered, Reached, Tallies, Tally};
 use std::alloc::{AllocError, Global};
 use std::thread::Threads;
-use word_machine::{Horizon, Machine, Origin, Successor};
+use word_machine::{Horizon, Machine, Measure, Measured, Origin, Successor};
 
 /// Two tallies to begin with, tasks and values below 1,000, and the value that is wanted.
 #[derive(Clone, Copy, Debug)]
@@ -68,6 +69,18 @@ fn steps_left(target: u64, tally: Tally) -> u64
         tally.tasks
     } else {
         tally.tasks + 1
+    }
+}
+
+/// How many steps are left at least, by this measure.
+pub fn left_of(target: u64, measure: Measure, tally: Tally) -> u64
+    requires few { tally.tasks < 1000 }
+    requires small { tally.value < 1000 }
+    ensures { result ≡ measure_of (counting target []) (estimate target) measure tally }
+{
+    match measure {
+        Measure::OpenNodes => tally.tasks,
+        Measure::LowerBound => steps_left(target, tally),
     }
 }
 
@@ -154,8 +167,8 @@ impl Machine for Counter {
         tables: &Tallies,
         rank: usize,
         from: Numbered,
-        _horizon: Horizon,
-        successors: &mut Vec<Successor<Reached>>,
+        horizon: Horizon,
+        successors: &mut Vec<Measured<Reached>>,
     ) -> Result<Option<u64>, AllocError> {
         let tally = tables.tally(from);
         if tally.stuck {
@@ -168,8 +181,15 @@ impl Machine for Counter {
         if is_wanted(self.target, less) {
             return Ok(Some(0));
         }
-        successors.push(successor(tables, rank, 0, less))?;
-        successors.push(successor(tables, rank, 1, double(tally)))?;
+        let more = double(tally);
+        successors.push(Measured {
+            successor: successor(tables, rank, 0, less),
+            left: left_of(self.target, horizon.measure, less),
+        })?;
+        successors.push(Measured {
+            successor: successor(tables, rank, 1, more),
+            left: left_of(self.target, horizon.measure, more),
+        })?;
         Ok(None)
     }
 
@@ -197,13 +217,5 @@ impl Machine for Counter {
             Reached::Known(numbered) => Some(*numbered),
             Reached::New(tally) => tables.find(tally),
         }
-    }
-
-    fn open_len_of(&self, tables: &Tallies, reached: &Reached) -> u64 {
-        tables.written(reached).tasks
-    }
-
-    fn lower_bound_of(&self, tables: &Tallies, reached: &Reached) -> u64 {
-        steps_left(self.target, tables.written(reached))
     }
 }

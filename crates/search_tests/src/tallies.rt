@@ -61,17 +61,6 @@ impl Tallies {
         }
     }
 
-    /// The tally that was reached.
-    pub fn written(&self, reached: &Reached) -> Tally
-        requires { is_written self.now.tallies.keys reached.now }
-        ensures { result ≡ written self.now.tallies.keys reached.now }
-    {
-        match reached {
-            Reached::Known(numbered) => self.tally(*numbered),
-            Reached::New(tally) => *tally,
-        }
-    }
-
     /// The number of a tally, if it has one.
     pub fn find(&self, tally: &Tally) -> Option<Numbered>
         ensures some { IfSome result (λ c. slice_get self.now.tallies.keys c.number ≡ Some tally.now) }

@@ -1,8 +1,10 @@
 -- Networks are expanded block by block.
-use Rattle.std.proofs.Common.{◌≡◌, ◌∙◌, ℕ, Bool, true, false, List, [], ◌∷◌, ◌++◌, All, Contains, Option, Some, None, IsSome, get_or, is_some, nat_eq, if◌then◌else◌, ap, ap₂, sym, subst, map, refl, true≢false, append-nil, append_assoc}
+use Rattle.std.proofs.Common.{◌≡◌, ◌∙◌, ℕ, suc, ◌+◌, ◌<◌, ◌≤◌, Bool, true, false, List, [], ◌∷◌, ◌++◌, All, Contains, Option, Some, None, IsSome, arith, get_or, is_some, length, nat_eq, if◌then◌else◌, ap, ap₂, sym, subst, map, take, refl, true≢false, append-nil, append_assoc}
+use Rattle.std.proofs.Math.Seq.{take-suc}
 use Rattle.std.specs.List.{list_any}
 use Rattle.std.proofs.lemmas.Bool.{eqb-true}
-use Rattle.std.proofs.lemmas.List.Elements.{All-append, All-cons, All-contains, All-head, All-map, All-nil, All-tail, Contains-append_left}
+use Rattle.std.proofs.lemmas.List.{length-append, map-append, map_push, take_all}
+use Rattle.std.proofs.lemmas.List.Elements.{All-append, All-cons, All-contains, All-head, All-map, All-nil, All-push, All-tail, All-take, Contains-append_left}
 use Rattle.std.proofs.lemmas.Option.{none-some}
 use Rattle.htn_model.specs.Task.{Task}
 use Rattle.indexmap.specs.IndexSet.{insert_key}
@@ -18,13 +20,14 @@ use Rattle.network_table.proofs.Expanding.{all_more, map_two}
 use Rattle.network_table.proofs.Growing.{numbers_stay}
 use Rattle.tree_sizes.specs.declared.tree_sizes.TreeSizes.{TreeSizes}
 use Rattle.word_machine.proofs.Diving.{all_inserted}
-use Rattle.task_machine.specs.Blocks.{IsListed, job_view, listed_for, listed_job}
+use Rattle.task_machine.specs.Blocks.{AreListed, IsFirst, IsListed, IsPart, job_view, listed_for, listed_job, networks_of}
 use Rattle.task_machine.specs.Owned.{AreOwned}
 use Rattle.task_machine.specs.Steps.{live_networks}
 use Rattle.task_machine.specs.Tables.{AreLater, AreTables, listed_at, slot}
 use Rattle.task_machine.specs.declared.configuration.Configuration.{Configuration}
 use Rattle.task_machine.specs.declared.listing.Listing.{Listing}
 use Rattle.task_machine.specs.declared.prepare_all.Listed.{Listed}
+use Rattle.task_machine.specs.declared.prepare_all.Part.{Part}
 use Rattle.task_machine.specs.declared.tables.Tables.{Tables}
 use Rattle.task_machine.proofs.Owned.{first_stays, later_tables_itself, later_tables_then, listed_right}
 
@@ -79,7 +82,101 @@ pub all_known_later : (old new : NetworkTable) → IsWhole old → IsGrown old n
 all_known_later old new whole grown ns known =
     all_more (Knows old) (Knows new) (λ n own. (numbers_stay old new n whole grown own).0) ns known
 
+-- ## Parts of a block
+
+-- the node that is listed is the network's first free compound task
+abbrev pub IsRight : NetworkTable → Listed → Type 0
+IsRight networks l = IsFirst networks l.network l.node
+
+-- one more of the block
+taken_more : (block taken : List ℕ) (n x d : ℕ) → n < length block → x ≡ get_or block n d → taken ≡ take n block → taken ++ x ∷ [] ≡ take (n + 1) block
+taken_more block taken n x d low is same =
+    let next : n + 1 ≡ suc n = omega arith in
+    ap₂ (λ l y. l ++ y ∷ []) same is ∙ sym (ap (λ j. take j block) next ∙ take-suc block n d low)
+
+-- one more of the networks
+networks_more : (old new : List Listed) (l : Listed) → new ≡ old ++ l ∷ [] → networks_of new ≡ networks_of old ++ l.network ∷ []
+networks_more old new l pushed = ap networks_of pushed ∙ map_push (λ (x : Listed). x.network) old l
+
+-- there is one more
+one_longer : (old new : List Listed) (l : Listed) → new ≡ old ++ l ∷ [] → length new ≡ length old + 1
+one_longer old new l pushed = let long = length-append old (l ∷ []) in let is = ap length pushed in omega (arith, long, is)
+
+module _ (networks : NetworkTable) (block : List ℕ) where
+  -- nothing is a part at any place
+  pub part_none : (first : ℕ) (listed : List Listed) → listed ≡ []
+      → (take first block ++ networks_of listed ≡ take (first + length listed) block) × All (IsRight networks) listed
+  part_none first listed none =
+      let end : first ≡ first + length listed = (let is = ap length none in omega (arith, is)) in (
+        ap (λ l. take first block ++ networks_of l) none ∙ append-nil (take first block) ∙ ap (λ j. take j block) end,
+        subst (All (IsRight networks)) (sym none) (All-nil (IsRight networks)),
+      )
+
+  -- and so it is with one more network
+  pub part_more : (first place : ℕ) (old new : List Listed) (l : Listed) (d : ℕ) → first + length old ≡ place → place < length block → l.network ≡ get_or block place d → IsRight networks l
+      → new ≡ old ++ l ∷ [] → (take first block ++ networks_of old ≡ take (first + length old) block) × All (IsRight networks) old
+      → (take first block ++ networks_of new ≡ take (first + length new) block) × All (IsRight networks) new
+  part_more first place old new l d at low is right pushed part =
+      let end : place + 1 ≡ first + length new = (let long = one_longer old new l pushed in omega (arith, at, long)) in (
+        ap (λ k. take first block ++ k) (networks_more old new l pushed) ∙ sym (append_assoc (take first block) (networks_of old) (l.network ∷ []))
+            ∙ taken_more block (take first block ++ networks_of old) place l.network d low is (part.0 ∙ ap (λ j. take j block) at)
+            ∙ ap (λ j. take j block) end,
+        subst (All (IsRight networks)) (sym pushed) (All-push (IsRight networks) old l part.1 right),
+      )
+
+  -- nothing is listed first
+  pub listed_nothing : (listed : List Listed) → listed ≡ [] → AreListed networks block listed
+  listed_nothing listed none = subst (AreListed networks block) (sym none) (by block, All-nil (IsRight networks))
+    where
+      by : (b : List ℕ) → [] ≡ take 0 b
+      by [] = refl
+      by (n ∷ b) = refl
+
+  -- then one more
+  pub listed_more : (place : ℕ) (old new : List Listed) (l : Listed) (d : ℕ) → length old ≡ place → place < length block → l.network ≡ get_or block place d → IsRight networks l
+      → new ≡ old ++ l ∷ [] → AreListed networks block old → AreListed networks block new
+  listed_more place old new l d at low is right pushed listed =
+      let end : place + 1 ≡ length new = (let long = one_longer old new l pushed in omega (arith, at, long)) in (
+        networks_more old new l pushed ∙ taken_more block (networks_of old) place l.network d low is (listed.0 ∙ ap (λ j. take j block) at) ∙ ap (λ j. take j block) end,
+        subst (All (IsRight networks)) (sym pushed) (All-push (IsRight networks) old l listed.1 right),
+      )
+
+  -- or what comes next
+  pub listed_append : (old new : List Listed) (part : Part) → length old ≡ part.first → new ≡ old ++ part.listed.items → AreListed networks block old → IsPart networks block part → AreListed networks block new
+  listed_append old new part at is listed next =
+      let more = part.listed.items in
+      let end : part.first + length more ≡ length new = (let long = length-append old more in let same = ap length is in omega (arith, at, long, same)) in (
+        ap networks_of is ∙ map-append (λ (x : Listed). x.network) old more ∙ ap (λ l. l ++ networks_of more) (listed.0 ∙ ap (λ j. take j block) at) ∙ next.0 ∙ ap (λ j. take j block) end,
+        subst (All (IsRight networks)) (sym is) (All-append (IsRight networks) old more listed.1 next.1),
+      )
+
+  -- at last all are
+  pub listed_all : (listed : List Listed) → length block ≤ length listed → AreListed networks block listed → networks_of listed ≡ block
+  listed_all listed enough are = are.0 ∙ take_all (length listed) block enough
+
 -- ## What is listed
+
+-- a network's first free compound task is so in later tables
+pub first_later : (old new : NetworkTable) → IsWhole old → IsGrown old new → (network : ℕ) (node : Option ℕ) → Knows old network → IsFirst old network node → IsFirst new network node
+first_later old new whole grown network None known first = ap first_free (numbers_stay old new network whole grown known).1 ∙ first
+first_later old new whole grown network (Some node) known first = first_stays old new network node whole grown known first
+
+-- where there is none nothing has to be listed
+pub listed_none : (s : Tables) (network : ℕ) (node : Option ℕ) → node ≡ None → IsFirst s.networks network node → IsListed s network node
+listed_none s network o none first = subst (IsListed s network) (sym none) (subst (IsFirst s.networks network) none first)
+
+-- where there is one its instances are
+pub listed_some : (old new : Tables) → IsWhole old.networks → AreLater old new → (network : ℕ) (node : Option ℕ) (id : ℕ) → node ≡ Some id → Knows old.networks network
+    → IsFirst old.networks network node → IsSome (slot new.instances.items id) → IsListed new network node
+listed_some old new whole later network o id some known first there =
+    subst (IsListed new network) (sym some)
+    (first_stays old.networks new.networks network id whole later.networks known (subst (IsFirst old.networks network) some first), there)
+
+-- the first ones of those whose networks have numbers
+pub known_taken : (networks : NetworkTable) (found : List Listed) (k : ℕ) → All (Knows networks) (networks_of found) → All (Knows networks) (networks_of (take k found))
+known_taken networks found k known =
+    let P : Listed → Type 0 = λ l. Knows networks l.network in
+    All-map (Knows networks) (λ (l : Listed). l.network) (take k found) (All-take P k found (all_of_map (Knows networks) (λ (l : Listed). l.network) found known))
 
 -- it stays listed in later tables that keep what is listed
 pub listed_stays : (t : Task) (old new : Tables) → AreTables t old → AreLater old new

@@ -1,5 +1,5 @@
 -- Successors made in the order of their numbers.
-use Rattle.std.proofs.Common.{◌≡◌, ℕ, zero, suc, ◌+◌, ◌<◌, ◌≤◌, true, false, true≢false, List, [], ◌∷◌, ◌++◌, length, map, get_or, Option, Some, None, option_map, append_assoc, refl, sym, ap, subst, ◌∙◌, inl, inr, arith}
+use Rattle.std.proofs.Common.{◌≡◌, ℕ, zero, suc, ◌+◌, ◌<◌, ◌≤◌, true, false, true≢false, List, [], ◌∷◌, ◌++◌, All, length, map, get_or, Option, Some, None, option_map, append_assoc, refl, sym, ap, subst, ◌∙◌, inl, inr, arith}
 use Rattle.std.specs.Prelude.{IfSome}
 use Rattle.std.specs.List.{AllZip}
 use Rattle.std.specs.List.Sorted.{IsStrictlyIncreasing}
@@ -8,10 +8,11 @@ use Rattle.std.proofs.lemmas.List.{length-append, get_or_append_left, get_or-app
 use Rattle.std.proofs.lemmas.List.Elements.{All-append, All-cons, All-nil, Contains-append_left, Contains-append_right}
 use Rattle.std.proofs.lemmas.Option.{none-some, same_Some}
 use Rattle.word_machine.specs.declared.closed.Origin.TheVariants.{Step as Stepped}
+use Rattle.word_machine.specs.declared.closed.Measured.{Measured}
 use Rattle.word_machine.specs.declared.closed.Successor.{Successor}
 use Rattle.word_machine.specs.Expansion.{IsSuccessor, IsExpansionOf, IsLeastDone}
 use Rattle.word_machine.specs.Machine.{WordMachine, IsDone, IsLiveStep}
-use Rattle.word_machine.specs.Meaning.{Meaning, AreSuccessors, successor_at}
+use Rattle.word_machine.specs.Meaning.{AreMeasured, AreSuccessors, Meaning, successor_at, successors_of}
 use Rattle.task_machine.specs.Prefix.{StepBelow, IsPrefix, IsMade, IsReached}
 
 -- what holds of two lists place by place still does with one more of each
@@ -178,43 +179,59 @@ module _ {C : Type 0} (m : WordMachine C) (beyond : C → Type 0) (p : ℕ) (c :
 
 -- ## By what the successors stand for
 
-module _ {C R P : Type 0} (m : WordMachine P) (meaning : Meaning C R P) (beyond : P → Type 0)
+module _ {C R P : Type 0} (m : WordMachine P) (meaning : Meaning C R P) (beyond : P → Type 0) (measure : P → ℕ)
     (undead : (c : P) (n : ℕ) → m.is_dead c n ≡ false) (p : ℕ) (c : C) where
   -- the tables have what it reached
   abbrev IsAllowed : Successor R → Type 0
   IsAllowed s = meaning.allows s.configuration
 
+  -- what is left of it is measured
+  abbrev IsMeasured : Measured R → Type 0
+  IsMeasured s = s.left ≡ measure (meaning.point_of s.successor.configuration)
+
   -- what they stand for
-  abbrev views : List (Successor R) → List (Successor P)
-  views = map (successor_at meaning.point_of)
+  abbrev views : List (Measured R) → List (Successor P)
+  views measured = map (successor_at meaning.point_of) (successors_of measured)
 
   -- a step by a number is a live one
   alive : (n : ℕ) (d : P) → m.step (meaning.point c) n ≡ Some d → IsLiveStep m (meaning.point c) n d
   alive n d leads = (leads, λ dead. true≢false (sym dead ∙ undead (meaning.point c) n))
 
+  -- one more successor
+  successors_more : (measured : List (Measured R)) (s : Measured R) → successors_of (measured ++ s ∷ []) ≡ successors_of measured ++ s.successor ∷ []
+  successors_more measured s = map-append (λ (x : Measured R). x.successor) measured (s ∷ [])
+
+  -- and what it stands for
+  views_more : (measured : List (Measured R)) (s : Measured R) → views (measured ++ s ∷ []) ≡ views measured ++ successor_at meaning.point_of s.successor ∷ []
+  views_more measured s =
+      ap (map (successor_at meaning.point_of)) (successors_more measured s)
+      ∙ map-append (successor_at meaning.point_of) (successors_of measured) (s.successor ∷ [])
+
   -- at first there are none
-  pub made_none : (old : List (Successor R)) → IsMade m meaning beyond p c 0 old old
+  pub made_none : (old : List (Measured R)) → IsMade m meaning beyond measure p c 0 old old
   made_none old = record {
     more = [];
     pushed = sym (append-nil old);
     allowed = All-nil IsAllowed;
     prefix = prefix_none m beyond p (meaning.point c);
+    measured = All-nil IsMeasured;
   }
 
-  module _ (n : ℕ) (old new : List (Successor R)) (so : IsMade m meaning beyond p c n old new) where
+  module _ (n : ℕ) (old new : List (Measured R)) (so : IsMade m meaning beyond measure p c n old new) where
     -- past all that leads on, all of them were made
     pub made_whole : ((k : ℕ) → n ≤ k → m.step (meaning.point c) k ≡ None)
-        → (more : List (Successor R)) × (new ≡ old ++ more) × AreSuccessors m meaning beyond p c more
+        → (more : List (Measured R)) × (new ≡ old ++ more) × AreSuccessors m meaning beyond p c (successors_of more)
+        × AreMeasured measure meaning more
     made_whole none =
         let low = λ (k : ℕ) (d : P) (step : IsLiveStep m (meaning.point c) k d). elim (cases_lt k n) as (λ _. k < n) [
           | inl low ↦ low
           | inr high ↦ absurd (none-some d (sym (none k high) ∙ step.0))
         ] in
-        (so.more, so.pushed, (so.allowed, prefix_whole m beyond p (meaning.point c) n (views so.more) so.prefix low))
+        (so.more, so.pushed, (so.allowed, prefix_whole m beyond p (meaning.point c) n (views so.more) so.prefix low), so.measured)
 
     module _ (o : Option R) (at : IsReached m meaning c n o) where
       -- a number that leads nowhere
-      pub made_skip : o ≡ None → IsMade m meaning beyond p c (n + 1) old new
+      pub made_skip : o ≡ None → IsMade m meaning beyond measure p c (n + 1) old new
       made_skip none =
           let nowhere : m.step (meaning.point c) n ≡ None = at.leads ∙ ap (option_map meaning.point_of) none in
           record {
@@ -223,6 +240,7 @@ module _ {C R P : Type 0} (m : WordMachine P) (meaning : Meaning C R P) (beyond 
             allowed = so.allowed;
             prefix = prefix_skip m beyond p (meaning.point c) n (views so.more) so.prefix
                 (λ d step. none-some d (sym nowhere ∙ step.0));
+            measured = so.measured;
           }
 
       module _ (r : R) (some : o ≡ Some r) where
@@ -232,29 +250,35 @@ module _ {C R P : Type 0} (m : WordMachine P) (meaning : Meaning C R P) (beyond 
 
         -- a number that leads to what is not done
         pub made_more : m.is_done (meaning.point_of r) ≡ false → (q : R) → meaning.allows q → meaning.point_of q ≡ meaning.point_of r
-            → IsMade m meaning beyond p c (n + 1) old (new ++ record { origin = Stepped p n; configuration = q } ∷ [])
-        made_more unfinished q may same =
-            let s : Successor R = record { origin = Stepped p n; configuration = q } in
+            → (left : ℕ) → left ≡ measure (meaning.point_of r)
+            → IsMade m meaning beyond measure p c (n + 1) old
+            (new ++ record { successor = record { origin = Stepped p n; configuration = q }; left = left } ∷ [])
+        made_more unfinished q may same left measured =
+            let x : Successor R = record { origin = Stepped p n; configuration = q } in
+            let s : Measured R = record { successor = x; left = left } in
             record {
               more = so.more ++ s ∷ [];
               pushed = ap (λ l. l ++ s ∷ []) so.pushed ∙ append_assoc old so.more (s ∷ []);
-              allowed = All-append IsAllowed so.more (s ∷ []) so.allowed
-                  (All-cons IsAllowed s [] may (All-nil IsAllowed));
-              prefix = subst (IsPrefix m beyond p (meaning.point c) (n + 1))
-                  (sym (map-append (successor_at meaning.point_of) so.more (s ∷ [])))
+              allowed = subst (All IsAllowed) (sym (successors_more so.more s))
+                  (All-append IsAllowed (successors_of so.more) (x ∷ []) so.allowed
+                  (All-cons IsAllowed x [] may (All-nil IsAllowed)));
+              prefix = subst (IsPrefix m beyond p (meaning.point c) (n + 1)) (sym (views_more so.more s))
                   (prefix_more m beyond p (meaning.point c) n (views so.more) so.prefix (meaning.point_of q)
                   (subst (IsLiveStep m (meaning.point c) n) (sym same) leads_to)
                   (λ done. true≢false (sym done ∙ ap m.is_done same ∙ unfinished)));
+              measured = All-append IsMeasured so.more (s ∷ []) so.measured
+                  (All-cons IsMeasured s [] (measured ∙ ap measure (sym same)) (All-nil IsMeasured));
             }
 
         -- a number that leads to what is beyond, and not done
-        pub made_past : m.is_done (meaning.point_of r) ≡ false → beyond (meaning.point_of r) → IsMade m meaning beyond p c (n + 1) old new
+        pub made_past : m.is_done (meaning.point_of r) ≡ false → beyond (meaning.point_of r) → IsMade m meaning beyond measure p c (n + 1) old new
         made_past unfinished far = record {
           more = so.more;
           pushed = so.pushed;
           allowed = so.allowed;
           prefix = prefix_past m beyond p (meaning.point c) n (views so.more) so.prefix (meaning.point_of r) leads_to
               (λ done. true≢false (sym done ∙ unfinished), far);
+          measured = so.measured;
         }
 
         -- a number that leads to what is done is the least

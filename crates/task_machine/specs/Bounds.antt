@@ -16,8 +16,9 @@ use Rattle.htn_answer.proofs.Words.{done_from}
 use Rattle.htn_net.specs.Laws.{listing_lawful}
 use Rattle.htn_net.specs.Listed.{choose_listed, listing_machine}
 use Rattle.htn_net.proofs.Listed.{numbered}
-use Rattle.word_machine.specs.Answer.{IsBeyond}
+use Rattle.word_machine.specs.Answer.{IsBeyond, measure_of}
 use Rattle.word_machine.specs.declared.measure.Horizon.{Horizon}
+use Rattle.word_machine.specs.declared.measure.Measure.{Measure}
 use Rattle.word_machine.specs.Machine.{IsLawful, IsLowerBound, IsStep}
 use Rattle.tree_sizes.specs.Measure.{estimate}
 use Rattle.tree_sizes.specs.Sizes.{out_of_reach, size_of}
@@ -66,6 +67,10 @@ own_bound t grounded starts size p c holds belongs =
     (ap (λ b. cond (b && not reached) out_of_reach 0) first)
     ∙ both_tests e out_of_reach ends reached
     ∙ ap (λ b. max e (cond (not b) out_of_reach 0)) (holds.told c belongs.1)
+
+-- how many steps are left at least of a configuration, by a measure
+abbrev pub left_by : Task → TreeSizes → Prospects → Measure → Config → ℕ
+left_by t sizes p = measure_of (listing_machine t) (prospects_bound (problem_of t) (size_of sizes) most_steps p)
 
 -- more steps are left at least of a configuration than the horizon has
 abbrev pub lies_beyond : Task → TreeSizes → Prospects → Horizon → Config → Type 0

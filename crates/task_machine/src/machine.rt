@@ -16,7 +16,7 @@ use needs_table::Prospects;
 use std::alloc::{AllocError, Global};
 use std::thread::Threads;
 use tree_sizes::{Enumeration, TreeSizes};
-use word_machine::{Horizon, Machine, Successor};
+use word_machine::{Horizon, Machine, Measured};
 
 /// The word machine of a task as a search takes it: from a configuration a rank leads to the next
 /// one. Of instances with equal networks only the first is listed, and so no number is counted.
@@ -136,7 +136,7 @@ impl<'a> Machine for TaskMachine<'a> {
         rank: usize,
         from: Configuration,
         horizon: Horizon,
-        successors: &mut Vec<Successor<Reached>>,
+        successors: &mut Vec<Measured<Reached>>,
     ) -> Result<Option<u64>, AllocError> {
         self.add_successors(tables, rank, from, horizon, successors)
     }
@@ -176,18 +176,5 @@ impl<'a> Machine for TaskMachine<'a> {
     fn lower_bound(&self, tables: &Tables, at: Configuration) -> u64 {
         let states = tables.states.states();
         tables.lower_bound(&states[at.state as usize], at.network)
-    }
-
-    fn open_len_of(&self, tables: &Tables, reached: &Reached) -> u64 {
-        tables.networks.open_len(reached.network())
-    }
-
-    fn lower_bound_of(&self, tables: &Tables, reached: &Reached) -> u64 {
-        match reached {
-            Reached::Known(at) => {
-                tables.lower_bound(&tables.states.states()[at.state as usize], at.network)
-            }
-            Reached::New(state, network) => tables.lower_bound(state, *network),
-        }
     }
 }

@@ -1,13 +1,14 @@
 //! What the steps at many configurations need, found by several workers.
-ghost use Rattle.std.specs.Prelude.{◌≡◌, ◌<◌, ℕ, All, Contains, IfOk, IsSome, None, OnOk, is_some, map, nat_eq, if◌then◌else◌};
+ghost use Rattle.std.specs.Prelude.{◌≡◌, ◌<◌, ℕ, All, Contains, IfOk, IsSome, List, None, OnOk, is_some, map, nat_eq, if◌then◌else◌};
 ghost use Rattle.htn_model.specs.Grounding.{problem_of};
 ghost use Rattle.htn_model.specs.Task as model;
 ghost use Rattle.indexmap.specs.IndexSet.{insert_key};
 ghost use Rattle.needs_table.specs.Kept.{AreKept, AreNoted};
 ghost use Rattle.needs_table.specs.Prospects.{outlook_by};
 ghost use Rattle.network_table.specs.Networks.{expansion_at, IsWhole, Knows};
+ghost use Rattle.network_table.specs.declared.table.NetworkTable.{NetworkTable as Networks};
 ghost use Rattle.tree_sizes.specs.declared.tree_sizes.TreeSizes.{TreeSizes};
-ghost use Rattle.task_machine.specs.Blocks.{IsListed, job_view, listed_job};
+ghost use Rattle.task_machine.specs.Blocks.{AreListed, HoldsPart, IsFirst, IsListed, IsPart, job_view, listed_job, networks_of};
 ghost use Rattle.task_machine.specs.Owned.{AreOwned, HasSizes};
 ghost use Rattle.task_machine.specs.Tables.{AreExpanded, AreLater, AreTables, slot};
 
@@ -21,14 +22,14 @@ use indexmap::IndexSet;
 use needs_table::Prospects;
 use network_table::{Job, NetworkTable};
 use std::alloc::{AllocError, Global};
-use std::thread::Threads;
+use std::thread::{Threads, map_indices};
 use tree_sizes::TreeSizes;
 
 /// How many networks are expanded together at most: what is listed of them is kept until they are.
 const BLOCK: usize = 32_768;
 
-/// Fewer networks than these are expanded by one worker, as starting more takes longer.
-const LEAST_SHARED: usize = 128;
+/// Of several workers each has so many networks at least: to start one for fewer takes longer.
+const LEAST_SHARED: usize = 1_000;
 
 /// A network to expand, with the number of the node of its first free compound task, if it has one.
 #[derive(Clone, Copy, Drop)]
@@ -37,12 +38,19 @@ struct Listed {
     node: Option<u32>,
 }
 
-/// How many workers expand so many networks.
+/// What is listed of a block's networks from a place on.
+#[derive(Drop)]
+struct Part {
+    first: usize,
+    listed: Vec<Listed>,
+}
+
+/// How many workers so many networks take.
 fn workers_for(count: usize, workers: usize) -> usize
     requires { 0 < workers }
     ensures { 0 < result }
 {
-    if count < LEAST_SHARED { 1 } else { workers }
+    workers.min(count / LEAST_SHARED).max(1)
 }
 
 /// Notes a network if it is not known what becomes of it.
@@ -114,61 +122,148 @@ fn jobs_of<'a>(
     Ok(jobs)
 }
 
+/// A network, with its first free compound task.
+fn list_one(networks: &NetworkTable, network: u32) -> Listed
+    requires whole { IsWhole networks.now }
+    requires known { Knows networks.now network }
+    ensures network { result.network ≡ network }
+    ensures first { IsFirst networks.now result.network result.node }
+{
+    let node = first_task(networks, network);
+    Listed { network, node }
+}
+
+/// So many networks of a block from a place on, each with its first free compound task.
+fn list_part(
+    alloc: Global,
+    networks: &NetworkTable,
+    block: &[u32],
+    first: usize,
+    size: usize,
+) -> Result<Part, AllocError>
+    requires whole { IsWhole networks.now }
+    requires known { All (Knows networks.now) block.now }
+    ensures { HoldsPart networks.now block.now result }
+{
+    let mut listed = Vec::new(alloc);
+    for place in first..first.saturating_add(size).min(block.len()) {
+        listed.push(list_one(networks, block[place]))?;
+    }
+    Ok(Part { first, listed })
+}
+
+/// The parts of a block, listed by so many workers.
+fn list_parts<R: Threads + Sync>(
+    rt: &R,
+    alloc: Global,
+    networks: &NetworkTable,
+    block: &[u32],
+    workers: usize,
+) -> Result<Vec<Result<Part, AllocError>>, AllocError>
+    requires workers { 0 < workers }
+    requires whole { IsWhole networks.now }
+    requires known { All (Knows networks.now) block.now }
+    ensures { IfOk result (λ v. All (HoldsPart networks.now block.now) v.items) }
+{
+    let size = block.len().div_ceil(workers);
+    let list = |part: usize| -> Result<Part, AllocError>
+        requires { IsWhole networks.now × All (Knows networks.now) block.now }
+        ensures { HoldsPart networks.entry.now block.entry.now result }
+    { list_part(alloc, networks, block, part.saturating_mul(size), size) };
+    map_indices(rt, alloc, workers, &list)
+}
+
+/// Puts down a part, if it is that of the networks that come next.
+fn put_part(listed: &mut Vec<Listed>, part: Part) -> Result<(), AllocError>
+    ensures { OnOk result ((networks : Networks) (block : List ℕ) → AreListed networks block listed.old.items
+        → IsPart networks block part → AreListed networks block listed.new.items) }
+{
+    let Part {
+        first,
+        listed: mut more,
+    } = part;
+    if listed.len() != first {
+        return Ok(());
+    }
+    listed.append(&mut more)?;
+    Ok(())
+}
+
+/// The networks of a block, each with its first free compound task, by so many workers.
+fn list_block<R: Threads + Sync>(
+    rt: &R,
+    alloc: Global,
+    networks: &NetworkTable,
+    block: &[u32],
+    workers: usize,
+) -> Result<Vec<Listed>, AllocError>
+    requires workers { 0 < workers }
+    requires whole { IsWhole networks.now }
+    requires known { All (Knows networks.now) block.now }
+    ensures networks { IfOk result (λ v. networks_of v.items ≡ block.now) }
+    ensures first { IfOk result (λ v. All (λ l. IsFirst networks.now l.network l.node) v.items) }
+{
+    let parts = list_parts(rt, alloc, networks, block, workers)?;
+    let mut listed = Vec::with_capacity(alloc, block.len())?;
+    for part in parts {
+        put_part(&mut listed, part?)?;
+    }
+    for place in listed.len()..block.len() {
+        listed.push(list_one(networks, block[place]))?;
+    }
+    Ok(listed)
+}
+
 impl Tables {
-    /// Sees that the instances of a network's first free compound task are listed, if it has one, by the
-    /// number of its node.
+    /// Sees that the instances of a network's first free compound task are listed, if it has one.
     fn prepare_first(
         &mut self,
         alloc: Global,
         task: &Task,
         sizes: &TreeSizes,
-        network: u32,
-    ) -> Result<Option<u32>, AllocError>
+        one: Listed,
+    ) -> Result<(), AllocError>
         requires own { AreTables task.now self.old }
         requires sized { HasSizes sizes.now self.old.networks }
-        requires known { Knows self.old.networks network }
+        requires known { Knows self.old.networks one.network }
+        requires first { IsFirst self.old.networks one.network one.node }
         ensures owned { OnOk result (AreTables task.now self.new) }
         ensures sized { OnOk result (HasSizes sizes.now self.new.networks) }
         ensures later { OnOk result (AreLater self.old self.new) }
         ensures needs { OnOk result (self.new.needs ≡ self.old.needs) }
         ensures kept { OnOk result ((n : ℕ)
             → IsSome (slot self.old.instances.items n) → IsSome (slot self.new.instances.items n)) }
-        ensures listed { IfOk result (IsListed self.new network) }
+        ensures listed { OnOk result (IsListed self.new one.network one.node) }
     {
-        let Some(node) = first_task(&self.networks, network) else {
-            return Ok(None);
+        let Some(node) = one.node else {
+            return Ok(());
         };
         self.prepare_instances(alloc, task, sizes, node)?;
-        Ok(Some(node))
+        Ok(())
     }
 
-    /// The same for a block of networks, in their order.
+    /// The same for many networks.
     fn prepare_firsts(
         &mut self,
         alloc: Global,
         task: &Task,
         sizes: &TreeSizes,
-        block: &[u32],
-    ) -> Result<Vec<Listed>, AllocError>
+        block: &[Listed],
+    ) -> Result<(), AllocError>
         requires own { AreTables task.now self.old }
         requires sized { HasSizes sizes.now self.old.networks }
-        requires known { All (Knows self.old.networks) block.now }
+        requires known { All (Knows self.old.networks) (networks_of block.now) }
+        requires first { All (λ l. IsFirst self.old.networks l.network l.node) block.now }
         ensures owned { OnOk result (AreTables task.now self.new) }
         ensures sized { OnOk result (HasSizes sizes.now self.new.networks) }
         ensures later { OnOk result (AreLater self.old self.new) }
         ensures needs { OnOk result (self.new.needs ≡ self.old.needs) }
-        ensures listed { IfOk result (λ v. All (λ l. IsListed self.new l.network l.node) v.items) }
-        ensures networks { IfOk result (λ v. map (λ l. l.network) v.items ≡ block.now) }
+        ensures listed { OnOk result (All (λ l. IsListed self.new l.network l.node) block.now) }
     {
-        let mut found = Vec::with_capacity(alloc, block.len())?;
-        for network in block {
-            let node = self.prepare_first(alloc, task, sizes, *network)?;
-            found.push(Listed {
-                network: *network,
-                node,
-            })?;
+        for one in block {
+            self.prepare_first(alloc, task, sizes, *one)?;
         }
-        Ok(found)
+        Ok(())
     }
 
     /// Finds what becomes of a block of networks, by so many workers.
@@ -191,9 +286,10 @@ impl Tables {
         ensures needs { OnOk result (self.new.needs ≡ self.old.needs) }
         ensures ready { OnOk result (All (λ n. IsSome (expansion_at self.new.networks n)) block.now) }
     {
-        let found = self.prepare_firsts(alloc, task, sizes, block)?;
-        let jobs = jobs_of(alloc, &self.instances, found.as_slice())?;
         let workers = workers_for(block.len(), workers);
+        let found = list_block(rt, alloc, &self.networks, block, workers)?;
+        self.prepare_firsts(alloc, task, sizes, found.as_slice())?;
+        let jobs = jobs_of(alloc, &self.instances, found.as_slice())?;
         self.networks
             .expand_all(rt, alloc, jobs.as_slice(), workers)?;
         Ok(())
@@ -250,6 +346,9 @@ impl Tables {
         ensures later { OnOk result ((t : model.Task) → AreTables t self.old → AreLater self.old self.new) }
         ensures networks { OnOk result (self.new.networks ≡ self.old.networks) }
     {
+        let count = self.networks.networks().len();
+        let unknown = count.saturating_sub(self.needs.len());
+        let workers = workers_for(unknown, workers);
         self.needs.keep_up_all(
             rt,
             alloc,

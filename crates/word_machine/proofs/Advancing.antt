@@ -6,12 +6,13 @@ use Rattle.std.proofs.lemmas.List.Sums.{fold-append}
 use Rattle.std.proofs.lemmas.List.Elements.{All-append, All-cons, All-nil, All-head, All-tail}
 use Rattle.std.proofs.lemmas.Bool.{cases_lt}
 use Rattle.std.proofs.lemmas.Option.{slice_get-get_or, slice_get_within}
+use Rattle.word_machine.specs.declared.closed.Measured.{Measured}
 use Rattle.word_machine.specs.declared.closed.Successor.{Successor}
 use Rattle.word_machine.specs.declared.closed.Origin.{Origin}
 use Rattle.word_machine.specs.Machine.{WordMachine, IsLawful, IsDone, IsLiveStep}
 use Rattle.word_machine.specs.Contents.{Contents, cut_more, IsOffered, AreOffered, IsOriginWithin, words_of}
 use Rattle.word_machine.specs.Expansion.{IsExpansion, IsFirstDone}
-use Rattle.word_machine.specs.Meaning.{Meaning, IsGrown, successor_at, contents_at}
+use Rattle.word_machine.specs.Meaning.{Meaning, IsGrown, successor_at, successors_of, contents_at}
 use Rattle.word_machine.specs.Advance.{HasAdvanced}
 use Rattle.word_machine.specs.Ranks.{IsOwned, IsExpandedBy}
 use Rattle.std.specs.Prelude.{Vec}
@@ -168,28 +169,30 @@ module _ {C R P : Type 0} (m : WordMachine P) (beyond : P → Type 0) (measure :
       (λ q less. (sym (slice_get-first (map b.point old.keys) (map b.point more) q (omega arith) ∙ ap (λ l. slice_get l q) (sym whole)))) done)
 
 -- what an expansion by ranks of a list's first part says of the list
-module _ {C R P : Type 0} (m : WordMachine P) (meaning : Meaning C R P) (beyond : P → Type 0) (keys lent : List C) (from to : ℕ) (short : to ≤ length keys) (is : lent ≡ take to keys)
-    (e : Expanded (Successor R) ℕ) (expanded : IsExpandedBy m meaning beyond lent from (length lent) e) where
+module _ {C R P : Type 0} (m : WordMachine P) (meaning : Meaning C R P) (beyond : P → Type 0) (measure : P → ℕ)
+    (keys lent : List C) (from to : ℕ) (short : to ≤ length keys) (is : lent ≡ take to keys)
+    (e : Expanded (Measured R) ℕ) (expanded : IsExpandedBy m meaning beyond measure lent from (length lent) e) where
   -- the first part has so many
   counted : length lent ≡ to
   counted = ap length is ∙ length-take-le to keys short
 
   -- the same, by so many
-  of_part : IsExpandedBy m meaning beyond (take to keys) from to e
-  of_part = subst (λ l. IsExpandedBy m meaning beyond l from to e) is (subst (λ n. IsExpandedBy m meaning beyond lent from n e) counted expanded)
+  of_part : IsExpandedBy m meaning beyond measure (take to keys) from to e
+  of_part = subst (λ l. IsExpandedBy m meaning beyond measure l from to e) is (subst (λ n. IsExpandedBy m meaning beyond measure lent from n e) counted expanded)
 
   -- where all were expanded
-  pub block_whole : (successors : Vec (Successor R) Global) → e ≡ Whole successors → IsExpandedBy m meaning beyond keys from to (Whole successors)
-  block_whole successors told =
-      let part : IsExpandedBy m meaning beyond (take to keys) from to (Whole successors) = subst (IsExpandedBy m meaning beyond (take to keys) from to) told of_part in (
+  pub block_whole : (measured : Vec (Measured R) Global) → e ≡ Whole measured → IsExpandedBy m meaning beyond measure keys from to (Whole measured)
+  block_whole measured told =
+      let part : IsExpandedBy m meaning beyond measure (take to keys) from to (Whole measured) = subst (IsExpandedBy m meaning beyond measure (take to keys) from to) told of_part in (
         part.0,
-        expansion_of m beyond (map meaning.point (take to keys)) (map meaning.point keys) from to (slice_get-map_take meaning.point to keys short) (map (successor_at meaning.point_of) successors.items) part.1,
+        expansion_of m beyond (map meaning.point (take to keys)) (map meaning.point keys) from to (slice_get-map_take meaning.point to keys short) (map (successor_at meaning.point_of) (successors_of measured.items)) part.1,
+        part.2,
       )
 
   -- where a done one was found
-  pub block_done : (p n : ℕ) → e ≡ Done p n → IsExpandedBy {C = C} {R = R} m meaning beyond keys from to (Done p n)
+  pub block_done : (p n : ℕ) → e ≡ Done p n → IsExpandedBy {C = C} {R = R} m meaning beyond measure keys from to (Done p n)
   block_done p n told =
-      let part : IsExpandedBy {C = C} {R = R} m meaning beyond (take to keys) from to (Done p n) = subst (IsExpandedBy m meaning beyond (take to keys) from to) told of_part in
+      let part : IsExpandedBy {C = C} {R = R} m meaning beyond measure (take to keys) from to (Done p n) = subst (IsExpandedBy m meaning beyond measure (take to keys) from to) told of_part in
       first_done_of m beyond (map meaning.point (take to keys)) (map meaning.point keys) from to p n (slice_get-map_take meaning.point to keys short) part
 
 -- the points of configurations that are owned belong, also once the tables grew

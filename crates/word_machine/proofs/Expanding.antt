@@ -10,10 +10,11 @@ use Rattle.htn_level.specs.Level.{IsExpanded as IsLevelExpanded}
 use Rattle.htn_level.specs.declared.order.Expanded.{Expanded}
 use Rattle.htn_level.specs.declared.order.Expanded.TheVariants.{Whole, Done}
 use Rattle.word_machine.specs.declared.closed.Origin.TheVariants.{Step as Stepped}
+use Rattle.word_machine.specs.declared.closed.Measured.{Measured}
 use Rattle.word_machine.specs.declared.closed.Successor.{Successor}
 use Rattle.word_machine.specs.Expansion.{IsEarlier, IsSuccessor, IsExpansionOf, IsLeastDone, IsExpansion, IsFirstDone}
 use Rattle.word_machine.specs.Machine.{WordMachine, IsDone, IsLiveStep}
-use Rattle.word_machine.specs.Meaning.{Meaning, successor_at}
+use Rattle.word_machine.specs.Meaning.{Meaning, AreSuccessors, successor_at, successors_of}
 use Rattle.word_machine.specs.Ranks.{StandsAt, AreReadyFrom, HasSuccessorsAt, FinishesAt, IsExpandedBy}
 use Rattle.word_machine.proofs.Meanings.{slice_get-map, slice_get-map_back, map-flat_map}
 use Rattle.word_machine.proofs.Places.{slice_get-append_left, slice_get-append_right, slice_get-append_cases, all_zip_at, all_zip_back}
@@ -149,9 +150,24 @@ all_flat : {X : Type 0} (P : X → Type 0) (lists : List (List X)) → ((i : ℕ
 all_flat P [] each = All-nil P
 all_flat P (xs ∷ lists) each = All-append P xs (flat_map (λ xs. xs) lists) (each 0 xs refl) (all_flat P lists (λ i ys at. each (suc i) ys at))
 
-module _ {C R P : Type 0} (m : WordMachine P) (meaning : Meaning C R P) (beyond : P → Type 0) (keys : List C) where
+module _ {C R P : Type 0} (m : WordMachine P) (meaning : Meaning C R P) (beyond : P → Type 0) (measure : P → ℕ)
+    (keys : List C) where
+  -- the configuration at the rank has these successors, whatever their measures
+  abbrev HasPlainAt : ℕ → List (Successor R) → Type 0
+  HasPlainAt rank successors = StandsAt (λ c. AreSuccessors m meaning beyond rank c successors) keys rank
+
+  -- the lists of successors, without their measures
+  plain_at : (lists : List (List (Measured R))) (first : ℕ)
+      → ((i : ℕ) (xs : List (Measured R)) → slice_get lists i ≡ Some xs → HasSuccessorsAt m meaning beyond measure keys (first + i) xs)
+      → (i : ℕ) (ys : List (Successor R)) → slice_get (map (map (λ (s : Measured R). s.successor)) lists) i ≡ Some ys
+      → HasPlainAt (first + i) ys
+  plain_at lists first of_rank i ys at =
+      let back = slice_get-map_back (map (λ (s : Measured R). s.successor)) lists i ys at in
+      let here = of_rank i back.0 back.1 in
+      (here.0, here.1, subst (AreSuccessors m meaning beyond (first + i) here.0) back.2 here.2.0)
+
   -- the lists of successors, by what they stand for
-  points_at : (lists : List (List (Successor R))) (first : ℕ) → ((i : ℕ) (xs : List (Successor R)) → slice_get lists i ≡ Some xs → HasSuccessorsAt m meaning beyond keys (first + i) xs)
+  points_at : (lists : List (List (Successor R))) (first : ℕ) → ((i : ℕ) (xs : List (Successor R)) → slice_get lists i ≡ Some xs → HasPlainAt (first + i) xs)
       → (i : ℕ) (ys : List (Successor P)) → slice_get (map (map (successor_at meaning.point_of)) lists) i ≡ Some ys → HasPointsAt m beyond (map meaning.point keys) (first + i) ys
   points_at lists first of_rank i ys at =
       let back = slice_get-map_back (map (successor_at meaning.point_of)) lists i ys at in
@@ -162,19 +178,31 @@ module _ {C R P : Type 0} (m : WordMachine P) (meaning : Meaning C R P) (beyond 
       )
 
   -- what a level's expansion is by ranks, as one of points
-  pub level_expanded : (first last : ℕ) (e : Expanded (Successor R) ℕ) → IsLevelExpanded (HasSuccessorsAt m meaning beyond keys) (FinishesAt m meaning keys) first last e
-      → IsExpandedBy m meaning beyond keys first last e
-  level_expanded first last (Whole successors) level =
+  pub level_expanded : (first last : ℕ) (e : Expanded (Measured R) ℕ)
+      → IsLevelExpanded (HasSuccessorsAt m meaning beyond measure keys) (FinishesAt m meaning keys) first last e
+      → IsExpandedBy m meaning beyond measure keys first last e
+  level_expanded first last (Whole measured) level =
       let view = successor_at meaning.point_of in
       let points = map meaning.point keys in
-      let lists = map (map view) level.lists in
-      let joined : flat_map (λ xs. xs) lists ≡ map view successors.items = sym (map-flat_map view level.lists) ∙ ap (map view) (sym level.joined) in
-      let count : first + length lists ≡ last = ap (λ n. first + n) (length-map level.lists (map view)) ∙ level.count in (
-        subst (All (λ (s : Successor R). meaning.allows s.configuration)) (sym level.joined)
-            (all_flat (λ (s : Successor R). meaning.allows s.configuration) level.lists (λ i xs at. (level.of_rank i xs at).2.0)),
-        subst (λ l. IsExpansion (IsLiveStep m) (IsDone m) beyond points first l (map view successors.items)) count
+      let alone = λ (s : Measured R). s.successor in
+      let plain = map (map alone) level.lists in
+      let lists = map (map view) plain in
+      let allows = λ (s : Successor R). meaning.allows s.configuration in
+      let is_measured = λ (s : Measured R). s.left ≡ measure (meaning.point_of s.successor.configuration) in
+      let of_rank = plain_at level.lists first level.of_rank in
+      let all : flat_map (λ xs. xs) plain ≡ successors_of measured.items =
+      sym (map-flat_map alone level.lists) ∙ ap (map alone) (sym level.joined) in
+      let joined : flat_map (λ xs. xs) lists ≡ map view (successors_of measured.items) =
+      sym (map-flat_map view plain) ∙ ap (map view) all in
+      let many : length lists ≡ length level.lists =
+      length-map plain (map view) ∙ length-map level.lists (map alone) in
+      let count : first + length lists ≡ last = ap (λ n. first + n) many ∙ level.count in (
+        subst (All allows) all (all_flat allows plain (λ i xs at. (of_rank i xs at).2.0)),
+        subst (λ l. IsExpansion (IsLiveStep m) (IsDone m) beyond points first l (map view (successors_of measured.items))) count
             (subst (IsExpansion (IsLiveStep m) (IsDone m) beyond points first (first + length lists)) joined
-            (level_whole m beyond points first lists (points_at level.lists first level.of_rank))),
+            (level_whole m beyond points first lists (points_at plain first of_rank))),
+        subst (All is_measured) (sym level.joined)
+            (all_flat is_measured level.lists (λ i xs at. (level.of_rank i xs at).2.1)),
       )
   level_expanded first last (Done rank number) level = record {
     from_first = level.from_first;
@@ -185,7 +213,7 @@ module _ {C R P : Type 0} (m : WordMachine P) (meaning : Meaning C R P) (beyond 
     place = λ q n c d low less at step done. (
         let e = level.before q low less in
         let same : c ≡ meaning.point e.1.0 = same_Some c (meaning.point e.1.0) (sym at ∙ slice_get-map meaning.point keys q e.1.0 e.1.1) in
-        none_done m beyond q (meaning.point e.1.0) (map (successor_at meaning.point_of) e.0) e.1.2.1 n d (subst (λ x. IsLiveStep m x n d) same step) done);
+        none_done m beyond q (meaning.point e.1.0) (map (successor_at meaning.point_of) (successors_of e.0)) e.1.2.0.1 n d (subst (λ x. IsLiveStep m x n d) same step) done);
   }
 
 -- at each rank from `first` on stands a configuration that is ready

@@ -4,7 +4,8 @@ use Rattle.std.specs.Prelude.{Option, None, IfNone, IfSome}
 use Rattle.std.proofs.lemmas.List.{map-append, length-map}
 use Rattle.std.proofs.lemmas.List.Elements.{All-head, All-tail, All-cons}
 use Rattle.std.proofs.lemmas.Option.{none-some, same_Some, slice_get_within, slice_get-get_or, get_or_from_slice_get}
-use Rattle.word_machine.specs.Meaning.{Meaning, IsGrown}
+use Rattle.word_machine.specs.declared.closed.Measured.{Measured}
+use Rattle.word_machine.specs.Meaning.{Meaning, AreMeasured, IsGrown}
 use Rattle.word_machine.specs.Ranks.{IsOwned}
 
 module _ {X Y : Type 0} (f : X → Y) where
@@ -73,6 +74,13 @@ module _ {C R P : Type 0} where
     -- and stands for the same
     pub same_points : (keys : List C) → All a.knows keys → map b.point keys ≡ map a.point keys
     same_points keys each = map_same b.point a.point a.knows g.same keys each
+
+    -- what was measured is so as well
+    pub measured_still : (measure : P → ℕ) (measured : List (Measured R))
+        → All (λ (s : Measured R). a.allows s.successor.configuration) measured
+        → AreMeasured measure a measured → AreMeasured measure b measured
+    measured_still measure measured allowed each k d inside =
+        each k d inside ∙ ap measure (sym (g.same_reached (get_or measured k d).successor.configuration (allowed k d inside)))
 
     -- the machine's own stay so
     pub owned_still : (belongs : P → Type 0) (c : C) → IsOwned a belongs c → IsOwned b belongs c

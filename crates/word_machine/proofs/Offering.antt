@@ -6,9 +6,10 @@ use Rattle.std.specs.List.{list_any}
 use Rattle.std.proofs.lemmas.List.{map-append}
 use Rattle.std.proofs.lemmas.List.Elements.{All-head, All-tail, All-append, All-cons, All-nil}
 use Rattle.std.proofs.lemmas.Option.{none-some, same_Some}
+use Rattle.word_machine.specs.declared.closed.Measured.{Measured}
 use Rattle.word_machine.specs.declared.closed.Successor.{Successor}
 use Rattle.word_machine.specs.Contents.{Contents, cut_more, offer, offer_all, IsOffered, AreOffered}
-use Rattle.word_machine.specs.Meaning.{Meaning, IsGrown, successor_at, contents_at}
+use Rattle.word_machine.specs.Meaning.{Meaning, IsGrown, successor_at, successors_of, contents_at}
 use Rattle.word_machine.proofs.Meanings.{slice_get-map, slice_get-map_back, all_at, same_points}
 
 -- true beside anything
@@ -118,12 +119,18 @@ module _ {C R P : Type 0} (measure : P → ℕ) (room : ℕ) where
       (subst (λ c. AreOffered measure room (contents_at a.point old) batch c) (contents_same a b g new known') offered)
 
   -- one more that a worker reached
-  module _ (a b : Meaning C R P) (g : IsGrown a b) (point_of : R → P) (old now : Contents C) (done : List (Successor R)) (s : Successor R)
-      (known : All a.knows old.keys) (known' : All a.knows now.keys) (before : AreOffered measure room (contents_at a.point old) (map (successor_at point_of) done) (contents_at a.point now)) where
+  module _ (a b : Meaning C R P) (g : IsGrown a b) (point_of : R → P) (old now : Contents C) (done : List (Measured R)) (one : Measured R)
+      (known : All a.knows old.keys) (known' : All a.knows now.keys)
+      (before : AreOffered measure room (contents_at a.point old) (map (successor_at point_of) (successors_of done)) (contents_at a.point now)) where
     -- the offers so far, and one more
-    pub offered_more : (new : Contents C) → IsOffered (contents_at b.point now) (successor_at point_of s) (measure (point_of s.configuration)) room (contents_at b.point new)
-        → AreOffered measure room (contents_at b.point old) (map (successor_at point_of) (done ++ s ∷ [])) (contents_at b.point new)
+    pub offered_more : (new : Contents C)
+        → IsOffered (contents_at b.point now) (successor_at point_of one.successor) (measure (point_of one.successor.configuration)) room (contents_at b.point new)
+        → AreOffered measure room (contents_at b.point old) (map (successor_at point_of) (successors_of (done ++ one ∷ []))) (contents_at b.point new)
     offered_more new own =
-        subst (λ l. AreOffered measure room (contents_at b.point old) l (contents_at b.point new)) (sym (map-append (successor_at point_of) done (s ∷ [])))
-        (offered_push measure room (contents_at b.point old) (contents_at b.point now) (contents_at b.point new) (map (successor_at point_of) done) (successor_at point_of s)
-        (offered_still a b g old now (map (successor_at point_of) done) known known' before) own)
+        let view = successor_at point_of in
+        let alone = λ (s : Measured R). s.successor in
+        let joined : map view (successors_of (done ++ one ∷ [])) ≡ map view (successors_of done) ++ view one.successor ∷ [] =
+        ap (map view) (map-append alone done (one ∷ [])) ∙ map-append view (successors_of done) (one.successor ∷ []) in
+        subst (λ l. AreOffered measure room (contents_at b.point old) l (contents_at b.point new)) (sym joined)
+        (offered_push measure room (contents_at b.point old) (contents_at b.point now) (contents_at b.point new) (map view (successors_of done)) (view one.successor)
+        (offered_still a b g old now (map view (successors_of done)) known known' before) own)

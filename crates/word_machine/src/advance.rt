@@ -33,7 +33,8 @@ pub struct FirstDone {
 }
 
 /// Expands the ranks from `from` on and below `to`, and offers what they reach to the closed list; there is room for so
-/// many steps more. Where one has a done successor, nothing is offered.
+/// many steps more. Where one has a done successor, it tells the first such rank and the least number that leads to
+/// one; and the list begins as before.
 pub fn advance_block<M: Machine, G: Gate, R: Threads + Wait + Sync>(
     rt: &R,
     alloc: Global,

@@ -28,6 +28,13 @@ pub struct Successor<C> {
     pub configuration: C,
 }
 
+/// A successor, with how many steps are left of it at least, by the measure of the search.
+#[derive(Drop)]
+pub struct Measured<C> {
+    pub successor: Successor<C>,
+    pub left: u64,
+}
+
 /// An origin with no tag, as the list keeps it: an initial one has `NO_RANK` for its parent's.
 #[derive(Clone, Copy, Debug)]
 pub struct Link {
@@ -98,8 +105,8 @@ impl<C: Drop> Fitting<C> {
     }
 }
 
-// So few are kept by one worker.
-const FEW: usize = 2_000;
+// Of several workers each has so many at least.
+const FEW: usize = 1_000;
 
 // Adds a link if it is that of a new one; there is room for it.
 fn push_link(links: &mut Vec<Link>, link: Link, is_new: bool)
@@ -253,7 +260,7 @@ impl<C: Eq + Hash + Copy + Drop + Send + Sync> Closed<C> {
         self.overshoots.reach(self.links.len() as u64)
     }
 
-    /// Keeps those of a batch that are new, one after another, by so many workers. There is room for each.
+    /// Keeps those of a batch that are new, one after another, by so many workers at most. There is room for each.
     pub fn keep_all<R: Threads + Sync>(
         &mut self,
         rt: &R,
@@ -267,7 +274,7 @@ impl<C: Eq + Hash + Copy + Drop + Send + Sync> Closed<C> {
         ensures ok { OnOk result (self.new ≡ offer_all C.eq (λ c. 0) 0 self.old (fitting batch.now.links.items batch.now.configurations.items)) }
         ensures err { OnErr result (self.new ≡ self.old) }
     {
-        let threads = if batch.links.len() < FEW { 1 } else { workers };
+        let threads = workers.min(batch.links.len() / FEW).max(1);
         self.links.reserve(batch.links.len())?;
         let is_new = self
             .configurations

@@ -6,7 +6,7 @@ ghost use Rattle.word_machine.specs.Machine.{IsMet};
 ghost use Rattle.word_machine.specs.Meaning.{IsGrown};
 ghost use Rattle.word_machine.specs.Ranks.{IsOwned};
 
-use crate::closed::{Closed, Successor};
+use crate::closed::{Closed, Measured};
 use crate::machine::Machine;
 use crate::measure::{Horizon, Measure};
 use indexmap::IndexSet;
@@ -130,19 +130,19 @@ fn keep_all<M: Machine>(
     tables: &mut M::Tables,
     frontier: &mut Frontier<M::Configuration>,
     closed: &Closed<M::Configuration>,
-    batch: Vec<Successor<M::Reached>>,
+    batch: Vec<Measured<M::Reached>>,
     least: u64,
 ) -> Result<(), AllocError>
     requires own { M.owns machine.now tables.old }
     requires kept { All
         (IsVisited (M.words machine.now) (M.belongs machine.now) (M.meaning machine.now tables.old))
         frontier.old.kept.keys }
-    requires allowed { All (λ s. (M.meaning machine.now tables.old).allows s.configuration) batch.items }
+    requires allowed { All (λ s. (M.meaning machine.now tables.old).allows s.successor.configuration) batch.items }
     requires belongs { All
-        (λ s. M.belongs machine.now ((M.meaning machine.now tables.old).point_of s.configuration))
+        (λ s. M.belongs machine.now ((M.meaning machine.now tables.old).point_of s.successor.configuration))
         batch.items }
     requires reached { All
-        (λ s. IsReached (M.words machine.now) ((M.meaning machine.now tables.old).point_of s.configuration))
+        (λ s. IsReached (M.words machine.now) ((M.meaning machine.now tables.old).point_of s.successor.configuration))
         batch.items }
     ensures owned { OnOk result (M.owns machine.now tables.new) }
     ensures grown { OnOk result (IsGrown (M.meaning machine.now tables.old) (M.meaning machine.now tables.new)) }
@@ -150,8 +150,8 @@ fn keep_all<M: Machine>(
         (IsVisited (M.words machine.now) (M.belongs machine.now) (M.meaning machine.now tables.new))
         frontier.new.kept.keys) }
 {
-    for successor in batch {
-        let configuration = machine.keep(tables, successor.configuration)?;
+    for one in batch {
+        let configuration = machine.keep(tables, one.successor.configuration)?;
         if closed.contains(&configuration) {
             continue;
         }

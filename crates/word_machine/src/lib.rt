@@ -18,7 +18,7 @@ mod search;
 mod word;
 
 pub use bounds::Bounds;
-pub use closed::{Origin, Successor};
+pub use closed::{Measured, Origin, Successor};
 pub use deepen::{find_word_deepening, find_word_in};
 pub use found::{Found, SearchFault};
 pub use htn_level::{Gate, NoGate};

@@ -2,12 +2,12 @@
 ghost use Rattle.std.specs.Prelude.{◌≡◌, ℕ, ◌<◌, ◌++◌, List, true, map, All, IfOk, OnOk, OnErr, IfSome, IfNone};
 ghost use Rattle.std.specs.Thread.{IsSync};
 ghost use Rattle.word_machine.specs.Machine.{WordMachine, IsLawful, IsLowerBound, IsLiveStep, IsDone};
-ghost use Rattle.word_machine.specs.Meaning.{Meaning, IsGrown, IsOneToOne, AreSuccessors};
-ghost use Rattle.word_machine.specs.Answer.{IsBeyond};
+ghost use Rattle.word_machine.specs.Meaning.{Meaning, IsGrown, IsOneToOne, AreMeasured, AreSuccessors, successors_of};
+ghost use Rattle.word_machine.specs.Answer.{IsBeyond, measure_of};
 ghost use Rattle.word_machine.specs.Expansion.{IsLeastDone};
-ghost use Rattle.word_machine.specs.declared.closed.Successor.{Successor};
+ghost use Rattle.word_machine.specs.declared.closed.Measured.{Measured};
 
-use crate::closed::Successor;
+use crate::closed::Measured;
 use crate::measure::Horizon;
 use std::alloc::AllocError;
 use std::hash::Hash;
@@ -86,24 +86,30 @@ pub trait Machine: Sync {
         ensures grown { OnOk result (IsGrown (meaning self.now tables.old) (meaning self.now tables.new)) }
         ensures ready { OnOk result (All (is_ready self.now tables.new) at.now) };
 
-    /// Adds the successors by the numbers that are not dead, ascending, each with this rank for its parent's; it may
-    /// leave out what is beyond the horizon. If one is done, it returns the least number that leads to a done one.
-    /// Where memory is refused, those that were there still stand there, at the front.
+    /// Adds the successors by the numbers that are not dead, ascending, each with this rank for its parent's and with
+    /// how many steps are left of it at least by the horizon's measure; it may leave out what is beyond the horizon. If
+    /// one is done, it returns the least number that leads to a done one. Where memory is refused, those that were
+    /// there still stand there, at the front.
     fn expand(
         &self,
         tables: &Self::Tables,
         rank: usize,
         from: Self::Configuration,
         horizon: Horizon,
-        successors: &mut Vec<Successor<Self::Reached>>,
+        successors: &mut Vec<Measured<Self::Reached>>,
     ) -> Result<Option<u64>, AllocError>
         requires own { owns self.now tables.now }
         requires known { (meaning self.now tables.now).knows from }
         requires belongs { belongs self.now ((meaning self.now tables.now).point from) }
         requires ready { is_ready self.now tables.now from }
-        ensures whole { IfOk result (λ done. IfNone done ((more : List (Successor Self.Reached)) × (successors.new.items ≡ successors.old.items ++ more) × AreSuccessors (words self.now) (meaning self.now tables.now) (IsBeyond (words self.now) (estimate self.now) horizon) rank from more)) }
+        ensures whole { IfOk result (λ done. IfNone done (
+            (more : List (Measured Self.Reached)) × (successors.new.items ≡ successors.old.items ++ more)
+            × AreSuccessors (words self.now) (meaning self.now tables.now)
+            (IsBeyond (words self.now) (estimate self.now) horizon) rank from (successors_of more)
+            × AreMeasured (measure_of (words self.now) (estimate self.now) horizon.measure)
+            (meaning self.now tables.now) more)) }
         ensures done { IfOk result (λ done. IfSome done (IsLeastDone (IsLiveStep (words self.now)) (IsDone (words self.now)) ((meaning self.now tables.now).point from))) }
-        ensures refused { OnErr result ((more : List (Successor Self.Reached)) × (successors.new.items ≡ successors.old.items ++ more)) };
+        ensures refused { OnErr result ((more : List (Measured Self.Reached)) × (successors.new.items ≡ successors.old.items ++ more)) };
 
     /// The numbers of a configuration that a worker reached.
     fn keep(
@@ -147,20 +153,6 @@ pub trait Machine: Sync {
         ensures known { IfSome result (meaning self.now tables.now).knows }
         ensures same { IfSome result (λ c. (meaning self.now tables.now).point c ≡ (meaning self.now tables.now).point_of reached.now) }
         ensures none { IfNone result ((c : Self.Configuration) → (meaning self.now tables.now).knows c → (meaning self.now tables.now).point c ≡ (meaning self.now tables.now).point_of reached.now → ⊥) };
-
-    /// How many nodes are open in a configuration that a worker reached.
-    fn open_len_of(&self, tables: &Self::Tables, reached: &Self::Reached) -> u64
-        requires own { owns self.now tables.now }
-        requires allowed { (meaning self.now tables.now).allows reached.now }
-        requires belongs { belongs self.now ((meaning self.now tables.now).point_of reached.now) }
-        ensures { result ≡ (words self.now).open_len ((meaning self.now tables.now).point_of reached.now) };
-
-    /// A bound from below on the steps that are left from a configuration that a worker reached.
-    fn lower_bound_of(&self, tables: &Self::Tables, reached: &Self::Reached) -> u64
-        requires own { owns self.now tables.now }
-        requires allowed { (meaning self.now tables.now).allows reached.now }
-        requires belongs { belongs self.now ((meaning self.now tables.now).point_of reached.now) }
-        ensures { result ≡ estimate self.now ((meaning self.now tables.now).point_of reached.now) };
 
     // Configurations that compare equal are the same.
     ghost same: { (c d : Self.Configuration) → Self.Configuration.eq c d ≡ true → c ≡ d };

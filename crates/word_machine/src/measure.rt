@@ -49,21 +49,3 @@ pub fn measured<M: Machine>(
         Measure::LowerBound => machine.lower_bound(tables, at),
     }
 }
-
-/// How many steps are left at least of what a worker reached, by this measure.
-pub fn measured_of<M: Machine>(
-    machine: &M,
-    tables: &M::Tables,
-    measure: Measure,
-    reached: &M::Reached,
-) -> u64
-    requires own { M.owns machine.now tables.now }
-    requires allowed { (M.meaning machine.now tables.now).allows reached.now }
-    requires belongs { M.belongs machine.now ((M.meaning machine.now tables.now).point_of reached.now) }
-    ensures { result ≡ measure_of (M.words machine.now) (M.estimate machine.now) measure ((M.meaning machine.now tables.now).point_of reached.now) }
-{
-    match measure {
-        Measure::OpenNodes => machine.open_len_of(tables, reached),
-        Measure::LowerBound => machine.lower_bound_of(tables, reached),
-    }
-}

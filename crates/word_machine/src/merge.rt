@@ -3,13 +3,13 @@ ghost use Rattle.std.specs.Prelude.{◌≡◌, ◌<◌, ◌++◌, List, length, 
 ghost use Rattle.word_machine.specs.Answer.{measure_of};
 ghost use Rattle.word_machine.specs.Aside.{IsAside, with_aside};
 ghost use Rattle.word_machine.specs.Contents.{offer_all, initial_successors, AreOffered, IsOffered, IsOriginWithin};
-ghost use Rattle.word_machine.specs.Meaning.{IsGrown, contents_at, successor_at};
+ghost use Rattle.word_machine.specs.Meaning.{AreMeasured, IsGrown, contents_at, successor_at, successors_of};
 ghost use Rattle.word_machine.specs.Ranks.{IsOwned};
 ghost use Rattle.word_machine.specs.declared.closed.Origin.{Origin};
 
-use crate::closed::{Closed, Fitting, Origin, Successor};
+use crate::closed::{Closed, Fitting, Measured, Origin, Successor};
 use crate::machine::Machine;
-use crate::measure::{Measure, measured, measured_of};
+use crate::measure::{Measure, measured};
 use std::alloc::{AllocError, Global};
 use std::thread::Threads;
 
@@ -42,20 +42,23 @@ pub fn offer_initials<M: Machine, R: Threads + Sync>(
 }
 
 // Puts one that a worker reached aside, to be kept with the others, if there is room for it; and else leaves it out.
+// (The measure is named for the contract alone.)
 fn put_aside<M: Machine>(
     machine: &M,
     tables: &mut M::Tables,
     closed: &mut Closed<M::Configuration>,
     fits: &mut Fitting<M::Configuration>,
-    successor: Successor<M::Reached>,
+    one: Measured<M::Reached>,
     measure: Measure,
     room: u64,
 ) -> Result<(), AllocError>
     requires own { M.owns machine.now tables.old }
     requires known { All (M.meaning machine.now tables.old).knows closed.old.keys }
-    requires allowed { (M.meaning machine.now tables.old).allows successor.configuration }
-    requires belongs { M.belongs machine.now ((M.meaning machine.now tables.old).point_of successor.configuration) }
-    requires within { IsOriginWithin (length closed.old.keys) successor.origin }
+    requires allowed { (M.meaning machine.now tables.old).allows one.successor.configuration }
+    requires belongs { M.belongs machine.now ((M.meaning machine.now tables.old).point_of one.successor.configuration) }
+    requires measured { one.left ≡ measure_of (M.words machine.now) (M.estimate machine.now) measure
+        ((M.meaning machine.now tables.old).point_of one.successor.configuration) }
+    requires within { IsOriginWithin (length closed.old.keys) one.successor.origin }
     requires aside { IsAside (M.meaning machine.now tables.old)
         (measure_of (M.words machine.now) (M.estimate machine.now) measure) room (length closed.old.keys) fits.old }
     ensures owned { OnOk result (M.owns machine.now tables.new) }
@@ -66,16 +69,16 @@ fn put_aside<M: Machine>(
         (measure_of (M.words machine.now) (M.estimate machine.now) measure) room (length closed.old.keys) fits.new) }
     ensures offered { OnOk result (
         let point = (M.meaning machine.now tables.new).point in
-        let reached = successor_at (M.meaning machine.now tables.old).point_of successor in
+        let reached = successor_at (M.meaning machine.now tables.old).point_of one.successor in
         IsOffered (contents_at point (with_aside M.Configuration.eq closed.old fits.old)) reached
         (measure_of (M.words machine.now) (M.estimate machine.now) measure reached.configuration) room
         (contents_at point (with_aside M.Configuration.eq closed.new fits.new))) }
 {
+    let Measured { successor, left } = one;
     let Successor {
         origin,
         configuration,
     } = successor;
-    let left = measured_of(machine, tables, measure, &configuration);
     if left <= room {
         // For the prover alone: a list has no more ranks than a number can name.
         let ranks = closed.configurations().len();
@@ -97,7 +100,8 @@ fn put_aside<M: Machine>(
 
 /// Offers what workers reached to the closed list, in their order. There is room for so many steps more, by this
 /// measure. What is past it gets no number: where the tables have none for it, it is not in the list. What is far past
-/// it is passed over, once some was left out that was no further.
+/// it is passed over, once some was left out that was no further. (The measure is named for the contract alone: each
+/// has beside it how many steps are left by it.)
 pub fn merge<M: Machine, R: Threads + Sync>(
     rt: &R,
     alloc: Global,
@@ -105,26 +109,27 @@ pub fn merge<M: Machine, R: Threads + Sync>(
     machine: &M,
     tables: &mut M::Tables,
     closed: &mut Closed<M::Configuration>,
-    batch: Vec<Successor<M::Reached>>,
+    batch: Vec<Measured<M::Reached>>,
     measure: Measure,
     room: u64,
 ) -> Result<(), AllocError>
     requires workers { 0 < workers }
     requires own { M.owns machine.now tables.old }
     requires known { All (M.meaning machine.now tables.old).knows closed.old.keys }
-    requires allowed { All (λ s. (M.meaning machine.now tables.old).allows s.configuration) batch.items }
-    requires belongs { All (λ s. M.belongs machine.now ((M.meaning machine.now tables.old).point_of s.configuration)) batch.items }
-    requires within { All (λ s. IsOriginWithin (length closed.old.keys) s.origin) batch.items }
+    requires allowed { All (λ s. (M.meaning machine.now tables.old).allows s.successor.configuration) batch.items }
+    requires belongs { All (λ s. M.belongs machine.now ((M.meaning machine.now tables.old).point_of s.successor.configuration)) batch.items }
+    requires measured { AreMeasured (measure_of (M.words machine.now) (M.estimate machine.now) measure) (M.meaning machine.now tables.old) batch.items }
+    requires within { All (λ s. IsOriginWithin (length closed.old.keys) s.successor.origin) batch.items }
     ensures owned { OnOk result (M.owns machine.now tables.new) }
     ensures grown { OnOk result (IsGrown (M.meaning machine.now tables.old) (M.meaning machine.now tables.new)) }
     ensures known { OnOk result (All (M.meaning machine.now tables.new).knows closed.new.keys) }
-    ensures offered { OnOk result (AreOffered (measure_of (M.words machine.now) (M.estimate machine.now) measure) room (contents_at (M.meaning machine.now tables.new).point closed.old) (map (successor_at (M.meaning machine.now tables.old).point_of) batch.items) (contents_at (M.meaning machine.now tables.new).point closed.new)) }
+    ensures offered { OnOk result (AreOffered (measure_of (M.words machine.now) (M.estimate machine.now) measure) room (contents_at (M.meaning machine.now tables.new).point closed.old) (map (successor_at (M.meaning machine.now tables.old).point_of) (successors_of batch.items)) (contents_at (M.meaning machine.now tables.new).point closed.new)) }
     ensures keys { OnOk result ((more : List M.Configuration) × (closed.new.keys ≡ closed.old.keys ++ more)) }
     ensures origins { OnOk result ((more : List Origin) × (closed.new.origins ≡ closed.old.origins ++ more)) }
 {
     let mut fits = Fitting::with_capacity(alloc, batch.len())?;
-    for successor in batch {
-        put_aside(machine, tables, closed, &mut fits, successor, measure, room)?;
+    for one in batch {
+        put_aside(machine, tables, closed, &mut fits, one, measure, room)?;
     }
     closed.keep_all(rt, alloc, &fits, workers)
 }

@@ -1,38 +1,55 @@
 use Rattle.std.proofs.Common.{◌≡◌, ◌++◌, ◌∷◌, [], length, All, ap, ◌∙◌, sym, subst, append_assoc}
 use Rattle.std.specs.Vec.Iter.{into_iter_items}
 use Rattle.std.proofs.lemmas.Result.{on_ok_weaker}
-use Rattle.word_machine.specs.declared.closed.Successor.{Successor}
+use Rattle.word_machine.specs.declared.closed.Measured.{Measured}
 use Rattle.word_machine.specs.Answer.{measure_of}
 use Rattle.word_machine.specs.Aside.{IsAside, with_aside}
 use Rattle.word_machine.specs.Contents.{Contents, IsOffered, fitting}
 use Rattle.word_machine.specs.Meaning.{contents_at}
 use Rattle.word_machine.proofs.Aside.{fitting-All, kept_known, keys_more, origins_more}
-use Rattle.word_machine.proofs.Meanings.{grown_more, known_still}
+use Rattle.word_machine.proofs.Meanings.{grown_more, known_still, measured_still}
 use Rattle.word_machine.proofs.Offering.{offered_more}
 use Rattle.word_machine.proofs.Places.{All-between}
 use Rattle.word_machine.proofs.merge.merge.Goals as goal
 
-pub loop-successor-preserved : goal.loop-successor-preserved
-loop-successor-preserved g c =
-    let i = c.loop-successor.invariant in
+pub put_aside-requires-clause-measured : goal.put_aside-requires-clause-measured
+put_aside-requires-clause-measured g c = λ _ _.
+    let i = c.loop-one.invariant in
+    let machine = c.args.machine.now in
+    let old = g.M.Machine.meaning machine c.args.tables.now in
+    let mid = g.M.Machine.meaning machine c.loop-one.tables in
+    let left = measure_of (g.M.Machine.words machine) (g.M.Machine.estimate machine) c.args.measure in
+    let done = c.loop-one.yielded in
+    let one = c.in-Some.one in
+    let rest = into_iter_items c.next.new.self in
+    let next : into_iter_items c.loop-one.one-iterator ≡ one ∷ rest = c.in-Some.ensures.steps.0 in
+    let joined : done ++ one ∷ rest ≡ c.args.batch.items = ap (λ l. done ++ l) (sym next) ∙ i.parts in
+    let is_measured = λ (t : Measured g.row.M-Reached.Denot). t.left ≡ left (mid.point_of t.successor.configuration) in
+    All-between is_measured done one rest c.args.batch.items joined
+    (measured_still old mid i.grown left c.args.batch.items c.requires.allowed c.requires.measured)
+
+pub loop-one-preserved : goal.loop-one-preserved
+loop-one-preserved g c =
+    let i = c.loop-one.invariant in
     let e = c.in_ok-put_aside.ensures in
     let machine = c.args.machine.now in
     let eq = g.M.Configuration.PartialEq.eq in
     let old = g.M.Machine.meaning machine c.args.tables.now in
-    let mid = g.M.Machine.meaning machine c.loop-successor.tables in
+    let mid = g.M.Machine.meaning machine c.loop-one.tables in
     let new = g.M.Machine.meaning machine c.put_aside.new.tables in
     let left = measure_of (g.M.Machine.words machine) (g.M.Machine.estimate machine) c.args.measure in
     let room = c.args.room in
     let first = c.args.closed.now in
-    let now = c.loop-successor.closed in
-    let fits = c.loop-successor.fits in
-    let done = c.loop-successor.yielded in
-    let s = c.in-Some.successor in
+    let now = c.loop-one.closed in
+    let fits = c.loop-one.fits in
+    let done = c.loop-one.yielded in
+    let one = c.in-Some.one in
+    let s = one.successor in
     let rest = into_iter_items c.next.new.self in
-    let next : into_iter_items c.loop-successor.successor-iterator ≡ s ∷ rest = c.in-Some.ensures.steps.0 in
-    let joined : done ++ s ∷ rest ≡ c.args.batch.items = ap (λ l. done ++ l) (sym next) ∙ i.parts in
-    let allows = λ (t : Successor g.row.M-Reached.Denot). old.allows t.configuration in
-    let allowed = All-between allows done s rest c.args.batch.items joined c.requires.allowed in
+    let next : into_iter_items c.loop-one.one-iterator ≡ one ∷ rest = c.in-Some.ensures.steps.0 in
+    let joined : done ++ one ∷ rest ≡ c.args.batch.items = ap (λ l. done ++ l) (sym next) ∙ i.parts in
+    let allows = λ (t : Measured g.row.M-Reached.Denot). old.allows t.successor.configuration in
+    let allowed = All-between allows done one rest c.args.batch.items joined c.requires.allowed in
     let same_point : mid.point_of s.configuration ≡ old.point_of s.configuration =
     i.grown.same_reached s.configuration allowed in
     let before = with_aside eq now fits in
@@ -47,20 +64,20 @@ loop-successor-preserved g c =
       keys = e.keys ∙ i.keys;
       origins = e.origins ∙ i.origins;
       aside = subst (λ k. IsAside new left room (length k) c.put_aside.new.fits) (sym e.keys) e.aside;
-      offered = offered_more left room mid new e.grown old.point_of first before done s
+      offered = offered_more left room mid new e.grown old.point_of first before done one
           (known_still old mid i.grown first.keys c.requires.known)
           (kept_known eq mid.knows now (fitting fits.links.items fits.configurations.items) i.known known)
           i.offered after own;
-      parts = append_assoc done (s ∷ []) rest ∙ joined;
+      parts = append_assoc done (one ∷ []) rest ∙ joined;
     }
 
 pub returns-clause-known : goal.returns-clause-known
 returns-clause-known g c =
-    let i = c.loop-successor.invariant in
+    let i = c.loop-one.invariant in
     let eq = g.M.Configuration.PartialEq.eq in
-    let meaning = g.M.Machine.meaning c.args.machine.now c.loop-successor.tables in
-    let fits = c.loop-successor.fits in
-    let known = kept_known eq meaning.knows c.loop-successor.closed
+    let meaning = g.M.Machine.meaning c.args.machine.now c.loop-one.tables in
+    let fits = c.loop-one.fits in
+    let known = kept_known eq meaning.knows c.loop-one.closed
     (fitting fits.links.items fits.configurations.items) i.known
     (fitting-All meaning.knows fits.links.items fits.configurations.items i.aside.known) in
     on_ok_weaker c.keep_all.result
@@ -69,11 +86,11 @@ returns-clause-known g c =
 
 pub returns-clause-keys : goal.returns-clause-keys
 returns-clause-keys g c =
-    let i = c.loop-successor.invariant in
+    let i = c.loop-one.invariant in
     let eq = g.M.Configuration.PartialEq.eq in
-    let meaning = g.M.Machine.meaning c.args.machine.now c.loop-successor.tables in
-    let fits = c.loop-successor.fits in
-    let more = keys_more eq meaning.knows c.loop-successor.closed
+    let meaning = g.M.Machine.meaning c.args.machine.now c.loop-one.tables in
+    let fits = c.loop-one.fits in
+    let more = keys_more eq meaning.knows c.loop-one.closed
     (fitting fits.links.items fits.configurations.items)
     (fitting-All meaning.knows fits.links.items fits.configurations.items i.aside.known) in
     let keys_of = λ (n : Contents g.row.M-Configuration.Denot). n.keys in
@@ -83,10 +100,10 @@ returns-clause-keys g c =
 
 pub returns-clause-origins : goal.returns-clause-origins
 returns-clause-origins g c =
-    let i = c.loop-successor.invariant in
+    let i = c.loop-one.invariant in
     let eq = g.M.Configuration.PartialEq.eq in
-    let fits = c.loop-successor.fits in
-    let more = origins_more eq c.loop-successor.closed (fitting fits.links.items fits.configurations.items) in
+    let fits = c.loop-one.fits in
+    let more = origins_more eq c.loop-one.closed (fitting fits.links.items fits.configurations.items) in
     let origins_of = λ (n : Contents g.row.M-Configuration.Denot). n.origins in
     on_ok_weaker c.keep_all.result
     (λ is. (more.0, ap origins_of is ∙ more.1 ∙ ap (λ l. l ++ more.0) i.origins))

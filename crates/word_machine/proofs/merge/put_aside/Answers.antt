@@ -33,14 +33,14 @@ returns-then-left-room-clause-offered g c =
     let left = measure_of (g.M.Machine.words machine) (g.M.Machine.estimate machine) c.args.measure in
     let room = c.args.room in
     let closed = c.args.closed.now in
-    let s = c.args.successor in
+    let s = c.args.one.successor in
     let fits = c.args.fits.now in
     let batch = fitting fits.links.items fits.configurations.items in
     let own = c.in_ok-kept.kept in
     let grown = c.in_ok-kept.ensures.grown in
     let same_point : new.point own ≡ old.point_of s.configuration = c.in_ok-kept.ensures.same in
     let still = aside_still left room _ old new grown fits c.requires.aside in
-    let is_left : c.measured_of-left.result ≡ left (old.point_of s.configuration) = c.measured_of-left.ensures in
+    let is_left : c.args.one.left ≡ left (old.point_of s.configuration) = c.requires.measured in
     let t : Successor g.row.M-Configuration.Denot = record { origin = s.origin; configuration = own } in
     let offered = fit_offered eq (same g) (reflexive g) new.knows new.point
     (one g machine c.keep.new.tables c.in_ok-kept.ensures.owned) left room closed batch
@@ -67,9 +67,9 @@ returns-then-has_cut_within-clause-offered g c =
     let left = measure_of (g.M.Machine.words machine) (g.M.Machine.estimate machine) c.args.measure in
     let room = c.args.room in
     let closed = c.args.closed.now in
-    let s = c.args.successor in
+    let s = c.args.one.successor in
     let fits = c.args.fits.now in
-    let is_left : c.measured_of-left.result ≡ left (meaning.point_of s.configuration) = c.measured_of-left.ensures in
+    let is_left : c.args.one.left ≡ left (meaning.point_of s.configuration) = c.requires.measured in
     past_offered g.M.Configuration.PartialEq.eq (same g) (reflexive g) meaning.knows meaning.point
     (one g machine c.args.tables.now c.requires.own) left room closed
     (fitting fits.links.items fits.configurations.items) c.requires.known
@@ -86,9 +86,9 @@ returns-in_default-clause-offered g c =
     let left = measure_of (g.M.Machine.words machine) (g.M.Machine.estimate machine) c.args.measure in
     let room = c.args.room in
     let closed = c.args.closed.now in
-    let s = c.args.successor in
+    let s = c.args.one.successor in
     let fits = c.args.fits.now in
-    let is_left : c.measured_of-left.result ≡ left (meaning.point_of s.configuration) = c.measured_of-left.ensures in
+    let is_left : c.args.one.left ≡ left (meaning.point_of s.configuration) = c.requires.measured in
     none_offered g.M.Configuration.PartialEq.eq (same g) (reflexive g) meaning.knows meaning.point
     (one g machine c.args.tables.now c.requires.own) left room closed
     (fitting fits.links.items fits.configurations.items) c.requires.known
@@ -109,9 +109,9 @@ returns-clause-offered g c =
     let left = measure_of (g.M.Machine.words machine) (g.M.Machine.estimate machine) c.args.measure in
     let room = c.args.room in
     let closed = c.args.closed.now in
-    let s = c.args.successor in
+    let s = c.args.one.successor in
     let fits = c.args.fits.now in
-    let is_left : c.measured_of-left.result ≡ left (meaning.point_of s.configuration) = c.measured_of-left.ensures in
+    let is_left : c.args.one.left ≡ left (meaning.point_of s.configuration) = c.requires.measured in
     found_offered g.M.Configuration.PartialEq.eq (same g) (reflexive g) meaning.knows meaning.point
     (one g machine c.args.tables.now c.requires.own) left room closed
     (fitting fits.links.items fits.configurations.items) c.requires.known

@@ -1,27 +1,30 @@
-use Rattle.std.proofs.Common.{◌∙◌, Some, ap, sym, arith}
-use Rattle.std.proofs.lemmas.List.{take_all}
-use Rattle.std.proofs.lemmas.Option.{slice_get-get_or}
-use Rattle.network_table.proofs.Remembering.{first_all, first_next, first_none, known_of}
+use Rattle.std.proofs.Common.{All, Ok, subst, sym}
+use Rattle.std.specs.Vec.Iter.{into_iter_items}
+use Rattle.network_table.specs.Drafts.{HoldsFound}
+use Rattle.network_table.proofs.Remembering.{all_known, holds_first, holds_kept, holds_rest, keeps_grown, remembered_none, remembered_then}
 use Rattle.network_table.proofs.table.NetworkTable.remember_all.Goals as goal
 
-pub loop-number-init : goal.loop-number-init
-loop-number-init c = first_none c.args.self.now c.args.jobs.now c.args.noted.now c.requires.whole c.requires.noted
+pub loop-found-init : goal.loop-found-init
+loop-found-init c = record {
+  are = remembered_none c.args.self.now c.args.jobs.now c.requires.whole;
+  left = subst (All (HoldsFound c.args.self.now c.args.jobs.now)) (sym c.into_iter-found-iterator.ensures.into_iter_gives.0) c.requires.found;
+}
 
-pub expand_job-requires-clause-noted : goal.expand_job-requires-clause-noted
-expand_job-requires-clause-noted c =
+pub remember_found-requires-clause-known : goal.remember_found-requires-clause-known
+remember_found-requires-clause-known c =
+    all_known c.args.self.now c.loop-found.self c.args.jobs.now (keeps_grown c.args.self.now c.loop-found.self c.loop-found.invariant.are.grown) c.requires.known
+
+pub remember_found-requires-clause-found : goal.remember_found-requires-clause-found
+remember_found-requires-clause-found c =
+    let s = c.args.self.now in
     let jobs = c.args.jobs.now in
-    let job = c.index-jobs-number.result in
-    let number = c.loop-number.number in
-    known_of c.loop-number.self jobs job number c.start_of-first.result c.args.noted.now (slice_get-get_or jobs number job c.loop-number-test.true ∙ ap Some (sym c.index-jobs-number.is)) c.loop-number.invariant.noted
+    let first = holds_first (HoldsFound s jobs) (into_iter_items c.loop-found.found-iterator) (into_iter_items c.next.new.self) c.in-Some.found c.in-Some.ensures.steps.0 c.loop-found.invariant.left in
+    holds_kept s c.loop-found.self jobs (Ok c.in_ok-found.field-0) c.requires.whole c.requires.known c.loop-found.invariant.are (subst (HoldsFound s jobs) c.in_ok-found.was first)
 
-pub loop-number-preserved : goal.loop-number-preserved
-loop-number-preserved c =
-    let done = c.in_ok-expand_job.ensures in
-    first_next c.args.self.now c.loop-number.self c.expand_job.new.self c.args.jobs.now c.args.noted.now c.loop-number.number c.index-jobs-number.result c.requires.whole c.requires.known c.loop-number.invariant
-    c.loop-number-test.true c.index-jobs-number.is done.whole done.grown done.ready done.sound done.others done.children
-
-pub returns : goal.returns
-returns c =
-    let jobs = c.args.jobs.now in
-    let number = c.loop-number.number in
-    first_all c.args.self.now c.loop-number.self jobs c.args.noted.now number c.loop-number.invariant (take_all number jobs (omega (arith, c.loop-number-test.false)))
+pub loop-found-preserved : goal.loop-found-preserved
+loop-found-preserved c =
+    let s = c.args.self.now in
+    let jobs = c.args.jobs.now in record {
+      are = remembered_then s c.loop-found.self c.remember_found.new.self jobs c.requires.whole c.requires.known c.loop-found.invariant.are c.remember_found.ensures;
+      left = holds_rest (HoldsFound s jobs) (into_iter_items c.loop-found.found-iterator) (into_iter_items c.next.new.self) c.in-Some.found c.in-Some.ensures.steps.0 c.loop-found.invariant.left;
+    }

@@ -1,4 +1,4 @@
-use Rattle.std.proofs.Common.{◌≡◌, All, map, take}
+use Rattle.std.proofs.Common.{◌≡◌, All, take}
 use Rattle.task_machine.specs.Blocks.{IsListed}
 use Rattle.task_machine.specs.Owned.{HasSizes}
 use Rattle.task_machine.specs.Tables.{AreLater, AreTables}
@@ -6,12 +6,11 @@ use Rattle.task_machine.specs.declared.prepare_all.Listed.{Listed}
 use Rattle.task_machine.proofs.tables.Tables.prepare_firsts.Given as goal
 
 -- those of the networks so far are listed
-abbrev pub invariant-loop-network : goal.invariant-loop-network
-invariant-loop-network l = record {
+abbrev pub invariant-loop-one : goal.invariant-loop-one
+invariant-loop-one l = record {
   owned : AreTables l.task l.self;
   sized : HasSizes l.sizes l.self.networks;
   later : AreLater l.initial.self l.self;
   needs : l.self.needs ≡ l.initial.self.needs;
-  listed : All (λ (x : Listed). IsListed l.self x.network x.node) l.found.items;
-  networks : map (λ (x : Listed). x.network) l.found.items ≡ take l.network-index l.block;
+  listed : All (λ (x : Listed). IsListed l.self x.network x.node) (take l.one-index l.block);
 }

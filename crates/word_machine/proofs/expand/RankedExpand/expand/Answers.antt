@@ -41,7 +41,7 @@ pub returns-clause-whole : goal.returns-clause-whole
 returns-clause-whole g c =
     let from = get_or c.args.self.now.configurations.now c.args.rank c.index-self-rank.result in
     let at = stands _ c.args.self.now.configurations.now c.args.rank c.index-self-rank.result c.requires in
-    IfOk-weaker c.expand.result _ _ (λ done whole. IfNone-weaker done (λ more. (more.0, more.1, (from, at, more.2))) whole) c.expand.ensures.whole
+    IfOk-weaker c.expand.result _ _ (λ done whole. IfNone-weaker done (λ more. (more.0, more.1, (from, at, (more.2, more.3)))) whole) c.expand.ensures.whole
 
 pub returns-clause-done : goal.returns-clause-done
 returns-clause-done g c =
