@@ -24,14 +24,19 @@ use word_machine::{Bounds, Found, Gate, Machine, SearchFault, find_word_in};
 
 // How much is listed at most to find sizes and needs, and how many configurations a search by these keeps at most,
 // before more is listed. To list as much as a stage does takes no longer than to keep some times as many
-// configurations; so little is listed where little is needed, and no search takes much longer by what is listed for it.
+// configurations; so little is listed where little is needed, nothing where a search by the open nodes alone ends soon,
+// and no search takes much longer by what is listed for it.
 #[derive(Clone, Copy)]
 struct Stage {
     listed: u64,
     kept: usize,
 }
 
-const FIRST_STAGES: [Stage; 2] = [
+const FIRST_STAGES: [Stage; 3] = [
+    Stage {
+        listed: 0,
+        kept: 1_000,
+    },
     Stage {
         listed: 2_000,
         kept: 2_000,
