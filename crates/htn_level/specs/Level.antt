@@ -1,5 +1,7 @@
 -- What it means to expand the configurations at a range of ranks.
 use Rattle.std.specs.Prelude.{◌≡◌, ℕ, ◌+◌, ◌<◌, ◌≤◌, List, length, flat_map, Some, slice_get}
+use Rattle.htn_level.specs.declared.level.ExpandedLevel.{ExpandedLevel}
+use Rattle.htn_level.specs.declared.level.ExpandedLevel.TheVariants as level
 use Rattle.htn_level.specs.declared.order.Expanded.{Expanded}
 use Rattle.htn_level.specs.declared.order.Expanded.TheVariants.{Whole, Done}
 
@@ -24,3 +26,8 @@ module _ {S F : Type 0} (has_successors : ℕ → List S → Type 0) (finishes :
   abbrev pub IsExpanded : (first last : ℕ) → Expanded S F → Type 0
   IsExpanded first last (Whole successors) = AreSuccessors has_successors first last successors.items
   IsExpanded first last (Done rank finish) = IsFirstDone first last rank finish
+
+  -- the same of a level, whose successors stand in several vectors
+  abbrev pub IsExpandedLevel : (first last : ℕ) → ExpandedLevel S F → Type 0
+  IsExpandedLevel first last (level.Whole successors) = AreSuccessors has_successors first last successors
+  IsExpandedLevel first last (level.Done rank finish) = IsFirstDone first last rank finish

@@ -1,12 +1,12 @@
 //! A whole level, by several workers at a desk.
 ghost use Rattle.std.specs.Prelude.{◌≡◌, ℕ, ◌<◌, ◌≤◌, ◌*◌, ◌+◌, ◌^◌, IfOk, IfErr};
 ghost use Rattle.htn_level.specs.declared.fault.LevelFault.TheVariants.{NoThread};
-ghost use Rattle.htn_level.specs.Level.{IsExpanded};
+ghost use Rattle.htn_level.specs.Level.{IsExpandedLevel};
 ghost use Rattle.htn_level.specs.Workers.{CanExpandAll, HasPieces};
 
+use crate::chain::Chain;
 use crate::fault::LevelFault;
 use crate::merge::{finish_at, part, put_together};
-use crate::order::Expanded;
 use crate::threads::run;
 use crate::work::{Expand, Gate};
 use crate::worker::{Job, Level};
@@ -14,6 +14,15 @@ use htn_desk::Desk;
 use std::alloc::Global;
 use std::sync::Wait;
 use std::thread::Threads;
+
+/// What became of a level.
+#[derive(Drop)]
+pub enum ExpandedLevel<S, F> {
+    /// No configuration has a done successor, and these are all successors, in order.
+    Whole(Chain<S>),
+    /// The first rank with a done successor, and how its configuration leads there.
+    Done { rank: usize, finish: F },
+}
 
 // A desk numbers at most 2^63 pieces, so the pieces of a longer level have two ranks at least.
 fn piece_size(len: usize, piece: usize) -> usize
@@ -43,12 +52,12 @@ pub fn expand_level<W: Expand, G: Gate, R: Threads + Wait + Sync>(
     level: Level<W>,
     workers: u64,
     gate: &G,
-) -> Result<Expanded<W::Successor, W::Finish>, LevelFault>
+) -> Result<ExpandedLevel<W::Successor, W::Finish>, LevelFault>
     requires ordered { level.first ≤ level.last }
     requires can { CanExpandAll (W.can_expand level.work.now) level.first level.last }
     requires piece { 0 < level.piece }
     requires workers { (0 < workers) × (workers ≤ 64) }
-    ensures expanded { IfOk result (IsExpanded (W.has_successors level.entry.work.now) (W.finishes level.entry.work.now) level.entry.first level.entry.last) }
+    ensures expanded { IfOk result (IsExpandedLevel (W.has_successors level.entry.work.now) (W.finishes level.entry.work.now) level.entry.first level.entry.last) }
     ensures no_thread { IfErr result (λ e. e ≡ NoThread → 1 < workers) }
 {
     let len = level.last - level.first;
@@ -65,10 +74,10 @@ pub fn expand_level<W: Expand, G: Gate, R: Threads + Wait + Sync>(
     let (passes, pieces) = part(alloc, job, home)?;
     let closed = desk.close(passes);
     match closed.least() {
-        Some(place) => Ok(Expanded::Done {
+        Some(place) => Ok(ExpandedLevel::Done {
             rank: place as usize,
             finish: finish_at(pieces, place),
         }),
-        None => Ok(Expanded::Whole(put_together(alloc, level, count, pieces)?)),
+        None => Ok(ExpandedLevel::Whole(put_together(alloc, level, count, pieces)?)),
     }
 }

@@ -3,9 +3,11 @@ ghost use Rattle.std.specs.Prelude.{◌≡◌, ℕ, ◌<◌, ◌≤◌, ◌*◌,
 ghost use Rattle.htn_desk.specs.Desk.{all_drawn, all_reported, all_seen};
 ghost use Rattle.htn_level.specs.declared.order.Expanded.TheVariants.{Done};
 ghost use Rattle.htn_level.specs.declared.piece.Outcome.TheVariants.{Ran};
+ghost use Rattle.htn_level.specs.Joined.{joined};
 ghost use Rattle.htn_level.specs.Level.{AreSuccessors};
 ghost use Rattle.htn_level.specs.Workers.{IsWorked, Brings, IsWhole, IsWholeOutcome, IsWholePiece, HoldsPieces, IsFullAt, HasEachPiece, places_of};
 
+use crate::chain::Chain;
 use crate::order::Expanded;
 use crate::piece::{Outcome, Piece};
 use crate::work::{Expand, Gate};
@@ -103,37 +105,26 @@ fn lay<W: Expand>(
     }
 }
 
-// How many the slots hold, as far as a number goes.
-fn total_len<S: Drop>(slots: &[Option<Vec<S>>]) -> usize {
-    let mut total: usize = 0;
-    for slot in slots {
-        if let Some(successors) = slot {
-            total = total.saturating_add(successors.len());
-        }
-    }
-    total
-}
-
-// Puts the slots end to end, in room that is made for all of them at once.
-fn join_slots<W: Expand>(
+// The vectors of the slots, in their order.
+fn parts_of<W: Expand>(
     alloc: Global,
     level: Level<W>,
     slots: Vec<Option<Vec<W::Successor>>>,
-) -> Result<Vec<W::Successor>, AllocError>
+) -> Result<Vec<Vec<W::Successor>>, AllocError>
     requires ordered { level.first ≤ level.last }
     requires held { HoldsPieces (W.has_successors level.work.now) level.first level.last level.piece slots.items }
     requires full { All IsSome slots.items }
     requires cover { level.last ≤ level.first + vec_len slots * level.piece }
-    ensures { IfOk result (λ successors. AreSuccessors (W.has_successors level.entry.work.now) level.entry.first level.entry.last successors.items) }
+    ensures { IfOk result (λ parts. AreSuccessors (W.has_successors level.entry.work.now) level.entry.first level.entry.last (joined parts.items)) }
 {
-    let mut all = Vec::with_capacity(alloc, total_len(&slots))?;
+    let mut parts = Vec::with_capacity(alloc, slots.len())?;
     for slot in slots {
-        let Some(mut successors) = slot else {
+        let Some(successors) = slot else {
             unreachable!()
         };
-        all.append(&mut successors)?;
+        parts.push(successors)?;
     }
-    Ok(all)
+    Ok(parts)
 }
 
 fn empty_slots<S: Drop>(alloc: Global, count: u64) -> Result<Vec<Option<Vec<S>>>, AllocError>
@@ -152,15 +143,16 @@ pub fn put_together<W: Expand>(
     level: Level<W>,
     count: u64,
     pieces: Vec<Piece<W::Successor, W::Finish>>,
-) -> Result<Vec<W::Successor>, AllocError>
+) -> Result<Chain<W::Successor>, AllocError>
     requires ordered { level.first ≤ level.last }
     requires whole { All (IsWhole (W.has_successors level.work.now) level.first level.last level.piece) pieces.items }
     requires below { All (λ p. p.number < count) pieces.items }
     requires each { HasEachPiece count pieces.items }
     requires cover { level.last ≤ level.first + count * level.piece }
-    ensures { IfOk result (λ successors. AreSuccessors (W.has_successors level.entry.work.now) level.entry.first level.entry.last successors.items) }
+    ensures { IfOk result (λ successors. AreSuccessors (W.has_successors level.entry.work.now) level.entry.first level.entry.last successors) }
 {
     let mut slots = empty_slots(alloc, count)?;
     lay(level, &mut slots, pieces);
-    join_slots(alloc, level, slots)
+    let parts = parts_of(alloc, level, slots)?;
+    Ok(Chain::new(alloc, parts))
 }

@@ -1,6 +1,8 @@
 ghost use Rattle.std.specs.Prelude.{◌<◌};
 
-use htn_level::{Expand, Expanded, Gate, Level, LevelFault, NoGate, expand_in_order, expand_level};
+use htn_level::{
+    Expand, Expanded, ExpandedLevel, Gate, Level, LevelFault, NoGate, expand_in_order, expand_level,
+};
 use std::alloc::{AllocError, Global};
 use std::process::Abort;
 use std::sync::Wait;
@@ -131,7 +133,7 @@ fn a_piece_waits_for_a_later_one(rt: HostRuntime) -> Result<(), Fail> {
     let gate = WaitsFor::new(2);
     let work = Twice::up_to(1);
     let answer = expand_level(&rt, rt.alloc(), three(&work), 2, &gate).map_err(|_| "expanded")?;
-    assert!(rt; matches!(&answer, Expanded::Done { rank: 1, finish: 1 }));
+    assert!(rt; matches!(&answer, ExpandedLevel::Done { rank: 1, finish: 1 }));
     assert!(rt; !gate.ran_out());
     assert_eq!(rt; gate.calls(), 3);
     Ok(())
@@ -143,20 +145,28 @@ fn each_level_has_its_workers(rt: HostRuntime) -> Result<(), Fail> {
     let work = Twice::up_to(9);
     for levels in 1..4u64 {
         let answer = expand_level(&rt, rt.alloc(), three(&work), 2, &gate).map_err(|_| "expanded")?;
-        assert!(rt; matches!(&answer, Expanded::Whole(_)));
+        assert!(rt; matches!(&answer, ExpandedLevel::Whole(_)));
         assert!(rt; !gate.ran_out());
         assert_eq!(rt; gate.calls(), 3 * levels);
     }
     Ok(())
 }
 
-fn same(one: &Expanded<u64, u64>, two: &Expanded<u64, u64>) -> bool {
-    match (one, two) {
-        (Expanded::Whole(a), Expanded::Whole(b)) => a.as_slice() == b.as_slice(),
-        (Expanded::Done { rank: a, finish: x }, Expanded::Done { rank: b, finish: y }) => {
-            a == b && x == y
+// Whether a level's outcome is that of one pass through it.
+fn is_same(
+    alloc: Global,
+    plain: &Expanded<u64, u64>,
+    level: ExpandedLevel<u64, u64>,
+) -> Result<bool, AllocError> {
+    match (plain, level) {
+        (Expanded::Whole(a), ExpandedLevel::Whole(b)) => {
+            let b: Vec<u64> = b.collect(alloc)?;
+            Ok(a.as_slice() == b.as_slice())
         }
-        _ => false,
+        (Expanded::Done { rank: a, finish: x }, ExpandedLevel::Done { rank: b, finish: y }) => {
+            Ok(*a == b && *x == y)
+        }
+        _ => Ok(false),
     }
 }
 
@@ -179,7 +189,11 @@ fn all_agree<R: Threads + Wait + Sync>(
                 last,
                 piece,
             };
-            if !same(&plain, &expand_level(rt, alloc, level, workers, &NoGate)?) {
+            if !is_same(
+                alloc,
+                &plain,
+                expand_level(rt, alloc, level, workers, &NoGate)?,
+            )? {
                 return Ok(false);
             }
         }
@@ -207,7 +221,11 @@ fn an_empty_level_is_whole(rt: HostRuntime) -> Result<(), Fail> {
         piece: 1_000_000,
     };
     let answer = expand_level(&rt, rt.alloc(), level, 64, &NoGate).map_err(|_| "expanded")?;
-    assert!(rt; matches!(&answer, Expanded::Whole(made) if made.is_empty()));
+    let is_empty = match answer {
+        ExpandedLevel::Whole(made) => made.count() == 0,
+        ExpandedLevel::Done { .. } => false,
+    };
+    assert!(rt; is_empty);
     Ok(())
 }
 
@@ -220,7 +238,9 @@ fn a_refused_worker_is_told_of_whatever_others_find(rt: HostRuntime) -> Result<(
             assert!(rt; matches!(&refused, Err(LevelFault::OutOfMemory)));
             let answer = expand_level(&rt, rt.alloc(), three(&work), workers, &NoGate);
             let rank = refuses + 1;
-            assert!(rt; matches!(&answer, Ok(Expanded::Done { finish, .. }) if *finish == rank));
+            assert!(rt;
+                matches!(&answer, Ok(ExpandedLevel::Done { finish, .. }) if *finish == rank)
+            );
         }
     }
     Ok(())
@@ -240,10 +260,10 @@ fn a_level_can_be_expanded_after_a_refusal(rt: HostRuntime) -> Result<(), Fail> 
                     |_| "expanded",
                 )?,
             };
-            let right = match &answer {
-                Expanded::Whole(made) => done_from == 9
-                    && made.as_slice() == [1, 1, 2, 2, 3, 3].as_slice(),
-                Expanded::Done { rank, finish } => done_from == 3 && *rank == 3 && *finish == 3,
+            let right = match answer {
+                ExpandedLevel::Whole(made) => done_from == 9
+                    && made.eq([1, 1, 2, 2, 3, 3u64].into_iter()),
+                ExpandedLevel::Done { rank, finish } => done_from == 3 && rank == 3 && finish == 3,
             };
             assert!(rt; right);
         }

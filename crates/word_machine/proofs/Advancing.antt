@@ -17,8 +17,8 @@ use Rattle.word_machine.specs.Advance.{HasAdvanced}
 use Rattle.word_machine.specs.Ranks.{IsOwned, IsExpandedBy}
 use Rattle.std.specs.Prelude.{Vec}
 use Rattle.std.specs.declared.alloc.Global.{Global}
-use Rattle.htn_level.specs.declared.order.Expanded.{Expanded}
-use Rattle.htn_level.specs.declared.order.Expanded.TheVariants.{Whole, Done}
+use Rattle.htn_level.specs.declared.level.ExpandedLevel.{ExpandedLevel}
+use Rattle.htn_level.specs.declared.level.ExpandedLevel.TheVariants.{Whole, Done}
 use Rattle.word_machine.proofs.Meanings.{all_at, all_map, same_points, known_still, owned_still}
 use Rattle.word_machine.proofs.Expanding.{IsExpansion-none, IsExpansion-append}
 use Rattle.word_machine.proofs.Offering.{offered_still}
@@ -171,7 +171,7 @@ module _ {C R P : Type 0} (m : WordMachine P) (beyond : P → Type 0) (measure :
 -- what an expansion by ranks of a list's first part says of the list
 module _ {C R P : Type 0} (m : WordMachine P) (meaning : Meaning C R P) (beyond : P → Type 0) (measure : P → ℕ)
     (keys lent : List C) (from to : ℕ) (short : to ≤ length keys) (is : lent ≡ take to keys)
-    (e : Expanded (Measured R) ℕ) (expanded : IsExpandedBy m meaning beyond measure lent from (length lent) e) where
+    (e : ExpandedLevel (Measured R) ℕ) (expanded : IsExpandedBy m meaning beyond measure lent from (length lent) e) where
   -- the first part has so many
   counted : length lent ≡ to
   counted = ap length is ∙ length-take-le to keys short
@@ -181,11 +181,11 @@ module _ {C R P : Type 0} (m : WordMachine P) (meaning : Meaning C R P) (beyond 
   of_part = subst (λ l. IsExpandedBy m meaning beyond measure l from to e) is (subst (λ n. IsExpandedBy m meaning beyond measure lent from n e) counted expanded)
 
   -- where all were expanded
-  pub block_whole : (measured : Vec (Measured R) Global) → e ≡ Whole measured → IsExpandedBy m meaning beyond measure keys from to (Whole measured)
+  pub block_whole : (measured : List (Measured R)) → e ≡ Whole measured → IsExpandedBy m meaning beyond measure keys from to (Whole measured)
   block_whole measured told =
       let part : IsExpandedBy m meaning beyond measure (take to keys) from to (Whole measured) = subst (IsExpandedBy m meaning beyond measure (take to keys) from to) told of_part in (
         part.0,
-        expansion_of m beyond (map meaning.point (take to keys)) (map meaning.point keys) from to (slice_get-map_take meaning.point to keys short) (map (successor_at meaning.point_of) (successors_of measured.items)) part.1,
+        expansion_of m beyond (map meaning.point (take to keys)) (map meaning.point keys) from to (slice_get-map_take meaning.point to keys short) (map (successor_at meaning.point_of) (successors_of measured)) part.1,
         part.2,
       )
 

@@ -6,9 +6,9 @@ use Rattle.std.proofs.lemmas.List.{length-map}
 use Rattle.std.proofs.lemmas.Option.{slice_get-get_or, slice_get_cases, slice_get_within, same_Some, none-some, get_or_from_slice_get}
 use Rattle.std.proofs.lemmas.List.Elements.{All-append, All-nil}
 use Rattle.std.proofs.lemmas.List.Kept.{AllPairs-from_increasing}
-use Rattle.htn_level.specs.Level.{IsExpanded as IsLevelExpanded}
-use Rattle.htn_level.specs.declared.order.Expanded.{Expanded}
-use Rattle.htn_level.specs.declared.order.Expanded.TheVariants.{Whole, Done}
+use Rattle.htn_level.specs.Level.{IsExpandedLevel as IsLevelExpanded}
+use Rattle.htn_level.specs.declared.level.ExpandedLevel.{ExpandedLevel}
+use Rattle.htn_level.specs.declared.level.ExpandedLevel.TheVariants.{Whole, Done}
 use Rattle.word_machine.specs.declared.closed.Origin.TheVariants.{Step as Stepped}
 use Rattle.word_machine.specs.declared.closed.Measured.{Measured}
 use Rattle.word_machine.specs.declared.closed.Successor.{Successor}
@@ -178,7 +178,7 @@ module _ {C R P : Type 0} (m : WordMachine P) (meaning : Meaning C R P) (beyond 
       )
 
   -- what a level's expansion is by ranks, as one of points
-  pub level_expanded : (first last : ℕ) (e : Expanded (Measured R) ℕ)
+  pub level_expanded : (first last : ℕ) (e : ExpandedLevel (Measured R) ℕ)
       → IsLevelExpanded (HasSuccessorsAt m meaning beyond measure keys) (FinishesAt m meaning keys) first last e
       → IsExpandedBy m meaning beyond measure keys first last e
   level_expanded first last (Whole measured) level =
@@ -190,15 +190,15 @@ module _ {C R P : Type 0} (m : WordMachine P) (meaning : Meaning C R P) (beyond 
       let allows = λ (s : Successor R). meaning.allows s.configuration in
       let is_measured = λ (s : Measured R). s.left ≡ measure (meaning.point_of s.successor.configuration) in
       let of_rank = plain_at level.lists first level.of_rank in
-      let all : flat_map (λ xs. xs) plain ≡ successors_of measured.items =
+      let all : flat_map (λ xs. xs) plain ≡ successors_of measured =
       sym (map-flat_map alone level.lists) ∙ ap (map alone) (sym level.joined) in
-      let joined : flat_map (λ xs. xs) lists ≡ map view (successors_of measured.items) =
+      let joined : flat_map (λ xs. xs) lists ≡ map view (successors_of measured) =
       sym (map-flat_map view plain) ∙ ap (map view) all in
       let many : length lists ≡ length level.lists =
       length-map plain (map view) ∙ length-map level.lists (map alone) in
       let count : first + length lists ≡ last = ap (λ n. first + n) many ∙ level.count in (
         subst (All allows) all (all_flat allows plain (λ i xs at. (of_rank i xs at).2.0)),
-        subst (λ l. IsExpansion (IsLiveStep m) (IsDone m) beyond points first l (map view (successors_of measured.items))) count
+        subst (λ l. IsExpansion (IsLiveStep m) (IsDone m) beyond points first l (map view (successors_of measured))) count
             (subst (IsExpansion (IsLiveStep m) (IsDone m) beyond points first (first + length lists)) joined
             (level_whole m beyond points first lists (points_at plain first of_rank))),
         subst (All is_measured) (sym level.joined)

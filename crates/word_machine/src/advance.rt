@@ -17,7 +17,7 @@ use crate::found::SearchFault;
 use crate::machine::Machine;
 use crate::measure::Horizon;
 use crate::merge::merge;
-use htn_level::{Expanded, Gate};
+use htn_level::{ExpandedLevel, Gate};
 use std::alloc::Global;
 use std::sync::Wait;
 use std::thread::Threads;
@@ -67,14 +67,14 @@ pub fn advance_block<M: Machine, G: Gate, R: Threads + Wait + Sync>(
     match expand_ranks(
         rt, alloc, machine, tables, kept, from, horizon, bounds, gate,
     )? {
-        Expanded::Whole(reached) => {
+        ExpandedLevel::Whole(reached) => {
             let measure = horizon.measure;
             merge(
                 rt, alloc, workers, machine, tables, closed, reached, measure, room,
             )?;
             Ok(None)
         }
-        Expanded::Done { rank, finish } => Ok(Some(FirstDone {
+        ExpandedLevel::Done { rank, finish } => Ok(Some(FirstDone {
             rank,
             number: finish,
         })),

@@ -106,7 +106,7 @@ impl<C: Drop> Fitting<C> {
 }
 
 // Of several workers each has so many at least.
-const FEW: usize = 1_000;
+const FEW: usize = 250;
 
 // Adds a link if it is that of a new one; there is room for it.
 fn push_link(links: &mut Vec<Link>, link: Link, is_new: bool)

@@ -10,6 +10,7 @@ ghost use Rattle.word_machine.specs.declared.closed.Origin.{Origin};
 use crate::closed::{Closed, Fitting, Measured, Origin, Successor};
 use crate::machine::Machine;
 use crate::measure::{Measure, measured};
+use htn_level::Chain;
 use std::alloc::{AllocError, Global};
 use std::thread::Threads;
 
@@ -109,25 +110,25 @@ pub fn merge<M: Machine, R: Threads + Sync>(
     machine: &M,
     tables: &mut M::Tables,
     closed: &mut Closed<M::Configuration>,
-    batch: Vec<Measured<M::Reached>>,
+    batch: Chain<Measured<M::Reached>>,
     measure: Measure,
     room: u64,
 ) -> Result<(), AllocError>
     requires workers { 0 < workers }
     requires own { M.owns machine.now tables.old }
     requires known { All (M.meaning machine.now tables.old).knows closed.old.keys }
-    requires allowed { All (λ s. (M.meaning machine.now tables.old).allows s.successor.configuration) batch.items }
-    requires belongs { All (λ s. M.belongs machine.now ((M.meaning machine.now tables.old).point_of s.successor.configuration)) batch.items }
-    requires measured { AreMeasured (measure_of (M.words machine.now) (M.estimate machine.now) measure) (M.meaning machine.now tables.old) batch.items }
-    requires within { All (λ s. IsOriginWithin (length closed.old.keys) s.successor.origin) batch.items }
+    requires allowed { All (λ s. (M.meaning machine.now tables.old).allows s.successor.configuration) batch }
+    requires belongs { All (λ s. M.belongs machine.now ((M.meaning machine.now tables.old).point_of s.successor.configuration)) batch }
+    requires measured { AreMeasured (measure_of (M.words machine.now) (M.estimate machine.now) measure) (M.meaning machine.now tables.old) batch }
+    requires within { All (λ s. IsOriginWithin (length closed.old.keys) s.successor.origin) batch }
     ensures owned { OnOk result (M.owns machine.now tables.new) }
     ensures grown { OnOk result (IsGrown (M.meaning machine.now tables.old) (M.meaning machine.now tables.new)) }
     ensures known { OnOk result (All (M.meaning machine.now tables.new).knows closed.new.keys) }
-    ensures offered { OnOk result (AreOffered (measure_of (M.words machine.now) (M.estimate machine.now) measure) room (contents_at (M.meaning machine.now tables.new).point closed.old) (map (successor_at (M.meaning machine.now tables.old).point_of) (successors_of batch.items)) (contents_at (M.meaning machine.now tables.new).point closed.new)) }
+    ensures offered { OnOk result (AreOffered (measure_of (M.words machine.now) (M.estimate machine.now) measure) room (contents_at (M.meaning machine.now tables.new).point closed.old) (map (successor_at (M.meaning machine.now tables.old).point_of) (successors_of batch)) (contents_at (M.meaning machine.now tables.new).point closed.new)) }
     ensures keys { OnOk result ((more : List M.Configuration) × (closed.new.keys ≡ closed.old.keys ++ more)) }
     ensures origins { OnOk result ((more : List Origin) × (closed.new.origins ≡ closed.old.origins ++ more)) }
 {
-    let mut fits = Fitting::with_capacity(alloc, batch.len())?;
+    let mut fits = Fitting::with_capacity(alloc, batch.initial_len())?;
     for one in batch {
         put_aside(machine, tables, closed, &mut fits, one, measure, room)?;
     }

@@ -7,7 +7,7 @@ use Rattle.htn_level.proofs.order.expand_in_order.Goals as goal
 pub loop-rank-init : goal.loop-rank-init
 loop-rank-init g c =
     let has_successors = g.W.Expand.has_successors c.args.work.now in
-    subst (AreSuccessors has_successors c.args.first c.args.first) (sym c.new-successors.ensures.items) (no_ranks has_successors c.args.first)
+    subst (AreSuccessors has_successors c.args.first c.args.first) (sym c.in_ok-successors.ensures.items) (no_ranks has_successors c.args.first)
 
 pub loop-rank-preserved : goal.loop-rank-preserved
 loop-rank-preserved g c =

@@ -25,7 +25,7 @@ merge-requires-clause-allowed g c κs within =
     let keys = c.args.closed.now.keys in
     let all = block_whole m meaning beyond left keys (take c.args.to c.configurations.result.now) c.args.from c.args.to c.requires.within (ap (take c.args.to) c.configurations.ensures) c.in_ok-reached.field-0 c.in_ok-reached.ensures.expanded c.in-Whole.reached c.in-Whole.is in
     all_of_map (λ (t : Measured g.row.M-Reached.Denot). t.successor)
-    (λ (t : Successor g.row.M-Reached.Denot). meaning.allows t.configuration) c.in-Whole.reached.items all.0
+    (λ (t : Successor g.row.M-Reached.Denot). meaning.allows t.configuration) c.in-Whole.reached all.0
 
 pub merge-requires-clause-measured : goal.merge-requires-clause-measured
 merge-requires-clause-measured g c κs within =
@@ -49,9 +49,9 @@ merge-requires-clause-belongs g c κs within =
     let left = measure_of m (g.M.Machine.estimate machine) c.args.horizon.measure in
     let keys = c.args.closed.now.keys in
     let all = block_whole m meaning beyond left keys (take c.args.to c.configurations.result.now) c.args.from c.args.to c.requires.within (ap (take c.args.to) c.configurations.ensures) c.in_ok-reached.field-0 c.in_ok-reached.ensures.expanded c.in-Whole.reached c.in-Whole.is in
-    let plain = successors_of c.in-Whole.reached.items in
+    let plain = successors_of c.in-Whole.reached in
     all_of_map (λ (t : Measured g.row.M-Reached.Denot). t.successor)
-    (λ (t : Successor g.row.M-Reached.Denot). belongs (meaning.point_of t.configuration)) c.in-Whole.reached.items
+    (λ (t : Successor g.row.M-Reached.Denot). belongs (meaning.point_of t.configuration)) c.in-Whole.reached
     (all_of_map (successor_at meaning.point_of) (λ (t : Successor g.M.Machine.Point). belongs t.configuration) plain
     (expansion_belongs m beyond belongs (laws g machine) (map meaning.point keys) c.args.from c.args.to (points_belong old meaning belongs c.in_ok-prepare_ranks.ensures.grown keys c.requires.known)
     (map (successor_at meaning.point_of) plain) all.1))
@@ -65,9 +65,9 @@ merge-requires-clause-within g c κs within =
     let left = measure_of m (g.M.Machine.estimate machine) c.args.horizon.measure in
     let keys = c.args.closed.now.keys in
     let all = block_whole m meaning beyond left keys (take c.args.to c.configurations.result.now) c.args.from c.args.to c.requires.within (ap (take c.args.to) c.configurations.ensures) c.in_ok-reached.field-0 c.in_ok-reached.ensures.expanded c.in-Whole.reached c.in-Whole.is in
-    let plain = successors_of c.in-Whole.reached.items in
+    let plain = successors_of c.in-Whole.reached in
     all_of_map (λ (t : Measured g.row.M-Reached.Denot). t.successor)
-    (λ (t : Successor g.row.M-Reached.Denot). IsOriginWithin (length keys) t.origin) c.in-Whole.reached.items
+    (λ (t : Successor g.row.M-Reached.Denot). IsOriginWithin (length keys) t.origin) c.in-Whole.reached
     (all_of_map (successor_at meaning.point_of) (λ (t : Successor g.M.Machine.Point). IsOriginWithin (length keys) t.origin) plain
     (expansion_within m beyond (map meaning.point keys) c.args.from c.args.to (length keys) c.requires.within (map (successor_at meaning.point_of) plain) all.1))
 
@@ -83,7 +83,7 @@ returns-in_ok-merge-in-Whole-clause-known g c =
     let left = measure_of m (g.M.Machine.estimate machine) c.args.horizon.measure in
     let keys = c.args.closed.now.keys in
     let all = block_whole m meaning beyond left keys (take c.args.to c.configurations.result.now) c.args.from c.args.to c.requires.within (ap (take c.args.to) c.configurations.ensures) c.in_ok-reached.field-0 c.in_ok-reached.ensures.expanded c.in-Whole.reached c.in-Whole.is in
-    let reached = map (successor_at meaning.point_of) (successors_of c.in-Whole.reached.items) in
+    let reached = map (successor_at meaning.point_of) (successors_of c.in-Whole.reached) in
     let own = expansion_belongs m beyond belongs (laws g machine) (map meaning.point keys) c.args.from c.args.to (points_belong old meaning belongs c.in_ok-prepare_ranks.ensures.grown keys c.requires.known) reached all.1 in
     let grown = grown_more old meaning new c.in_ok-prepare_ranks.ensures.grown c.in_ok-merge-in-Whole.ensures.grown in
     all_owned new belongs c.merge.new.closed.keys c.in_ok-merge-in-Whole.ensures.known
@@ -101,7 +101,7 @@ returns-in_ok-merge-in-Whole-clause-whole g c =
     let left = measure_of m (g.M.Machine.estimate machine) c.args.horizon.measure in
     let keys = c.args.closed.now.keys in
     let all = block_whole m meaning beyond left keys (take c.args.to c.configurations.result.now) c.args.from c.args.to c.requires.within (ap (take c.args.to) c.configurations.ensures) c.in_ok-reached.field-0 c.in_ok-reached.ensures.expanded c.in-Whole.reached c.in-Whole.is in
-    let reached = map (successor_at meaning.point_of) (successors_of c.in-Whole.reached.items) in
+    let reached = map (successor_at meaning.point_of) (successors_of c.in-Whole.reached) in
     let known = known_still old meaning c.in_ok-prepare_ranks.ensures.grown keys (owned_known old (g.M.Machine.belongs machine) keys c.requires.known) in (
       reached,
       subst (λ l. IsExpansion (IsLiveStep m) (IsDone m) beyond l c.args.from c.args.to reached) (sym (same_points meaning new c.in_ok-merge-in-Whole.ensures.grown keys known)) all.1,

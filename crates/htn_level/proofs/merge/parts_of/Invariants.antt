@@ -1,7 +1,8 @@
 use Rattle.std.proofs.Common.{◌≡◌, ℕ, ◌+◌, All, IsSome, vec_len}
 use Rattle.std.specs.Vec.Iter.{into_iter_items, into_iter_len}
+use Rattle.htn_level.specs.Joined.{joined}
 use Rattle.htn_level.proofs.Slots.{HoldsFrom, AreOfPieces}
-use Rattle.htn_level.proofs.merge.join_slots.Given as goal
+use Rattle.htn_level.proofs.merge.parts_of.Given as goal
 
 abbrev pub invariant-loop-slot : goal.invariant-loop-slot
 invariant-loop-slot g l =
@@ -10,5 +11,5 @@ invariant-loop-slot g l =
       counted : n + into_iter_len l.slot-iterator ≡ vec_len l.fn.slots;
       full : All IsSome (into_iter_items l.slot-iterator);
       held : HoldsFrom (g.W.Expand.has_successors l.level.work.now) l.level.first l.level.last l.level.piece n (into_iter_items l.slot-iterator);
-      joined : AreOfPieces (g.W.Expand.has_successors l.level.work.now) l.level.first l.level.last l.level.piece n l.all.items;
+      joined : AreOfPieces (g.W.Expand.has_successors l.level.work.now) l.level.first l.level.last l.level.piece n (joined l.parts.items);
     }
