@@ -147,6 +147,13 @@ KeepsNumbers s t = (x : ℕ) → Knows s x → Knows t x × (numbered_at t x ≡
 pub keeps_more : (s t : NetworkTable) → IsMore s t → KeepsNumbers s t
 keeps_more s t more x known = (more_known s t x more known, more_same s t x more known)
 
+-- the number of the network at a place is that of its draft's network
+pub noted_place : (s t : NetworkTable) (jobs : List Job) (ns : List Numbered) (xs : List ℕ) (p : Place) (x : ℕ) → IsMore s t → All (λ (j : Job). Knows s j.network) jobs
+    → AreNumbersOf t xs ns → IsPlaced s jobs ns p → x ≡ get_or xs p.network x → IsNumberOf t x (draft_network t jobs p.draft)
+noted_place s t jobs ns xs p x more known are placed is =
+    let same = drafted_same s t jobs p.draft (all_more (λ (j : Job). Knows s j.network) (λ (j : Job). numbered_at t j.network ≡ numbered_at s j.network) (λ j own. (keeps_more s t more j.network own).1) jobs known) in
+    number_there t xs ns p.network x (draft_network t jobs p.draft) are placed.0 (placed.1 ∙ sym same) is
+
 -- a number that was noted of a draft is that of its network
 pub known_there : (t : NetworkTable) (job : Job) (notes : Notes) (at n : ℕ) (draft : Draft) (k : Known) (inner : Numbered) → AreKnownOf t job notes
     → slice_get notes.noted.now at ≡ Some (Some k) → k.number ≡ n → k.draft ≡ draft → draft.job ≡ notes.job → inner ≡ inner_at job.instances.now draft.instance

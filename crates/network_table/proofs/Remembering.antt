@@ -21,6 +21,7 @@ use Rattle.network_table.specs.declared.draft.Draft.{Draft}
 use Rattle.network_table.specs.declared.draft.Job.{Job}
 use Rattle.network_table.specs.declared.expansion.Expansion.{Expansion}
 use Rattle.network_table.specs.declared.expansion.Expansion.TheVariants.{Decomposed, Performed}
+use Rattle.network_table.specs.declared.made.Noted.{Noted}
 use Rattle.network_table.specs.declared.made.Made.{Made}
 use Rattle.network_table.specs.declared.notes.Known.{Known}
 use Rattle.network_table.specs.declared.table.NetworkTable.{NetworkTable}
@@ -243,11 +244,15 @@ first_all s t jobs k first all =
 -- what was made stays right while networks are added
 pub made_more : (s t : NetworkTable) (jobs : List Job) → AllKnown s jobs → IsMore s t → (r : Result Made AllocError) → HoldsMade s jobs r → HoldsMade t jobs r
 made_more s t jobs known more (Ok m) are =
-    let same : (d : Draft) → draft_network t jobs d ≡ draft_network s jobs d = λ d. drafted_same s t jobs d (all_more (λ (j : Job). Knows s j.network) (λ (j : Job). numbered_at t j.network ≡ numbered_at s j.network) (λ j own. (keeps_more s t more j.network own).1) jobs known) in
-    record {
-      within = subst (λ (l : List Child). All (IsWithin l) m.networks.items) (ap numbered_children (sym more.children)) are.within;
-      placed = all_more (IsPlaced s jobs m.networks.items) (IsPlaced t jobs m.networks.items) (λ p own. (own.0, own.1 ∙ sym (same p.draft))) m.places.items are.placed;
-    }
+    let same : (d : Draft) → draft_network t jobs d ≡ draft_network s jobs d = λ d. drafted_same s t jobs d (all_more (λ (j : Job). Knows s j.network) (λ (j : Job). numbered_at t j.network ≡ numbered_at s j.network) (λ j own. (keeps_more s t more j.network own).1) jobs known) in (
+      record {
+        within = subst (λ (l : List Child). All (IsWithin l) m.networks.items) (ap numbered_children (sym more.children)) are.0.within;
+        placed = all_more (IsPlaced s jobs m.networks.items) (IsPlaced t jobs m.networks.items) (λ p own. (own.0, own.1 ∙ sym (same p.draft))) m.places.items are.0.placed;
+      },
+      all_more (λ (n : Noted). IsKnown s jobs n.known) (λ (n : Noted). IsKnown t jobs n.known)
+          (λ n own. (let after = keeps_more s t more n.known.number own.0 in (after.0, after.1 ∙ own.1 ∙ sym (same n.known.draft))))
+          m.noted.items are.1,
+    )
 made_more s t jobs known more (Err e) are = tt
 
 -- what holds of all holds of the first

@@ -1,5 +1,5 @@
 -- Networks that others become, listed before they are made.
-use Rattle.std.specs.Prelude.{◌≡◌, ℕ, ◌<◌, List, map, length, get_or, slice_get, All, IfOk, IfSome, IsSome, Option, None, Some, Result}
+use Rattle.std.specs.Prelude.{⊤, ◌≡◌, ℕ, ◌<◌, List, map, length, get_or, slice_get, All, IfOk, IfSome, IsSome, Option, None, Some, Result}
 use Rattle.std.specs.declared.alloc.AllocError.{AllocError}
 use Rattle.std.specs.declared.alloc.Global.{Global}
 use Rattle.std.specs.declared.vec.Vec.{Vec}
@@ -10,6 +10,9 @@ use Rattle.network_table.specs.declared.assemble.Found.{Found}
 use Rattle.network_table.specs.declared.draft.Draft.{Draft}
 use Rattle.network_table.specs.declared.draft.Job.{Job}
 use Rattle.network_table.specs.declared.made.Made.{Made}
+use Rattle.network_table.specs.declared.made.Noted.{Noted}
+use Rattle.network_table.specs.declared.made.Standing.{Standing}
+use Rattle.network_table.specs.declared.made.Standing.TheVariants.{Unknown, MadeAt, HasNumber}
 use Rattle.network_table.specs.declared.made.Place.{Place}
 use Rattle.network_table.specs.declared.notes.Known.{Known}
 use Rattle.network_table.specs.declared.notes.Notes.{Notes}
@@ -38,13 +41,23 @@ pub record AreMade (t : NetworkTable) (jobs : List Job) (networks : List Numbere
   pub within : All (IsWithin (children t)) networks
   pub placed : All (IsPlaced t jobs networks) places
 
--- what a worker gives, if its memory does not run out
-abbrev pub HoldsMade : NetworkTable → List Job → Result Made AllocError → Type 0
-HoldsMade t jobs r = IfOk r (λ m. AreMade t jobs m.networks.items m.places.items)
-
 -- the number is that of the draft's network
 abbrev pub IsKnown : NetworkTable → List Job → Known → Type 0
 IsKnown t jobs k = IsNumberOf t k.number (draft_network t jobs k.draft)
+
+-- so are those of drafts whose networks were found in the table
+abbrev pub AreNoted : NetworkTable → List Job → List Noted → Type 0
+AreNoted t jobs noted = All (λ n. IsKnown t jobs n.known) noted
+
+-- a network stands at this place among some, or has this number
+abbrev pub Stands : NetworkTable → List Numbered → Numbered → Standing → Type 0
+Stands t networks x Unknown = ⊤
+Stands t networks x (MadeAt place) = (place < length networks) × (get_or networks place nothing ≡ x)
+Stands t networks x (HasNumber number) = IsNumberOf t number x
+
+-- what a worker gives, if its memory does not run out
+abbrev pub HoldsMade : NetworkTable → List Job → Result Made AllocError → Type 0
+HoldsMade t jobs r = IfOk r (λ m. AreMade t jobs m.networks.items m.places.items × AreNoted t jobs m.noted.items)
 
 -- so are those that are noted
 abbrev pub AreKnown : NetworkTable → List Job → List (Option Known) → Type 0

@@ -1,13 +1,15 @@
 //! What becomes of many networks, found by several workers.
-ghost use Rattle.std.specs.Prelude.{◌≡◌, ◌<◌, ℕ, All, IfOk, OnOk, IsSome};
+ghost use Rattle.std.specs.Prelude.{◌≡◌, ◌<◌, ℕ, All, IfOk, OnOk, IsSome, List};
 ghost use Rattle.network_table.specs.Numbered.{IsWithin};
 ghost use Rattle.network_table.specs.Networks.{children, expansion_at, IsGrown, IsMore, IsWhole, Knows};
 ghost use Rattle.network_table.specs.Expansions.{AreInstances, IsSound, Live};
-ghost use Rattle.network_table.specs.Drafts.{AreExpanded, AreKnown, AreMade, AreNumbersOf, AreRemembered, HoldsFound, HoldsMade, IsFound};
+ghost use Rattle.network_table.specs.declared.draft.Job.{Job as Jobs};
+ghost use Rattle.network_table.specs.declared.table.NetworkTable.{NetworkTable as Networks};
+ghost use Rattle.network_table.specs.Drafts.{AreExpanded, AreKnown, AreMade, AreNoted, AreNumbersOf, AreRemembered, HoldsFound, HoldsMade, IsFound, IsKnown};
 
 use crate::assemble::Found;
 use crate::draft::{Job, Listed, starts_of};
-use crate::made::Made;
+use crate::made::{Made, Noted};
 use crate::network::Network;
 use crate::notes::Known;
 use crate::table::NetworkTable;
@@ -16,6 +18,15 @@ use std::thread::{Threads, map_indices};
 
 /// The work is cut into so many parts for each worker, so that all end at about the same time.
 const PARTS: usize = 4;
+
+/// Notes the number of a draft's network where the draft is listed.
+fn note_at(noted: &mut Vec<Option<Known>>, at: usize, known: Known)
+    ensures { (t : Networks) (jobs : List Jobs) → IsKnown t jobs known → AreKnown t jobs noted.old.items → AreKnown t jobs noted.new.items }
+{
+    if at < noted.len() {
+        noted[at] = Some(known);
+    }
+}
 
 impl NetworkTable {
     /// The numbers of networks, which they may get only now.
@@ -31,6 +42,18 @@ impl NetworkTable {
             numbers.push(self.keep(network)?)?;
         }
         Ok(numbers)
+    }
+
+    /// Notes the numbers of the drafts whose networks were found in the table. (The table and the jobs are named for the
+    /// contract alone.)
+    fn note_found(&self, jobs: &[Job], found: &[Noted], noted: &mut Vec<Option<Known>>)
+        requires found { AreNoted self.now jobs.now found.now }
+        requires noted { AreKnown self.now jobs.now noted.old.items }
+        ensures { AreKnown self.now jobs.now noted.new.items }
+    {
+        for one in found {
+            note_at(noted, one.at, one.known);
+        }
     }
 
     /// Numbers what was made, and notes for each draft the number of its network.
@@ -49,15 +72,20 @@ impl NetworkTable {
         ensures more { OnOk result (IsMore self.old self.new) }
         ensures noted { OnOk result (AreKnown self.new jobs.now noted.new.items) }
     {
-        let Made { networks, places } = made;
+        let Made {
+            networks,
+            places,
+            noted: _,
+        } = made;
         let numbers = self.keep_all(alloc, networks)?;
-        for place in &places {
-            if place.at < noted.len() {
-                noted[place.at] = Some(Known {
-                    draft: place.draft,
-                    number: numbers[place.network],
-                });
-            }
+        for index in 0..places.len() {
+            let place = places[index];
+            let number = numbers[place.network];
+            let known = Known {
+                draft: place.draft,
+                number,
+            };
+            note_at(noted, place.at, known);
         }
         Ok(())
     }
@@ -79,7 +107,9 @@ impl NetworkTable {
     {
         let mut noted: Vec<Option<Known>> = vec![in alloc; None; count]?;
         for made in shards {
-            self.note_made(alloc, jobs, made?, &mut noted)?;
+            let made = made?;
+            self.note_found(jobs, &made.noted, &mut noted);
+            self.note_made(alloc, jobs, made, &mut noted)?;
         }
         Ok(noted)
     }

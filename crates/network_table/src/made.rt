@@ -1,12 +1,13 @@
 //! Makes what many networks become.
-ghost use Rattle.std.specs.Prelude.{◌≡◌, ◌<◌, ◌++◌, List, All, IfOk, IfSome, OnOk, length, get_or};
-ghost use Rattle.network_table.specs.Numbered.{Numbered, IsWithin};
+ghost use Rattle.std.specs.Prelude.{◌≡◌, ◌<◌, true, List, All, IfOk, IfSome, OnOk, length, get_or};
+ghost use Rattle.network_table.specs.Numbered.{IsWithin};
 ghost use Rattle.network_table.specs.Networks.{children, nothing, IsWhole, Knows};
 ghost use Rattle.htn_model.specs.Problem.{Child};
-ghost use Rattle.network_table.specs.Drafts.{draft_network, inner_at, AreMade};
+ghost use Rattle.network_table.specs.Drafts.{draft_network, inner_at, AreMade, AreNoted, Stands};
 
 use crate::draft::{Draft, Job, Listed, shard_of};
 use crate::network::Network;
+use crate::notes::Known;
 use crate::table::NetworkTable;
 use htn_order::Order;
 use indexmap::IndexMap;
@@ -20,11 +21,28 @@ pub(crate) struct Place {
     pub(crate) network: usize,
 }
 
-/// Networks that were made of drafts, with the places of the drafts.
+/// The number of the network of a draft, and where the draft is listed.
+#[derive(Clone, Copy, Drop)]
+pub(crate) struct Noted {
+    pub(crate) at: usize,
+    pub(crate) known: Known,
+}
+
+/// Networks that were made of drafts, with the places of the drafts; and the drafts whose networks have numbers already.
 #[derive(Drop)]
 pub(crate) struct Made {
     pub(crate) networks: Vec<Network>,
     pub(crate) places: Vec<Place>,
+    pub(crate) noted: Vec<Noted>,
+}
+
+/// Where a network stands, as far as it was looked for: at a place among those that were made, or in the table, by its
+/// number.
+#[derive(Clone, Copy, Drop)]
+pub(crate) enum Standing {
+    Unknown,
+    MadeAt(usize),
+    HasNumber(u32),
 }
 
 /// The network of no nodes.
@@ -53,19 +71,11 @@ fn inner_of<'a>(
     Some(&instances[place])
 }
 
-/// The place of a network among some, where a hint tells a place to look at.
-fn place_of(networks: &mut Vec<Network>, hint: usize, network: Network) -> Result<usize, AllocError>
-    ensures inside { IfOk result (λ p. p < length networks.new.items) }
-    ensures there { IfOk result (λ p. get_or networks.new.items p nothing ≡ network) }
-    ensures more { OnOk result ((more : List Numbered) × (networks.new.items ≡ networks.old.items ++ more)) }
-    ensures within { OnOk result ((l : List Child) → IsWithin l network → All (IsWithin l) networks.old.items → All (IsWithin l) networks.new.items) }
+/// Whether a network stands at a place among some.
+fn is_at(networks: &[Network], place: usize, network: &Network) -> bool
+    ensures { result ≡ true → (place < length networks.now) × (get_or networks.now place nothing ≡ network.now) }
 {
-    if hint < networks.len() && networks[hint] == network {
-        return Ok(hint);
-    }
-    let place = networks.len();
-    networks.push(network)?;
-    Ok(place)
+    place < networks.len() && networks[place] == *network
 }
 
 impl NetworkTable {
@@ -93,32 +103,71 @@ impl NetworkTable {
         Ok(Some(next))
     }
 
-    /// Makes the network of a draft that is listed at a place, unless it was made and the hint tells
-    /// where it stands, and gives the place where it stands.
+    /// Where a network stands among those that were made, or in the table. It is looked for in the table, but where it
+    /// stands where the hint tells.
+    fn standing_of(&self, networks: &[Network], hint: Standing, network: &Network) -> Standing
+        requires { IsWhole self.now }
+        ensures { Stands self.now networks.now network.now result }
+    {
+        if let Standing::MadeAt(place) = hint {
+            if is_at(networks, place, network) {
+                return Standing::MadeAt(place);
+            }
+        }
+        if let Standing::HasNumber(number) = hint {
+            if is_at(self.networks(), number as usize, network) {
+                return Standing::HasNumber(number);
+            }
+        }
+        match self.number_of(network) {
+            Some(number) => Standing::HasNumber(number),
+            None => Standing::Unknown,
+        }
+    }
+
+    /// Makes the network of a draft that is listed at a place, and adds the place, or the network's number if it has
+    /// one; and it adds the network, if it stands nowhere. It gives where the network stands.
     fn add(
         &self,
         alloc: Global,
         jobs: &[Job],
         made: &mut Made,
-        hint: usize,
+        hint: Standing,
         at: usize,
         draft: Draft,
-    ) -> Result<usize, AllocError>
+    ) -> Result<Standing, AllocError>
         requires whole { IsWhole self.now }
         requires known { All (λ j. Knows self.now j.network) jobs.now }
         requires within { All (λ j. All (IsWithin (children self.now)) j.instances.now) jobs.now }
         requires made { AreMade self.now jobs.now made.old.networks.items made.old.places.items }
-        ensures { OnOk result (AreMade self.now jobs.now made.new.networks.items made.new.places.items) }
+        requires noted { AreNoted self.now jobs.now made.old.noted.items }
+        ensures made { OnOk result (AreMade self.now jobs.now made.new.networks.items made.new.places.items) }
+        ensures noted { OnOk result (AreNoted self.now jobs.now made.new.noted.items) }
     {
         let Some(next) = self.make(alloc, jobs, draft)? else {
             return Ok(hint);
         };
-        let network = place_of(&mut made.networks, hint, next)?;
-        made.places.push(Place { at, draft, network })?;
-        Ok(network)
+        let standing = self.standing_of(&made.networks, hint, &next);
+        match standing {
+            Standing::HasNumber(number) => {
+                let known = Known { draft, number };
+                made.noted.push(Noted { at, known })?;
+                Ok(standing)
+            }
+            Standing::MadeAt(network) => {
+                made.places.push(Place { at, draft, network })?;
+                Ok(standing)
+            }
+            Standing::Unknown => {
+                let network = made.networks.len();
+                made.networks.push(next)?;
+                made.places.push(Place { at, draft, network })?;
+                Ok(Standing::MadeAt(network))
+            }
+        }
     }
 
-    /// Makes the networks of the drafts that fall to a shard, equal ones mostly once.
+    /// Makes the networks of the drafts that fall to a shard, equal ones mostly once, and finds those that have numbers.
     pub(crate) fn make_shard(
         &self,
         alloc: Global,
@@ -131,25 +180,26 @@ impl NetworkTable {
         requires known { All (λ j. Knows self.now j.network) jobs.now }
         requires within { All (λ j. All (IsWithin (children self.now)) j.instances.now) jobs.now }
         requires count { 0 < count }
-        ensures { IfOk result (λ m. AreMade self.now jobs.now m.networks.items m.places.items) }
+        ensures { IfOk result (λ m. AreMade self.now jobs.now m.networks.items m.places.items × AreNoted self.now jobs.now m.noted.items) }
     {
         let mut made = Made {
             networks: Vec::new(alloc),
             places: Vec::new(alloc),
+            noted: Vec::new(alloc),
         };
-        let mut by_digest: IndexMap<u64, usize> = IndexMap::new(alloc);
+        let mut by_digest: IndexMap<u64, Standing> = IndexMap::new(alloc);
         for at in 0..drafts.len() {
             let listed = drafts[at];
             if shard_of(listed.digest, count) != shard {
                 continue;
             }
             let hint = match by_digest.get(&listed.digest) {
-                Some(place) => *place,
-                None => usize::MAX,
+                Some(standing) => *standing,
+                None => Standing::Unknown,
             };
-            let place = self.add(alloc, jobs, &mut made, hint, at, listed.draft)?;
-            if place != hint {
-                by_digest.insert(listed.digest, place)?;
+            let standing = self.add(alloc, jobs, &mut made, hint, at, listed.draft)?;
+            if matches!(hint, Standing::Unknown) {
+                by_digest.insert(listed.digest, standing)?;
             }
         }
         Ok(made)

@@ -128,6 +128,18 @@ impl NetworkTable {
         self.expansions[number as usize].as_ref()
     }
 
+    /// The number of a network, if it has one that a word of 32 bits holds. It takes no memory.
+    pub(crate) fn number_of(&self, network: &Network) -> Option<u32>
+        ensures some { IfSome result (λ n. IsNumberOf self.now n network.now) }
+        ensures none { IfNone result ((n : ℕ) → n < 2 ^ 32 → IsNumberOf self.now n network.now → ⊥) }
+    {
+        let place = self.networks.get_index_of(network)?;
+        let Ok(number) = u32::try_from(place) else {
+            return None;
+        };
+        Some(number)
+    }
+
     /// The number of a network, which it may get only now.
     pub fn keep(&mut self, network: Network) -> Result<u32, AllocError>
         requires whole { IsWhole self.old }

@@ -106,7 +106,7 @@ impl<C: Drop> Fitting<C> {
 }
 
 // Of several workers each has so many at least.
-const FEW: usize = 250;
+const FEW: usize = 1_000;
 
 // Adds a link if it is that of a new one; there is room for it.
 fn push_link(links: &mut Vec<Link>, link: Link, is_new: bool)
@@ -229,16 +229,28 @@ impl<C: Eq + Hash + Copy + Drop + Send + Sync> Closed<C> {
     }
 
     /// Whether to leave out another one, past the room by so much, tells nothing more: some was left out that was no
-    /// further past it, and how far each is isn't counted so far past it.
+    /// further past it.
     pub fn has_cut_within(&self, past: u64) -> bool
         ensures any { result ≡ true → self.now.cut.any ≡ true }
         ensures past { result ≡ true → self.now.cut.past ≤ past }
     {
-        past >= NEAR && self.was_cut && self.least_past <= past
+        self.was_cut && self.least_past <= past
     }
 
-    /// The most steps that may be left of a successor, where there is room for so many, if it is not to be passed over:
-    /// one that is more is as far past the room as `has_cut_within` asks. None where none is passed over.
+    /// Counts one that is passed over, past the room by so much, with those that were left out, and notes from where it
+    /// came: for speed alone. It isn't looked for, so one that is in the list may be counted too.
+    pub fn count_passed_over(&mut self, origin: Origin, past: u64)
+        ensures { self.new ≡ self.old }
+    {
+        if past < NEAR {
+            self.overshoots.add(past);
+            self.edge.add(origin);
+        }
+    }
+
+    /// The most steps that may be left of a successor, where there is room for so many, if it is to be counted by the
+    /// merge: one that is more is as far past the room as `has_cut_within` asks, and too far to be counted. None where
+    /// none is passed over.
     pub fn most_left(&self, room: u64) -> Option<u64>
         ensures any { IfSome result (λ most. self.now.cut.any ≡ true) }
         ensures past { IfSome result (λ most. (left : ℕ) → most < left → (room < left) × (self.now.cut.past ≤ left - room)) }

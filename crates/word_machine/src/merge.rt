@@ -89,6 +89,7 @@ fn put_aside<M: Machine>(
         return Ok(());
     }
     if closed.has_cut_within(left - room) {
+        closed.count_passed_over(origin, left - room);
         return Ok(());
     }
     let Some(found) = machine.find(tables, &configuration) else {
@@ -100,8 +101,8 @@ fn put_aside<M: Machine>(
 }
 
 /// Offers what workers reached to the closed list, in their order. There is room for so many steps more, by this
-/// measure. What is past it gets no number: where the tables have none for it, it is not in the list. What is far past
-/// it is passed over, once some was left out that was no further. (The measure is named for the contract alone: each
+/// measure. What is past it gets no number: where the tables have none for it, it is not in the list. Once some was left
+/// out, what is no nearer is passed over, and looked for nowhere. (The measure is named for the contract alone: each
 /// has beside it how many steps are left by it.)
 pub fn merge<M: Machine, R: Threads + Sync>(
     rt: &R,

@@ -1,6 +1,7 @@
 use Rattle.std.proofs.Common.{true, ◌≡◌, ◌-◌, ◌<◌, ◌≤◌, ◌++◌, ◌∷◌, [], ap, ◌∙◌, sym, subst}
 use Rattle.word_machine.specs.declared.closed.Successor.{Successor}
 use Rattle.word_machine.specs.Answer.{measure_of}
+use Rattle.word_machine.specs.Aside.{with_aside}
 use Rattle.word_machine.specs.Contents.{IsOffered, cut_more, fitting}
 use Rattle.word_machine.specs.Meaning.{IsOneToOne, contents_at, successor_at}
 use Rattle.word_machine.proofs.Aside.{aside_still, fit_offered, fitting-All, fitting-push, found_offered, kept, none_offered, past_offered}
@@ -70,14 +71,18 @@ returns-then-has_cut_within-clause-offered g c =
     let s = c.args.one.successor in
     let fits = c.args.fits.now in
     let is_left : c.args.one.left ≡ left (meaning.point_of s.configuration) = c.requires.measured in
-    past_offered g.M.Configuration.PartialEq.eq (same g) (reflexive g) meaning.knows meaning.point
+    let eq = g.M.Configuration.PartialEq.eq in
+    subst (λ l. IsOffered (contents_at meaning.point (with_aside eq closed fits)) (successor_at meaning.point_of s)
+    (left (meaning.point_of s.configuration)) room (contents_at meaning.point (with_aside eq l fits)))
+    (sym c.count_passed_over.ensures)
+    (past_offered eq (same g) (reflexive g) meaning.knows meaning.point
     (one g machine c.args.tables.now c.requires.own) left room closed
     (fitting fits.links.items fits.configurations.items) c.requires.known
     (fitting-All meaning.knows fits.links.items fits.configurations.items c.requires.aside.known)
     (fitting-All (λ x. left (meaning.point x) ≤ room) fits.links.items fits.configurations.items c.requires.aside.fit)
     (successor_at meaning.point_of s) (subst (λ n. room < n) is_left c.if-left-room.false)
     (c.has_cut_within.ensures.any c.if-has_cut_within.true)
-    (subst (λ n. closed.cut.past ≤ n - room) is_left (c.has_cut_within.ensures.past c.if-has_cut_within.true))
+    (subst (λ n. closed.cut.past ≤ n - room) is_left (c.has_cut_within.ensures.past c.if-has_cut_within.true)))
 
 pub returns-in_default-clause-offered : goal.returns-in_default-clause-offered
 returns-in_default-clause-offered g c =

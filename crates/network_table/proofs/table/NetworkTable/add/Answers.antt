@@ -1,20 +1,32 @@
-use Rattle.std.proofs.Common.{◌≡◌, sym, subst, IfSome}
-use Rattle.network_table.specs.Networks.{children}
-use Rattle.network_table.specs.Numbered.{IsWithin}
-use Rattle.network_table.specs.Drafts.{AreMade, draft_network}
+use Rattle.std.proofs.Common.{◌≡◌, ◌<◌, ◌∙◌, length, get_or, All, IfSome, append-nil, sym, subst, []}
+use Rattle.std.proofs.lemmas.List.Elements.{All-push}
+use Rattle.network_table.specs.Networks.{nothing}
+use Rattle.network_table.specs.Drafts.{AreMade, IsKnown, draft_network}
+use Rattle.network_table.specs.declared.made.Noted.{Noted}
 use Rattle.network_table.specs.declared.made.Place.{Place}
 use Rattle.network_table.proofs.Drafting.{made_push}
 use Rattle.network_table.proofs.table.NetworkTable.add.Goals as goal
 
-pub returns : goal.returns
-returns c =
+pub returns-in_ok-push-in-HasNumber-clause-noted : goal.returns-in_ok-push-in-HasNumber-clause-noted
+returns-in_ok-push-in-HasNumber-clause-noted c =
     let t = c.args.self.now in
     let jobs = c.args.jobs.now in
-    let networks = c.place_of.new.networks.items in
-    let added = c.in_ok-network.ensures in
-    let before = c.requires.made in
-    let place : Place = record { at = c.args.at; draft = c.args.draft; network = c.in_ok-network.network } in
-    let own = subst (λ o. IfSome o (λ n. IsWithin (children t) n)) c.in-Some.is c.in_ok-next.ensures.within in
+    let is_known = λ (n : Noted). IsKnown t jobs n.known in
+    let one : Noted = record { at = c.args.at; known = record { draft = c.args.draft; number = c.in-HasNumber.number } } in
     let value = subst (λ o. IfSome o (λ n. n ≡ draft_network t jobs c.args.draft)) c.in-Some.is c.in_ok-next.ensures.value in
-    subst (λ ps. AreMade t jobs networks ps) (sym c.in_ok-push.ensures.items)
-    (made_push t jobs c.args.made.now.networks.items networks added.more.0 c.args.made.now.places.items place c.in-Some.next before added.more.1 (added.within (children t) own before.within) added.inside added.there value)
+    let stands = c.in-HasNumber.ensures in
+    subst (All is_known) (sym c.in_ok-push-in-HasNumber.ensures.items)
+    (All-push is_known c.args.made.now.noted.items one c.requires.noted (stands.0, stands.1 ∙ value))
+
+pub returns-in_ok-push-in-MadeAt-clause-made : goal.returns-in_ok-push-in-MadeAt-clause-made
+returns-in_ok-push-in-MadeAt-clause-made c =
+    let t = c.args.self.now in
+    let jobs = c.args.jobs.now in
+    let made = c.args.made.now in
+    let networks = made.networks.items in
+    let before = c.requires.made in
+    let place : Place = record { at = c.args.at; draft = c.args.draft; network = c.in-MadeAt.network } in
+    let value = subst (λ o. IfSome o (λ n. n ≡ draft_network t jobs c.args.draft)) c.in-Some.is c.in_ok-next.ensures.value in
+    let stands = subst (λ ns. (c.in-MadeAt.network < length ns) × (get_or ns c.in-MadeAt.network nothing ≡ c.in-Some.next)) c.deref.ensures.value c.in-MadeAt.ensures in
+    subst (λ ps. AreMade t jobs networks ps) (sym c.in_ok-push-in-MadeAt.ensures.items)
+    (made_push t jobs networks networks [] c.args.made.now.places.items place c.in-Some.next before (sym (append-nil networks)) before.within stands.0 stands.1 value)
