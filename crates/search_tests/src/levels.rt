@@ -222,7 +222,7 @@ fn an_empty_level_is_whole(rt: HostRuntime) -> Result<(), Fail> {
     };
     let answer = expand_level(&rt, rt.alloc(), level, 64, &NoGate).map_err(|_| "expanded")?;
     let is_empty = match answer {
-        ExpandedLevel::Whole(made) => made.count() == 0,
+        ExpandedLevel::Whole(mut made) => made.next().is_none(),
         ExpandedLevel::Done { .. } => false,
     };
     assert!(rt; is_empty);
