@@ -25,7 +25,7 @@ pub fn expand_in_order<W: Expand>(
     requires can { (rank : ℕ) → first ≤ rank → rank < last → W.can_expand work.now rank }
     ensures { IfOk result (IsExpanded (W.has_successors work.now) (W.finishes work.now) first last) }
 {
-    let mut successors = Vec::with_capacity(alloc, (last - first).saturating_mul(2))?;
+    let mut successors = Vec::with_capacity(alloc, (last - first).saturating_mul(4))?;
     for rank in first..last {
         if let Some(finish) = work.expand(rank, &mut successors)? {
             return Ok(Expanded::Done { rank, finish });

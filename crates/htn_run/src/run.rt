@@ -8,9 +8,10 @@ use crate::answer::write_answer;
 use crate::outcome::{Outcome, RunFault};
 use crate::texts::task_of;
 use htn_plan::Out;
-use htn_search::{Bounds, Gate, search};
+use htn_search::{Bounds, Gate, search_with_tables};
 use htn_task::Task;
 use std::alloc::Global;
+use std::mem;
 use std::sync::Wait;
 use std::thread::Threads;
 
@@ -44,6 +45,9 @@ pub fn run_plan<O: Out, G: Gate, R: Threads + Wait + Sync>(
 }
 
 /// Searches a task within the bounds, and writes the answer, as `run_plan` does from the texts on.
+///
+/// It is the run of a process: what the search numbered is left to the end of the process, since to free it takes up to
+/// a tenth of a long search. Who goes on after it, and searches again, calls `htn_search::search`.
 pub fn run_task<O: Out, G: Gate, R: Threads + Wait + Sync>(
     rt: &R,
     alloc: Global,
@@ -59,6 +63,7 @@ pub fn run_task<O: Out, G: Gate, R: Threads + Wait + Sync>(
     ensures cut_short { IfErr result (λ fault. fault ≡ Output
         → IsCutShort task.now bounds.nodes (O.contents out.old) (O.contents out.new) × (O.has_failed out.new ≡ true)) }
 {
-    let answer = search(rt, alloc, task, bounds, gate)?;
+    let (answer, tables) = search_with_tables(rt, alloc, task, bounds, gate)?;
+    mem::forget(tables);
     write_answer(alloc, task, bounds.nodes, &answer, out)
 }

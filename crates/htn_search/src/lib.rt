@@ -12,5 +12,5 @@ mod walk;
 
 pub use answer::Answer;
 pub use solution::rebuild;
-pub use solve::{find_word, finishes, search};
+pub use solve::{find_word, finishes, search, search_with_tables};
 pub use word_machine::{Bounds, Found, Gate, NoGate, SearchFault};

@@ -181,6 +181,23 @@ fn answer_from(
     }
 }
 
+/// The answer of `search`, and the tables of all that the search numbered. To free these takes up to a tenth of a long
+/// search: a process that ends after it may leave them to its end.
+pub fn search_with_tables<G: Gate, R: Threads + Wait + Sync>(
+    rt: &R,
+    alloc: Global,
+    task: &Task,
+    bounds: Bounds,
+    gate: &G,
+) -> Result<(Answer, Tables), SearchFault>
+    ensures answer { IfOk result (λ r. Answers task.now bounds.nodes r.0) }
+    ensures no_thread { IfErr result (λ e. e ≡ NoThread → 1 < bounds.workers) }
+{
+    let searched = find_ranks(rt, alloc, task, bounds, gate)?;
+    let answer = answer_from(alloc, task, &searched)?;
+    Ok((answer, searched.tables))
+}
+
 /// The solution of fewest nodes and then of least code; or that none is within the bound, or none
 /// at all. `SearchFault::NoThread` never comes with one worker. No number of an instance is counted.
 pub fn search<G: Gate, R: Threads + Wait + Sync>(
@@ -193,8 +210,7 @@ pub fn search<G: Gate, R: Threads + Wait + Sync>(
     ensures answer { IfOk result (Answers task.now bounds.nodes) }
     ensures no_thread { IfErr result (λ e. e ≡ NoThread → 1 < bounds.workers) }
 {
-    let searched = find_ranks(rt, alloc, task, bounds, gate)?;
-    let answer = answer_from(alloc, task, &searched)?;
+    let (answer, _tables) = search_with_tables(rt, alloc, task, bounds, gate)?;
     Ok(answer)
 }
 

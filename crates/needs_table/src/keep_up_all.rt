@@ -16,7 +16,7 @@ use std::alloc::{AllocError, Global};
 use std::thread::{Threads, map_indices};
 
 /// The work of several workers is cut into so many parts for each, so that none waits long for another.
-const PARTS: usize = 4;
+const PARTS: usize = 2;
 
 /// How many parts so many workers take.
 fn parts_for(workers: usize) -> usize

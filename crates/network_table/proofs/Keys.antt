@@ -4,7 +4,7 @@ use Rattle.std.specs.Prelude.{position, IfNone, Option}
 use Rattle.std.specs.List.{IsDistinct, list_any, position_or_len}
 use Rattle.std.specs.Bool.{Decides}
 use Rattle.std.proofs.lemmas.Bool.{cases_lt, lt-ltb, le-ltb}
-use Rattle.std.proofs.lemmas.List.{length-map, get_or-map}
+use Rattle.std.proofs.lemmas.List.{length-map, get_or-map, map-id}
 use Rattle.std.proofs.lemmas.List.Sums.{passes_at_first, fails_before_first}
 use Rattle.std.proofs.lemmas.Map.Made.{AllPairs-from_IsDistinct}
 use Rattle.std.proofs.lemmas.Map.Keys.{apart_from_distinct}
@@ -143,27 +143,22 @@ module _ {K X : Type 0} (eq : K → K → Bool) (view : K → X) (same : (a b : 
       let first = first_view id inside at in
       omega arith
 
--- a list where nothing is changed is the same
-map_itself : {K : Type 0} (keys : List K) → map (λ k. k) keys ≡ keys
-map_itself [] = refl
-map_itself (k ∷ keys) = ap (λ l. k ∷ l) (map_itself keys)
-
 module _ {K : Type 0} (eq : K → K → Bool) (same : (a b : K) → Decides (eq a b) (a ≡ b)) (d q : K) (keys : List K) where
   -- a key that was found is the one that was sought
   pub found_key : (n : ℕ) → position (eq q) keys ≡ Some n → (n < length keys) × (get_or keys n d ≡ q)
-  found_key n is = subst (λ ks. (n < length ks) × (get_or ks n d ≡ q)) (map_itself keys) (found_view eq (λ k. k) same d q keys n is)
+  found_key n is = subst (λ ks. (n < length ks) × (get_or ks n d ≡ q)) (map-id keys) (found_view eq (λ k. k) same d q keys n is)
 
   -- one that was not found stands nowhere
   pub absent_key : position (eq q) keys ≡ None → (id : ℕ) → id < length keys → get_or keys id d ≡ q → ⊥
   absent_key is id inside at =
-      absent_view eq (λ k. k) same d q keys is id (subst (λ ks. id < length ks) (sym (map_itself keys)) inside)
-      (subst (λ ks. get_or ks id d ≡ q) (sym (map_itself keys)) at)
+      absent_view eq (λ k. k) same d q keys is id (subst (λ ks. id < length ks) (sym (map-id keys)) inside)
+      (subst (λ ks. get_or ks id d ≡ q) (sym (map-id keys)) at)
 
   -- one that was found at a place stands nowhere before
   pub late_key : (n : ℕ) → position (eq q) keys ≡ Some n → (id : ℕ) → id < n → id < length keys → get_or keys id d ≡ q → ⊥
   late_key n is id before inside at =
-      late_view eq (λ k. k) same d q keys n is id before (subst (λ ks. id < length ks) (sym (map_itself keys)) inside)
-      (subst (λ ks. get_or ks id d ≡ q) (sym (map_itself keys)) at)
+      late_view eq (λ k. k) same d q keys n is id before (subst (λ ks. id < length ks) (sym (map-id keys)) inside)
+      (subst (λ ks. get_or ks id d ≡ q) (sym (map-id keys)) at)
 
 -- what holds anyway holds where there is none
 pub none_either : {A P : Type 0} (o : Option A) → P → IfNone o P

@@ -1,10 +1,11 @@
 -- Networks whose nodes are numbers, and what they stand for.
-use Rattle.std.specs.Prelude.{◌≡◌, ℕ, ◌<◌, ◌++◌, List, map, length, Bool, nat_eq, refl, All}
+use Rattle.std.specs.Prelude.{◌≡◌, ℕ, ◌<◌, ◌++◌, List, map, length, fold, Bool, nat_eq, refl, All}
 use Rattle.std.specs.Bool.{Decides}
 use Rattle.std.specs.Cmp.{IsEquivalence, IsPartialEquivalence, partial_equiv_from_equiv, unsigned_Decides, decided, first_so, second_so}
 use Rattle.std.specs.Cmp.Lexicographic.{pointwise, pointwise_decides}
 use Rattle.std.specs.Coded.{Coded, code_by, coded×, coded_ℕ, coded_list}
 use Rattle.std.specs.Hash as fed
+use Rattle.std.specs.Hash.FoldHasher as folding
 use Rattle.std.specs.Hash.{HashWrites, Alike, same_Alike}
 use Rattle.std.specs.Ordering.{on, eq_of_both}
 use Rattle.std.proofs.Common.{ap}
@@ -49,9 +50,13 @@ numbered_eq-laws = decided numbered_eq numbered_eq-decides
 pub numbered_eq-partial : IsPartialEquivalence numbered_eq
 numbered_eq-partial = partial_equiv_from_equiv numbered_eq-laws
 
+-- the hash of all that it is
+abbrev pub numbered_digest : Numbered → ℕ
+numbered_digest n = folding.finish (fold folding.write folding.initial (fed.slice fed.u32 n.nodes ++ order_hash n.order))
+
 -- what such a network feeds a hasher
 abbrev pub numbered_hash : Numbered → HashWrites
-numbered_hash n = fed.slice fed.u32 n.nodes ++ order_hash n.order
+numbered_hash n = fed.u64 (numbered_digest n)
 
 -- equal ones feed it alike
 pub numbered_hash-Alike : Alike numbered_eq numbered_hash

@@ -17,7 +17,7 @@ use std::alloc::{AllocError, Global};
 use std::thread::{Threads, map_indices};
 
 /// The work is cut into so many parts for each worker, so that all end at about the same time.
-const PARTS: usize = 4;
+const PARTS: usize = 2;
 
 /// Notes the number of a draft's network where the draft is listed.
 fn note_at(noted: &mut Vec<Option<Known>>, at: usize, known: Known)

@@ -103,7 +103,7 @@ impl NetworkTable {
         Ok(Some(next))
     }
 
-    /// Where a network stands among those that were made, or in the table. It is looked for in the table, but where it
+    /// Where a network stands among those that were made, or in the table. It is looked for in the table unless it
     /// stands where the hint tells.
     fn standing_of(&self, networks: &[Network], hint: Standing, network: &Network) -> Standing
         requires { IsWhole self.now }

@@ -14,6 +14,9 @@ pub(crate) fn shard_of<T: Hash>(value: &T, count: usize) -> usize
     ensures value { result ≡ home (T.hash_input value.now) count }
     ensures within { result < count }
 {
+    if count == 1 {
+        return 0;
+    }
     let mut hasher = FoldHasher::default();
     value.hash(&mut hasher);
     (hasher.finish() >> 32) as usize % count

@@ -29,7 +29,7 @@ use tree_sizes::TreeSizes;
 const BLOCK: usize = 32_768;
 
 /// Of several workers each has so many networks at least: to start one for fewer takes longer.
-const LEAST_SHARED: usize = 1_000;
+const LEAST_SHARED: usize = 500;
 
 /// A network to expand, with the number of the node of its first free compound task, if it has one.
 #[derive(Clone, Copy, Drop)]

@@ -1,10 +1,12 @@
-use Rattle.std.proofs.Common.{rules, ◌≡◌, ◌<◌, ◌++◌, ◌∷◌, [], ◌∙◌, ap, sym, subst, ℕ, List, length, map, get_or, arith, true, refl, Some, None, slice_get, All, length-append}
+use Rattle.std.proofs.Common.{rules, Bool, false, not, append-nil, ◌≡◌, ◌<◌, ◌++◌, ◌∷◌, [], ◌∙◌, ap, sym, subst, ℕ, List, length, map, get_or, arith, true, refl, Some, None, slice_get, All, length-append}
+use Rattle.std.specs.List.{list_any}
+use Rattle.indexmap.specs.IndexSet.{insert_key}
 use Rattle.std.proofs.lemmas.List.{map-append}
 use Rattle.std.proofs.lemmas.List.Elements.{All-push}
 use Rattle.std.proofs.lemmas.Option.{get_or_from_slice_get}
 use Rattle.network_table.specs.Numbered.{Numbered, numbered_eq, numbered_eq-decides, IsWithin}
 use Rattle.network_table.specs.Networks.{nothing, children, bound_of}
-use Rattle.network_table.proofs.Keys.{inserted_new, distinct_keys, at_slice}
+use Rattle.network_table.proofs.Keys.{inserted_new, inserted_old, distinct_keys, at_slice}
 use Rattle.network_table.specs.Networks.{IsMore}
 use Rattle.network_table.specs.declared.table.NetworkTable.{NetworkTable}
 use Rattle.network_table.proofs.Expanding.{sound_more}
@@ -70,22 +72,54 @@ sum_bounds-bound-requires-clause-within c =
     kept_value c.insert_full.new.self.keys c.as_slice.result.now c.args.network stored.0 c.index-as_slice-place.result c.in_ok-place.place c.as_slice.ensures.keys stored.1 stored.2 c.index-as_slice-place.is in
     subst (IsWithin (children c.args.self.now)) (sym kept) c.requires.within
 
+-- what was there already changes nothing
+module _ (s t : NetworkTable) (x : Numbered) (is_new : Bool) (children_are : t.children ≡ s.children)
+    (keys : t.networks.keys ≡ insert_key numbered_eq s.networks.keys x) (added : is_new ≡ not (list_any (numbered_eq x) s.networks.keys))
+    (old : is_new ≡ false) (expansions_are : t.expansions.items ≡ s.expansions.items) where
+  not_more : IsMore s t
+  not_more = record {
+    children = children_are;
+    more = [];
+    networks = keys ∙ inserted_old numbered_eq s.networks.keys x is_new added old ∙ sym (append-nil s.networks.keys);
+    expansions = λ n. ap (λ l. get_or l n None) expansions_are;
+  }
+
+pub returns-then-not-is_new-clause-more : goal.returns-then-not-is_new-clause-more
+returns-then-not-is_new-clause-more c =
+    let s = c.args.self.now in
+    let t : NetworkTable = record { children = s.children; networks = c.insert_full.new.self; open_lens = s.open_lens; bounds = s.bounds; expansions = s.expansions } in
+    let old : c.in_ok-place.is_new ≡ false = search rules in
+    not_more s t c.args.network c.in_ok-place.is_new refl c.in_ok-place.ensures.keys c.in_ok-place.ensures.added old refl
+
 pub returns-then-not-is_new-clause-sound : goal.returns-then-not-is_new-clause-sound
 returns-then-not-is_new-clause-sound c =
     let s = c.args.self.now in
     let t : NetworkTable = record { children = s.children; networks = c.insert_full.new.self; open_lens = s.open_lens; bounds = s.bounds; expansions = s.expansions } in
-    let more : IsMore s t = search rules in
-    λ live sound. sound_more live s t c.requires.whole more sound
+    let old : c.in_ok-place.is_new ≡ false = search rules in
+    λ live sound. sound_more live s t c.requires.whole (not_more s t c.args.network c.in_ok-place.is_new refl c.in_ok-place.ensures.keys c.in_ok-place.ensures.added old refl) sound
+
+-- what was not there is one network more
+module _ (s t : NetworkTable) (x : Numbered) (is_new : Bool) (children_are : t.children ≡ s.children)
+    (keys : t.networks.keys ≡ insert_key numbered_eq s.networks.keys x) (added : is_new ≡ not (list_any (numbered_eq x) s.networks.keys))
+    (new : is_new ≡ true) (expansions_are : t.expansions.items ≡ s.expansions.items ++ None ∷ []) where
+  one_more : IsMore s t
+  one_more = record {
+    children = children_are;
+    more = x ∷ [];
+    networks = keys ∙ inserted_new numbered_eq s.networks.keys x is_new added new;
+    expansions = λ n. ap (λ l. get_or l n None) expansions_are ∙ none_added s.expansions.items n;
+  }
+
+pub returns-clause-more : goal.returns-clause-more
+returns-clause-more c =
+    let s = c.args.self.now in
+    let t : NetworkTable = record { children = s.children; networks = c.insert_full.new.self; open_lens = c.push.new.self; bounds = c.push-2.new.self; expansions = c.push-3.new.self } in
+    let new : c.in_ok-place.is_new ≡ true = search rules in
+    one_more s t c.args.network c.in_ok-place.is_new refl c.in_ok-place.ensures.keys c.in_ok-place.ensures.added new c.in_ok-push-3.ensures.items
 
 pub returns-clause-sound : goal.returns-clause-sound
 returns-clause-sound c =
     let s = c.args.self.now in
     let t : NetworkTable = record { children = s.children; networks = c.insert_full.new.self; open_lens = c.push.new.self; bounds = c.push-2.new.self; expansions = c.push-3.new.self } in
     let new : c.in_ok-place.is_new ≡ true = search rules in
-    let more : IsMore s t = record {
-      children = refl;
-      more = c.args.network ∷ [];
-      networks = c.in_ok-place.ensures.keys ∙ inserted_new numbered_eq s.networks.keys c.args.network c.in_ok-place.is_new c.in_ok-place.ensures.added new;
-      expansions = λ n. ap (λ l. get_or l n None) c.in_ok-push-3.ensures.items ∙ none_added s.expansions.items n;
-    } in
-    λ live sound. sound_more live s t c.requires.whole more sound
+    λ live sound. sound_more live s t c.requires.whole (one_more s t c.args.network c.in_ok-place.is_new refl c.in_ok-place.ensures.keys c.in_ok-place.ensures.added new c.in_ok-push-3.ensures.items) sound

@@ -1,7 +1,7 @@
 use Rattle.std.proofs.Common.{◌≡◌}
 use Rattle.std.proofs.lemmas.Result.{err_from_is_err_and}
 use Rattle.word_machine.specs.declared.found.SearchFault.TheVariants.{NoThread, OutOfMemory}
-use Rattle.htn_search.proofs.solve.search.Goals as goal
+use Rattle.htn_search.proofs.solve.search_with_tables.Goals as goal
 
 -- want of memory is not want of a thread
 is_other : {P : Type 0} → OutOfMemory ≡ NoThread → P
