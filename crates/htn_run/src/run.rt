@@ -16,10 +16,11 @@ use std::sync::Wait;
 use std::thread::Threads;
 
 /// Reads a domain and a problem, searches within the bounds, and writes the answer: the text of the plan with the
-/// fewest
-/// nodes and then the least code, or `none`, or `unsolvable`, with a line feed. It is the same for every number of
-/// workers, size of the pieces and gate, and however the workers take turns. Nothing is written before the answer is
+/// fewest nodes and then the least code, or `none`, or `unsolvable`, with a line feed. It is the same for every number
+/// of workers, size of the pieces and gate, and however the workers take turns. Nothing is written before the answer is
 /// known.
+///
+/// It is the run of a process: what the search numbered is left to the end of the process (see `run_task`).
 ///
 /// The domain is read first, then the problem, and then the pair is checked. `NoThread` never comes with one worker.
 /// After `Output` the output has failed, and a beginning of the answer's text stands in it; after any other fault it is
