@@ -108,6 +108,10 @@ impl<C: Drop> Fitting<C> {
 // Of several workers each has so many at least.
 const FEW: usize = 1_000;
 
+// A list of no more than these gets much more room than it had at a restart: the room costs little, and to grow into it
+// a third of what it takes to fill it.
+const FEW_KEPT: usize = 32_768;
+
 // Adds a link if it is that of a new one; there is room for it.
 fn push_link(links: &mut Vec<Link>, link: Link, is_new: bool)
     requires { length links.old.items < vec_capacity links.old }
@@ -175,12 +179,16 @@ impl<C: Eq + Hash + Copy + Drop + Send + Sync> Closed<C> {
         })
     }
 
-    /// Lets all go, and makes room for twice as many as far as there is memory: where that is refused, the list grows
-    /// as it is filled, since so much may never be needed.
+    /// Lets all go, and makes room for twice as many, and for sixteen times as many while these are few, as far as there
+    /// is memory: where that is refused, the list grows as it is filled, since so much may never be needed.
     pub fn restart(&mut self)
         ensures { self.new ≡ record { keys = []; origins = []; cut = record { any = false; past = 2 ^ 64 - 1 } } }
     {
-        let room = self.links.len().saturating_mul(2);
+        let kept = self.links.len();
+        let room = kept
+            .saturating_mul(16)
+            .min(FEW_KEPT)
+            .max(kept.saturating_mul(2));
         self.configurations.clear();
         self.links.clear();
         self.was_cut = false;
