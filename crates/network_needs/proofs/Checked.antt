@@ -15,7 +15,7 @@ use Rattle.htn_model.specs.State.{contains}
 use Rattle.htn_model.specs.Task.{Task}
 use Rattle.htn_ground.specs.Views.{child_view}
 use Rattle.tree_sizes.specs.Enumerated.{HasParts, IsEnumeration}
-use Rattle.tree_sizes.specs.Numbers.{HasBarred, is_among, number_of}
+use Rattle.tree_sizes.specs.Numbers.{AreGround, HasBarred, is_among, number_of}
 use Rattle.tree_sizes.specs.declared.enumeration.Enumeration.{Enumeration}
 use Rattle.tree_sizes.proofs.Listed.{listed_of}
 use Rattle.tree_sizes.proofs.Measured.{among_barred}
@@ -62,7 +62,7 @@ module _ (t : Task) (n : Needs) (e : Enumeration) (listed : IsEnumeration t e) (
       let at = found_at n.rows.leaf_rows.items (position (λ y. child_eq x (child_view y)) n.rows.leaves.keys) r is in
       let there = position_passes (λ y. child_eq x (child_view y)) n.rows.leaves.keys at.0 at.1 in
       let same : x ≡ child_view there.0 = (child_eq-decides x (child_view there.0)).0 there.2 in
-      subst (λ y. IsLeafRight t n y r) (sym same) (checked.leaves at.0 r at.2 there.0 there.1)
+      subst (λ y. IsLeafRight t n y r) (sym same) (checked.leaves listed at.0 r at.2 there.0 there.1)
 
   -- what a step wants is among its literals
   step_wants : (literals : List Literal) (l : Literal) → Contains (wants_by (leaf_row n (precondition literals))) l → Contains literals l
@@ -139,13 +139,14 @@ abbrev unexpanded : Needs → Enumeration → Enumeration
 unexpanded n e = record e { tasks = n.tasks; actions = record e.actions { barred = n.barred }; expanded = 0 }
 
 -- without rows nothing is wanted, and anything may be given
-pub none_outlook : (t : Task) (n : Needs) (e : Enumeration) → n.tasks.keys ≡ [] → n.barred.keys ≡ [] → n.rows.task_rows.items ≡ [] → n.rows.leaf_rows.items ≡ []
+pub none_outlook : (t : Task) (n : Needs) (e : Enumeration) → AreGround t e.actions → n.tasks.keys ≡ [] → n.barred.keys ≡ [] → n.rows.task_rows.items ≡ [] → n.rows.leaf_rows.items ≡ []
     → IsOutlook (problem_of t) (outlook_of n)
-none_outlook t n e no_tasks no_barred no_rows no_leaves = checked_outlook t n (unexpanded n e) listed checked
+none_outlook t n e ground no_tasks no_barred no_rows no_leaves = checked_outlook t n (unexpanded n e) listed checked
   where
     listed : IsEnumeration t (unexpanded n e)
     listed = record {
       barred = λ k d inside. (let long = ap length no_barred in absurd (omega (arith, inside, long)));
+      ground = ground;
       covered = λ g k low at. absurd (omega (arith, low));
     }
 
@@ -154,6 +155,6 @@ none_outlook t n e no_tasks no_barred no_rows no_leaves = checked_outlook t n (u
       tasks = refl;
       barred = refl;
       expanded = (let long = ap length no_rows in omega (arith, long));
-      leaves = λ k r at x there. absurd (none-some r (sym (ap (λ rows. slice_get rows k) no_leaves) ∙ at));
+      leaves = λ _ k r at x there. absurd (none-some r (sym (ap (λ rows. slice_get rows k) no_leaves) ∙ at));
       allowed = λ j p g at named. absurd (none-some g (sym (ap (λ keys. slice_get keys p.task) no_tasks) ∙ named));
     }

@@ -9,6 +9,7 @@ use Rattle.htn_model.specs.Task.{Task}
 use Rattle.htn_state.specs.Views.{literals_of}
 use Rattle.htn_ground.specs.Views.{child_view}
 use Rattle.htn_ground.specs.declared.child.Child.{Child as Node}
+use Rattle.tree_sizes.specs.Enumerated.{IsEnumeration}
 use Rattle.tree_sizes.specs.declared.enumeration.Enumeration.{Enumeration}
 use Rattle.tree_sizes.specs.declared.parts.Parts.{Parts}
 use Rattle.network_needs.specs.Needs.{IsWithin, has_blocked}
@@ -47,10 +48,11 @@ AreAllowed n e =
     (j : ℕ) (p : Parts) (g : GroundTask) → slice_get e.instances.items j ≡ Some p → slice_get e.tasks.keys p.task ≡ Some g
     → IsAllowed n g (record { children = p.children; order = p.order })
 
--- all that is checked: the rows are of the tasks that were expanded, and right
+-- all that is checked: the rows are of the tasks that were expanded, and right; those of actions by what these were
+-- enumerated to be
 pub record IsChecked (t : Task) (n : Needs) (e : Enumeration) : Type 0 where
   pub tasks : n.tasks.keys ≡ e.tasks.keys
   pub barred : n.barred.keys ≡ e.actions.barred.keys
   pub expanded : length n.rows.task_rows.items ≤ e.expanded
-  pub leaves : AreLeavesRight t n
+  pub leaves : IsEnumeration t e → AreLeavesRight t n
   pub allowed : AreAllowed n e

@@ -1,11 +1,12 @@
 //! Whether rows are an outlook.
-ghost use Rattle.std.specs.Prelude.{◌≡◌, ◌<◌, ℕ, true, false, All, Contains, IfOk, IsTrue, length};
+ghost use Rattle.std.specs.Prelude.{◌≡◌, ◌<◌, ℕ, true, false, Some, All, Contains, IfOk, IsTrue, length};
 ghost use Rattle.std.specs.List.{list_any};
 ghost use Rattle.htn_model.specs.Literal as model;
 ghost use Rattle.htn_model.specs.Literal.{literal_eq};
 ghost use Rattle.htn_model.specs.State.{contains};
 ghost use Rattle.htn_ground.specs.Views.{child_view, children_of};
 ghost use Rattle.htn_state.specs.Views.{literal_of, literals_of};
+ghost use Rattle.tree_sizes.specs.Enumerated.{IsEnumeration};
 ghost use Rattle.network_needs.specs.Checked.{AreAllowed, AreLeavesRight, GivesWithin};
 ghost use Rattle.network_needs.specs.Checked.{IsActionRight, IsAllowed, IsLeafRight};
 ghost use Rattle.network_needs.specs.Needs.{IsNeededAt, is_ungiven, may_give};
@@ -228,39 +229,60 @@ impl Needs {
         Ok(adds && deletes)
     }
 
-    /// Whether the row of a step or an action is right.
+    /// Whether the row of an action is right, if it has an instance.
+    fn is_ground_right(&self, action: &Option<Action>, row: &Row) -> Result<bool, AllocError>
+        ensures { IfOk result (λ b. IsTrue b
+            → (a : model.Action) → action.now ≡ Some a → IsActionRight self.now a row.now) }
+    {
+        match action {
+            Some(action) => self.is_action_right(action, row),
+            None => Ok(true),
+        }
+    }
+
+    /// Whether the row of a step or an action is right, by what actions were enumerated to be.
     fn is_leaf_right(
         &self,
         alloc: Global,
         task: &Task,
+        found: &Enumeration,
         leaf: &Child,
         row: &Row,
     ) -> Result<bool, AllocError>
-        ensures { IfOk result (λ b. IsTrue b → IsLeafRight task.now self.now (child_view leaf.now) row.now) }
+        ensures { IfOk result (λ b. IsTrue b → IsEnumeration task.now found.now
+            → IsLeafRight task.now self.now (child_view leaf.now) row.now) }
     {
         match leaf {
             Child::Precondition(literals) => Ok(are_among(
                 row.wants.as_slice(),
                 literals.as_slice(),
             )),
-            Child::Action(goal) => match action_of(alloc, task, goal)? {
-                Some(action) => self.is_action_right(&action, row),
-                None => Ok(true),
+            Child::Action(goal) => match found.action(goal) {
+                Some(action) => self.is_ground_right(action, row),
+                None => {
+                    let action = action_of(alloc, task, goal)?;
+                    self.is_ground_right(&action, row)
+                }
             },
             Child::Task(_) => Ok(true),
         }
     }
 
     /// Whether the rows of all steps and actions are right.
-    pub(crate) fn are_leaves_right(&self, alloc: Global, task: &Task) -> Result<bool, AllocError>
-        ensures { IfOk result (λ b. IsTrue b → AreLeavesRight task.now self.now) }
+    pub(crate) fn are_leaves_right(
+        &self,
+        alloc: Global,
+        task: &Task,
+        found: &Enumeration,
+    ) -> Result<bool, AllocError>
+        ensures { IfOk result (λ b. IsTrue b → IsEnumeration task.now found.now → AreLeavesRight task.now self.now) }
     {
         let leaves = self.rows.leaves.as_slice();
         for (number, row) in self.rows.leaf_rows.iter().enumerate() {
             let Some(leaf) = leaves.get(number) else {
                 return Ok(false);
             };
-            let is_right = self.is_leaf_right(alloc, task, leaf, row)?;
+            let is_right = self.is_leaf_right(alloc, task, found, leaf, row)?;
             if !is_right {
                 return Ok(false);
             }

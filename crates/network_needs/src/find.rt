@@ -120,7 +120,7 @@ impl Search {
                 let node = match child {
                     Child::Task(goal) => Node::Task(task_number(found, goal)),
                     Child::Precondition(_) | Child::Action(_) => {
-                        Node::Leaf(leaves.meet(alloc, task, child)?)
+                        Node::Leaf(leaves.meet(alloc, task, found, child)?)
                     }
                 };
                 numbers.push(node)?;

@@ -6,6 +6,7 @@ use htn_state::{Action, Atom, Literal};
 use htn_task::{AtomSchema, Task};
 use indexmap::IndexSet;
 use std::alloc::{AllocError, Global};
+use tree_sizes::Enumeration;
 
 /// Steps and actions by number, the literals that they want and give by number, and which predicates an effect names.
 #[derive(Drop)]
@@ -105,6 +106,7 @@ impl Leaves {
         &mut self,
         alloc: Global,
         task: &Task,
+        found: &Enumeration,
         child: &Child,
     ) -> Result<u32, AllocError> {
         let (place, is_new) = self.leaves.insert_full(child.clone()?)?;
@@ -120,12 +122,19 @@ impl Leaves {
             Child::Precondition(literals) => {
                 wants = self.wanted(alloc, literals.as_slice())?;
             }
-            Child::Action(goal) => {
-                if let Some(action) = action_of(alloc, task, goal)? {
+            Child::Action(goal) => match found.action(goal) {
+                Some(Some(action)) => {
                     wants = self.wanted(alloc, action.precondition.as_slice())?;
-                    gives = self.given(alloc, &action)?;
+                    gives = self.given(alloc, action)?;
                 }
-            }
+                Some(None) => {}
+                None => {
+                    if let Some(action) = action_of(alloc, task, goal)? {
+                        wants = self.wanted(alloc, action.precondition.as_slice())?;
+                        gives = self.given(alloc, &action)?;
+                    }
+                }
+            },
             Child::Task(_) => {}
         }
         self.wants.push(wants)?;

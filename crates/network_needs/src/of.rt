@@ -48,7 +48,7 @@ impl Needs {
         if self.rows.task_rows.len() > found.expanded() || !self.are_allowed(found) {
             return Ok(false);
         }
-        let are_leaves_right = self.are_leaves_right(alloc, task)?;
+        let are_leaves_right = self.are_leaves_right(alloc, task, found)?;
         Ok(are_leaves_right)
     }
 

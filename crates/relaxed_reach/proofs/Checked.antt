@@ -88,9 +88,9 @@ module _ (t : Task) (r : RelaxedReach) (e : Enumeration) (listed : IsEnumeration
   pub checked_reach : IsRelaxedReach (problem_of t) (reach_of r)
   checked_reach = record {
     barred = λ g never. among_barred t e.actions.barred.keys g listed.barred (sym (ap (λ keys. is_among keys g) checked.barred) ∙ never);
-    effects = λ g a is known free. among_holds (AreEffectsRight t r) r.actions.known.keys g checked.effects known a is free;
+    effects = λ g a is known free. among_holds (AreEffectsRight t r) r.actions.known.keys g (checked.effects listed) known a is free;
     blocked_step = λ literals blocked. not-true _ blocked;
-    blocked_action = λ g a is blocked. among_holds (IsBlockedRight t r) r.actions.blocked.keys g checked.blocked blocked a is;
+    blocked_action = λ g a is blocked. among_holds (IsBlockedRight t r) r.actions.blocked.keys g (checked.blocked listed) blocked a is;
     instances = instances;
   }
 

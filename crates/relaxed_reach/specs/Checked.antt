@@ -8,6 +8,7 @@ use Rattle.htn_model.specs.Literal.{Action}
 use Rattle.htn_model.specs.Problem.{GroundTask}
 use Rattle.htn_model.specs.Task.{Task}
 use Rattle.htn_ground.specs.Distinct.{distinct}
+use Rattle.tree_sizes.specs.Enumerated.{IsEnumeration}
 use Rattle.tree_sizes.specs.Numbers.{is_among}
 use Rattle.tree_sizes.specs.declared.enumeration.Enumeration.{Enumeration}
 use Rattle.tree_sizes.specs.declared.parts.Parts.{Parts}
@@ -45,11 +46,11 @@ pub record AreTasksRight (r : RelaxedReach) (e : Enumeration) : Type 0 where
   pub blocked : All (IsExpanded e) r.tasks.blocked.keys
   pub instances : AreInstancesRight r e
 
--- all that is checked
+-- all that is checked; of actions by what these were enumerated to be
 pub record IsChecked (t : Task) (r : RelaxedReach) (e : Enumeration) : Type 0 where
   pub first : is_within (facts_of r.facts) t.initial_atoms ≡ true
   pub starts : All (IsStartKnown r) (distinct (initials t))
   pub barred : r.barred.keys ≡ e.actions.barred.keys
   pub tasks : AreTasksRight r e
-  pub effects : All (AreEffectsRight t r) r.actions.known.keys
-  pub blocked : All (IsBlockedRight t r) r.actions.blocked.keys
+  pub effects : IsEnumeration t e → All (AreEffectsRight t r) r.actions.known.keys
+  pub blocked : IsEnumeration t e → All (IsBlockedRight t r) r.actions.blocked.keys

@@ -1,15 +1,19 @@
 //! Whether what is reached is right.
-ghost use Rattle.std.specs.Prelude.{◌≡◌, All, IfOk, IsTrue};
+ghost use Rattle.std.specs.Prelude.{◌≡◌, true, false, Some, All, IfOk, IsTrue};
 ghost use Rattle.htn_model.specs.Instances.{initials};
+ghost use Rattle.htn_model.specs.Literal as model;
 ghost use Rattle.htn_ground.specs.Distinct.{distinct};
 ghost use Rattle.htn_ground.specs.Views.{children_of};
+ghost use Rattle.tree_sizes.specs.Enumerated.{IsEnumeration};
+ghost use Rattle.relaxed_reach.specs.Facts.{are_possible, has_effects};
 ghost use Rattle.relaxed_reach.specs.Checked.{AreEffectsRight, AreInstancesRight, IsBlockedRight};
 ghost use Rattle.relaxed_reach.specs.Checked.{IsExpanded, IsStartKnown};
 ghost use Rattle.relaxed_reach.specs.Reach.{passes};
-ghost use Rattle.relaxed_reach.specs.Tables.{reach_of};
+ghost use Rattle.relaxed_reach.specs.Tables.{facts_of, reach_of};
 
 use crate::reach::RelaxedReach;
 use htn_ground::{Child, GroundTask, Instance, action_of, distinct_initials};
+use htn_state::Action;
 use htn_task::Task;
 use std::alloc::{AllocError, Global};
 use tree_sizes::Enumeration;
@@ -58,21 +62,47 @@ impl RelaxedReach {
         Ok(true)
     }
 
+    /// Whether the effects of an action are among the facts, if it has an instance.
+    fn has_effects_of(&self, action: &Option<Action>) -> bool
+        ensures { IsTrue result → (a : model.Action) → action.now ≡ Some a → has_effects (facts_of self.now.facts) a ≡ true }
+    {
+        match action {
+            Some(action) => self.facts.has_effects(action),
+            None => true,
+        }
+    }
+
+    /// Whether an action needs a literal that never holds, if it has an instance.
+    fn is_impossible(&self, action: &Option<Action>) -> bool
+        ensures { IsTrue result → (a : model.Action) → action.now ≡ Some a
+            → are_possible (facts_of self.now.facts) a.precondition ≡ false }
+    {
+        match action {
+            Some(action) => !self.facts.are_possible(action.precondition.as_slice()),
+            None => true,
+        }
+    }
+
     /// Whether the effects of an action are among the facts, unless it never ends.
     fn are_effects_right(
         &self,
         alloc: Global,
         task: &Task,
+        found: &Enumeration,
         goal: &GroundTask,
     ) -> Result<bool, AllocError>
-        ensures { IfOk result (λ b. IsTrue b → AreEffectsRight task.now self.now goal.now) }
+        ensures { IfOk result (λ b. IsTrue b → IsEnumeration task.now found.now
+            → AreEffectsRight task.now self.now goal.now) }
     {
         if self.actions.blocked.contains(goal) {
             return Ok(true);
         }
-        match action_of(alloc, task, goal)? {
-            Some(action) => Ok(self.facts.has_effects(&action)),
-            None => Ok(true),
+        match found.action(goal) {
+            Some(action) => Ok(self.has_effects_of(action)),
+            None => {
+                let action = action_of(alloc, task, goal)?;
+                Ok(self.has_effects_of(&action))
+            }
         }
     }
 
@@ -81,12 +111,14 @@ impl RelaxedReach {
         &self,
         alloc: Global,
         task: &Task,
+        found: &Enumeration,
         goals: &[GroundTask],
     ) -> Result<bool, AllocError>
-        ensures { IfOk result (λ b. IsTrue b → All (AreEffectsRight task.now self.now) goals.now) }
+        ensures { IfOk result (λ b. IsTrue b → IsEnumeration task.now found.now
+            → All (AreEffectsRight task.now self.now) goals.now) }
     {
         for goal in goals {
-            let is_right = self.are_effects_right(alloc, task, goal)?;
+            let is_right = self.are_effects_right(alloc, task, found, goal)?;
             if !is_right {
                 return Ok(false);
             }
@@ -99,13 +131,18 @@ impl RelaxedReach {
         &self,
         alloc: Global,
         task: &Task,
+        found: &Enumeration,
         goal: &GroundTask,
     ) -> Result<bool, AllocError>
-        ensures { IfOk result (λ b. IsTrue b → IsBlockedRight task.now self.now goal.now) }
+        ensures { IfOk result (λ b. IsTrue b → IsEnumeration task.now found.now
+            → IsBlockedRight task.now self.now goal.now) }
     {
-        match action_of(alloc, task, goal)? {
-            Some(action) => Ok(!self.facts.are_possible(action.precondition.as_slice())),
-            None => Ok(true),
+        match found.action(goal) {
+            Some(action) => Ok(self.is_impossible(action)),
+            None => {
+                let action = action_of(alloc, task, goal)?;
+                Ok(self.is_impossible(&action))
+            }
         }
     }
 
@@ -114,12 +151,14 @@ impl RelaxedReach {
         &self,
         alloc: Global,
         task: &Task,
+        found: &Enumeration,
         goals: &[GroundTask],
     ) -> Result<bool, AllocError>
-        ensures { IfOk result (λ b. IsTrue b → All (IsBlockedRight task.now self.now) goals.now) }
+        ensures { IfOk result (λ b. IsTrue b → IsEnumeration task.now found.now
+            → All (IsBlockedRight task.now self.now) goals.now) }
     {
         for goal in goals {
-            let is_right = self.is_blocked_right(alloc, task, goal)?;
+            let is_right = self.is_blocked_right(alloc, task, found, goal)?;
             if !is_right {
                 return Ok(false);
             }

@@ -140,29 +140,57 @@ impl Actions {
         Ok(effects)
     }
 
-    /// Takes in an action that wasn't met before. One without an instance lacks what never comes.
-    fn take_in(
+    /// What an action lacks, and what becomes possible by it. One without an instance lacks what never comes.
+    fn met_by(
         &mut self,
         alloc: Global,
         task: &Task,
         number: u32,
+        action: &Option<Action>,
+    ) -> Result<Met, AllocError> {
+        match action {
+            Some(action) => Ok(Met {
+                missing: self.missing_of(alloc, task, number, action.precondition.as_slice())?,
+                effects: self.effects_of(alloc, task, action)?,
+            }),
+            None => Ok(Met {
+                missing: 1,
+                effects: Vec::new(alloc),
+            }),
+        }
+    }
+
+    /// Takes in an action that wasn't met before.
+    fn take_in(
+        &mut self,
+        alloc: Global,
+        task: &Task,
+        found: &Enumeration,
+        number: u32,
         goal: &GroundTask,
     ) -> Result<(), AllocError> {
-        let mut missing = 1;
-        let mut effects = Vec::new(alloc);
-        if let Some(action) = action_of(alloc, task, goal)? {
-            missing = self.missing_of(alloc, task, number, action.precondition.as_slice())?;
-            effects = self.effects_of(alloc, task, &action)?;
-        }
-        self.met.push(Met { missing, effects })?;
-        if missing == 0 {
+        let met = match found.action(goal) {
+            Some(action) => self.met_by(alloc, task, number, action)?,
+            None => {
+                let action = action_of(alloc, task, goal)?;
+                self.met_by(alloc, task, number, &action)?
+            }
+        };
+        if met.missing == 0 {
             self.ready.push(number)?;
         }
+        self.met.push(met)?;
         Ok(())
     }
 
     /// Takes in the actions among some nodes.
-    fn meet(&mut self, alloc: Global, task: &Task, children: &[Child]) -> Result<(), AllocError> {
+    fn meet(
+        &mut self,
+        alloc: Global,
+        task: &Task,
+        found: &Enumeration,
+        children: &[Child],
+    ) -> Result<(), AllocError> {
         for child in children {
             let Child::Action(goal) = child else {
                 continue;
@@ -172,7 +200,7 @@ impl Actions {
                 let Ok(number) = u32::try_from(place) else {
                     return Err(AllocError);
                 };
-                self.take_in(alloc, task, number, goal)?;
+                self.take_in(alloc, task, found, number, goal)?;
             }
         }
         Ok(())
@@ -294,10 +322,10 @@ pub(crate) fn find_actions(
     let fluents = fluent_predicates(alloc, task)?;
     let mut actions = Actions::new(alloc, fluents);
     for initial in &distinct_initials(alloc, task)? {
-        actions.meet(alloc, task, initial.children().as_slice())?;
+        actions.meet(alloc, task, found, initial.children().as_slice())?;
     }
     for parts in found.instances() {
-        actions.meet(alloc, task, parts.children())?;
+        actions.meet(alloc, task, found, parts.children())?;
     }
     actions.run(alloc)?;
     Ok(actions)

@@ -83,13 +83,14 @@ impl RelaxedReach {
             return Ok(false);
         }
         let known = self.actions.known.as_slice();
-        let are_effects_right = self.are_all_effects_right(alloc, task, known)?;
+        let are_effects_right = self.are_all_effects_right(alloc, task, found, known)?;
         if !are_effects_right {
             return Ok(false);
         }
         let are_blocked_right = self.are_blocked_right(
             alloc,
             task,
+            found,
             self.actions.blocked.as_slice(),
         )?;
         Ok(are_blocked_right)

@@ -155,6 +155,7 @@ more_then t a b c first second = record {
   actions = grown_then a.actions.barred.keys b.actions.barred.keys c.actions.barred.keys first.actions second.actions;
   instances = grown_then a.instances.items b.instances.items c.instances.items first.instances second.instances;
   barred = λ all. second.barred (first.barred all);
+  ground = λ all. second.ground (first.ground all);
   expanded = second.expanded ∙ first.expanded;
 }
 
@@ -165,6 +166,7 @@ more_itself t e = record {
   actions = grown_itself e.actions.barred.keys;
   instances = grown_itself e.instances.items;
   barred = λ all. all;
+  ground = λ all. all;
   expanded = refl;
 }
 

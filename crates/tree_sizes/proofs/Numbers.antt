@@ -1,5 +1,6 @@
 -- Numbers of ground tasks, and the parts of instances.
 use Rattle.std.proofs.Common.{◌≡◌, ℕ, zero, suc, ◌+◌, ◌<◌, ◌≤◌, Bool, true, cond, List, [], ◌∷◌, ◌++◌, map, length, get_or, drop, take, slice_get, Option, Some, None, inl, inr, false, refl, sym, ap, ap₂, ◌∙◌, arith, length-append, append-nil, append_assoc, not, ◌||◌, if◌then◌else◌}
+use Rattle.indexmap.specs.IndexMap.{get}
 use Rattle.indexmap.specs.IndexSet.{insert_key}
 use Rattle.std.specs.List.{list_any, position, position_or_len, cons_option}
 use Rattle.std.proofs.lemmas.Bool.{cases_lt, lt-ltb, le-ltb}
@@ -12,11 +13,13 @@ use Rattle.std.proofs.lemmas.Option.{none-some, same_Some, slice_get-get_or}
 use Rattle.htn_ground.specs.Views.{child_view, children_of}
 use Rattle.htn_ground.specs.declared.child.Child.{Child as Node}
 use Rattle.htn_model.specs.Equality.{ground_task_eq-decides}
+use Rattle.htn_model.specs.Literal.{Action}
 use Rattle.htn_model.specs.Problem.{Child, precondition, action, task, GroundTask, ground_task_eq}
 use Rattle.htn_model.specs.Grounding.{problem_of}
 use Rattle.htn_model.specs.Task.{Task}
 use Rattle.tree_sizes.specs.Measure.{is_barred}
-use Rattle.tree_sizes.specs.Numbers.{AreBarred, AreParts, IsGrown, is_among, compound_of, compounds, number_of}
+use Rattle.tree_sizes.specs.declared.barred.Actions.{Actions}
+use Rattle.tree_sizes.specs.Numbers.{AreBarred, AreGround, AreParts, IsGrown, is_among, compound_of, compounds, number_of}
 use Rattle.tree_sizes.specs.declared.parts.Parts.{Parts}
 
 -- ## Growth
@@ -177,3 +180,16 @@ node_at nodes k node x inside is view =
     let long = length-map nodes child_view in
     slice_get-get_or (children_of nodes) k (precondition []) (omega (arith, inside, long))
     ∙ ap Some (get_or-map child_view nodes k node (precondition []) inside ∙ ap child_view (sym is) ∙ view)
+
+-- what is put there is ground so, where the action is
+pub put_ground : (t : Task) (a b : Actions) (g : GroundTask) (o : Option Action) → o ≡ (problem_of t).action_of g
+    → ((q : GroundTask) → get ground_task_eq b.met q ≡ cond (ground_task_eq g q) (Some o) (get ground_task_eq a.met q))
+    → AreGround t a → AreGround t b
+put_ground t a b g o is at all q p there = by (ground_task_eq g q) refl
+  where
+    given : (c : Bool) → ground_task_eq g q ≡ c → Some p ≡ cond c (Some o) (get ground_task_eq a.met q)
+    given c e = sym there ∙ at q ∙ ap (λ d. cond d (Some o) (get ground_task_eq a.met q)) e
+
+    by : (c : Bool) → ground_task_eq g q ≡ c → p ≡ (problem_of t).action_of q
+    by true e = same_Some p o (given true e) ∙ is ∙ ap (problem_of t).action_of ((ground_task_eq-decides g q).0 e)
+    by false e = all q p (sym (given false e))

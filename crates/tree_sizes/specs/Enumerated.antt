@@ -4,7 +4,7 @@ use Rattle.htn_model.specs.Problem.{GroundTask, Network}
 use Rattle.htn_model.specs.Instance.{Instance}
 use Rattle.htn_model.specs.Task.{Task}
 use Rattle.htn_ground.specs.Distinct.{distinct, live_methods}
-use Rattle.tree_sizes.specs.Numbers.{AreBarred, AreParts, HasBarred, HasNetwork, IsGrown}
+use Rattle.tree_sizes.specs.Numbers.{AreBarred, AreGround, AreParts, HasBarred, HasNetwork, IsGrown}
 use Rattle.tree_sizes.specs.declared.parts.Parts.{Parts}
 use Rattle.tree_sizes.specs.declared.enumeration.Enumeration.{Enumeration}
 
@@ -20,9 +20,10 @@ IsCovered e number n = HasParts e.tasks.keys e.instances.items number n ⊎ HasB
 abbrev pub AreCovered : Task → Enumeration → ℕ → GroundTask → Type 0
 AreCovered t e number g = (k : ℕ) (x : Instance) → slice_get (distinct (live_methods t g)) k ≡ Some x → IsCovered e number x.network
 
--- so it is with the tasks that were expanded, and those actions are never carried out
+-- so it is with the tasks that were expanded, and those actions are never carried out; and what was met is ground so
 pub record IsEnumeration (t : Task) (e : Enumeration) : Type 0 where
   pub barred : AreBarred t e.actions.barred.keys
+  pub ground : AreGround t e.actions
   pub covered : (g : GroundTask) (n : ℕ) → n < e.expanded → slice_get e.tasks.keys n ≡ Some g → AreCovered t e n g
 
 -- what was there is there
@@ -31,4 +32,5 @@ pub record IsMore (t : Task) (old new : Enumeration) : Type 0 where
   pub actions : IsGrown old.actions.barred.keys new.actions.barred.keys
   pub instances : IsGrown old.instances.items new.instances.items
   pub barred : AreBarred t old.actions.barred.keys → AreBarred t new.actions.barred.keys
+  pub ground : AreGround t old.actions → AreGround t new.actions
   pub expanded : new.expanded ≡ old.expanded

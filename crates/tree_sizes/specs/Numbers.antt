@@ -2,9 +2,12 @@
 use Rattle.std.specs.Prelude.{◌≡◌, ℕ, ◌+◌, ◌++◌, Bool, true, List, map, length, slice_get, Option, Some, None}
 use Rattle.std.specs.List.{All, filter_map, list_any, position}
 use Rattle.htn_model.specs.Problem.{Child, precondition, action, task, GroundTask, Network, ground_task_eq}
+use Rattle.indexmap.specs.IndexMap.{get}
 use Rattle.htn_model.specs.Grounding.{problem_of}
+use Rattle.htn_model.specs.Literal.{Action}
 use Rattle.htn_model.specs.Task.{Task}
 use Rattle.tree_sizes.specs.Measure.{is_barred}
+use Rattle.tree_sizes.specs.declared.barred.Actions.{Actions}
 use Rattle.tree_sizes.specs.declared.parts.Parts.{Parts}
 
 -- the new list is the old one with more at its end
@@ -48,3 +51,7 @@ AreBarred t barred = All (λ g. is_barred (problem_of t) g ≡ true) barred
 -- one of the nodes is one of them
 abbrev pub HasBarred : List GroundTask → List Child → Type 0
 HasBarred barred children = (k : ℕ) × (g : GroundTask) × (slice_get children k ≡ Some (action g)) × (is_among barred g ≡ true)
+
+-- each action that was met stands with what it is in the task: none where it has no instance
+abbrev pub AreGround : Task → Actions → Type 0
+AreGround t a = (g : GroundTask) (o : Option Action) → get ground_task_eq a.met g ≡ Some o → o ≡ (problem_of t).action_of g

@@ -5,13 +5,14 @@ ghost use Rattle.htn_model.specs.Exhaustion as model;
 ghost use Rattle.htn_model.specs.Grounding.{is_changed, problem_of};
 ghost use Rattle.htn_state.specs.Views.{literal_of, literals_of};
 ghost use Rattle.htn_ground.specs.Views.{children_of};
-ghost use Rattle.tree_sizes.specs.Measure.{is_barred};
-ghost use Rattle.tree_sizes.specs.Numbers.{AreBarred, HasBarred, IsGrown, is_among};
+ghost use Rattle.tree_sizes.specs.Measure.{is_barred_by};
+ghost use Rattle.htn_model.specs.Task as tasks;
+ghost use Rattle.tree_sizes.specs.Numbers.{AreBarred, AreGround, HasBarred, IsGrown, is_among};
 
 use htn_ground::{Child, GroundTask, action_of};
-use htn_state::Literal;
+use htn_state::{Action, Literal};
 use htn_task::{AtomSchema, Task};
-use indexmap::IndexSet;
+use indexmap::{IndexMap, IndexSet};
 use std::alloc::{AllocError, Global};
 
 /// Whether an atom has a predicate.
@@ -61,29 +62,30 @@ fn has_dead_literal(task: &Task, literals: &[Literal]) -> bool
 }
 
 /// Whether an action is never carried out: it has no instance, or one that needs a literal that stays false.
-fn is_barred(alloc: Global, task: &Task, goal: &GroundTask) -> Result<bool, AllocError>
-    ensures { IfOk result (λ b. b ≡ is_barred (problem_of task.now) goal.now) }
+fn is_barred(task: &Task, action: &Option<Action>) -> bool
+    ensures { result ≡ is_barred_by (problem_of task.now) action.now }
 {
-    let Some(action) = action_of(alloc, task, goal)? else {
-        return Ok(true);
-    };
-    Ok(has_dead_literal(task, action.precondition.as_slice()))
+    match action {
+        Some(action) => has_dead_literal(task, action.precondition.as_slice()),
+        None => true,
+    }
 }
 
-/// The actions that were met, and those of them that are never carried out.
+/// The actions that were met, with what they are ground to, and those of them that are never carried out.
 #[derive(Drop)]
 pub(crate) struct Actions {
-    pub(crate) met: IndexSet<GroundTask>,
+    pub(crate) met: IndexMap<GroundTask, Option<Action>>,
     pub(crate) barred: IndexSet<GroundTask>,
 }
 
 impl Actions {
     /// None was met.
     pub(crate) fn new(alloc: Global) -> Actions
-        ensures { result.barred.keys ≡ [] }
+        ensures barred { result.barred.keys ≡ [] }
+        ensures ground { (t : tasks.Task) → AreGround t result }
     {
         Actions {
-            met: IndexSet::new(alloc),
+            met: IndexMap::new(alloc),
             barred: IndexSet::new(alloc),
         }
     }
@@ -92,13 +94,15 @@ impl Actions {
     fn meet(&mut self, alloc: Global, task: &Task, goal: &GroundTask) -> Result<bool, AllocError>
         ensures grown { OnOk result (IsGrown self.old.barred.keys self.new.barred.keys) }
         ensures right { OnOk result (AreBarred task.now self.old.barred.keys → AreBarred task.now self.new.barred.keys) }
+        ensures ground { OnOk result (AreGround task.now self.old → AreGround task.now self.new) }
         ensures there { IfOk result (λ b. IsTrue b → is_among self.new.barred.keys goal.now ≡ true) }
     {
-        if self.met.contains(goal) {
+        if self.met.contains_key(goal) {
             return Ok(self.barred.contains(goal));
         }
-        let _ = self.met.insert(goal.clone()?)?;
-        let never = is_barred(alloc, task, goal)?;
+        let action = action_of(alloc, task, goal)?;
+        let never = is_barred(task, &action);
+        let _ = self.met.insert(goal.clone()?, action)?;
         if never {
             let _ = self.barred.insert(goal.clone()?)?;
             return Ok(true);
@@ -115,6 +119,7 @@ impl Actions {
     ) -> Result<bool, AllocError>
         ensures grown { OnOk result (IsGrown self.old.barred.keys self.new.barred.keys) }
         ensures right { OnOk result (AreBarred task.now self.old.barred.keys → AreBarred task.now self.new.barred.keys) }
+        ensures ground { OnOk result (AreGround task.now self.old → AreGround task.now self.new) }
         ensures there { IfOk result (λ b. IsTrue b → HasBarred self.new.barred.keys (children_of children.now)) }
     {
         for child in children {

@@ -1,12 +1,16 @@
 //! The ground tasks that decompositions of the initial network reach, and their instances.
-ghost use Rattle.std.specs.Prelude.{◌≡◌, ◌≤◌, [], ℕ, Some, IfOk, OnOk, slice_get};
+ghost use Rattle.std.specs.Prelude.{◌≡◌, ◌≤◌, [], ℕ, Some, IfOk, IfSome, OnOk, slice_get};
 ghost use Rattle.htn_ground.specs.Views.{children_of};
 ghost use Rattle.htn_model.specs.Instance as instance;
+ghost use Rattle.htn_model.specs.Grounding.{problem_of};
+ghost use Rattle.htn_model.specs.Task as tasks;
 ghost use Rattle.tree_sizes.specs.Enumerated.{IsCovered, IsEnumeration, IsMore};
+ghost use Rattle.tree_sizes.specs.Numbers.{AreGround};
 
 use crate::barred::Actions;
 use crate::parts::{Parts, compound_of, number_for, parts_of};
 use htn_ground::{Child, GroundTask, Instance, distinct_initials, distinct_live_methods_of};
+use htn_state::Action;
 use htn_task::{MethodSchema, Task, Term};
 use indexmap::IndexSet;
 use std::alloc::{AllocError, Global};
@@ -124,10 +128,18 @@ impl Enumeration {
         &self.actions.barred
     }
 
+    /// What an action is ground to, if it was met: none where it has no instance.
+    pub fn action(&self, goal: &GroundTask) -> Option<&Option<Action>>
+        ensures { IfSome result (λ o. (t : tasks.Task) → IsEnumeration t self.now → o.now ≡ (problem_of t).action_of goal.now) }
+    {
+        self.actions.met.get(goal)
+    }
+
     /// The compound tasks of the initial networks, none of them expanded.
     fn new(alloc: Global, task: &Task) -> Result<Enumeration, AllocError>
         ensures expanded { IfOk result (λ e. e.expanded ≡ 0) }
         ensures actions { IfOk result (λ e. e.actions.barred.keys ≡ []) }
+        ensures ground { IfOk result (λ e. AreGround task.now e.actions) }
     {
         Ok(Enumeration {
             tasks: initial_tasks(alloc, task)?,

@@ -13,6 +13,7 @@ loop-goal-init c =
       within = omega (arith, none);
       listed = record {
         barred = λ k d inside. absurd (omega (arith, inside, empty));
+        ground = c.in_ok-found.ensures.ground;
         covered = λ g n low at k x there. absurd (omega (arith, low, none));
       };
     }
@@ -33,6 +34,7 @@ loop-goal-preserved c =
       within = omega (arith, inside, long, same);
       listed = record {
         barred = pushed.more.barred i.listed.barred;
+        ground = pushed.more.ground i.listed.ground;
         covered = λ g n low at.
             enumerated_more t old new c.in-Ok.number c.in-Some.goal.now c.deref-in-Some.result.now pushed.more goal_at c.in-Ok.ensures.1 listed i.listed pushed.covered g n (omega (arith, low, same)) at;
       };

@@ -8,7 +8,7 @@ use Rattle.network_needs.proofs.Within.{each_literal}
 use Rattle.network_needs.proofs.needs.Needs.is_leaf_right.Goals as goal
 
 pub returns-in-Precondition : goal.returns-in-Precondition
-returns-in-Precondition c = λ passes.
+returns-in-Precondition c = λ passes _.
     let r = c.args.row.now in
     let pre : literals_of c.as_slice-in-Precondition.result.now ≡ c.in-Precondition.literals = search rules in
     subst (λ (x : Node). IsLeafRight c.args.task.now c.args.self.now (child_view x) r) (sym c.in-Precondition.is)

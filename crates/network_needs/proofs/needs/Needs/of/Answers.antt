@@ -13,4 +13,4 @@ returns c = λ listed.
     let n : Needs = record { tasks = c.new.result; barred = c.new-2.result; rows = c.none.result } in
     let no_tasks : c.new.result.keys ≡ [] = search rules in
     let no_barred : c.new-2.result.keys ≡ [] = search rules in
-    none_outlook c.args.task.now n c.args.found.now no_tasks no_barred c.none.ensures.tasks c.none.ensures.leaves
+    none_outlook c.args.task.now n c.args.found.now listed.ground no_tasks no_barred c.none.ensures.tasks c.none.ensures.leaves

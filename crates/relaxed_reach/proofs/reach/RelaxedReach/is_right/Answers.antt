@@ -14,6 +14,6 @@ returns c = λ passes.
       starts = c.in_ok-are_starts_known.ensures c.if-not-are_starts_known.false;
       barred = sym c.as_slice.ensures.keys ∙ c.are_same.ensures c.if-not-are_same.false ∙ c.as_slice-2.ensures.keys ∙ ap (λ s. s.keys) c.barred.ensures;
       tasks = c.are_tasks_right.ensures c.if-not-are_tasks_right.false;
-      effects = subst (All (AreEffectsRight t r)) c.as_slice-known.ensures.keys (c.in_ok-are_effects_right.ensures c.if-not-are_effects_right.false);
-      blocked = subst (All (IsBlockedRight t r)) c.as_slice-3.ensures.keys (c.in_ok-are_blocked_right.ensures passes);
+      effects = λ listed. subst (All (AreEffectsRight t r)) c.as_slice-known.ensures.keys (c.in_ok-are_effects_right.ensures c.if-not-are_effects_right.false listed);
+      blocked = λ listed. subst (All (IsBlockedRight t r)) c.as_slice-3.ensures.keys (c.in_ok-are_blocked_right.ensures passes listed);
     }

@@ -1,8 +1,9 @@
-use Rattle.std.proofs.Common.{◌≡◌, ◌∙◌, List, inl, inr, rules, subst}
+use Rattle.std.proofs.Common.{◌≡◌, ◌∙◌, List, inl, inr, refl, rules, subst}
 use Rattle.htn_ground.specs.Views.{children_of}
 use Rattle.htn_model.specs.Problem.{Child}
 use Rattle.tree_sizes.specs.Numbers.{AreParts, HasBarred, HasNetwork}
 use Rattle.tree_sizes.proofs.Listed.{has_pushed}
+use Rattle.tree_sizes.proofs.Numbers.{grown_itself}
 use Rattle.tree_sizes.proofs.enumeration.Enumeration.push_instance.Goals as goal
 
 pub returns-clause-covered : goal.returns-clause-covered
@@ -17,3 +18,16 @@ pub returns-then-branch-clause-covered : goal.returns-then-branch-clause-covered
 returns-then-branch-clause-covered c =
     let nodes : children_of c.as_slice-children.result.now ≡ c.args.instance.now.network.children = c.as_slice-children.ensures ∙ c.children.ensures in
     inr (subst (λ (l : List Child). HasBarred c.has_barred.new.self.barred.keys l) nodes (c.in_ok-has_barred.ensures.there c.if-branch.true))
+
+pub returns-then-branch-clause-more : goal.returns-then-branch-clause-more
+returns-then-branch-clause-more c =
+    let e = c.args.self.now in
+    let has = c.in_ok-has_barred.ensures in
+    record {
+      tasks = grown_itself e.tasks.keys;
+      actions = has.grown;
+      instances = grown_itself e.instances.items;
+      barred = has.right;
+      ground = has.ground;
+      expanded = refl;
+    }
