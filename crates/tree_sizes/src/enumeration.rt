@@ -198,7 +198,8 @@ pub fn enumerate(alloc: Global, task: &Task, limit: u64) -> Result<Enumeration, 
     let mut found = Enumeration::new(alloc, task)?;
     let mut left = limit;
     while let Some(goal) = found.tasks.get_index(found.expanded) {
-        if !may_be_listed(task, goal) {
+        // A task costs one at least, so nothing is listed in vain where nothing is left.
+        if left == 0 || !may_be_listed(task, goal) {
             break;
         }
         let listed = distinct_live_methods_of(alloc, task, goal)?;
