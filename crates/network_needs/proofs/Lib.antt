@@ -5,3 +5,4 @@ pub mod MarkWords
 pub mod Within
 pub mod Checked
 pub mod RowsThere
+pub mod Chained

@@ -3,3 +3,4 @@ pub mod Bounds
 pub mod Rows
 pub mod Places
 pub mod Checked
+pub mod Chains

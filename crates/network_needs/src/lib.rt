@@ -20,6 +20,6 @@ mod places;
 mod rows;
 
 pub use given::Given;
-pub use laws::{needs_are_bounds, needs_stay};
+pub use laws::{chains_need, needs_are_bounds, needs_stay};
 pub use needs::Needs;
 pub use places::Place;

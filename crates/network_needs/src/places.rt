@@ -102,7 +102,7 @@ impl Needs {
     }
 
     /// Whether the literal of a number may become true through the node of a place.
-    pub(crate) fn gives_at(&self, place: Place, number: Option<usize>) -> bool
+    pub fn gives_at(&self, place: Place, number: Option<usize>) -> bool
         ensures { result ≡ gives_by (row_at self.now place.spot) number }
     {
         let Some(row) = self.row_at(place) else {
