@@ -22,12 +22,12 @@ at_append (x ∷ xs) ys (suc k) a at = elim (at_append xs ys k a at) [
 ]
 
 -- at first nothing is found
-pub from_none : (o : Outlook) (goal : List Literal) (atoms : Table) (networks : NetworkTable) (first : ℕ) → first ≤ length networks.networks.keys → KeepsFrom o goal atoms networks first []
+pub from_none : (o : Outlook) (goal : List Literal) (atoms : Table) (networks : NetworkTable) (first : ℕ) → first ≤ length networks.networks → KeepsFrom o goal atoms networks first []
 from_none o goal atoms networks first low = record { within = omega (arith, low); each = λ n needed at. absurd (none-some needed at) }
 
 -- one more network
 pub from_push : (o : Outlook) (goal : List Literal) (atoms : Table) (networks : NetworkTable) (first : ℕ) (old new : List (Option CompiledLiterals)) (needed : Option CompiledLiterals)
-    → first + length old < length networks.networks.keys → IsKept o goal atoms (network_at networks (first + length old)) needed → new ≡ old ++ needed ∷ []
+    → first + length old < length networks.networks → IsKept o goal atoms (network_at networks (first + length old)) needed → new ≡ old ++ needed ∷ []
     → KeepsFrom o goal atoms networks first old → KeepsFrom o goal atoms networks first new
 from_push o goal atoms networks first old new needed low right pushed keeps = record {
   within = (let long = length-append old (needed ∷ []) in let is = ap length pushed in omega (arith, low, long, is));

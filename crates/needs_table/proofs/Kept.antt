@@ -9,8 +9,8 @@ use Rattle.std.proofs.lemmas.Option.{none-some, slice_get_read, slice_get_within
 use Rattle.htn_model.specs.Literal.{Literal, holds, literal_holds}
 use Rattle.htn_model.specs.Problem.{Network, Problem}
 use Rattle.htn_model.specs.State.{State}
-use Rattle.network_table.specs.Networks.{IsGrown, IsWhole, network_at, numbered_at, nothing}
-use Rattle.network_table.specs.Numbered.{config_at, Numbered}
+use Rattle.network_table.specs.Networks.{IsGrown, IsWhole, network_at, numbered_at}
+use Rattle.network_table.specs.Numbered.{config_at, Numbered, nothing}
 use Rattle.network_table.specs.declared.table.NetworkTable.{NetworkTable}
 use Rattle.network_table.proofs.Growing.{numbers_stay}
 use Rattle.state_table.specs.Table.{IsLater, Table}
@@ -30,18 +30,18 @@ kept_later o goal atoms later n (Some c) grown kept = (kept.0, λ after more. ke
 pub keeps_later : (o : Outlook) (goal : List Literal) (atoms later : Table) (old new : NetworkTable) (needs : List (Option CompiledLiterals)) → IsLater atoms later → IsWhole old → IsGrown old new
     → Keeps o goal atoms old needs → Keeps o goal later new needs
 keeps_later o goal atoms later old new needs grown whole networks keeps = record {
-  within = (let long = length-append old.networks.keys networks.more in let are = ap length networks.networks in let low = keeps.within in omega (arith, long, are, low));
+  within = (let long = length-append old.networks networks.more in let are = ap length networks.networks in let low = keeps.within in omega (arith, long, are, low));
   each = λ n needed at.
       (let inside = slice_get_within needs n needed at in
       let low = keeps.within in
-      let known : n < length old.networks.keys = omega (arith, inside, low) in
+      let known : n < length old.networks = omega (arith, inside, low) in
       subst (λ (x : Network). IsKept o goal later x needed) (sym (numbers_stay old new n whole networks known).1)
       (kept_later o goal atoms later (network_at old n) needed grown (keeps.each n needed at)));
 }
 
 -- one more network
 pub keeps_push : (o : Outlook) (goal : List Literal) (atoms : Table) (networks : NetworkTable) (old new : List (Option CompiledLiterals)) (needed : Option CompiledLiterals)
-    → length old < length networks.networks.keys → IsKept o goal atoms (network_at networks (length old)) needed → new ≡ old ++ needed ∷ [] → Keeps o goal atoms networks old → Keeps o goal atoms networks new
+    → length old < length networks.networks → IsKept o goal atoms (network_at networks (length old)) needed → new ≡ old ++ needed ∷ [] → Keeps o goal atoms networks old → Keeps o goal atoms networks new
 keeps_push o goal atoms networks old new needed low right pushed keeps = record {
   within = (let long = length-append old (needed ∷ []) in let is = ap length pushed in omega (arith, low, long, is));
   each = λ n other at. elim (at_push old needed n other (sym (ap (λ l. slice_get l n) pushed) ∙ at)) [
@@ -58,9 +58,9 @@ keeps_none o goal atoms networks needs none = record {
 }
 
 -- the network of a number
-pub network_of_number : (t : NetworkTable) (n : ℕ) (x : Numbered) → n < length t.networks.keys → x ≡ get_or t.networks.keys n x → x ≡ numbered_at t n
+pub network_of_number : (t : NetworkTable) (n : ℕ) (x : Numbered) → n < length t.networks → x ≡ get_or t.networks n x → x ≡ numbered_at t n
 network_of_number t n x low is =
-    get_or_read t.networks.keys n x low is nothing
+    get_or_read t.networks n x low is nothing
 
 -- what may end by what is needed
 pub needed_ends : (problem : Problem) (o : Outlook) (state : State) (n : Network) (b : Bool) → has_blocked o n ≡ false → b ≡ holds state (all_needed o problem.goal n) → b ≡ may_end problem o (config_at state n)

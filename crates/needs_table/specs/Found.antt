@@ -16,7 +16,7 @@ use Rattle.needs_table.specs.declared.table.NeedsTable.{NeedsTable}
 -- what stands there is that of the networks from a number on
 pub record KeepsFrom (o : Outlook) (goal : List Literal) (atoms : Table) (networks : NetworkTable) (first : ℕ)
     (needs : List (Option CompiledLiterals)) : Type 0 where
-  pub within : first + length needs ≤ length networks.networks.keys
+  pub within : first + length needs ≤ length networks.networks
   pub each : (n : ℕ) (needed : Option CompiledLiterals) → slice_get needs n ≡ Some needed
       → IsKept o goal atoms (network_at networks (first + n)) needed
 

@@ -56,7 +56,7 @@ IsKept o goal atoms n (Some needed) = (has_blocked o n ≡ false) × AreCompiled
 
 -- so it is with the networks of the first numbers
 pub record Keeps (o : Outlook) (goal : List Literal) (atoms : Table) (networks : NetworkTable) (needs : List (Option CompiledLiterals)) : Type 0 where
-  pub within : length needs ≤ length networks.networks.keys
+  pub within : length needs ≤ length networks.networks
   pub each : (n : ℕ) (needed : Option CompiledLiterals) → slice_get needs n ≡ Some needed → IsKept o goal atoms (network_at networks n) needed
 
 -- what stands in a table is that of the first networks
@@ -66,4 +66,4 @@ AreKept o atoms networks t = Keeps o t.goal atoms networks t.needs.items
 -- and that of all
 pub record AreAllKept (o : Outlook) (atoms : Table) (networks : NetworkTable) (t : NeedsTable) : Type 0 where
   pub kept : AreKept o atoms networks t
-  pub all : length t.needs.items ≡ length networks.networks.keys
+  pub all : length t.needs.items ≡ length networks.networks

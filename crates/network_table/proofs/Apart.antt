@@ -3,7 +3,8 @@ use Rattle.std.proofs.Common.{◌≡◌, ℕ, suc, ◌<◌, List, [], ◌∷◌,
 use Rattle.htn_model.specs.Problem.{Child, Network, precondition}
 use Rattle.htn_model.specs.Choice.{child_of}
 use Rattle.htn_model.specs.PlanFile.{IsWithoutRepeats}
-use Rattle.network_table.specs.Networks.{NumbersDiffer, children, nothing, numbered_at}
+use Rattle.network_table.specs.Numbered.{nothing}
+use Rattle.network_table.specs.Networks.{NumbersDiffer, children, numbered_at}
 use Rattle.network_table.proofs.Keys.{apart}
 use Rattle.network_table.proofs.Expanding.{within_at}
 
@@ -24,4 +25,4 @@ numbers_differ t m n whole here there same =
     let b = numbered_at t n in
     let nodes = same_numbers (children t) whole.nodes.distinct a.nodes b.nodes (within_at t m whole here) (within_at t n whole there) (ap (λ (x : Network). x.children) same) in
     let order = ap (λ (x : Network). x.order) same in
-    apart nothing t.networks.keys whole.distinct m n here there (ap₂ (λ ns o. record { nodes = ns; order = o }) nodes order)
+    apart nothing t.networks whole.distinct m n here there (ap₂ (λ ns o. record { nodes = ns; order = o }) nodes order)

@@ -3,8 +3,8 @@ use Rattle.std.proofs.Common.{◌≡◌, ℕ, ◌<◌, List, [], ◌∷◌, ◌+
 use Rattle.std.proofs.lemmas.List.{get_or_append_left, get_or_default, get_or-map, length-map, map_push}
 use Rattle.std.proofs.lemmas.List.Elements.{All-nil, All-push}
 use Rattle.std.proofs.lemmas.Option.{slice_get-get_or}
-use Rattle.network_table.specs.Numbered.{Numbered, IsWithin, replaced_numbered}
-use Rattle.network_table.specs.Networks.{children, nothing, numbered_at, IsMore, IsNumberOf, IsWhole, Knows}
+use Rattle.network_table.specs.Numbered.{Numbered, IsWithin, replaced_numbered, nothing}
+use Rattle.network_table.specs.Networks.{children, numbered_at, IsMore, IsNumberOf, IsWhole, Knows}
 use Rattle.network_table.specs.declared.notes.Notes.{Notes}
 use Rattle.network_table.proofs.Keys.{at_slice}
 use Rattle.network_table.specs.Drafts.{AreKnown, AreKnownOf, AreMade, AreNumbersOf, IsKnown, IsPlaced, draft_network, drafted, inner_at}

@@ -4,7 +4,7 @@ use Rattle.std.proofs.lemmas.List.{length-map, get_or-map, map_push, get_or-set_
 use Rattle.std.proofs.lemmas.List.Elements.{All-nil, All-push, All-append, All-take, All-drop}
 use Rattle.std.proofs.lemmas.Option.{slice_get-get_or}
 use Rattle.htn_model.proofs.Passing.{passes}
-use Rattle.htn_model.specs.Problem.{Child, GroundTask, Network, Order, IsSquare, is_before, precondition, task}
+use Rattle.htn_model.specs.Problem.{Child, GroundTask, Network, is_before, precondition, task}
 use Rattle.htn_model.specs.Choice.{child_of, is_free, passing}
 use Rattle.network_table.specs.Children.{AreKept, numbered_children}
 use Rattle.network_table.specs.declared.child_table.ChildTable.{ChildTable}
@@ -12,8 +12,8 @@ use Rattle.network_table.specs.declared.expansion.Expansion.{Expansion}
 use Rattle.network_table.specs.declared.expansion.Expansion.TheVariants.{Decomposed, Performed}
 use Rattle.std.proofs.lemmas.Bool.{cases_lt}
 use Rattle.std.proofs.lemmas.Option.{none-some, same_Some}
-use Rattle.network_table.specs.Numbered.{Numbered, network_of, replaced_numbered, replaced_network, IsWithin}
-use Rattle.network_table.specs.Networks.{children, nothing, numbered_at, network_at, expansion_at, Knows, IsGrown, IsMore, IsWhole}
+use Rattle.network_table.specs.Numbered.{Numbered, network_of, replaced_numbered, replaced_network, IsWithin, nothing}
+use Rattle.network_table.specs.Networks.{children, numbered_at, network_at, expansion_at, Knows, IsGrown, IsMore, IsWhole}
 use Rattle.network_table.specs.Expansions.{AreDecompositions, AreRemovals, AreInstances, IsKnownRemoval, IsDecomposed, IsExpansion, IsPerformed, IsSound, Live, first_free, free_positions, removal_at, removed_at, removal_network, position_network}
 use Rattle.network_table.specs.declared.expansion.Removal.{Removal}
 use Rattle.network_table.specs.declared.table.NetworkTable.{NetworkTable}
@@ -88,14 +88,6 @@ no_removals t n = record { known = All-nil (IsKnownRemoval t); each = refl }
 pub free_within : (n : ℕ) (test : ℕ → Bool) (free : List ℕ) → free ≡ passing test n → (k : ℕ) → k < length free → get_or free k 0 < n
 free_within n test free is k inside =
     (passes test n k (get_or free k 0) (sym (ap (λ l. slice_get l k) is) ∙ slice_get-get_or free k 0 inside)).0
-
--- a listed free position is one of the network's
-pub free_placed : (n net : Numbered) (order : Order) (items free : List ℕ) (k : ℕ) → net ≡ n → order ≡ net.order → IsSquare (length net.nodes) net.order
-    → items ≡ free_positions (length order) order → free ≡ items → k < length free → get_or free k 0 < length n.nodes
-free_placed n net order items free k same ordered square is seen inside =
-    let long : length order ≡ length n.nodes = ap length ordered ∙ square.0 ∙ ap (λ (m : Numbered). length m.nodes) same in
-    let below = free_within (length order) (is_free (length order) (is_before order)) free (seen ∙ is) k inside in
-    omega (arith, below, long)
 
 -- ## What the numbers stand for
 
@@ -205,7 +197,7 @@ pub grown_itself : (t : NetworkTable) → IsGrown t t
 grown_itself t = record {
   children = record { more = []; children = sym (append-nil t.children.children.keys); more_bounds = []; bounds = sym (append-nil t.children.bounds.items) };
   more = [];
-  networks = sym (append-nil t.networks.keys);
+  networks = sym (append-nil t.networks);
   expansions = λ n e is. is;
 }
 
@@ -221,14 +213,14 @@ kept_same old new same =
 
 -- the table t has grown from s, and then what was found of one number is put down in u
 module _ (s t u : NetworkTable) (number : ℕ) (found : Expansion) (more : IsMore s t) (known : Knows s number) (whole : IsWhole s) (whole' : IsWhole t)
-    (children_are : u.children ≡ t.children) (networks_are : u.networks.keys ≡ t.networks.keys) (expansions_are : u.expansions.items ≡ set t.expansions.items number (Some found)) where
+    (children_are : u.children ≡ t.children) (networks_are : u.networks ≡ t.networks) (expansions_are : u.expansions.items ≡ set t.expansions.items number (Some found)) where
   -- u as it was before
   abbrev before : NetworkTable
   before = record { children = u.children; networks = u.networks; open_lens = u.open_lens; bounds = u.bounds; expansions = t.expansions }
 
   -- the table has networks added before the note is put down
   same_before : IsMore t before
-  same_before = record { children = children_are; more = []; networks = networks_are ∙ sym (append-nil t.networks.keys); expansions = λ n. refl }
+  same_before = record { children = children_are; more = []; networks = networks_are ∙ sym (append-nil t.networks); expansions = λ n. refl }
 
   -- an expansion is right after it, too
   at_last : (live : Live) (n : ℕ) (e : Expansion) → IsExpansion live before n e → IsExpansion live u n e

@@ -9,8 +9,8 @@ use Rattle.htn_ground.specs.declared.child.Child.{Child as Node}
 use Rattle.htn_model.specs.Problem.{Child, Network, precondition}
 use Rattle.htn_model.specs.Choice.{child_of}
 use Rattle.network_table.specs.Children.{AreBounds, AreKept, AreNumbers, AreWhole, IsNumber, numbered_children}
-use Rattle.network_table.specs.Numbered.{Numbered, IsWithin, network_of, replaced_network}
-use Rattle.network_table.specs.Networks.{bound_of, children, numbered_at, network_at, nothing, IsGrown, Knows, IsWhole, NumbersStay}
+use Rattle.network_table.specs.Numbered.{Numbered, IsWithin, network_of, replaced_network, nothing}
+use Rattle.network_table.specs.Networks.{bound_of, children, numbered_at, network_at, IsGrown, Knows, IsWhole, NumbersStay}
 use Rattle.network_table.specs.declared.child_table.ChildTable.{ChildTable}
 use Rattle.network_table.specs.Expansions.{IsKnownRemoval, IsExpansion, IsSound, Live, first_free, free_positions, removal_network, position_network}
 use Rattle.network_table.specs.declared.expansion.Removal.{Removal}
@@ -46,8 +46,8 @@ same_bound old new whole kept n within =
 -- a number stands for the same network in a table that has grown
 pub numbers_stay : NumbersStay
 numbers_stay old new n whole grown known = (
-  omega (arith, known, ap length grown.networks, length-append old.networks.keys grown.more),
-  ap (network_of (children new)) (ap (λ l. get_or l n nothing) grown.networks ∙ get_or_append_left old.networks.keys grown.more nothing n known)
+  omega (arith, known, ap length grown.networks, length-append old.networks grown.more),
+  ap (network_of (children new)) (ap (λ l. get_or l n nothing) grown.networks ∙ get_or_append_left old.networks grown.more nothing n known)
       ∙ (let same = map_all (λ id. id < length (children old)) (child_of (children new)) (child_of (children old)) (child_kept old.children new.children grown.children) (numbered_at old n).nodes
       (within_at old n whole known) in ap (λ (l : List Child). record { children = l; order = (numbered_at old n).order }) same),
 )
@@ -116,7 +116,7 @@ pub grown_then : (s t u : NetworkTable) → IsGrown s t → IsGrown t u → IsGr
 grown_then s t u first second = record {
   children = kept_then s.children t.children u.children first.children second.children;
   more = first.more ++ second.more;
-  networks = second.networks ∙ ap (λ l. l ++ second.more) first.networks ∙ append_assoc s.networks.keys first.more second.more;
+  networks = second.networks ∙ ap (λ l. l ++ second.more) first.networks ∙ append_assoc s.networks first.more second.more;
   expansions = λ n e is. second.expansions n e (first.expansions n e is);
 }
 

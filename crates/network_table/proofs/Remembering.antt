@@ -11,8 +11,8 @@ use Rattle.htn_model.specs.Problem.{Child, Network}
 use Rattle.htn_model.specs.Choice.{child_of}
 use Rattle.htn_model.specs.PlanFile.{IsWithoutRepeats}
 use Rattle.network_table.specs.Children.{AreWhole, numbered_children}
-use Rattle.network_table.specs.Numbered.{Numbered, IsWithin, network_of}
-use Rattle.network_table.specs.Networks.{bound_of, expansion_at, network_at, nothing, numbered_at, IsGrown, IsMore, IsNumberOf, IsWhole, Knows}
+use Rattle.network_table.specs.Numbered.{Numbered, IsWithin, network_of, nothing}
+use Rattle.network_table.specs.Networks.{bound_of, expansion_at, network_at, numbered_at, IsGrown, IsMore, IsNumberOf, IsWhole, Knows}
 use Rattle.network_table.specs.Expansions.{AreInstances, IsExpansion, IsSound, Live, first_free}
 use Rattle.network_table.specs.Drafts.{AreExpanded, AreKnown, AreRemembered, HoldsFound, HoldsMade, IsFound, IsKnown, IsPlaced, draft_network, drafted}
 use Rattle.network_table.specs.declared.assemble.Found.{Found}
@@ -40,8 +40,8 @@ AllKnown t jobs = All (λ (j : Job). Knows t j.network) jobs
 -- a table that has grown has the same networks, by their numbers
 pub keeps_grown : (s t : NetworkTable) → IsGrown s t → KeepsNumbers s t
 keeps_grown s t grown x known = (
-  omega (arith, known, ap length grown.networks, length-append s.networks.keys grown.more),
-  ap (λ l. get_or l x nothing) grown.networks ∙ get_or_append_left s.networks.keys grown.more nothing x known,
+  omega (arith, known, ap length grown.networks, length-append s.networks grown.more),
+  ap (λ l. get_or l x nothing) grown.networks ∙ get_or_append_left s.networks grown.more nothing x known,
 )
 
 -- the jobs' networks keep their numbers
@@ -176,12 +176,12 @@ holds_kept s t jobs (Ok v) tidy known are holds = all_more (IsFound s jobs) (IsF
 holds_kept s t jobs (Err e) tidy known are holds = tt
 
 -- a table is whole after what becomes of a network is put down
-pub whole_after : (s t : NetworkTable) (n : ℕ) (e : Option Expansion) → IsWhole s → t.children ≡ s.children → t.networks.keys ≡ s.networks.keys → t.open_lens.items ≡ s.open_lens.items
+pub whole_after : (s t : NetworkTable) (n : ℕ) (e : Option Expansion) → IsWhole s → t.children ≡ s.children → t.networks ≡ s.networks → t.open_lens.items ≡ s.open_lens.items
     → t.bounds.items ≡ s.bounds.items → t.expansions.items ≡ set s.expansions.items n e → IsWhole t
 whole_after s t n e whole children_are networks_are open_lens_are bounds_are expansions_are = record {
   nodes = subst AreWhole (sym children_are) whole.nodes;
   distinct = subst (λ (l : List Numbered). IsWithoutRepeats l) (sym networks_are) whole.distinct;
-  within = subst (λ (c : ChildTable). All (IsWithin (numbered_children c)) t.networks.keys) (sym children_are)
+  within = subst (λ (c : ChildTable). All (IsWithin (numbered_children c)) t.networks) (sym children_are)
       (subst (All (IsWithin (numbered_children s.children))) (sym networks_are) whole.within);
   open_lens = open_lens_are ∙ whole.open_lens ∙ ap (map (λ (m : Numbered). length m.nodes)) (sym networks_are);
   bounds = bounds_are ∙ whole.bounds ∙ ap₂ (λ (c : ChildTable) (l : List Numbered). map (bound_of c) l) (sym children_are) (sym networks_are);
@@ -190,7 +190,7 @@ whole_after s t n e whole children_are networks_are open_lens_are bounds_are exp
 
 -- what was found of a network is put down where nothing is known of it
 pub put_down : (s t : NetworkTable) (jobs : List Job) (found : Found) (job : Job) → IsWhole s → IsWhole t → AllKnown s jobs → IsFound s jobs found → job ≡ get_or jobs found.job job
-    → expansion_at s job.network ≡ None → t.children ≡ s.children → t.networks.keys ≡ s.networks.keys → t.expansions.items ≡ set s.expansions.items job.network (Some found.expansion)
+    → expansion_at s job.network ≡ None → t.children ≡ s.children → t.networks ≡ s.networks → t.expansions.items ≡ set s.expansions.items job.network (Some found.expansion)
     → AreRemembered s t jobs
 put_down s t jobs found job tidy whole known (inside, right) is none children_are networks_are expansions_are =
     let own : Knows s job.network = subst (λ (j : Job). Knows s j.network) (sym is) (known found.job job inside) in

@@ -3,8 +3,8 @@ use Rattle.std.specs.Prelude.{⊤, ◌≡◌, ℕ, ◌<◌, List, map, length, g
 use Rattle.std.specs.declared.alloc.AllocError.{AllocError}
 use Rattle.std.specs.declared.alloc.Global.{Global}
 use Rattle.std.specs.declared.vec.Vec.{Vec}
-use Rattle.network_table.specs.Numbered.{Numbered, IsWithin, replaced_numbered}
-use Rattle.network_table.specs.Networks.{children, expansion_at, nothing, numbered_at, IsGrown, IsNumberOf, IsWhole, Knows}
+use Rattle.network_table.specs.Numbered.{Numbered, IsWithin, replaced_numbered, nothing}
+use Rattle.network_table.specs.Networks.{children, expansion_at, numbered_at, IsGrown, IsNumberOf, IsWhole, Knows}
 use Rattle.network_table.specs.Expansions.{AreInstances, IsExpansion, IsSound, Live}
 use Rattle.network_table.specs.declared.assemble.Found.{Found}
 use Rattle.network_table.specs.declared.draft.Draft.{Draft}

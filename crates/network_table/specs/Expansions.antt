@@ -3,8 +3,8 @@ use Rattle.std.specs.Prelude.{◌≡◌, ◌<◌, ℕ, List, map, length, get_or
 use Rattle.htn_model.specs.Problem.{Child, GroundTask, Network, Order, task, is_before}
 use Rattle.htn_model.specs.Choice.{child_of, first_free_compound, passing, is_free}
 use Rattle.htn_model.specs.Machine.{no_network}
-use Rattle.network_table.specs.Numbered.{Numbered, network_of, replaced_numbered, replaced_network}
-use Rattle.network_table.specs.Networks.{children, nothing, Knows, numbered_at, network_at, expansion_at}
+use Rattle.network_table.specs.Numbered.{Numbered, network_of, replaced_numbered, replaced_network, nothing}
+use Rattle.network_table.specs.Networks.{children, Knows, numbered_at, network_at, expansion_at}
 use Rattle.network_table.specs.declared.expansion.Expansion.{Expansion}
 use Rattle.network_table.specs.declared.expansion.Expansion.TheVariants.{Decomposed, Performed}
 use Rattle.network_table.specs.declared.expansion.Removal.{Removal}

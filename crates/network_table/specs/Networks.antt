@@ -1,9 +1,9 @@
 -- The networks that have numbers.
-use Rattle.std.specs.Prelude.{◌≡◌, ℕ, ◌<◌, ◌^◌, ◌-◌, ◌++◌, List, [], map, length, get_or, All, Option, None, Some, min}
+use Rattle.std.specs.Prelude.{◌≡◌, ℕ, ◌<◌, ◌^◌, ◌-◌, ◌++◌, List, map, length, get_or, All, Option, None, Some, min}
 use Rattle.std.specs.List.{sum_by}
 use Rattle.htn_model.specs.PlanFile.{IsWithoutRepeats}
 use Rattle.htn_model.specs.Problem.{Child, Network}
-use Rattle.network_table.specs.Numbered.{Numbered, network_of, IsWithin}
+use Rattle.network_table.specs.Numbered.{Numbered, nothing, network_of, IsWithin}
 use Rattle.network_table.specs.Children.{AreKept, AreWhole, numbered_children}
 use Rattle.network_table.specs.declared.child_table.ChildTable.{ChildTable}
 use Rattle.network_table.specs.declared.expansion.Expansion.{Expansion}
@@ -13,17 +13,13 @@ use Rattle.network_table.specs.declared.table.NetworkTable.{NetworkTable}
 abbrev pub children : NetworkTable → List Child
 children t = numbered_children t.children
 
--- the network of no nodes
-abbrev pub nothing : Numbered
-nothing = record { nodes = []; order = [] }
-
 -- a network has this number
 abbrev pub Knows : NetworkTable → ℕ → Type 0
-Knows t n = n < length t.networks.keys
+Knows t n = n < length t.networks
 
 -- the network of a number, its nodes by numbers
 abbrev pub numbered_at : NetworkTable → ℕ → Numbered
-numbered_at t n = get_or t.networks.keys n nothing
+numbered_at t n = get_or t.networks n nothing
 
 -- what a number stands for
 abbrev pub network_at : NetworkTable → ℕ → Network
@@ -40,24 +36,24 @@ bound_of t n = min (sum_by (λ id. get_or t.bounds.items id 0) n.nodes) (2 ^ 64 
 -- no network has two numbers, all nodes have one, and each number has its count of nodes and its bound
 pub record IsWhole (t : NetworkTable) : Type 0 where
   pub nodes : AreWhole t.children
-  pub distinct : IsWithoutRepeats t.networks.keys
-  pub within : All (IsWithin (children t)) t.networks.keys
-  pub open_lens : t.open_lens.items ≡ map (λ (n : Numbered). length n.nodes) t.networks.keys
-  pub bounds : t.bounds.items ≡ map (bound_of t.children) t.networks.keys
-  pub expansions : length t.expansions.items ≡ length t.networks.keys
+  pub distinct : IsWithoutRepeats t.networks
+  pub within : All (IsWithin (children t)) t.networks
+  pub open_lens : t.open_lens.items ≡ map (λ (n : Numbered). length n.nodes) t.networks
+  pub bounds : t.bounds.items ≡ map (bound_of t.children) t.networks
+  pub expansions : length t.expansions.items ≡ length t.networks
 
 -- more networks have numbers, and all else is as it was
 pub record IsMore (old new : NetworkTable) : Type 0 where
   pub children : new.children ≡ old.children
   pub more : List Numbered
-  pub networks : new.networks.keys ≡ old.networks.keys ++ more
+  pub networks : new.networks ≡ old.networks ++ more
   pub expansions : (n : ℕ) → expansion_at new n ≡ expansion_at old n
 
 -- what had a number keeps it, and what was remembered of it
 pub record IsGrown (old new : NetworkTable) : Type 0 where
   pub children : AreKept old.children new.children
   pub more : List Numbered
-  pub networks : new.networks.keys ≡ old.networks.keys ++ more
+  pub networks : new.networks ≡ old.networks ++ more
   pub expansions : (n : ℕ) (e : Expansion) → expansion_at old n ≡ Some e → expansion_at new n ≡ Some e
 
 -- the network has this number

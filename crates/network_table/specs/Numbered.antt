@@ -1,5 +1,5 @@
 -- Networks whose nodes are numbers, and what they stand for.
-use Rattle.std.specs.Prelude.{◌≡◌, ℕ, ◌<◌, ◌++◌, List, map, length, fold, Bool, nat_eq, refl, All}
+use Rattle.std.specs.Prelude.{◌≡◌, ℕ, ◌<◌, ◌++◌, List, [], map, length, fold, Bool, nat_eq, refl, All}
 use Rattle.std.specs.Bool.{Decides}
 use Rattle.std.specs.Cmp.{IsEquivalence, IsPartialEquivalence, partial_equiv_from_equiv, unsigned_Decides, decided, first_so, second_so}
 use Rattle.std.specs.Cmp.Lexicographic.{pointwise, pointwise_decides}
@@ -21,6 +21,10 @@ use Rattle.htn_order.specs.OrderHash.{order_hash}
 pub record Numbered : Type 0 where
   pub nodes : List ℕ
   pub order : Order
+
+-- the network of no nodes
+abbrev pub nothing : Numbered
+nothing = record { nodes = []; order = [] }
 
 -- whether they have the same nodes in the same order
 abbrev pub numbered_eq : Numbered → Numbered → Bool

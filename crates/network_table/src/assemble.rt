@@ -60,7 +60,7 @@ impl NetworkTable {
             (free_positions (length (numbered_at self.now job.entry.network).nodes) (numbered_at self.now job.entry.network).order)
             v.items)) }
     {
-        let free = self.network(job.network).order().free_positions(alloc)?;
+        let free = self.free_in(alloc, job.network)?;
         let mut removals = Vec::with_capacity(alloc, free.len())?;
         for position in &free {
             let node = self.node_at(job.network, *position);

@@ -3,6 +3,7 @@ ghost use Rattle.std.specs.Prelude.{◌≡◌, ◌<◌, All};
 ghost use Rattle.network_table.specs.Networks.{IsWhole, Knows};
 
 use crate::network::Network;
+use crate::network_set::Entry;
 use crate::table::NetworkTable;
 use std::alloc::{AllocError, Global};
 
@@ -86,7 +87,10 @@ impl NetworkTable {
         requires whole { IsWhole self.now }
         requires known { Knows self.now job.network }
     {
-        let network = self.network(job.network);
+        let Entry::Whole(network) = self.entry(job.network) else {
+            // What becomes of a chain has its nodes: it is made where it is numbered, and nothing is copied.
+            return Ok(());
+        };
         let nodes = network.nodes();
         match self.first_free_position(job.network) {
             Some(position) => {

@@ -3,13 +3,14 @@ ghost use Rattle.std.specs.Prelude.{◌≡◌, ◌<◌, ℕ, List, All, IfOk, If
 ghost use Rattle.std.specs.Option.{option_map};
 ghost use Rattle.htn_model.specs.Problem.{GroundTask, task};
 ghost use Rattle.htn_model.specs.Choice.{child_of};
-ghost use Rattle.network_table.specs.Numbered.{IsWithin, replaced_numbered};
+ghost use Rattle.network_table.specs.Numbered.{IsWithin, network_of, replaced_numbered};
 ghost use Rattle.network_table.specs.Networks.{children, expansion_at, IsGrown, IsMore, IsNumberOf, IsWhole, Knows, network_at, numbered_at};
 ghost use Rattle.network_table.specs.Expansions.{AreDecompositions, AreInstances, AreRemovals, IsExpansion, IsSound, Live, first_free, free_positions};
 
 use crate::draft::Job;
 use crate::expansion::{Expansion, Removal};
 use crate::network::Network;
+use crate::network_set::Entry;
 use crate::table::NetworkTable;
 use htn_ground::{Child, GroundTask};
 use htn_order::Order;
@@ -23,7 +24,21 @@ impl NetworkTable {
         ensures position { option_map (λ p. p.0) result ≡ first_free (network_at self.now number) }
         ensures goal { IfSome result (λ p. child_of (network_at self.now number).children p.0 ≡ task p.1.now) }
     {
-        let network = self.network(number);
+        match self.entry(number) {
+            Entry::Chain(link) => match self.child(link.first) {
+                Child::Task(goal) => Some((0, goal)),
+                _ => None,
+            },
+            Entry::Whole(network) => self.first_free_task_of(network),
+        }
+    }
+
+    /// The first free compound task of a network, with its position.
+    fn first_free_task_of(&self, network: &Network) -> Option<(usize, &GroundTask)>
+        requires { IsWithin (children self.now) network.now }
+        ensures position { option_map (λ p. p.0) result ≡ first_free (network_of (children self.now) network.now) }
+        ensures goal { IfSome result (λ p. child_of (network_of (children self.now) network.now).children p.0 ≡ task p.1.now) }
+    {
         let nodes = network.nodes();
         let order = network.order();
         let mut from = 0;
@@ -36,14 +51,36 @@ impl NetworkTable {
         None
     }
 
+    /// The positions of the free nodes of a network, ascending.
+    pub(crate) fn free_in(&self, alloc: Global, number: u32) -> Result<Vec<usize>, AllocError>
+        requires { Knows self.now number }
+        ensures { IfOk result (λ v. v.items ≡ free_positions (length (numbered_at self.now number).nodes) (numbered_at self.now number).order) }
+    {
+        match self.entry(number) {
+            Entry::Chain(_) => Ok(Vec::from_array(alloc, [0])?),
+            Entry::Whole(network) => network.order().free_positions(alloc),
+        }
+    }
+
     /// The number of the node at a position of a network.
-    pub(crate) fn node_at(&self, number: u32, position: usize) -> u32
+    pub fn node_at(&self, number: u32, position: usize) -> u32
         requires known { Knows self.now number }
         requires placed { position < length (numbered_at self.now number).nodes }
         ensures { result ≡ get_or (numbered_at self.now number).nodes position 0 }
     {
-        let nodes = self.network(number).nodes();
-        nodes[position]
+        let mut at = number;
+        let mut left = position;
+        while let Entry::Chain(link) = self.entry(at) {
+            if left == 0 {
+                return link.first;
+            }
+            at = link.rest;
+            left -= 1;
+        }
+        let Entry::Whole(network) = self.entry(at) else {
+            unreachable!()
+        };
+        network.nodes()[left]
     }
 
     /// The position of the first free compound task of a network.
@@ -56,6 +93,25 @@ impl NetworkTable {
     {
         let (position, _goal) = self.first_free_task(number)?;
         Some(position)
+    }
+
+    /// A copy of the network of a number in which this one takes the place of the node at a position.
+    fn replaced(
+        &self,
+        alloc: Global,
+        number: u32,
+        position: usize,
+        inner: &Network,
+    ) -> Result<Network, AllocError>
+        requires known { Knows self.now number }
+        requires placed { position < length (numbered_at self.now number).nodes }
+        ensures { IfOk result (λ n. n ≡ replaced_numbered (numbered_at self.now number) position inner.now) }
+    {
+        if let Entry::Whole(network) = self.entry(number) {
+            return network.replaced(alloc, position, inner);
+        }
+        let network = self.network(alloc, number)?;
+        network.replaced(alloc, position, inner)
     }
 
     /// The number of a job's network in which this one takes the place of the node at a position, which it may get only
@@ -76,7 +132,15 @@ impl NetworkTable {
         ensures number { IfOk result (λ n. IsNumberOf self.new n
             (replaced_numbered (numbered_at self.old job.entry.network) position inner.now)) }
     {
-        let next = self.network(job.network).replaced(alloc, position, inner)?;
+        if let Entry::Chain(link) = self.entry(job.network) {
+            if position == 0 && inner.is_chain() {
+                // The nodes that stay are not copied.
+                let rest = link.rest;
+                let number = self.keep_before(inner.nodes(), rest)?;
+                return Ok(number);
+            }
+        }
+        let next = self.replaced(alloc, job.network, position, inner)?;
         let number = self.keep(next)?;
         Ok(number)
     }
@@ -114,8 +178,8 @@ impl NetworkTable {
             (free_positions (length (numbered_at self.old job.entry.network).nodes) (numbered_at self.old job.entry.network).order)
             v.items) }
     {
-        let free = self.network(job.network).order().free_positions(alloc)?;
-        let none = Network::new(Vec::new(alloc), Order::empty());
+        let free = self.free_in(alloc, job.network)?;
+        let none = Network::empty(alloc);
         let mut removals = Vec::with_capacity(alloc, free.len())?;
         for position in &free {
             let node = self.node_at(job.network, *position);

@@ -1,7 +1,7 @@
 //! Task networks by numbers, and what becomes of each in a search.
 //!
 //! A [`ChildTable`] gives each node a number, and a [`NetworkTable`] each network of such numbers
-//! with its order. With a network's number stand how many nodes it has, the sum of a bound on its
+//! with its order; totally ordered networks share their nodes ([`Entry`]). With a network's number stand how many nodes it has, the sum of a bound on its
 //! nodes and, once asked for, its [`Expansion`]: the networks in which an instance stands in the
 //! place of the first free compound task or, where none is free, those without one of the free
 //! nodes. What becomes of a network is the same in every state, so it is found once.
@@ -16,6 +16,7 @@ mod expansion;
 mod laws;
 mod made;
 mod network;
+mod network_set;
 mod notes;
 mod table;
 
@@ -24,4 +25,5 @@ pub use draft::Job;
 pub use expansion::{Expansion, Removal};
 pub use laws::{numbers_differ, numbers_stay, replaces_as_model};
 pub use network::Network;
+pub use network_set::{Entry, Link};
 pub use table::NetworkTable;

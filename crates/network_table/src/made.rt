@@ -1,15 +1,15 @@
 //! Makes what many networks become.
 ghost use Rattle.std.specs.Prelude.{◌≡◌, ◌<◌, true, List, All, IfOk, IfSome, OnOk, length, get_or};
-ghost use Rattle.network_table.specs.Numbered.{IsWithin};
-ghost use Rattle.network_table.specs.Networks.{children, nothing, IsWhole, Knows};
+ghost use Rattle.network_table.specs.Numbered.{IsWithin, nothing};
+ghost use Rattle.network_table.specs.Networks.{children, IsNumberOf, IsWhole, Knows};
 ghost use Rattle.htn_model.specs.Problem.{Child};
 ghost use Rattle.network_table.specs.Drafts.{draft_network, inner_at, AreMade, AreNoted, Stands};
 
 use crate::draft::{Draft, Job, Listed, shard_of};
 use crate::network::Network;
+use crate::network_set::Entry;
 use crate::notes::Known;
 use crate::table::NetworkTable;
-use htn_order::Order;
 use indexmap::IndexMap;
 use std::alloc::{AllocError, Global};
 
@@ -43,13 +43,6 @@ pub(crate) enum Standing {
     Unknown,
     MadeAt(usize),
     HasNumber(u32),
-}
-
-/// The network of no nodes.
-fn no_nodes(alloc: Global) -> Network
-    ensures { result ≡ nothing }
-{
-    Network::new(Vec::new(alloc), Order::empty())
 }
 
 /// What takes the place of a node: one of the instances, or the network of no nodes.
@@ -91,11 +84,13 @@ impl NetworkTable {
             return Ok(None);
         }
         let job = jobs[draft.job];
-        let whole = self.network(job.network);
+        let Entry::Whole(whole) = self.entry(job.network) else {
+            return Ok(None);
+        };
         if draft.position >= whole.nodes().len() {
             return Ok(None);
         }
-        let none = no_nodes(alloc);
+        let none = Network::empty(alloc);
         let Some(inner) = inner_of(job.instances, &none, draft.instance) else {
             return Ok(None);
         };
@@ -103,30 +98,84 @@ impl NetworkTable {
         Ok(Some(next))
     }
 
-    /// Where a network stands among those that were made, or in the table. It is looked for in the table unless it
-    /// stands where the hint tells.
-    fn standing_of(&self, networks: &[Network], hint: Standing, network: &Network) -> Standing
-        requires { IsWhole self.now }
-        ensures { Stands self.now networks.now network.now result }
+    /// Whether a network that is kept whole has a number.
+    fn has_number(&self, number: u32, network: &Network) -> bool
+        ensures { result ≡ true → IsNumberOf self.now number network.now }
     {
-        if let Standing::MadeAt(place) = hint {
-            if is_at(networks, place, network) {
-                return Standing::MadeAt(place);
-            }
+        if number as usize >= self.len() {
+            return false;
         }
-        if let Standing::HasNumber(number) = hint {
-            if is_at(self.networks(), number as usize, network) {
-                return Standing::HasNumber(number);
-            }
-        }
-        match self.number_of(network) {
-            Some(number) => Standing::HasNumber(number),
-            None => Standing::Unknown,
+        match self.entry(number) {
+            Entry::Whole(kept) => kept == network,
+            Entry::Chain(_) => false,
         }
     }
 
-    /// Makes the network of a draft that is listed at a place, and adds the place, or the network's number if it has
-    /// one; and it adds the network, if it stands nowhere. It gives where the network stands.
+    /// Where a network stands among those that were made, or in the table, and the network. It is looked for in the
+    /// table unless it stands where the hint tells.
+    fn standing_of(
+        &self,
+        networks: &[Network],
+        hint: Standing,
+        network: Network,
+    ) -> (Standing, Network)
+        requires { IsWhole self.now }
+        ensures standing { Stands self.now networks.now network result.0 }
+        ensures network { result.1 ≡ network }
+    {
+        match hint {
+            Standing::MadeAt(place) if is_at(networks, place, &network) => (hint, network),
+            Standing::HasNumber(number) if self.has_number(number, &network) => (hint, network),
+            _ => match self.number_of(network) {
+                (Some(number), network) => (Standing::HasNumber(number), network),
+                (None, network) => (Standing::Unknown, network),
+            },
+        }
+    }
+
+    /// Puts down where the network of a draft stands that is listed at a place: its place, or its number if it has one;
+    /// and the network, if it stands nowhere. It gives where the network stands.
+    fn put(
+        &self,
+        jobs: &[Job],
+        made: &mut Made,
+        standing: Standing,
+        at: usize,
+        draft: Draft,
+        network: Network,
+    ) -> Result<Standing, AllocError>
+        requires made { AreMade self.now jobs.now made.old.networks.items made.old.places.items }
+        requires noted { AreNoted self.now jobs.now made.old.noted.items }
+        requires stands { Stands self.now made.old.networks.items network standing }
+        requires draft { network ≡ draft_network self.now jobs.now draft }
+        requires within { IsWithin (children self.now) network }
+        ensures made { OnOk result (AreMade self.now jobs.now made.new.networks.items made.new.places.items) }
+        ensures noted { OnOk result (AreNoted self.now jobs.now made.new.noted.items) }
+    {
+        match standing {
+            Standing::HasNumber(number) => {
+                let known = Known { draft, number };
+                made.noted.push(Noted { at, known })?;
+                Ok(standing)
+            }
+            Standing::MadeAt(network) => {
+                made.places.push(Place { at, draft, network })?;
+                Ok(standing)
+            }
+            Standing::Unknown => {
+                let place = made.networks.len();
+                made.networks.push(network)?;
+                made.places.push(Place {
+                    at,
+                    draft,
+                    network: place,
+                })?;
+                Ok(Standing::MadeAt(place))
+            }
+        }
+    }
+
+    /// Makes the network of a draft that is listed at a place, and puts down where it stands, which it gives.
     fn add(
         &self,
         alloc: Global,
@@ -147,24 +196,8 @@ impl NetworkTable {
         let Some(next) = self.make(alloc, jobs, draft)? else {
             return Ok(hint);
         };
-        let standing = self.standing_of(&made.networks, hint, &next);
-        match standing {
-            Standing::HasNumber(number) => {
-                let known = Known { draft, number };
-                made.noted.push(Noted { at, known })?;
-                Ok(standing)
-            }
-            Standing::MadeAt(network) => {
-                made.places.push(Place { at, draft, network })?;
-                Ok(standing)
-            }
-            Standing::Unknown => {
-                let network = made.networks.len();
-                made.networks.push(next)?;
-                made.places.push(Place { at, draft, network })?;
-                Ok(Standing::MadeAt(network))
-            }
-        }
+        let (standing, next) = self.standing_of(&made.networks, hint, next);
+        self.put(jobs, made, standing, at, draft, next)
     }
 
     /// Makes the networks of the drafts that fall to a shard, equal ones mostly once, and finds those that have numbers.

@@ -1,5 +1,5 @@
 //! Networks by numbers.
-ghost use Rattle.std.specs.Prelude.{◌≡◌, ◌<◌, ◌+◌, ◌-◌, ◌^◌, [], ℕ, List, IfNone, IfOk, IfSome, OnOk, length, map, min, set, None, Some};
+ghost use Rattle.std.specs.Prelude.{◌≡◌, ◌<◌, ◌≤◌, ◌↔◌, ◌+◌, ◌-◌, ◌^◌, [], ℕ, All, List, IfNone, IfOk, IfSome, OnOk, get_or, length, map, min, set, None, Some};
 ghost use Rattle.std.specs.List.{sum_by};
 ghost use Rattle.std.specs.Option.{option_map};
 ghost use Rattle.htn_model.specs.Problem as model;
@@ -9,13 +9,15 @@ ghost use Rattle.htn_ground.specs.Views.{child_view, children_of};
 ghost use Rattle.network_table.specs.Children.{AreBounds, AreNumbers, AreWhole, IsNumber, numbered_children};
 ghost use Rattle.network_table.specs.Numbered.{IsWithin};
 ghost use Rattle.network_table.specs.Networks.{bound_of, children, expansion_at, IsGrown, IsMore, IsNumberOf, IsWhole, Knows, network_at, numbered_at};
+ghost use Rattle.network_table.specs.Entries.{chain_before, Fits, IsChain, IsEntryAt, network_by};
 ghost use Rattle.network_table.specs.Expansions.{IsSound, Live};
 
 use crate::child_table::ChildTable;
 use crate::expansion::Expansion;
 use crate::network::Network;
+use crate::network_set::{Entry, Link, NetworkSet};
 use htn_ground::Child;
-use indexmap::IndexSet;
+use htn_order::Order;
 use std::alloc::{AllocError, Global};
 
 /// The networks that have numbers, each with its count of nodes, a bound from below on the numbers
@@ -23,10 +25,18 @@ use std::alloc::{AllocError, Global};
 #[derive(Drop)]
 pub struct NetworkTable {
     children: ChildTable,
-    networks: IndexSet<Network>,
+    networks: NetworkSet,
     open_lens: Vec<u64>,
     bounds: Vec<u64>,
     expansions: Vec<Option<Expansion>>,
+}
+
+/// A place, if a word of 32 bits holds it.
+fn number_at(place: Option<usize>) -> Option<u32>
+    ensures some { IfSome result (λ n. place ≡ Some n) }
+    ensures none { IfNone result ((n : ℕ) → n < 2 ^ 32 → place ≡ Some n → ⊥) }
+{
+    u32::try_from(place?).ok()
 }
 
 /// The sum of the bounds of a network's nodes.
@@ -49,30 +59,59 @@ impl NetworkTable {
         ensures bounds { (measure : model.Child → ℕ) → AreBounds measure result.children }
         ensures sound { (live : Live) → IsSound live result }
         ensures none { (n : ℕ) → expansion_at result n ≡ None }
-        ensures empty { result.networks.keys ≡ [] }
+        ensures empty { result.networks ≡ [] }
     {
         NetworkTable {
             children: ChildTable::new(alloc),
-            networks: IndexSet::new(alloc),
+            networks: NetworkSet::new(alloc),
             open_lens: Vec::new(alloc),
             bounds: Vec::new(alloc),
             expansions: Vec::new(alloc),
         }
     }
 
-    /// The network of a number.
-    pub fn network(&self, number: u32) -> &Network
-        requires { Knows self.now number }
-        ensures { result.now ≡ numbered_at self.now number }
+    /// How many networks have numbers.
+    pub fn len(&self) -> usize
+        ensures { result ≡ length self.now.networks }
     {
-        &self.networks.as_slice()[number as usize]
+        self.networks.len()
     }
 
-    /// The networks in the order of their numbers.
-    pub fn networks(&self) -> &[Network]
-        ensures { result.now ≡ self.now.networks.keys }
+    /// What is kept of the network of a number.
+    pub fn entry(&self, number: u32) -> &Entry
+        requires { Knows self.now number }
+        ensures entry { IsEntryAt self.now.networks number result.now }
+        // each node of a chain has a number of its own
+        ensures short { IsChain (numbered_at self.now number) → length (numbered_at self.now number).nodes ≤ number }
     {
-        self.networks.as_slice()
+        self.networks.entry(number as usize)
+    }
+
+    /// A copy of the network of a number.
+    pub fn network(&self, alloc: Global, number: u32) -> Result<Network, AllocError>
+        requires { Knows self.now number }
+        ensures { IfOk result (λ n. n ≡ numbered_at self.now number) }
+    {
+        match self.entry(number) {
+            Entry::Whole(network) => network.clone(),
+            Entry::Chain(_) => self.chain(alloc, number),
+        }
+    }
+
+    /// A copy of a totally ordered network.
+    fn chain(&self, alloc: Global, number: u32) -> Result<Network, AllocError>
+        requires known { Knows self.now number }
+        requires chain { IsChain (numbered_at self.now number) }
+        ensures { IfOk result (λ n. n ≡ numbered_at self.now number) }
+    {
+        let mut nodes = Vec::new(alloc);
+        let mut at = number;
+        while let Entry::Chain(link) = self.entry(at) {
+            nodes.push(link.first)?;
+            at = link.rest;
+        }
+        let order = Order::chain(nodes.len());
+        Ok(Network::new(nodes, order))
     }
 
     /// The nodes in the order of their numbers.
@@ -128,16 +167,98 @@ impl NetworkTable {
         self.expansions[number as usize].as_ref()
     }
 
-    /// The number of a network, if it has one that a word of 32 bits holds. It takes no memory.
-    pub(crate) fn number_of(&self, network: &Network) -> Option<u32>
-        ensures some { IfSome result (λ n. IsNumberOf self.now n network.now) }
-        ensures none { IfNone result ((n : ℕ) → n < 2 ^ 32 → IsNumberOf self.now n network.now → ⊥) }
+    /// The number of a network, if it has one that a word of 32 bits holds and is no chain; and the network, which is
+    /// taken since a set is asked for an entry. It takes no memory.
+    pub(crate) fn number_of(&self, network: Network) -> (Option<u32>, Network)
+        requires { IsWhole self.now }
+        ensures some { IfSome result.0 (λ n. IsNumberOf self.now n network) }
+        ensures none { IfNone result.0 ((n : ℕ) → n < 2 ^ 32 → IsNumberOf self.now n network → IsChain network) }
+        ensures network { result.1 ≡ network }
     {
-        let place = self.networks.get_index_of(network)?;
-        let Ok(number) = u32::try_from(place) else {
-            return None;
+        let entry = Entry::Whole(network);
+        let place = self.networks.place_of(&entry);
+        let Entry::Whole(network) = entry else {
+            unreachable!()
         };
-        Some(number)
+        (number_at(place), network)
+    }
+
+    /// How many nodes the network at a place has, where that is known of those before it.
+    fn count_open(&self, place: usize) -> u64
+        requires placed { place < length self.now.networks }
+        requires known { (n : ℕ) → n < place → (n < length self.now.open_lens.items)
+            × (get_or self.now.open_lens.items n 0 ≡ length (numbered_at self.now n).nodes) }
+        ensures { result ≡ length (numbered_at self.now place).nodes }
+    {
+        match self.networks.entry(place) {
+            Entry::Chain(link) => self.open_lens[link.rest as usize] + 1,
+            Entry::Whole(network) => network.nodes().len() as u64,
+        }
+    }
+
+    /// The sum of the bounds of the nodes of the network at a place, where that is known of those before it.
+    fn sum_open(&self, place: usize) -> u64
+        requires placed { place < length self.now.networks }
+        requires known { (n : ℕ) → n < place → (n < length self.now.bounds.items)
+            × (get_or self.now.bounds.items n 0 ≡ bound_of self.now.children (numbered_at self.now n)) }
+        requires whole { AreWhole self.now.children }
+        requires within { IsWithin (children self.now) (numbered_at self.now place) }
+        ensures { result ≡ bound_of self.now.children (numbered_at self.now place) }
+    {
+        match self.networks.entry(place) {
+            Entry::Chain(link) => {
+                let first = u64::from(self.children.bound(link.first));
+                self.bounds[link.rest as usize].saturating_add(first)
+            }
+            Entry::Whole(network) => sum_bounds(&self.children, network),
+        }
+    }
+
+    /// The number of the network that an entry stands for, which it may get only now.
+    fn keep_entry(&mut self, entry: Entry) -> Result<u32, AllocError>
+        requires whole { IsWhole self.old }
+        requires fits { Fits self.old.networks entry }
+        requires within { IsWithin (children self.old) (network_by self.old.networks entry) }
+        ensures whole { OnOk result (IsWhole self.new) }
+        ensures more { OnOk result (IsMore self.old self.new) }
+        ensures number { IfOk result (λ n. IsNumberOf self.new n (network_by self.old.networks entry)) }
+        ensures sound { OnOk result ((live : Live) → IsSound live self.old → IsSound live self.new) }
+    {
+        let (place, is_new) = self.networks.insert(entry)?;
+        let Ok(number) = u32::try_from(place) else {
+            return Err(AllocError);
+        };
+        if !is_new {
+            return Ok(number);
+        }
+        let open_len = self.count_open(place);
+        let bound = self.sum_open(place);
+        self.open_lens.push(open_len)?;
+        self.bounds.push(bound)?;
+        self.expansions.push(None)?;
+        Ok(number)
+    }
+
+    /// The number of a chain of these nodes before those of a chain that has a number, which it may get only now.
+    pub(crate) fn keep_before(&mut self, nodes: &[u32], rest: u32) -> Result<u32, AllocError>
+        requires whole { IsWhole self.old }
+        requires known { Knows self.old rest }
+        requires chain { IsChain (numbered_at self.old rest) }
+        requires within { All (λ id. id < length (children self.old)) nodes.now }
+        ensures whole { OnOk result (IsWhole self.new) }
+        ensures more { OnOk result (IsMore self.old self.new) }
+        ensures number { IfOk result (λ n. IsNumberOf self.new n (chain_before nodes.now (numbered_at self.old rest))) }
+        ensures sound { OnOk result ((live : Live) → IsSound live self.old → IsSound live self.new) }
+    {
+        let mut number = rest;
+        for at in (0..nodes.len()).rev() {
+            let link = Link {
+                first: nodes[at],
+                rest: number,
+            };
+            number = self.keep_entry(Entry::Chain(link))?;
+        }
+        Ok(number)
     }
 
     /// The number of a network, which it may get only now.
@@ -149,19 +270,13 @@ impl NetworkTable {
         ensures number { IfOk result (λ n. IsNumberOf self.new n network) }
         ensures sound { OnOk result ((live : Live) → IsSound live self.old → IsSound live self.new) }
     {
-        let (place, is_new) = self.networks.insert_full(network)?;
-        let Ok(number) = u32::try_from(place) else {
-            return Err(AllocError);
-        };
-        if !is_new {
-            return Ok(number);
+        if !network.is_chain() {
+            return self.keep_entry(Entry::Whole(network));
         }
-        let kept = &self.networks.as_slice()[place];
-        let open_len = kept.nodes().len() as u64;
-        let bound = sum_bounds(&self.children, kept);
-        self.open_lens.push(open_len)?;
-        self.bounds.push(bound)?;
-        self.expansions.push(None)?;
+        let nodes = network.into_nodes();
+        let none = Network::empty(*nodes.allocator());
+        let end = self.keep_entry(Entry::Whole(none))?;
+        let number = self.keep_before(nodes.as_slice(), end)?;
         Ok(number)
     }
 

@@ -54,7 +54,7 @@ impl Tables {
         ensures own { IfOk result (AreTables task.now) }
         ensures sized { IfOk result (λ t. (sizes : TreeSizes) → HasSizes sizes t.networks) }
         ensures goal { IfOk result (λ t. t.needs.goal ≡ (problem_of task.now).goal) }
-        ensures none { IfOk result (λ t. (t.needs.needs.items ≡ []) × (t.networks.networks.keys ≡ [])) }
+        ensures none { IfOk result (λ t. (t.needs.needs.items ≡ []) × (t.networks.networks ≡ [])) }
         ensures nothing_noted { IfOk result (λ t. (t.needs.nodes.items ≡ []) × (t.needs.goals.items ≡ [])) }
     {
         let fluents = fluent_predicates(alloc, task)?;

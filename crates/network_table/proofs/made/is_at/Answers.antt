@@ -1,7 +1,6 @@
 use Rattle.std.proofs.Common.{◌<◌, ◌∙◌, sym, length, arith}
 use Rattle.std.proofs.lemmas.List.{get_or_default}
-use Rattle.network_table.specs.Networks.{nothing}
-use Rattle.network_table.specs.Numbered.{numbered_eq-decides}
+use Rattle.network_table.specs.Numbered.{numbered_eq-decides, nothing}
 use Rattle.network_table.proofs.made.is_at.Goals as goal
 
 pub returns-then-place-networks : goal.returns-then-place-networks

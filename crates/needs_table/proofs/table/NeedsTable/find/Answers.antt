@@ -18,7 +18,7 @@ loop-number-preserved c =
     let old = c.loop-number.needs.items in
     let first = c.min-first.result in
     let needed = c.in_ok-needed.needed in
-    let low : n < length t.networks.keys = omega (arith, c.loop-number-test.true, c.min-number-end.ensures, ap length c.networks-all.ensures) in
+    let low : n < length t.networks = omega (arith, c.loop-number-test.true, c.min-number-end.ensures, ap length c.networks-all.ensures) in
     let same = network_of_number t n x low (c.index-all-number.is ∙ ap (λ (l : List Numbered). get_or l n x) c.networks-all.ensures) in
     let long = length-append old (needed ∷ []) in
     let pushed = ap length c.in_ok-push.ensures.items in
@@ -27,6 +27,6 @@ loop-number-preserved c =
           (let right =
           subst (λ k. IsKept o s.goal atoms (network_at t k) needed) (sym i.count)
           (subst (λ (y : Numbered). IsKept o s.goal atoms (network_of (children t) y) needed) same (c.in_ok-needed.ensures atoms t nodes goals)) in
-          from_push o s.goal atoms t first old c.push.new.self.items needed (subst (λ k. k < length t.networks.keys) (sym i.count) low) right c.in_ok-push.ensures.items (i.kept atoms nodes goals));
+          from_push o s.goal atoms t first old c.push.new.self.items needed (subst (λ k. k < length t.networks) (sym i.count) low) right c.in_ok-push.ensures.items (i.kept atoms nodes goals));
       count = omega (arith, long, pushed, i.count);
     }

@@ -24,7 +24,7 @@ needed_by-requires c =
     let t = c.args.networks.now in
     let n = c.loop-number.number in
     let x = c.index-all-number.result in
-    let low : n < length t.networks.keys = omega (arith, c.loop-number-test.true, ap length c.networks-all.ensures) in
+    let low : n < length t.networks = omega (arith, c.loop-number-test.true, ap length c.networks-all.ensures) in
     let same = network_of_number t n x low (c.index-all-number.is ∙ ap (λ (l : List Numbered). get_or l n x) c.networks-all.ensures) in
     let within : IsWithin (children t) x = subst (IsWithin (children t)) (sym same) (within_at t n c.requires.whole low) in
     let known : length (children t) ≤ length c.loop-number.self.nodes.items = subst (λ k. length (children t) ≤ k) (ap (λ v. length v.items) (sym c.loop-number.invariant.same_nodes)) c.requires.all in
@@ -41,7 +41,7 @@ loop-number-preserved c =
     let x = c.index-all-number.result in
     let s = c.loop-number.self in
     let needed = c.in_ok-needed.needed in
-    let low : n < length t.networks.keys = omega (arith, c.loop-number-test.true, ap length c.networks-all.ensures) in
+    let low : n < length t.networks = omega (arith, c.loop-number-test.true, ap length c.networks-all.ensures) in
     let same = network_of_number t n x low (c.index-all-number.is ∙ ap (λ (l : List Numbered). get_or l n x) c.networks-all.ensures) in
     let long = length-append s.needs.items (needed ∷ []) in
     let pushed = ap length c.in_ok-push.ensures.items in
@@ -54,7 +54,7 @@ loop-number-preserved c =
           let right =
           subst (λ k. IsKept o s.goal atoms (network_at t k) needed) (sym i.count)
           (subst (λ (y : Numbered). IsKept o s.goal atoms (network_of (children t) y) needed) same (c.in_ok-needed.ensures atoms t noted wanted)) in
-          keeps_push o s.goal atoms t s.needs.items _ needed (subst (λ k. k < length t.networks.keys) (sym i.count) low) right c.in_ok-push.ensures.items (i.kept atoms kept nodes goals));
+          keeps_push o s.goal atoms t s.needs.items _ needed (subst (λ k. k < length t.networks) (sym i.count) low) right c.in_ok-push.ensures.items (i.kept atoms kept nodes goals));
       same_goal = i.same_goal;
       same_goals = i.same_goals;
       same_nodes = i.same_nodes;

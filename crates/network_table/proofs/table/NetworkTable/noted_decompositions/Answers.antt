@@ -1,6 +1,7 @@
 use Rattle.std.proofs.Common.{◌≡◌, ◌++◌, ◌+◌, ◌∷◌, [], ℕ, suc, List, Some, get_or, take, ap, refl, sym, subst, ◌∙◌, arith}
 use Rattle.std.proofs.Math.Seq.{take-suc}
-use Rattle.network_table.specs.Networks.{nothing, numbered_at}
+use Rattle.network_table.specs.Numbered.{nothing}
+use Rattle.network_table.specs.Networks.{numbered_at}
 use Rattle.network_table.specs.Expansions.{AreDecompositions}
 use Rattle.network_table.proofs.Drafting.{known_there}
 use Rattle.network_table.proofs.Expanding.{decompositions_push}

@@ -1,22 +1,33 @@
-use Rattle.std.proofs.Common.{◌∙◌, ◌≤◌, sym, Some, ap, arith}
-use Rattle.network_table.specs.Networks.{nothing}
-use Rattle.network_table.specs.Numbered.{numbered_eq, numbered_eq-decides}
-use Rattle.network_table.proofs.Keys.{absent_key, found_key, late_key, none_either}
+use Rattle.std.proofs.Common.{◌≡◌, ◌<◌, ◌^◌, ◌∙◌, ℕ, Bool, true, false, Option, None, Some, IfNone, IfSome, ap, get_or, inr, length, refl, sym, true≢false}
+use Rattle.htn_model.specs.Problem.{order_eq}
+use Rattle.htn_model.specs.Equality.{order_eq-decides}
+use Rattle.htn_model.specs.PlanFile.{IsWithoutRepeats}
+use Rattle.htn_order.specs.Shapes.{chain}
+use Rattle.network_table.specs.Numbered.{Numbered, nothing}
+use Rattle.network_table.specs.Entries.{Fits, IsChain}
+use Rattle.network_table.specs.Networks.{IsNumberOf, IsWhole}
+use Rattle.network_table.specs.declared.network_set.Entry.TheVariants.{Whole}
+use Rattle.network_table.specs.declared.table.NetworkTable.{NetworkTable}
+use Rattle.network_table.proofs.Keys.{apart}
 use Rattle.network_table.proofs.table.NetworkTable.number_of.Goals as goal
 
-pub returns-in_err-place-clause-none : goal.returns-in_err-place-clause-none
-returns-in_err-place-clause-none c =
-    none_either c.from_residual.result
-    (λ n low at. absent_key numbered_eq numbered_eq-decides nothing c.args.network.now c.args.self.now.networks.keys
-    (sym c.in_err-place.ensures.index) n at.0 at.1)
+-- a network for which there can be no place is a chain
+chain_else : (n : Numbered) → ((IsChain n → ⊥) → ⊥) → IsChain n
+chain_else n never = by (order_eq n.order (chain (length n.nodes))) refl
+  where
+    by : (b : Bool) → order_eq n.order (chain (length n.nodes)) ≡ b → IsChain n
+    by true is = (order_eq-decides n.order (chain (length n.nodes))).0 is
+    by false is = absurd (never (λ e. true≢false (sym ((order_eq-decides n.order (chain (length n.nodes))).1 e) ∙ is)))
 
-pub returns-in_default-clause-none : goal.returns-in_default-clause-none
-returns-in_default-clause-none c = λ n low at.
-    let far : 4294967296 ≤ c.in_ok-place.place = omega (arith, c.in_default.ensures) in
-    late_key numbered_eq numbered_eq-decides nothing c.args.network.now c.args.self.now.networks.keys
-    c.in_ok-place.place (sym c.in_ok-place.ensures.index) n (omega (arith, low, far)) at.0 at.1
+-- what was not found is a chain, or has no small number
+missed : (t : NetworkTable) (network : Numbered) (place r : Option ℕ) → IsWhole t
+    → IfSome place (λ n. (n < length t.networks) × (get_or t.networks n nothing ≡ network))
+    → IfNone place ((n : ℕ) → n < length t.networks → Fits t.networks (Whole network) → get_or t.networks n nothing ≡ network → IsWithoutRepeats t.networks → ⊥)
+    → IfNone r ((n : ℕ) → n < 2 ^ 32 → place ≡ Some n → ⊥) → IfNone r ((n : ℕ) → n < 2 ^ 32 → IsNumberOf t n network → IsChain network)
+missed t network place (Some n) whole there none low = tt
+missed t network None None whole there none low = λ n small is. chain_else network (λ other. none n is.0 (inr other) is.1 whole.distinct)
+missed t network (Some p) None whole there none low = λ n small is.
+    absurd (low n small (ap Some (apart nothing t.networks whole.distinct p n there.0 is.0 (there.1 ∙ sym is.1))))
 
-pub returns-clause-some : goal.returns-clause-some
-returns-clause-some c =
-    found_key numbered_eq numbered_eq-decides nothing c.args.network.now c.args.self.now.networks.keys
-    c.in-Ok.number (sym c.in_ok-place.ensures.index ∙ ap Some (sym c.in-Ok.ensures.1))
+pub returns-clause-none : goal.returns-clause-none
+returns-clause-none c = missed c.args.self.now c.args.network c.place_of-place.result c.number_at.result c.requires c.place_of-place.ensures.some c.place_of-place.ensures.none c.number_at.ensures.none

@@ -16,5 +16,5 @@ returns c =
     let none : expansion_at s job.network ≡ None = none_of _ c.expansion.result (expansion_at s job.network) c.expansion.ensures (sym c.is_some.ensures ∙ c.if-is_some.false) in
     let done = c.remember.ensures in
     let whole =
-    whole_after s c.remember.new.self job.network _ c.requires.whole done.children (ap (λ s. s.keys) done.networks) (ap (λ v. v.items) done.open_lens) (ap (λ v. v.items) done.bounds) done.expansions in
-    put_down s c.remember.new.self jobs c.args.found job c.requires.whole whole c.requires.known c.requires.found (ap (λ j. get_or jobs k j) c.index-jobs-job.is) none done.children (ap (λ s. s.keys) done.networks) done.expansions
+    whole_after s c.remember.new.self job.network _ c.requires.whole done.children done.networks (ap (λ v. v.items) done.open_lens) (ap (λ v. v.items) done.bounds) done.expansions in
+    put_down s c.remember.new.self jobs c.args.found job c.requires.whole whole c.requires.known c.requires.found (ap (λ j. get_or jobs k j) c.index-jobs-job.is) none done.children done.networks done.expansions

@@ -1,0 +1,146 @@
+//! Networks, none twice, of which the totally ordered ones share their nodes.
+ghost use Rattle.std.specs.Prelude.{◌≡◌, ◌<◌, ◌≤◌, ◌++◌, ◌∷◌, [], ℕ, IfNone, IfOk, IfSome, OnOk, cond, length, get_or, true};
+ghost use Rattle.htn_model.specs.PlanFile.{IsWithoutRepeats};
+ghost use Rattle.network_table.specs.Numbered.{nothing};
+ghost use Rattle.network_table.specs.Entries.{Fits, IsChain, IsEntryAt, network_by};
+
+use crate::network::Network;
+use indexmap::IndexSet;
+use std::alloc::{AllocError, Global};
+use std::hash::{Hash, Hasher};
+use std::marker::Model;
+
+/// The first node of a totally ordered network, and the network of the others, both by number.
+#[derive(Clone, Copy, Drop)]
+pub struct Link {
+    pub first: u32,
+    pub rest: u32,
+}
+
+/// What is kept of a network.
+#[derive(Drop)]
+pub enum Entry {
+    /// Of one whose nodes stand one after another, as of a list of cells: the first, and where the others are kept.
+    /// So networks with the same nodes at the end share these (hash consing: Ershov, On programming of arithmetic
+    /// operations, 1958).
+    Chain(Link),
+    /// Of any other, and of the one without nodes: all of it.
+    Whole(Network),
+}
+
+impl PartialEq for Entry {
+    ghost use Rattle.network_table.specs.Entries.{entry_eq, entry_eq-partial};
+
+    ghost eq = { entry_eq };
+
+    ghost laws = { entry_eq-partial };
+
+    fn eq(&self, other: &Entry) -> bool {
+        match (self, other) {
+            (Entry::Chain(link), Entry::Chain(other)) => {
+                link.first == other.first && link.rest == other.rest
+            }
+            (Entry::Whole(network), Entry::Whole(other)) => network == other,
+            _ => false,
+        }
+    }
+}
+
+impl Eq for Entry {
+    ghost use Rattle.network_table.specs.Entries.{entry_eq-laws};
+
+    ghost laws = { entry_eq-laws };
+}
+
+impl Hash for Entry {
+    ghost use Rattle.network_table.specs.Entries.{entry_hash, entry_hash-Alike};
+
+    ghost hash_input = { entry_hash };
+
+    ghost respects_eq = { entry_hash-Alike.fed };
+
+    fn hash<H: Hasher>(&self, state: &mut H) {
+        match self {
+            Entry::Chain(link) => {
+                link.first.hash(state);
+                link.rest.hash(state);
+            }
+            Entry::Whole(network) => network.hash(state),
+        }
+    }
+}
+
+/// The entry at a place.
+fn entry_at(entries: &[Entry], place: usize) -> &Entry
+    requires { place < length entries.now }
+    ensures { result.now ≡ get_or entries.now place result.now }
+{
+    &entries[place]
+}
+
+/// Networks in the order in which they were added, none twice.
+#[derive(Drop)]
+pub struct NetworkSet {
+    entries: IndexSet<Entry>,
+}
+
+impl Model for NetworkSet {
+    ghost use Rattle.std.specs.Prelude.{List};
+    ghost use Rattle.network_table.specs.Numbered.{Numbered};
+    ghost use Rattle.network_table.specs.Entries.{AreLinked, networks_of};
+
+    ghost Value = { List Numbered };
+
+    ghost view = { λ s. networks_of s.entries.keys };
+
+    ghost invariant = { λ s. AreLinked s.entries.keys };
+}
+
+impl NetworkSet {
+    /// No networks.
+    pub(crate) fn new(alloc: Global) -> NetworkSet
+        ensures { result ≡ [] }
+    {
+        NetworkSet {
+            entries: IndexSet::new(alloc),
+        }
+    }
+
+    /// How many there are.
+    pub(crate) fn len(&self) -> usize
+        ensures { result ≡ length self.now }
+    {
+        self.entries.len()
+    }
+
+    /// What is kept of the network at a place.
+    pub(crate) fn entry(&self, place: usize) -> &Entry
+        requires { place < length self.now }
+        ensures entry { IsEntryAt self.now place result.now }
+        // each node of a chain has a place of its own
+        ensures short { IsChain (get_or self.now place nothing) → length (get_or self.now place nothing).nodes ≤ place }
+    {
+        entry_at(self.entries.as_slice(), place)
+    }
+
+    /// The place of the network that an entry stands for, if that is kept.
+    pub(crate) fn place_of(&self, entry: &Entry) -> Option<usize>
+        ensures some { IfSome result (λ n. (n < length self.now) × (get_or self.now n nothing ≡ network_by self.now entry.now)) }
+        ensures none { IfNone result ((n : ℕ) → n < length self.now → Fits self.now entry.now
+            → get_or self.now n nothing ≡ network_by self.now entry.now → IsWithoutRepeats self.now → ⊥) }
+    {
+        self.entries.get_index_of(entry)
+    }
+
+    /// The place of the network that an entry stands for, and whether it comes only now, as the last.
+    pub(crate) fn insert(&mut self, entry: Entry) -> Result<(usize, bool), AllocError>
+        requires { Fits self.old entry }
+        ensures place { IfOk result (λ r. (r.0 < length self.new) × (get_or self.new r.0 nothing ≡ network_by self.old entry)) }
+        ensures networks { IfOk result (λ r. self.new ≡ cond r.1 (self.old ++ network_by self.old entry ∷ []) self.old) }
+        ensures last { IfOk result (λ r. r.1 ≡ true → r.0 ≡ length self.old) }
+        ensures distinct { OnOk result (IsWithoutRepeats self.old → IsWithoutRepeats self.new) }
+    {
+        let placed = self.entries.insert_full(entry)?;
+        Ok(placed)
+    }
+}
