@@ -3,3 +3,4 @@ pub mod NeededLists
 pub mod Noted
 pub mod Ending
 pub mod Found
+pub mod Listed

@@ -6,12 +6,14 @@
 //! network's needs are put together from that.
 #![tactic(auto)]
 
+mod chained;
 mod keep_up_all;
 mod laws;
 mod needed;
 mod node;
 mod prospects;
 mod table;
+mod want_table;
 mod wants;
 
 pub use laws::prospects_hold;

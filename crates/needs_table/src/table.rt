@@ -12,6 +12,7 @@ ghost use Rattle.needs_table.specs.Kept.{AreAllKept, AreFirstWants, AreKept, Are
 use crate::needed::{push_needed, push_needed_goal};
 use crate::node::{Node, has_lost, places_of};
 use crate::prospects::Prospects;
+use crate::want_table::WantTable;
 use crate::wants::{Want, wants_of};
 use htn_state::LiteralList;
 use network_needs::Needs;
@@ -29,6 +30,10 @@ pub struct NeedsTable {
     pub(crate) nodes: Vec<Node>,
     /// By the number of a network; nothing where one of its nodes never ends.
     pub(crate) needs: Vec<Option<CompiledLiterals>>,
+    /// What nodes and the goal want, by ids.
+    pub(crate) wanted: WantTable,
+    /// By the number of a network, the ids of what it needs, where it is a chain.
+    pub(crate) lists: Vec<Vec<u32>>,
 }
 
 impl NeedsTable {
@@ -44,6 +49,8 @@ impl NeedsTable {
             goals: Vec::new(alloc),
             nodes: Vec::new(alloc),
             needs: Vec::new(alloc),
+            wanted: WantTable::new(alloc),
+            lists: Vec::new(alloc),
         }
     }
 

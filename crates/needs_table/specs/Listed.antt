@@ -1,0 +1,82 @@
+-- What totally ordered networks need, by the ids of wants.
+use Rattle.std.specs.Prelude.{◌≡◌, ◌≤◌, ◌<◌, ◌&&◌, ◌||◌, ℕ, Bool, true, false, not, List, [], map, filter, get_or, length, eqb, ltb, Option, None, Some}
+use Rattle.std.specs.List.{list_all, list_any}
+use Rattle.htn_model.specs.Literal.{Literal, literal_holds}
+use Rattle.htn_model.specs.Problem.{Network}
+use Rattle.htn_model.specs.State.{State}
+use Rattle.network_needs.specs.Chains.{IsChain}
+use Rattle.network_needs.specs.Places.{all_needed, row_at}
+use Rattle.network_needs.specs.Rows.{gives_by, literal_number}
+use Rattle.network_needs.specs.declared.needs.Needs.{Needs}
+use Rattle.network_needs.specs.declared.places.Spot.{Spot}
+use Rattle.state_table.specs.Compiled.{is_met}
+use Rattle.state_table.specs.Table.{IsLater, state_of, Table}
+use Rattle.state_table.specs.declared.compiled.CompiledLiterals.{CompiledLiterals}
+use Rattle.state_table.specs.declared.literal.CompiledLiteral.TheVariants.{Decided}
+use Rattle.needs_table.specs.Kept.{IsKept}
+use Rattle.needs_table.specs.Prospects.{outlook_by}
+use Rattle.needs_table.specs.declared.prospects.Prospects.{Prospects}
+use Rattle.needs_table.specs.declared.table.NeedsTable.{NeedsTable}
+use Rattle.needs_table.specs.declared.wants.Want.{Want}
+
+-- ## Ids
+
+-- the want of an id; past the last one that of a literal without a number, which never holds
+abbrev pub want_at : List Want → ℕ → Want
+want_at wants id = get_or wants id (record { number = None; literal = Decided false })
+
+-- more wants have ids, and what had one keeps it
+pub record AreMoreWants (old new : List Want) : Type 0 where
+  pub longer : length old ≤ length new
+  pub same : (id : ℕ) → id < length old → want_at new id ≡ want_at old id
+
+-- they are ids of wants
+abbrev pub AreIds : List Want → List ℕ → Type 0
+AreIds wants ids = list_all (λ id. ltb id (length wants)) ids ≡ true
+
+-- whether the wants of all these ids pass
+abbrev pub all_pass : (Want → Bool) → List Want → List ℕ → Bool
+all_pass test wants ids = list_all (λ id. test (want_at wants id)) ids
+
+-- whether an id is one of some
+abbrev pub is_in : List ℕ → ℕ → Bool
+is_in ids id = list_any (λ other. eqb other id) ids
+
+-- those that a node doesn't give by its row, and that are not among its own
+abbrev pub left_of : Needs → Spot → List Want → List ℕ → List ℕ → List ℕ
+left_of n spot wants own = filter (λ id. not (gives_by (row_at n spot) (want_at wants id).number) && not (is_in own id))
+
+-- ## What they stand for
+
+-- whether a want holds in a set, or its number is one of those that are passed over
+abbrev pub is_met_or : (Option ℕ → Bool) → List ℕ → Want → Bool
+is_met_or skips words w = skips w.number || is_met words w.literal
+
+-- whether a literal holds in a state, or its number is one of those that are passed over
+abbrev pub holds_or : Needs → (Option ℕ → Bool) → State → Literal → Bool
+holds_or n skips s l = skips (literal_number n l) || literal_holds s l
+
+-- whichever numbers are passed over, the wants hold where these literals do, by this table of atoms and later ones
+pub record AreListed (n : Needs) (atoms : Table) (wants : List Want) (ids : List ℕ) (literals : List Literal) : Type 0 where
+  pub have : AreIds wants ids
+  pub met : (later : Table) → IsLater atoms later → (words : List ℕ) (skips : Option ℕ → Bool)
+      → all_pass (is_met_or skips words) wants ids ≡ list_all (holds_or n skips (state_of later words)) literals
+
+-- what a network needs, and the ids of what it needs, if it may end
+abbrev pub IsListed : Prospects → List Literal → Table → List Want → Network → Option CompiledLiterals → List ℕ → Type 0
+IsListed p goal atoms wants n None ids = IsKept (outlook_by p) goal atoms n None
+IsListed p goal atoms wants n (Some needed) ids =
+    IsKept (outlook_by p) goal atoms n (Some needed) × AreListed p.needs atoms wants ids (all_needed (outlook_by p) goal n)
+
+-- the ids at a number; none past the last one
+abbrev pub list_at : NeedsTable → ℕ → List ℕ
+list_at t number = get_or (map (λ ids. ids.items) t.lists.items) number []
+
+-- what is kept at a number is that of a network
+abbrev pub IsListedAt : Prospects → Table → NeedsTable → ℕ → Network → Type 0
+IsListedAt p atoms t number n = IsListed p t.goal atoms t.wanted.wants.items n (get_or t.needs.items number None) (list_at t number)
+
+-- so it is with each of the first networks that is a chain
+pub record AreChainsListed (p : Prospects) (atoms : Table) (network : ℕ → Network) (t : NeedsTable) : Type 0 where
+  pub as_many : length t.lists.items ≡ length t.needs.items
+  pub each : (number : ℕ) → number < length t.needs.items → IsChain (network number) → IsListedAt p atoms t number (network number)

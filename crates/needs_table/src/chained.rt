@@ -1,0 +1,203 @@
+//! What chains need, put together from what their later nodes need.
+ghost use Rattle.std.specs.Prelude.{◌≡◌, ◌<◌, ◌&&◌, not, [], ◌∷◌, ◌++◌, ℕ, List, cond, get_or, length, map, is_some, IfOk, OnOk};
+ghost use Rattle.htn_model.specs.Choice.{child_of};
+ghost use Rattle.htn_model.specs.Literal as model;
+ghost use Rattle.htn_model.specs.Problem.{Child, Network};
+ghost use Rattle.network_needs.specs.Chains.{IsChain, led_by};
+ghost use Rattle.network_needs.specs.Places.{all_needed, row_at};
+ghost use Rattle.network_needs.specs.Rows.{gives_by};
+ghost use Rattle.network_table.specs.Networks.{children};
+ghost use Rattle.network_table.specs.declared.table.NetworkTable.{NetworkTable as Networks};
+ghost use Rattle.state_table.specs.Table.{IsTable, Table};
+ghost use Rattle.needs_table.specs.Kept.{AreNodes, AreWants, IsNode};
+ghost use Rattle.needs_table.specs.Listed.{AreChainsListed, AreListed, AreMoreWants, is_in, IsListed, IsListedAt, left_of};
+ghost use Rattle.needs_table.specs.Prospects.{outlook_by};
+ghost use Rattle.needs_table.specs.declared.prospects.Prospects.{Prospects as Known};
+
+use crate::node::Node;
+use crate::prospects::Prospects;
+use crate::table::NeedsTable;
+use crate::want_table::{WantTable, compiled_of, want_at};
+use crate::wants::Want;
+use network_needs::{Needs, Place};
+use state_table::CompiledLiterals;
+use std::alloc::{AllocError, Global};
+
+/// Whether an id is one of some.
+fn is_among(ids: &[u32], id: u32) -> bool
+    ensures { result ≡ is_in ids.now id }
+{
+    ids.iter().any(|other| *other == id)
+}
+
+/// Adds an id to others, if it is to be kept.
+fn push_if(ids: &mut Vec<u32>, id: u32, is_kept: bool) -> Result<(), AllocError>
+    ensures { OnOk result (ids.new.items ≡ ids.old.items ++ cond is_kept (id ∷ []) []) }
+{
+    if !is_kept {
+        return Ok(());
+    }
+    ids.push(id)?;
+    Ok(())
+}
+
+/// Whether the id of a want is to be kept: the node of a place does not give it, and it is not among its own.
+fn is_left(needs: &Needs, place: Place, want: Want, own: &[u32], id: u32) -> bool
+    ensures { result ≡ (not (gives_by (row_at needs.now place.spot) want.number) && not (is_in own.now id)) }
+{
+    !needs.gives_at(place, want.number) && !is_among(own, id)
+}
+
+/// The ids of wants that the node of a place does not give, but for those that stand among its own.
+fn ungiven(
+    alloc: Global,
+    needs: &Needs,
+    place: Place,
+    wants: &[Want],
+    own: &[u32],
+    ids: &[u32],
+) -> Result<Vec<u32>, AllocError>
+    ensures { IfOk result (λ v. v.items ≡ left_of needs.now place.spot wants.now own.now ids.now) }
+{
+    let mut left = Vec::new(alloc);
+    for id in ids {
+        let is_kept = is_left(needs, place, want_at(wants, *id), own, *id);
+        push_if(&mut left, *id, is_kept)?;
+    }
+    Ok(left)
+}
+
+/// What a chain needs with a node before it, by the ids of wants, from what it needs without that node.
+pub(crate) fn needed_before(
+    alloc: Global,
+    prospects: &Prospects,
+    table: &mut WantTable,
+    node: &Node,
+    rest: &[u32],
+) -> Result<Vec<u32>, AllocError>
+    ensures more { OnOk result (AreMoreWants table.old.wants.items table.new.wants.items) }
+    ensures listed { IfOk result (λ ids. (goal : List model.Literal) (atoms : Table) (x : Child) (n : Network)
+        → IsNode prospects.now atoms node.now x → IsChain n
+        → AreListed prospects.now.needs atoms table.old.wants.items rest.now (all_needed (outlook_by prospects.now) goal n)
+        → AreListed prospects.now.needs atoms table.new.wants.items ids.items
+        (all_needed (outlook_by prospects.now) goal (led_by x n))) }
+{
+    let mut ids = table.ids_of(alloc, node.wants.as_slice())?;
+    let wants = table.wants.as_slice();
+    let mut left = ungiven(
+        alloc,
+        &prospects.needs,
+        node.place,
+        wants,
+        ids.as_slice(),
+        rest,
+    )?;
+    ids.append(&mut left)?;
+    Ok(ids)
+}
+
+/// The ids at a number, none past the last one.
+fn ids_at(lists: &[Vec<u32>], number: usize) -> &[u32]
+    ensures { result.now ≡ get_or (map (λ ids. ids.items) lists.now) number [] }
+{
+    match lists.get(number) {
+        Some(ids) => ids.as_slice(),
+        None => &[],
+    }
+}
+
+/// Whether something stands at a number.
+fn has_needs(needs: &[Option<CompiledLiterals>], number: usize) -> bool
+    ensures { result ≡ is_some (get_or needs.now number None) }
+{
+    match needs.get(number) {
+        Some(needed) => needed.is_some(),
+        None => false,
+    }
+}
+
+/// What a chain needs, also by the ids of wants; nothing where one of its nodes never ends.
+#[derive(Drop)]
+pub(crate) struct Chained {
+    pub(crate) needed: Option<CompiledLiterals>,
+    pub(crate) ids: Vec<u32>,
+}
+
+impl Chained {
+    /// One of the nodes never ends.
+    fn never(alloc: Global) -> Chained
+        ensures { result.needed ≡ None }
+    {
+        Chained {
+            needed: None,
+            ids: Vec::new(alloc),
+        }
+    }
+}
+
+impl NeedsTable {
+    /// What the network without nodes needs: all of the goal.
+    pub(crate) fn needed_at_end(&mut self, alloc: Global) -> Result<Chained, AllocError>
+        ensures listed { IfOk result (λ c. (known : Known) (atoms : Table) (n : Network) → n.children ≡ []
+            → AreWants known.needs atoms self.old.goals.items self.old.goal
+            → IsListed known self.old.goal atoms self.new.wanted.wants.items n c.needed c.ids.items) }
+        ensures more { OnOk result (AreMoreWants self.old.wanted.wants.items self.new.wanted.wants.items) }
+        ensures rest { OnOk result (self.new ≡ record self.old { wanted = self.new.wanted }) }
+    {
+        let ids = self.wanted.ids_of(alloc, self.goals.as_slice())?;
+        let needed = compiled_of(alloc, self.wanted.wants.as_slice(), ids.as_slice())?;
+        Ok(Chained {
+            needed: Some(needed),
+            ids,
+        })
+    }
+
+    /// What a chain needs with a node before it, from what is kept of it without that node.
+    pub(crate) fn needed_before(
+        &mut self,
+        alloc: Global,
+        prospects: &Prospects,
+        first: u32,
+        rest: usize,
+    ) -> Result<Chained, AllocError>
+        requires { first < length self.old.nodes.items }
+        ensures listed { IfOk result (λ c. (atoms : Table) (networks : Networks) (n : Network) → IsChain n
+            → AreNodes prospects.now atoms networks self.old.nodes.items
+            → IsListedAt prospects.now atoms self.old rest n
+            → IsListed prospects.now self.old.goal atoms self.new.wanted.wants.items
+            (led_by (child_of (children networks) first) n) c.needed c.ids.items) }
+        ensures more { OnOk result (AreMoreWants self.old.wanted.wants.items self.new.wanted.wants.items) }
+        ensures rest { OnOk result (self.new ≡ record self.old { wanted = self.new.wanted }) }
+    {
+        let node = &self.nodes[first as usize];
+        if node.is_lost {
+            return Ok(Chained::never(alloc));
+        }
+        if !has_needs(self.needs.as_slice(), rest) {
+            return Ok(Chained::never(alloc));
+        }
+        let kept = ids_at(self.lists.as_slice(), rest);
+        let ids = needed_before(alloc, prospects, &mut self.wanted, node, kept)?;
+        let needed = compiled_of(alloc, self.wanted.wants.as_slice(), ids.as_slice())?;
+        Ok(Chained {
+            needed: Some(needed),
+            ids,
+        })
+    }
+
+    /// Keeps what the next network needs, and the ids of it if that is a chain.
+    pub(crate) fn keep_next(&mut self, found: Chained) -> Result<(), AllocError>
+        ensures needs { OnOk result (self.new.needs.items ≡ self.old.needs.items ++ found.needed ∷ []) }
+        ensures chains { OnOk result ((known : Known) (atoms : Table) (network : ℕ → Network) → IsTable atoms
+            → (IsChain (network (length self.old.needs.items))
+            → IsListed known self.old.goal atoms self.old.wanted.wants.items (network (length self.old.needs.items))
+            found.needed found.ids.items)
+            → AreChainsListed known atoms network self.old → AreChainsListed known atoms network self.new) }
+        ensures rest { OnOk result (self.new ≡ record self.old { needs = self.new.needs; lists = self.new.lists }) }
+    {
+        let Chained { needed, ids } = found;
+        self.needs.push(needed)?;
+        self.lists.push(ids)?;
+        Ok(())
+    }
+}
