@@ -331,12 +331,12 @@ listed_push p atoms n old new needed ids as_many needs lists right =
     (sym (ap (λ (l : List (Option CompiledLiterals)). get_or l (length old.needs.items) None) needs ∙ get_or-append_seam old.needs.items needed [] None))
     (subst (IsListed p new.goal atoms new.wanted.wants.items n needed) (sym here) right)
 
--- with one more network, each of the first ones that is a chain is right
-pub chains_push : (p : Prospects) (atoms : Table) (network : ℕ → Network) (old new : NeedsTable) (needed : Option CompiledLiterals) (ids : List ℕ) → IsTable atoms → new.goal ≡ old.goal
+-- with one more network, those of the first ones that a test tells are right
+pub chains_push : (p : Prospects) (atoms : Table) (is_chain : ℕ → Bool) (network : ℕ → Network) (old new : NeedsTable) (needed : Option CompiledLiterals) (ids : List ℕ) → IsTable atoms → new.goal ≡ old.goal
     → AreMoreWants old.wanted.wants.items new.wanted.wants.items → new.needs.items ≡ old.needs.items ++ needed ∷ [] → lists_of new ≡ lists_of old ++ ids ∷ []
-    → (IsChain (network (length old.needs.items)) → IsListed p new.goal atoms new.wanted.wants.items (network (length old.needs.items)) needed ids)
-    → AreChainsListed p atoms network old → AreChainsListed p atoms network new
-chains_push p atoms network old new needed ids table goal more needs lists here are = record {
+    → (is_chain (length old.needs.items) ≡ true → IsListed p new.goal atoms new.wanted.wants.items (network (length old.needs.items)) needed ids)
+    → AreChainsListed p atoms is_chain network old → AreChainsListed p atoms is_chain network new
+chains_push p atoms is_chain network old new needed ids table goal more needs lists here are = record {
   as_many =
       (let before = lists_count old in
       let after = lists_count new in
@@ -351,6 +351,18 @@ chains_push p atoms network old new needed ids table goal more needs lists here 
         let last : length old.needs.items ≡ number = omega (arith, long, low, past) in
         subst (λ k. IsListedAt p atoms new k (network number)) last
         (listed_push p atoms (network number) old new needed ids are.as_many needs lists
-        (subst (λ k. IsListed p new.goal atoms new.wanted.wants.items (network k) needed ids) last (here (subst (λ k. IsChain (network k)) (sym last) chained)))))
+        (subst (λ k. IsListed p new.goal atoms new.wanted.wants.items (network k) needed ids) last (here (ap is_chain last ∙ chained)))))
   ];
+}
+
+-- they stay right by later tables of atoms and as more networks get numbers
+pub chains_later : (p : Prospects) (atoms later : Table) (was is_chain : ℕ → Bool) (old new : ℕ → Network) (t : NeedsTable) → IsLater atoms later
+    → ((number : ℕ) → number < length t.needs.items → (is_chain number ≡ was number) × (new number ≡ old number)) → AreChainsListed p atoms was old t → AreChainsListed p later is_chain new t
+chains_later p atoms later was is_chain old new t grown same are = record {
+  as_many = are.as_many;
+  each = λ number low chained.
+      (let stays = same number low in
+      let wants = t.wanted.wants.items in
+      subst (IsListedAt p later t number) (sym stays.1)
+      (listed_grown p t.goal atoms later wants wants (old number) (get_or t.needs.items number None) (list_at t number) grown (more_itself wants) (are.each number low (sym stays.0 ∙ chained))));
 }

@@ -4,7 +4,6 @@ use Rattle.std.specs.List.{list_all, list_any}
 use Rattle.htn_model.specs.Literal.{Literal, literal_holds}
 use Rattle.htn_model.specs.Problem.{Network}
 use Rattle.htn_model.specs.State.{State}
-use Rattle.network_needs.specs.Chains.{IsChain}
 use Rattle.network_needs.specs.Places.{all_needed, row_at}
 use Rattle.network_needs.specs.Rows.{gives_by, literal_number}
 use Rattle.network_needs.specs.declared.needs.Needs.{Needs}
@@ -76,7 +75,7 @@ list_at t number = get_or (map (λ ids. ids.items) t.lists.items) number []
 abbrev pub IsListedAt : Prospects → Table → NeedsTable → ℕ → Network → Type 0
 IsListedAt p atoms t number n = IsListed p t.goal atoms t.wanted.wants.items n (get_or t.needs.items number None) (list_at t number)
 
--- so it is with each of the first networks that is a chain
-pub record AreChainsListed (p : Prospects) (atoms : Table) (network : ℕ → Network) (t : NeedsTable) : Type 0 where
+-- so it is with those of the first networks that a test tells
+pub record AreChainsListed (p : Prospects) (atoms : Table) (is_chain : ℕ → Bool) (network : ℕ → Network) (t : NeedsTable) : Type 0 where
   pub as_many : length t.lists.items ≡ length t.needs.items
-  pub each : (number : ℕ) → number < length t.needs.items → IsChain (network number) → IsListedAt p atoms t number (network number)
+  pub each : (number : ℕ) → number < length t.needs.items → is_chain number ≡ true → IsListedAt p atoms t number (network number)

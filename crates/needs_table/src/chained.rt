@@ -1,5 +1,6 @@
 //! What chains need, put together from what their later nodes need.
-ghost use Rattle.std.specs.Prelude.{◌≡◌, ◌<◌, ◌&&◌, not, [], ◌∷◌, ◌++◌, ℕ, List, cond, get_or, length, map, is_some, IfOk, OnOk};
+ghost use Rattle.std.specs.Prelude.{◌≡◌, ◌<◌, ◌&&◌, not, [], ◌∷◌, ◌++◌, ℕ, Bool, true, List, cond, get_or};
+ghost use Rattle.std.specs.Prelude.{is_some, length, map, IfOk, OnOk};
 ghost use Rattle.htn_model.specs.Choice.{child_of};
 ghost use Rattle.htn_model.specs.Literal as model;
 ghost use Rattle.htn_model.specs.Problem.{Child, Network};
@@ -10,7 +11,8 @@ ghost use Rattle.network_table.specs.Networks.{children};
 ghost use Rattle.network_table.specs.declared.table.NetworkTable.{NetworkTable as Networks};
 ghost use Rattle.state_table.specs.Table.{IsTable, Table};
 ghost use Rattle.needs_table.specs.Kept.{AreNodes, AreWants, IsNode};
-ghost use Rattle.needs_table.specs.Listed.{AreChainsListed, AreListed, AreMoreWants, is_in, IsListed, IsListedAt, left_of};
+ghost use Rattle.needs_table.specs.Listed.{AreChainsListed, AreListed, AreMoreWants};
+ghost use Rattle.needs_table.specs.Listed.{is_in, IsListed, IsListedAt, left_of};
 ghost use Rattle.needs_table.specs.Prospects.{outlook_by};
 ghost use Rattle.needs_table.specs.declared.prospects.Prospects.{Prospects as Known};
 
@@ -78,7 +80,8 @@ pub(crate) fn needed_before(
     ensures more { OnOk result (AreMoreWants table.old.wants.items table.new.wants.items) }
     ensures listed { IfOk result (λ ids. (goal : List model.Literal) (atoms : Table) (x : Child) (n : Network)
         → IsNode prospects.now atoms node.now x → IsChain n
-        → AreListed prospects.now.needs atoms table.old.wants.items rest.now (all_needed (outlook_by prospects.now) goal n)
+        → AreListed prospects.now.needs atoms table.old.wants.items rest.now
+        (all_needed (outlook_by prospects.now) goal n)
         → AreListed prospects.now.needs atoms table.new.wants.items ids.items
         (all_needed (outlook_by prospects.now) goal (led_by x n))) }
 {
@@ -188,11 +191,13 @@ impl NeedsTable {
     /// Keeps what the next network needs, and the ids of it if that is a chain.
     pub(crate) fn keep_next(&mut self, found: Chained) -> Result<(), AllocError>
         ensures needs { OnOk result (self.new.needs.items ≡ self.old.needs.items ++ found.needed ∷ []) }
-        ensures chains { OnOk result ((known : Known) (atoms : Table) (network : ℕ → Network) → IsTable atoms
-            → (IsChain (network (length self.old.needs.items))
+        ensures lists { OnOk result (self.new.lists.items ≡ self.old.lists.items ++ found.ids ∷ []) }
+        ensures chains { OnOk result ((known : Known) (atoms : Table) (is_chain : ℕ → Bool) (network : ℕ → Network)
+            → IsTable atoms → (is_chain (length self.old.needs.items) ≡ true
             → IsListed known self.old.goal atoms self.old.wanted.wants.items (network (length self.old.needs.items))
             found.needed found.ids.items)
-            → AreChainsListed known atoms network self.old → AreChainsListed known atoms network self.new) }
+            → AreChainsListed known atoms is_chain network self.old
+            → AreChainsListed known atoms is_chain network self.new) }
         ensures rest { OnOk result (self.new ≡ record self.old { needs = self.new.needs; lists = self.new.lists }) }
     {
         let Chained { needed, ids } = found;
