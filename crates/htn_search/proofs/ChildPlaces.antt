@@ -1,11 +1,12 @@
 -- The places of children, one after the other.
 use Rattle.std.specs.Global.{Vec}
-use Rattle.std.proofs.Common.{◌≡◌, ℕ, zero, suc, ◌+◌, ◌<◌, List, [], ◌∷◌, ◌++◌, length, take, drop, get_or, sym, ap, ap₂, ◌∙◌, arith}
-use Rattle.std.proofs.lemmas.List.{map-append, take-map, drop-map, drop-drop, get_or-map, get_or-take, append_assoc, append-nil, take_at, drop_at, take_more, length-take-le}
+use Rattle.std.proofs.Common.{◌≡◌, ℕ, zero, suc, ◌+◌, ◌-◌, ◌<◌, List, [], ◌∷◌, ◌++◌, length, take, drop, get_or, reverse, sym, ap, ap₂, ◌∙◌, arith}
+use Rattle.std.proofs.lemmas.List.{map-append, get_or-map, get_or-reverse, get_or-take, length-reverse, reverse-reverse}
 use Rattle.std.specs.List.{remove}
 use Rattle.htn_model.specs.Tree.{Place}
 use Rattle.htn_model.specs.Choice.{splice}
-use Rattle.htn_search.specs.Places.{places_view, child_places}
+use Rattle.htn_search.specs.Places.{places_view, open_places, child_places}
+use Rattle.htn_search.proofs.Reversed.{map_splice, removed, spliced}
 
 -- one child more
 children_more : (place : Place) (position count : ℕ) → child_places place position (suc count) ≡ child_places place position count ++ (place ++ (position + count) ∷ []) ∷ []
@@ -23,40 +24,32 @@ one_more places out new place count h o n =
     ∙ sym (children_more place 0 count)
     ∙ ap (child_places place 0) (let e : suc count ≡ count + 1 = omega arith in e)
 
--- the front of a list, and its last element
-pub cut_last : {X : Type 0} (xs : List X) (i : ℕ) (d : X) → i < length xs → remove (take (i + 1) xs) i ≡ take i xs
-cut_last xs i d h =
-    let long = length-take-le i xs (omega arith) in
-    let whole = take_more xs i d h in
-    ap (λ l. remove l i) whole
-    ∙ ap₂ ◌++◌ (take_at (take i xs) (get_or xs i d ∷ []) i long)
-    (ap (λ l. drop l (take i xs ++ get_or xs i d ∷ [])) (let e : suc i ≡ i + 1 = omega arith in e) ∙ sym (drop-drop 1 i (take i xs ++ get_or xs i d ∷ [])) ∙ ap (drop 1) (drop_at (take i xs) (get_or xs i d ∷ []) i long))
-    ∙ append-nil (take i xs)
+-- what is kept from the last to the first is seen in its order
+pub seen_in_order : (places out : List (Vec ℕ)) → out ≡ reverse places → open_places out ≡ places_view places
+seen_in_order places out o = ap places_view (ap reverse o ∙ reverse-reverse places)
 
--- the last of those that are taken
-pub last_of_take : {X : Type 0} (xs : List X) (i : ℕ) (d : X) → i < length xs → get_or (take (i + 1) xs) i d ≡ get_or xs i d
-last_of_take xs i d h = get_or-take (i + 1) xs i d (omega arith)
+-- the place of an open node
+pub place_seen : (old : List (Vec ℕ)) (place : Vec ℕ) (at position : ℕ) → suc at + position ≡ length old → place ≡ get_or old at place
+    → place.items ≡ get_or (open_places old) position []
+place_seen old place at position long found =
+    let within : position < length old = omega arith in
+    let same : at ≡ length old - 1 - position = omega arith in
+    ap (λ v. v.items) (found ∙ ap (λ k. get_or old k place) same ∙ sym (get_or-reverse old position place within))
+    ∙ sym (get_or-map (λ v. v.items) (reverse old) position place [] (let e = length-reverse old in omega arith))
 
 -- the places of children stand in that of their parent's
-pub put_children : (old left later out children : List (Vec ℕ)) (place : Vec ℕ) (position count : ℕ) → position < length old
-    → left ≡ take (position + 1) old → later ≡ drop (position + 1) old
-    → place ≡ get_or left position place
-    → places_view children ≡ child_places place.items 0 count
-    → out ≡ (remove left position ++ children) ++ later
-    → places_view out ≡ splice position (child_places (get_or (places_view old) position []) 0 count) (places_view old)
-put_children old left later out children place position count within l r p c o =
-    let found : place ≡ get_or old position place = p ∙ ap (λ xs. get_or xs position place) l ∙ last_of_take old position place within in
-    let stood : place.items ≡ get_or (places_view old) position [] = ap (λ v. v.items) found ∙ sym (get_or-map (λ v. v.items) old position place [] within) in
-    let front : remove left position ≡ take position old = ap (λ xs. remove xs position) l ∙ cut_last old position place within in
-    ap places_view (o ∙ append_assoc (remove left position) children later)
-    ∙ map-append (λ v. v.items) (remove left position) (children ++ later)
-    ∙ ap₂ ◌++◌ (ap places_view front ∙ sym (take-map (λ v. v.items) position old))
-    (map-append (λ v. v.items) children later
-    ∙ ap₂ ◌++◌ (c ∙ ap (λ q. child_places q 0 count) stood)
-    (ap places_view (r ∙ ap (λ k. drop k old) (let e : position + 1 ≡ suc position = omega arith in e)) ∙ sym (drop-map (λ v. v.items) (suc position) old)))
+pub put_children : (old left earlier out children : List (Vec ℕ)) (place : Vec ℕ) (at position count : ℕ) → suc at + position ≡ length old
+    → left ≡ take (suc at) old → earlier ≡ drop (suc at) old
+    → place ≡ get_or left at place
+    → open_places children ≡ child_places place.items 0 count
+    → out ≡ (remove left at ++ children) ++ earlier
+    → open_places out ≡ splice position (child_places (get_or (open_places old) position []) 0 count) (open_places old)
+put_children old left earlier out children place at position count long l e p c o =
+    let found : place ≡ get_or old at place = p ∙ ap (λ xs. get_or xs at place) l ∙ get_or-take (suc at) old at place (omega arith) in
+    ap places_view (spliced old left earlier out children at position long l e o)
+    ∙ map_splice (λ v. v.items) position (reverse children) (reverse old)
+    ∙ ap (λ xs. splice position xs (open_places old)) (c ∙ ap (λ q. child_places q 0 count) (place_seen old place at position long found))
 
 -- a place is taken out
-pub place_removed : (old out : List (Vec ℕ)) (position : ℕ) → out ≡ remove old position → places_view out ≡ splice {X = Place} position [] (places_view old)
-place_removed old out position e =
-    ap places_view e ∙ map-append (λ v. v.items) (take position old) (drop (suc position) old)
-    ∙ ap₂ ◌++◌ (sym (take-map (λ v. v.items) position old)) (sym (drop-map (λ v. v.items) (suc position) old))
+pub place_removed : (old out : List (Vec ℕ)) (at position : ℕ) → suc at + position ≡ length old → out ≡ remove old at → open_places out ≡ splice {X = Place} position [] (open_places old)
+place_removed old out at position long o = ap places_view (ap reverse o ∙ removed old at position long) ∙ map_splice (λ v. v.items) position [] (reverse old)

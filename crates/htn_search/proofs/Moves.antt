@@ -1,11 +1,13 @@
 -- Moves taken back from the last one on.
-use Rattle.std.proofs.Common.{◌≡◌, ℕ, ◌+◌, ◌≤◌, List, [], ◌∷◌, ◌++◌, length, take, drop, sym, refl, ap, ap₂, ◌∙◌, subst, arith}
-use Rattle.std.proofs.lemmas.List.{length-append, length-drop, map-append, take-map, drop-map, take_at, drop_at, length-take-le}
+use Rattle.std.proofs.Common.{◌≡◌, ℕ, ◌+◌, ◌-◌, ◌≤◌, List, [], ◌∷◌, ◌++◌, length, take, drop, reverse, sym, refl, ap, ap₂, ◌∙◌, subst, arith}
+use Rattle.std.proofs.lemmas.List.{length-append, length-drop, length-reverse, map-append, take-map, drop-map, take_at, drop_at, length-take-le}
+use Rattle.std.specs.List.{insert}
 use Rattle.htn_model.specs.Tree as tree
 use Rattle.htn_tree.specs.declared.node.Node.{Node}
 use Rattle.htn_tree.specs.Trees.{Numbering, node_of, nodes_view, over}
 use Rattle.htn_search.specs.declared.trail.Move.{Move}
 use Rattle.htn_search.specs.Trail.{before_move, before_moves, count_before, count_before_all, AreWithin}
+use Rattle.htn_search.proofs.Reversed.{inserted}
 
 -- ## The last move
 
@@ -44,12 +46,12 @@ module _ (numbers : Numbering) where
       omega (arith, both, front, back, h)
 
   -- a move is taken back by putting its node over the trees of its children
-  pub put_back : (old row left out : List Node) (new : Node) (m : Move) → m.position + m.children ≤ length old
+  put_over : (old row left out : List Node) (new : Node) (m : Move) → m.position + m.children ≤ length old
       → row ≡ take m.children (drop m.position old) → left ≡ take m.position old ++ drop (m.position + m.children) old
-      → out ≡ take m.position left ++ new ∷ drop m.position left
+      → out ≡ insert left m.position new
       → node_of numbers new ≡ over (node_of numbers m.node) (nodes_view numbers row)
       → nodes_view numbers out ≡ before_move numbers m (nodes_view numbers old)
-  put_back old row left out new m h r l o n =
+  put_over old row left out new m h r l o n =
       let i = m.position in
       let later = drop (i + m.children) old in
       let long = length-take-le i old (omega arith) in
@@ -61,3 +63,18 @@ module _ (numbers : Numbering) where
       ∙ map-append (node_of numbers) (take i left) (new ∷ drop i left)
       ∙ ap₂ ◌++◌ (ap (nodes_view numbers) front ∙ sym (take-map (node_of numbers) i old))
       (ap₂ ◌∷◌ (n ∙ ap (over (node_of numbers m.node)) inner) (ap (nodes_view numbers) back ∙ sym (drop-map (node_of numbers) (i + m.children) old)))
+
+  -- the same where the trees are kept from the last to the first
+  pub put_back : (old row left out : List Node) (new : Node) (m : Move) (at : ℕ) → m.position + m.children ≤ length old
+      → row ≡ take m.children (drop m.position (reverse old)) → reverse left ≡ take m.position (reverse old) ++ drop (m.position + m.children) (reverse old)
+      → at ≡ length left - m.position → out ≡ insert left at new
+      → node_of numbers new ≡ over (node_of numbers m.node) (nodes_view numbers row)
+      → nodes_view numbers (reverse out) ≡ before_move numbers m (nodes_view numbers (reverse old))
+  put_back old row left out new m at h r l is o n =
+      let i = m.position in
+      let within : i + m.children ≤ length (reverse old) = (let e = length-reverse old in omega arith) in
+      let both = length-append (take i (reverse old)) (drop (i + m.children) (reverse old)) in
+      let front = length-take-le i (reverse old) (omega arith) in
+      let kept = length-reverse left in
+      let long : at + i ≡ length left = omega (arith, ap length l, both, front, kept, is) in
+      put_over (reverse old) row (reverse left) (reverse out) new m within r l (ap reverse o ∙ inserted left at i new long) n

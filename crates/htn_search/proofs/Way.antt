@@ -15,7 +15,7 @@ use Rattle.htn_model.proofs.Rebuild as theory
 use Rattle.htn_tree.specs.Trees.{Numbering, node_of, over}
 use Rattle.htn_search.specs.declared.trail.Move.{Move}
 use Rattle.htn_search.specs.Trail.{bare, before_move, before_moves, AreWithin, IsMove}
-use Rattle.htn_search.specs.Places.{child_places, own_place, places_view}
+use Rattle.htn_search.specs.Places.{child_places, open_places, own_place, places_view}
 use Rattle.htn_search.specs.Walk.{IsStart}
 use Rattle.htn_search.specs.declared.walk.Walk.{Walk}
 use Rattle.htn_search.proofs.Moves.{before_last, length_before, within_push}
@@ -157,9 +157,9 @@ way_start numbers problem word first roots trail visits h placed t v = record {
 
 -- a walk that begins is under way
 pub way_begins : (numbers : Numbering) (problem : Problem) (word : List ℕ) (network : Network) (walk : Walk) → IsStart problem network walk → FinishesFrom problem word (start problem network)
-    → IsUnderWay numbers problem word walk.config (places_view walk.places.items) word walk.config walk.trail.items (places_view walk.places.items) (places_view walk.visits.items)
+    → IsUnderWay numbers problem word walk.config (open_places walk.places.items) word walk.config walk.trail.items (open_places walk.places.items) (places_view walk.visits.items)
 way_begins numbers problem word network walk begins finishes =
-    way_start numbers problem word walk.config (places_view walk.places.items) walk.trail.items (places_view walk.visits.items)
+    way_start numbers problem word walk.config (open_places walk.places.items) walk.trail.items (places_view walk.visits.items)
     (subst (FinishesFrom problem word) (sym begins.config) finishes)
     (ap length begins.places ∙ length-child_places [] 0 (length network.children) ∙ sym (ap (λ x. length x.open_nodes) begins.config))
     begins.trail begins.visits

@@ -1,5 +1,5 @@
 -- The places of children.
-use Rattle.std.specs.Prelude.{ℕ, zero, suc, List, [], ◌∷◌, ◌++◌, map}
+use Rattle.std.specs.Prelude.{ℕ, zero, suc, List, [], ◌∷◌, ◌++◌, map, reverse}
 use Rattle.std.specs.Global.{Vec}
 use Rattle.htn_model.specs.Problem.{Child, precondition, action, task}
 use Rattle.htn_model.specs.Tree.{Place}
@@ -7,6 +7,10 @@ use Rattle.htn_model.specs.Tree.{Place}
 -- places as lists
 abbrev pub places_view : List (Vec ℕ) → List Place
 places_view places = map (λ p. p.items) places
+
+-- those of the open nodes, which are kept from the last to the first
+abbrev pub open_places : List (Vec ℕ) → List Place
+open_places places = places_view (reverse places)
 
 -- those of so many children, from a position on
 abbrev pub child_places : Place → ℕ → ℕ → List Place

@@ -10,7 +10,7 @@ use Rattle.htn_tree.specs.Trees.{number_of}
 use Rattle.htn_search.specs.declared.trail.Move.{Move}
 use Rattle.htn_search.specs.declared.walk.Walk.{Walk}
 use Rattle.htn_search.specs.Trail.{IsMove, before_moves}
-use Rattle.htn_search.specs.Places.{child_places, own_place, places_view}
+use Rattle.htn_search.specs.Places.{child_places, open_places, own_place, places_view}
 
 -- the walk one number on: where the number leads, with its move recorded, its children's places, and its place where it
 -- is carried out
@@ -21,15 +21,15 @@ pub record IsOneOn (t : Task) (number : ℕ) (old new : Walk) : Type 0 where
   pub last : Move
   pub is_move : IsMove (number_of t) old.config number choice last
   pub trail : new.trail.items ≡ old.trail.items ++ last ∷ []
-  pub places : places_view new.places.items
-      ≡ splice choice.position (child_places (get_or (places_view old.places.items) choice.position []) 0 (length choice.network.children)) (places_view old.places.items)
+  pub places : open_places new.places.items
+      ≡ splice choice.position (child_places (get_or (open_places old.places.items) choice.position []) 0 (length choice.network.children)) (open_places old.places.items)
   pub visits : places_view new.visits.items
-      ≡ places_view old.visits.items ++ own_place (child_of old.config.open_nodes choice.position) (get_or (places_view old.places.items) choice.position [])
+      ≡ places_view old.visits.items ++ own_place (child_of old.config.open_nodes choice.position) (get_or (open_places old.places.items) choice.position [])
 
 -- the walk at the start with an initial network: its children are open, and nothing is recorded yet
 pub record IsStart (problem : Problem) (network : Network) (walk : Walk) : Type 0 where
   pub config : walk.config ≡ start problem network
-  pub places : places_view walk.places.items ≡ child_places [] 0 (length network.children)
+  pub places : open_places walk.places.items ≡ child_places [] 0 (length network.children)
   pub trail : walk.trail.items ≡ []
   pub visits : places_view walk.visits.items ≡ []
 

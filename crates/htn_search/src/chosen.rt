@@ -1,54 +1,52 @@
 //! What a rank chooses, by the tables of a search.
-ghost use Rattle.std.specs.Prelude.{◌≡◌, ℕ, IfOk, IfSome, Some};
-ghost use Rattle.std.specs.Option.{option_map};
-ghost use Rattle.htn_model.specs.Task as model;
-ghost use Rattle.htn_net.specs.Choices.{IsNumberOf, chosen_of};
+ghost use Rattle.std.specs.Prelude.{◌≡◌, ℕ, IfOk, IsSome, Some, slice_get};
+ghost use Rattle.htn_ground.specs.Distinct.{distinct, live_methods};
+ghost use Rattle.htn_net.specs.Choices.{IsChosen};
 ghost use Rattle.htn_net.specs.Listed.{choose_listed, number_at};
 ghost use Rattle.task_machine.specs.Tables.{AreTables};
 
-use htn_net::{Change, Config};
+use crate::front::Front;
+use htn_ground::{GroundTask, Instance, distinct_live_methods_of};
+use htn_net::Change;
 use htn_task::Task;
 use std::alloc::{AllocError, Global};
 use task_machine::Tables;
 
-/// The position of the first free compound task and the instance of a rank that the tables have of it; none where they
-/// have none, or no compound task is free.
-fn kept_instance(
+/// The instance of a rank, from the tables; it is found anew only where these don't have it.
+fn listed_instance(
     alloc: Global,
+    task: &Task,
     tables: &Tables,
-    config: &Config,
+    goal: &GroundTask,
     rank: u64,
-) -> Result<Option<(usize, Change)>, AllocError>
-    requires own { (t : model.Task) × AreTables t tables.now }
-    ensures choice { IfOk result (λ o. IfSome o (λ x. (t : model.Task) → AreTables t tables.now
-        → choose_listed t config.now rank ≡ Some (chosen_of config.now x))) }
-    ensures number { IfOk result (λ o. IfSome o (λ x. (t : model.Task) → AreTables t tables.now
-        → (number : ℕ) × (number_at t config.now rank ≡ Some number) × IsNumberOf t config.now number x)) }
+) -> Result<Instance, AllocError>
+    requires own { AreTables task.now tables.now }
+    requires listed { IsSome (slice_get (distinct (live_methods task.now goal.now)) rank) }
+    ensures { IfOk result (λ i. slice_get (distinct (live_methods task.now goal.now)) rank ≡ Some i) }
 {
-    let Some((position, goal)) = config.first_free_task() else {
-        return Ok(None);
-    };
-    let Some(instance) = tables.listed_instance(alloc, goal, rank as usize)? else {
-        return Ok(None);
-    };
-    Ok(Some((position, Change::Decomposed(instance))))
+    if let Some(instance) = tables.listed_instance(alloc, goal, rank as usize)? {
+        return Ok(instance);
+    }
+    let mut listed = distinct_live_methods_of(alloc, task, goal)?;
+    Ok(listed.swap_remove(rank as usize))
 }
 
-/// What a rank chooses: an instance is taken from the tables, and found anew only where these don't have it.
+/// The open node that a rank chooses, and what becomes of it.
 pub(crate) fn choose_by_rank(
     alloc: Global,
     task: &Task,
     tables: &Tables,
-    config: &Config,
+    front: &Front,
     rank: u64,
-) -> Result<Option<(usize, Change)>, AllocError>
+) -> Result<(usize, Change), AllocError>
     requires own { AreTables task.now tables.now }
-    ensures choice { IfOk result (λ o. option_map (chosen_of config.now) o ≡ choose_listed task.now config.now rank) }
-    ensures number { IfOk result (λ o. IfSome o (λ x.
-        (number : ℕ) × (number_at task.now config.now rank ≡ Some number) × IsNumberOf task.now config.now number x)) }
+    requires chosen { IsSome (choose_listed task.now front.now rank) }
+    ensures { IfOk result (λ x.
+        (number : ℕ) × (number_at task.now front.now rank ≡ Some number) × IsChosen task.now front.now number x) }
 {
-    if let Some(chosen) = kept_instance(alloc, tables, config, rank)? {
-        return Ok(Some(chosen));
-    }
-    config.choose_listed(alloc, task, rank)
+    let Some((position, goal)) = front.first_free_task() else {
+        return front.choose_free(alloc, task, rank);
+    };
+    let instance = listed_instance(alloc, task, tables, goal, rank)?;
+    Ok((position, Change::Decomposed(instance)))
 }

@@ -3,6 +3,7 @@
 
 mod answer;
 mod chosen;
+mod front;
 mod numbers;
 mod places;
 mod solution;

@@ -1,7 +1,7 @@
 //! The places of the open nodes.
 ghost use Rattle.std.specs.Prelude.{◌≡◌, ◌+◌, ◌<◌, ◌∷◌, ◌++◌, [], IfOk, OnOk, get_or, length};
 ghost use Rattle.htn_model.specs.Choice.{splice};
-ghost use Rattle.htn_search.specs.Places.{child_places, places_view};
+ghost use Rattle.htn_search.specs.Places.{child_places, open_places};
 
 use std::alloc::{AllocError, Global};
 
@@ -15,13 +15,13 @@ fn child_place(alloc: Global, place: &[usize], position: usize) -> Result<Vec<us
     Ok(child)
 }
 
-/// The places of so many children. The last child has the parent's own list.
+/// The places of so many children, from the last to the first. The last child has the parent's own list.
 pub(crate) fn child_places(
     alloc: Global,
     mut place: Vec<usize>,
     count: usize,
 ) -> Result<Vec<Vec<usize>>, AllocError>
-    ensures { IfOk result (λ l. places_view l.items ≡ child_places place.items 0 count) }
+    ensures { IfOk result (λ l. open_places l.items ≡ child_places place.items 0 count) }
 {
     let mut places = Vec::new(alloc);
     let Some(last) = count.checked_sub(1) else {
@@ -32,10 +32,11 @@ pub(crate) fn child_places(
     }
     place.push(last)?;
     places.push(place)?;
+    places.reverse();
     Ok(places)
 }
 
-/// Puts the places of so many children in the place of an open node's.
+/// Puts the places of so many children in the place of an open node's. What is behind that node is not moved.
 pub(crate) fn open_children(
     alloc: Global,
     places: &mut Vec<Vec<usize>>,
@@ -43,13 +44,23 @@ pub(crate) fn open_children(
     count: usize,
 ) -> Result<(), AllocError>
     requires { position < length places.old.items }
-    ensures { OnOk result (places_view places.new.items
-        ≡ splice position (child_places (get_or (places_view places.old.items) position []) 0 count) (places_view places.old.items)) }
+    ensures { OnOk result (open_places places.new.items
+        ≡ splice position (child_places (get_or (open_places places.old.items) position []) 0 count) (open_places places.old.items)) }
 {
-    let mut later = places.split_off(position + 1)?;
-    let place = places.remove(position);
+    let at = places.len() - 1 - position;
+    let mut earlier = places.split_off(at + 1)?;
+    let place = places.remove(at);
     let mut children = child_places(alloc, place, count)?;
     places.append(&mut children)?;
-    places.append(&mut later)?;
+    places.append(&mut earlier)?;
     Ok(())
+}
+
+/// Takes the place of an open node out. What is behind that node is not moved.
+pub(crate) fn take_place(places: &mut Vec<Vec<usize>>, position: usize) -> Vec<usize>
+    requires { position < length places.old.items }
+    ensures place { result.items ≡ get_or (open_places places.old.items) position [] }
+    ensures left { open_places places.new.items ≡ splice position [] (open_places places.old.items) }
+{
+    places.remove(places.len() - 1 - position)
 }

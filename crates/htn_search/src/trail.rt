@@ -1,5 +1,5 @@
 //! What the numbers of a word chose, and the trees that grow from it backwards.
-ghost use Rattle.std.specs.Prelude.{◌≡◌, ◌+◌, ◌≤◌, ◌++◌, [], IfOk, OnOk, drop, length, take};
+ghost use Rattle.std.specs.Prelude.{◌≡◌, ◌+◌, ◌≤◌, ◌++◌, [], IfOk, OnOk, drop, length, reverse, take};
 ghost use Rattle.htn_tree.specs.Trees.{Numbering, nodes_view};
 ghost use Rattle.htn_search.specs.Trail.{AreWithin, before_move, before_moves};
 
@@ -18,7 +18,8 @@ pub(crate) struct Move {
     pub(crate) children: usize,
 }
 
-/// Takes `count` trees out, from a position on.
+/// Takes the trees of a node's children out, from a position on, in their order. The trees are kept from the
+/// last to the first: none that is behind them is moved.
 fn take_out(
     alloc: Global,
     trees: &mut Vec<Node>,
@@ -26,25 +27,30 @@ fn take_out(
     count: usize,
 ) -> Result<Vec<Node>, AllocError>
     requires { position + count ≤ length trees.old.items }
-    ensures taken { IfOk result (λ row. row.items ≡ take count (drop position trees.old.items)) }
-    ensures left { OnOk result (trees.new.items ≡ take position trees.old.items ++ drop (position + count) trees.old.items) }
+    ensures taken { IfOk result (λ row. row.items ≡ take count (drop position (reverse trees.old.items))) }
+    ensures left { OnOk result (reverse trees.new.items
+        ≡ take position (reverse trees.old.items) ++ drop (position + count) (reverse trees.old.items)) }
 {
     if count == 0 {
         return Ok(Vec::new(alloc));
     }
-    let mut row = trees.split_off(position)?;
-    let mut later = row.split_off(count)?;
-    trees.append(&mut later)?;
+    let last = trees.len() - position - count;
+    let mut row = trees.split_off(last)?;
+    let mut earlier = row.split_off(count)?;
+    trees.append(&mut earlier)?;
+    row.reverse();
     Ok(row)
 }
 
 /// Puts the node of a move back over the trees of its children.
 fn put_back(alloc: Global, trees: &mut Vec<Node>, last: Move) -> Result<(), AllocError>
     requires { last.position + last.children ≤ length trees.old.items }
-    ensures { OnOk result ((numbers : Numbering) → nodes_view numbers trees.new.items ≡ before_move numbers last (nodes_view numbers trees.old.items)) }
+    ensures { OnOk result ((numbers : Numbering) → nodes_view numbers (reverse trees.new.items)
+        ≡ before_move numbers last (nodes_view numbers (reverse trees.old.items))) }
 {
     let children = take_out(alloc, trees, last.position, last.children)?;
-    trees.insert(last.position, last.node.over(children))?;
+    let place = trees.len() - last.position;
+    trees.insert(place, last.node.over(children))?;
     Ok(())
 }
 
@@ -57,5 +63,6 @@ pub(crate) fn grow_back(alloc: Global, mut trail: Vec<Move>) -> Result<Vec<Node>
     while let Some(last) = trail.pop() {
         put_back(alloc, &mut trees, last)?;
     }
+    trees.reverse();
     Ok(trees)
 }

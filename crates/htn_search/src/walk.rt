@@ -1,14 +1,14 @@
 //! A walk along a finishing word.
 ghost use Rattle.std.specs.Prelude.{◌≡◌, ◌<◌, ◌++◌, ◌∷◌, [], ℕ, Contains, IfOk, IsSome, OnOk, Some, false, true, get_or, length, slice_get};
 ghost use Rattle.htn_ground.specs.Views.{child_view};
-ghost use Rattle.htn_model.specs.Choice.{child_of, splice};
+ghost use Rattle.htn_model.specs.Choice.{splice};
 ghost use Rattle.htn_model.specs.Grounding.{problem_of};
 ghost use Rattle.htn_model.specs.Instances.{initials};
 ghost use Rattle.htn_model.specs.Machine.{choose, start, FinishesFrom};
 ghost use Rattle.htn_model.specs.Problem.{is_compound};
 ghost use Rattle.htn_net.specs.Choices.{IsChosen, network_of};
 ghost use Rattle.htn_net.specs.Listed.{choose_listed, number_of};
-ghost use Rattle.htn_search.specs.Places.{child_places, own_place, places_view};
+ghost use Rattle.htn_search.specs.Places.{child_places, open_places, own_place, places_view};
 ghost use Rattle.htn_search.specs.Rebuilt.{IsSolutionOf};
 ghost use Rattle.htn_tree.specs.Trees.{Numbering, node_of};
 ghost use Rattle.htn_search.specs.Trail.{AreWithin, bare, decomposed_by, number_by};
@@ -17,7 +17,8 @@ ghost use Rattle.htn_search.specs.Walk.{IsOneOn, IsStart, recorded};
 ghost use Rattle.task_machine.specs.Tables.{AreTables};
 
 use crate::chosen::choose_by_rank;
-use crate::places::{child_places, open_children};
+use crate::front::Front;
+use crate::places::{child_places, open_children, take_place};
 use crate::trail::Move;
 use htn_ground::{Child, Instance};
 use htn_net::{Change, Config};
@@ -29,8 +30,8 @@ use task_machine::Tables;
 /// A walk along a word: where it is, and what it saw on the way.
 #[derive(Drop)]
 pub(crate) struct Walk {
-    config: Config,
-    /// The places of the open nodes.
+    config: Front,
+    /// The places of the open nodes, from the last to the first.
     places: Vec<Vec<usize>>,
     /// What each number chose.
     pub(crate) trail: Vec<Move>,
@@ -60,38 +61,18 @@ fn leave(
 ) -> Result<(), AllocError>
     requires within { position < length places.old.items }
     requires childless { is_compound (child_view node.now) ≡ false → count ≡ 0 }
-    ensures places { OnOk result (places_view places.new.items
-        ≡ splice position (child_places (get_or (places_view places.old.items) position []) 0 count) (places_view places.old.items)) }
+    ensures places { OnOk result (open_places places.new.items
+        ≡ splice position (child_places (get_or (open_places places.old.items) position []) 0 count) (open_places places.old.items)) }
     ensures visits { OnOk result (places_view visits.new.items
-        ≡ places_view visits.old.items ++ own_place (child_view node.now) (get_or (places_view places.old.items) position [])) }
+        ≡ places_view visits.old.items ++ own_place (child_view node.now) (get_or (open_places places.old.items) position [])) }
 {
     match node {
         Child::Task(_) => open_children(alloc, places, position, count),
-        Child::Action(_) | Child::Precondition(_) => carry_out(places, visits, position),
+        Child::Action(_) | Child::Precondition(_) => {
+            visits.push(take_place(places, position))?;
+            Ok(())
+        }
     }
-}
-
-/// Takes the place of an open node as the next that is carried out.
-fn carry_out(
-    places: &mut Vec<Vec<usize>>,
-    visits: &mut Vec<Vec<usize>>,
-    position: usize,
-) -> Result<(), AllocError>
-    requires { position < length places.old.items }
-    ensures places { OnOk result (places_view places.new.items ≡ splice position [] (places_view places.old.items)) }
-    ensures visits { OnOk result (places_view visits.new.items ≡ places_view visits.old.items ++ get_or (places_view places.old.items) position [] ∷ []) }
-{
-    visits.push(places.remove(position))?;
-    Ok(())
-}
-
-/// A copy of the open node at a position.
-fn node_at(config: &Config, position: usize) -> Result<Child, AllocError>
-    requires { position < length config.now.open_nodes }
-    ensures { IfOk result (λ node. child_view node ≡ child_of config.now.open_nodes position) }
-{
-    let nodes = config.open_nodes().as_slice();
-    nodes[position].clone()
 }
 
 /// A node that is closed by a change, without children.
@@ -112,68 +93,78 @@ fn closed(alloc: Global, node: Child, change: Change) -> Node
 impl Walk {
     /// One choice on: what becomes of the open node at a position.
     fn take(
-        &mut self,
+        self,
         alloc: Global,
         task: &Task,
         position: usize,
         change: Change,
-    ) -> Result<(), AllocError>
-        requires chosen { (number : ℕ) × IsChosen task.now self.old.config number (position, change) }
-        requires placed { length self.old.places.items ≡ length self.old.config.open_nodes }
-        ensures { OnOk result ((number : ℕ) → IsChosen task.now self.old.config number (position, change) → IsOneOn task.now number self.old self.new) }
+    ) -> Result<Walk, AllocError>
+        requires chosen { (number : ℕ) × IsChosen task.now self.config number (position, change) }
+        requires placed { length self.places.items ≡ length self.config.open_nodes }
+        ensures { IfOk result (λ next. (number : ℕ) → IsChosen task.now self.config number (position, change)
+            → IsOneOn task.now number self next) }
     {
         let _typed = task.objects();
-        let node = node_at(&self.config, position)?;
+        let Walk {
+            config,
+            mut places,
+            mut trail,
+            mut visits,
+        } = self;
         let children = children_len(&change);
-        leave(
-            alloc,
-            &mut self.places,
-            &mut self.visits,
-            &node,
-            position,
-            children,
-        )?;
-        let next = self.config.after(alloc, task, position, &change)?;
-        self.trail.push(Move {
+        let (node, config) = config.after(alloc, task, position, &change)?;
+        leave(alloc, &mut places, &mut visits, &node, position, children)?;
+        trail.push(Move {
             position,
             node: closed(alloc, node, change),
             children,
         })?;
-        self.config = next;
-        Ok(())
-    }
-
-    /// One number on.
-    fn follow(&mut self, alloc: Global, task: &Task, number: u64) -> Result<(), AllocError>
-        requires chosen { IsSome (choose (problem_of task.now) self.old.config number) }
-        requires placed { length self.old.places.items ≡ length self.old.config.open_nodes }
-        ensures { OnOk result (IsOneOn task.now number self.old self.new) }
-    {
-        let Some((position, change)) = self.config.choose(alloc, task, number)? else {
-            unreachable!()
-        };
-        self.take(alloc, task, position, change)
+        Ok(Walk {
+            config,
+            places,
+            trail,
+            visits,
+        })
     }
 
     /// One rank on, an instance being taken from the tables where these have it.
     fn follow_listed(
-        &mut self,
+        self,
         alloc: Global,
         task: &Task,
         tables: &Tables,
         rank: u64,
-    ) -> Result<(), AllocError>
+    ) -> Result<Walk, AllocError>
         requires own { AreTables task.now tables.now }
-        requires chosen { IsSome (choose_listed task.now self.old.config rank) }
-        requires placed { length self.old.places.items ≡ length self.old.config.open_nodes }
-        ensures { OnOk result (IsOneOn task.now (number_of task.now self.old.config rank) self.old self.new) }
+        requires chosen { IsSome (choose_listed task.now self.config rank) }
+        requires placed { length self.places.items ≡ length self.config.open_nodes }
+        ensures { IfOk result (IsOneOn task.now (number_of task.now self.config rank) self) }
     {
-        let Some((position, change)) = choose_by_rank(alloc, task, tables, &self.config, rank)?
-        else {
-            unreachable!()
-        };
+        let (position, change) = choose_by_rank(alloc, task, tables, &self.config, rank)?;
         self.take(alloc, task, position, change)
     }
+}
+
+/// One number on, and the configuration to which it leads: what a number chooses is found there.
+fn follow(
+    alloc: Global,
+    task: &Task,
+    walk: Walk,
+    config: &Config,
+    number: u64,
+) -> Result<(Walk, Config), AllocError>
+    requires same { config.now ≡ walk.config }
+    requires chosen { IsSome (choose (problem_of task.now) walk.config number) }
+    requires placed { length walk.places.items ≡ length walk.config.open_nodes }
+    ensures one { IfOk result (λ r. IsOneOn task.now number walk r.0) }
+    ensures same { IfOk result (λ r. r.1 ≡ r.0.config) }
+{
+    let Some((position, change)) = config.choose(alloc, task, number)? else {
+        unreachable!()
+    };
+    let next = config.after(alloc, task, position, &change)?;
+    let walk = walk.take(alloc, task, position, change)?;
+    Ok((walk, next))
 }
 
 /// The walk at the start with an instance of the initial network.
@@ -182,7 +173,7 @@ fn start_walk(alloc: Global, task: &Task, initial: &Instance) -> Result<Walk, Al
     ensures { IfOk result (IsStart (problem_of task.now) initial.now.network) }
 {
     Ok(Walk {
-        config: Config::start(alloc, task, initial)?,
+        config: Front::start(alloc, task, initial)?,
         places: child_places(alloc, Vec::new(alloc), initial.children().len())?,
         trail: Vec::new(alloc),
         visits: Vec::new(alloc),
@@ -205,8 +196,9 @@ pub(crate) fn walk_along(
 {
     let _typed = task.objects();
     let mut walk = start_walk(alloc, task, initial)?;
+    let mut config = Config::start(alloc, task, initial)?;
     for number in numbers {
-        walk.follow(alloc, task, *number)?;
+        (walk, config) = follow(alloc, task, walk, &config, *number)?;
     }
     Ok(walk)
 }
@@ -230,7 +222,7 @@ pub(crate) fn walk_listed(
     let _typed = task.objects();
     let mut walk = start_walk(alloc, task, initial)?;
     for rank in ranks {
-        walk.follow_listed(alloc, task, tables, *rank)?;
+        walk = walk.follow_listed(alloc, task, tables, *rank)?;
     }
     Ok(walk)
 }

@@ -1,6 +1,6 @@
 use Rattle.std.proofs.Common.{◌≡◌, ◌+◌, ◌∷◌, [], ◌++◌, ap, ◌∙◌, arith}
 use Rattle.htn_search.specs.Places.{child_places}
-use Rattle.htn_search.proofs.ChildPlaces.{one_more}
+use Rattle.htn_search.proofs.ChildPlaces.{one_more, seen_in_order}
 use Rattle.htn_search.proofs.places.child_places.Goals as goal
 
 pub loop-position-preserved : goal.loop-position-preserved
@@ -12,6 +12,7 @@ pub returns : goal.returns
 returns c =
     let reached : c.loop-position.position ≡ c.in-Some.last = omega arith in
     let whole : c.in-Some.last + 1 ≡ c.args.count = omega arith in
-    one_more c.loop-position.places.items c.push-3.new.self.items c.push-2.new.self c.args.place.items c.in-Some.last
+    seen_in_order c.push-3.new.self.items c.reverse.new.self.items c.reverse.ensures.items
+    ∙ one_more c.loop-position.places.items c.push-3.new.self.items c.push-2.new.self c.args.place.items c.in-Some.last
     (c.loop-position.invariant ∙ ap (child_places c.args.place.items 0) reached) c.in_ok-push-3.ensures.items c.in_ok-push-2.ensures.items
     ∙ ap (child_places c.args.place.items 0) whole

@@ -1,11 +1,11 @@
-use Rattle.std.proofs.Common.{◌≡◌, [], length, vec_len}
+use Rattle.std.proofs.Common.{◌≡◌, [], length, reverse, vec_len}
 use Rattle.htn_tree.specs.Trees.{Numbering, nodes_view}
 use Rattle.htn_search.specs.Trail.{AreWithin, before_moves}
 use Rattle.htn_search.proofs.trail.grow_back.Given as goal
 
 abbrev pub invariant-loop-last : goal.invariant-loop-last
 invariant-loop-last l = record {
-  grown : (numbers : Numbering) → before_moves numbers l.trail.items (nodes_view numbers l.trees.items) ≡ before_moves numbers l.fn.trail.items [];
+  grown : (numbers : Numbering) → before_moves numbers l.trail.items (nodes_view numbers (reverse l.trees.items)) ≡ before_moves numbers l.fn.trail.items [];
   within : AreWithin l.trail.items (length l.trees.items);
 }
 

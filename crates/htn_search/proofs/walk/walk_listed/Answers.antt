@@ -5,7 +5,7 @@ use Rattle.htn_model.specs.Machine.{FinishesFrom, start}
 use Rattle.htn_model.proofs.Grounded.{tasks_are_grounded}
 use Rattle.htn_net.specs.Listed.{number_of}
 use Rattle.htn_tree.specs.Trees as trees
-use Rattle.htn_search.specs.Places.{places_view}
+use Rattle.htn_search.specs.Places.{open_places, places_view}
 use Rattle.htn_search.specs.Told.{FinishesListed, told}
 use Rattle.htn_search.specs.Walk.{recorded}
 use Rattle.htn_search.proofs.Told.{finishes_told, next_chooses, one_told}
@@ -41,25 +41,25 @@ loop-rank-preserved c =
     let ranks = c.args.ranks.now in
     let first = c.in_ok-walk.walk.config in
     let word = told t first ranks in
-    let roots = places_view c.in_ok-walk.walk.places.items in
+    let roots = open_places c.in_ok-walk.walk.places.items in
     let old = c.loop-rank.walk in
-    let new = c.follow_listed.new.self in
+    let new = c.in_ok-walk-2.walk in
     let i = c.loop-rank.rank-index in
     let rank = get_or ranks i 0 in
     let later = drop (i + 1) ranks in
     let left : drop i ranks ≡ rank ∷ later = drop_more ranks i 0 c.loop-rank-test.true in
     let leads = subst (FinishesListed t old.config) left c.loop-rank.invariant.leads in
-    let one = c.in_ok-follow_listed.ensures in
+    let one = c.in_ok-walk-2.ensures in
     let number = number_of t old.config rank in
     let on = one_told t old.config rank later one.choice new.config leads one.chooses one.config in
     let rest = told t new.config later in
     let split : told t old.config (drop i ranks) ≡ number ∷ rest = ap (told t old.config) left ∙ on.0 in
-    let way : IsUnderWay (trees.number_of t) problem word first roots (number ∷ rest) old.config old.trail.items (places_view old.places.items) (places_view old.visits.items) =
-    subst (λ l. IsUnderWay (trees.number_of t) problem word first roots l old.config old.trail.items (places_view old.places.items) (places_view old.visits.items)) split c.loop-rank.invariant.way in
+    let way : IsUnderWay (trees.number_of t) problem word first roots (number ∷ rest) old.config old.trail.items (open_places old.places.items) (places_view old.visits.items) =
+    subst (λ l. IsUnderWay (trees.number_of t) problem word first roots l old.config old.trail.items (open_places old.places.items) (places_view old.visits.items)) split c.loop-rank.invariant.way in
     record {
-      way = subst (λ x. IsUnderWay (trees.number_of t) problem word first roots rest x new.trail.items (places_view new.places.items) (places_view new.visits.items)) (sym one.config)
+      way = subst (λ x. IsUnderWay (trees.number_of t) problem word first roots rest x new.trail.items (open_places new.places.items) (places_view new.visits.items)) (sym one.config)
           (walk_on (trees.number_of t) problem old.config number one.choice one.chooses one.last one.is_move rest word first roots
-          old.trail.items new.trail.items (places_view old.places.items) (places_view new.places.items) (places_view old.visits.items) (places_view new.visits.items)
+          old.trail.items new.trail.items (open_places old.places.items) (open_places new.places.items) (places_view old.visits.items) (places_view new.visits.items)
           way one.trail one.places one.visits);
       leads = on.1;
     }
@@ -69,10 +69,10 @@ returns-clause-within c =
     let t = c.args.task.now in
     let ranks = c.args.ranks.now in
     let first = c.in_ok-walk.walk.config in
-    let roots = places_view c.in_ok-walk.walk.places.items in
+    let roots = open_places c.in_ok-walk.walk.places.items in
     let old = c.loop-rank.walk in
     let none : drop c.loop-rank.rank-index ranks ≡ [] = drop_all c.loop-rank.rank-index ranks c.loop-rank-test.false in
-    (subst (λ l. IsUnderWay (trees.number_of t) (problem_of t) (told t first ranks) first roots (told t old.config l) old.config old.trail.items (places_view old.places.items) (places_view old.visits.items)) none c.loop-rank.invariant.way).within
+    (subst (λ l. IsUnderWay (trees.number_of t) (problem_of t) (told t first ranks) first roots (told t old.config l) old.config old.trail.items (open_places old.places.items) (places_view old.visits.items)) none c.loop-rank.invariant.way).within
 
 pub returns-clause-solved : goal.returns-clause-solved
 returns-clause-solved c =
@@ -81,14 +81,14 @@ returns-clause-solved c =
     let ranks = c.args.ranks.now in
     let network = c.args.initial.now.network in
     let first = c.in_ok-walk.walk.config in
-    let roots = places_view c.in_ok-walk.walk.places.items in
+    let roots = open_places c.in_ok-walk.walk.places.items in
     let old = c.loop-rank.walk in
     let none : drop c.loop-rank.rank-index ranks ≡ [] = drop_all c.loop-rank.rank-index ranks c.loop-rank-test.false in
     let numbers = told t (start problem network) ranks in
-    let way : IsUnderWay (trees.number_of t) problem numbers first roots [] old.config old.trail.items (places_view old.places.items) (places_view old.visits.items) =
-    subst (λ w. IsUnderWay (trees.number_of t) problem w first roots [] old.config old.trail.items (places_view old.places.items) (places_view old.visits.items)) (ap (λ x. told t x ranks) c.in_ok-walk.ensures.config)
-    (subst (λ l. IsUnderWay (trees.number_of t) problem (told t first ranks) first roots (told t old.config l) old.config old.trail.items (places_view old.places.items) (places_view old.visits.items)) none c.loop-rank.invariant.way) in
+    let way : IsUnderWay (trees.number_of t) problem numbers first roots [] old.config old.trail.items (open_places old.places.items) (places_view old.visits.items) =
+    subst (λ w. IsUnderWay (trees.number_of t) problem w first roots [] old.config old.trail.items (open_places old.places.items) (places_view old.visits.items)) (ap (λ x. told t x ranks) c.in_ok-walk.ensures.config)
+    (subst (λ l. IsUnderWay (trees.number_of t) problem (told t first ranks) first roots (told t old.config l) old.config old.trail.items (open_places old.places.items) (places_view old.visits.items)) none c.loop-rank.invariant.way) in
     λ number is.
     solved (trees.number_of t) problem (tasks_are_grounded t c.objects-typed.ensures.typed) number numbers (network, is, finishes_told t ranks (start problem network) c.requires.finishes) network is first roots
     c.in_ok-walk.ensures.config c.in_ok-walk.ensures.places
-    old.config old.trail.items (places_view old.places.items) (places_view old.visits.items) way (recorded t number old) refl refl refl
+    old.config old.trail.items (open_places old.places.items) (places_view old.visits.items) way (recorded t number old) refl refl refl
