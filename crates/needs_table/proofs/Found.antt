@@ -1,49 +1,105 @@
--- What workers find of networks is put together.
-use Rattle.std.proofs.Common.{◌≡◌, ℕ, zero, suc, ◌+◌, ◌<◌, ◌≤◌, List, [], ◌∷◌, ◌++◌, inl, inr, ◌⊎◌, length, Option, Some, slice_get, sym, ap, ◌∙◌, subst, arith, length-append}
-use Rattle.std.proofs.lemmas.Option.{none-some}
+-- What workers find of networks, put down.
+use Rattle.std.proofs.Common.{◌≡◌, ◌<◌, ◌∙◌, ◌∷◌, ◌++◌, [], Bool, List, None, Option, ap, get_or, length, sym, subst, true, ℕ}
 use Rattle.htn_model.specs.Literal.{Literal}
-use Rattle.network_needs.specs.Needs.{Outlook}
+use Rattle.htn_model.specs.Problem.{Network}
+use Rattle.state_table.specs.declared.compiled.CompiledLiterals.{CompiledLiterals}
+use Rattle.state_table.proofs.States.{later_itself}
+use Rattle.needs_table.specs.declared.want_table.WantTable.{WantTable}
+use Rattle.needs_table.proofs.Kept.{keeps_push}
+use Rattle.needs_table.proofs.Listed.{listed_grown}
 use Rattle.network_table.specs.Networks.{network_at}
 use Rattle.network_table.specs.declared.table.NetworkTable.{NetworkTable}
-use Rattle.state_table.specs.Table.{Table}
-use Rattle.state_table.specs.declared.compiled.CompiledLiterals.{CompiledLiterals}
-use Rattle.state_table.proofs.Keys.{at_push}
-use Rattle.needs_table.specs.Found.{KeepsFrom}
-use Rattle.needs_table.specs.Kept.{IsKept, Keeps}
+use Rattle.state_table.specs.Table.{IsTable, Table}
+use Rattle.needs_table.specs.Found.{IsFound}
+use Rattle.needs_table.specs.Kept.{AreNodes, AreWants, IsKept, Keeps}
+use Rattle.needs_table.specs.Listed.{AreChainsListed, AreChainsOf, AreFollowed, AreMoreWants, IsListed, chain_at, list_at}
+use Rattle.needs_table.specs.Prospects.{outlook_by}
+use Rattle.needs_table.specs.declared.keep_up_all.Found.{Found}
+use Rattle.needs_table.specs.declared.node.Node.{Node}
+use Rattle.needs_table.specs.declared.prospects.Prospects.{Prospects}
+use Rattle.needs_table.specs.declared.table.NeedsTable.{NeedsTable}
+use Rattle.needs_table.specs.declared.wants.Want.{Want}
 
--- what stands in one list after another stands in the first or the second
-at_append : {A : Type 0} (xs ys : List A) (k : ℕ) (a : A) → slice_get (xs ++ ys) k ≡ Some a
-    → (slice_get xs k ≡ Some a) ⊎ ((j : ℕ) × (k ≡ length xs + j) × (slice_get ys j ≡ Some a))
-at_append [] ys k a at = inr (k, omega arith, at)
-at_append (x ∷ xs) ys zero a at = inl at
-at_append (x ∷ xs) ys (suc k) a at = elim (at_append xs ys k a at) [
-  | inl before ↦ inl before
-  | inr there ↦ inr (there.0, omega (arith, there.1), there.2)
-]
+-- what is known of nodes and the goal is known after more is kept
+pub known_then : (p : Prospects) (networks : NetworkTable) (s t : NeedsTable) (atoms : Table) → AreFollowed p networks s t → AreNodes p atoms networks s.nodes.items
+    → AreWants p.needs atoms s.goals.items s.goal → AreNodes p atoms networks t.nodes.items × AreWants p.needs atoms t.goals.items t.goal
+known_then p networks s t atoms first nodes goals = (
+  subst (λ (ns : List Node). AreNodes p atoms networks ns) (ap (λ v. v.items) (sym first.nodes)) nodes,
+  subst (λ (l : List Literal). AreWants p.needs atoms t.goals.items l) (sym first.goal)
+      (subst (λ (ws : List Want). AreWants p.needs atoms ws s.goal) (ap (λ v. v.items) (sym first.goals)) goals),
+)
 
--- at first nothing is found
-pub from_none : (o : Outlook) (goal : List Literal) (atoms : Table) (networks : NetworkTable) (first : ℕ) → first ≤ length networks.networks → KeepsFrom o goal atoms networks first []
-from_none o goal atoms networks first low = record { within = omega (arith, low); each = λ n needed at. absurd (none-some needed at) }
+-- nothing more is kept at first
+pub followed_itself : (p : Prospects) (networks : NetworkTable) (t : NeedsTable) → AreFollowed p networks t t
+followed_itself p networks t = record { goal = λ i. t.goal; goals = λ i. t.goals; nodes = λ i. t.nodes; right = λ atoms table nodes goals kept chains. (kept, chains) }
 
--- one more network
-pub from_push : (o : Outlook) (goal : List Literal) (atoms : Table) (networks : NetworkTable) (first : ℕ) (old new : List (Option CompiledLiterals)) (needed : Option CompiledLiterals)
-    → first + length old < length networks.networks → IsKept o goal atoms (network_at networks (first + length old)) needed → new ≡ old ++ needed ∷ []
-    → KeepsFrom o goal atoms networks first old → KeepsFrom o goal atoms networks first new
-from_push o goal atoms networks first old new needed low right pushed keeps = record {
-  within = (let long = length-append old (needed ∷ []) in let is = ap length pushed in omega (arith, low, long, is));
-  each = λ n other at. elim (at_push old needed n other (sym (ap (λ l. slice_get l n) pushed) ∙ at)) [
-    | inl before ↦ keeps.each n other before
-    | inr here ↦ subst (λ k. IsKept o goal atoms (network_at networks (first + k)) other) (sym here.0) (subst (IsKept o goal atoms (network_at networks (first + length old))) here.1 right)
-  ];
+-- more is kept, and then more
+pub followed_then : (p : Prospects) (networks : NetworkTable) (s t u : NeedsTable) → AreFollowed p networks s t → AreFollowed p networks t u → AreFollowed p networks s u
+followed_then p networks s t u first second = record {
+  goal = second.goal ∙ first.goal;
+  goals = second.goals ∙ first.goals;
+  nodes = second.nodes ∙ first.nodes;
+  right = λ atoms table nodes goals kept chains.
+      (let now = first.right atoms table nodes goals kept chains in
+      let known = known_then p networks s t atoms first nodes goals in
+      second.right atoms table known.0 known.1 now.0 now.1);
 }
 
--- what comes next is put to what is kept
-pub keeps_append : (o : Outlook) (goal : List Literal) (atoms : Table) (networks : NetworkTable) (first : ℕ) (old found new : List (Option CompiledLiterals)) → length old ≡ first → new ≡ old ++ found
-    → Keeps o goal atoms networks old → KeepsFrom o goal atoms networks first found → Keeps o goal atoms networks new
-keeps_append o goal atoms networks first old found new place is keeps more = record {
-  within = (let long = length-append old found in let same = ap length is in omega (arith, place, long, same, more.within));
-  each = λ n other at. elim (at_append old found n other (sym (ap (λ l. slice_get l n) is) ∙ at)) [
-    | inl before ↦ keeps.each n other before
-    | inr there ↦ subst (λ k. IsKept o goal atoms (network_at networks k) other) (ap (λ m. m + there.0) (sym place) ∙ sym there.1) (more.each there.0 other there.2)
-  ];
+-- what chains need by ids stays right as more wants get ids
+chains_more : (p : Prospects) (atoms : Table) (is_chain : ℕ → Bool) (network : ℕ → Network) (t : NeedsTable) (wanted : WantTable) → IsTable atoms
+    → AreMoreWants t.wanted.wants.items wanted.wants.items → AreChainsListed p atoms is_chain network t → AreChainsListed p atoms is_chain network (record t { wanted = wanted })
+chains_more p atoms is_chain network t wanted table more are = record {
+  as_many = are.as_many;
+  each = λ number low chained.
+      listed_grown p t.goal atoms atoms t.wanted.wants.items wanted.wants.items (network number) (get_or t.needs.items number None) (list_at t number) (later_itself atoms table) more
+      (are.each number low chained);
+}
+
+-- what the next network needs is kept
+module _ (p : Prospects) (networks : NetworkTable) (s u v : NeedsTable) (number : ℕ) (needed : Option CompiledLiterals) (ids : List ℕ) (next : number ≡ length s.needs.items)
+    (low : number < length networks.networks) (more : AreMoreWants s.wanted.wants.items u.wanted.wants.items) (u_is : u ≡ record s { wanted = u.wanted })
+    (pushed : v.needs.items ≡ u.needs.items ++ needed ∷ [])
+    (chains : (known : Prospects) (atoms : Table) (is_chain : ℕ → Bool) (network : ℕ → Network) → IsTable atoms
+    → (is_chain (length u.needs.items) ≡ true → IsListed known u.goal atoms u.wanted.wants.items (network (length u.needs.items)) needed ids)
+    → AreChainsListed known atoms is_chain network u → AreChainsListed known atoms is_chain network v)
+    (v_is : v ≡ record u { needs = v.needs; lists = v.lists })
+    (kept : (atoms : Table) → AreNodes p atoms networks s.nodes.items → AreWants p.needs atoms s.goals.items s.goal → AreChainsOf p atoms networks s
+    → IsKept (outlook_by p) s.goal atoms (network_at networks number) needed)
+    (listed : (atoms : Table) → AreNodes p atoms networks s.nodes.items → AreWants p.needs atoms s.goals.items s.goal → AreChainsOf p atoms networks s → chain_at networks number ≡ true
+    → IsListed p s.goal atoms u.wanted.wants.items (network_at networks number) needed ids) where
+  pub followed_next : AreFollowed p networks s v
+  followed_next = record {
+    goal = ap (λ (t : NeedsTable). t.goal) v_is ∙ ap (λ (t : NeedsTable). t.goal) u_is;
+    goals = ap (λ (t : NeedsTable). t.goals) v_is ∙ ap (λ (t : NeedsTable). t.goals) u_is;
+    nodes = ap (λ (t : NeedsTable). t.nodes) v_is ∙ ap (λ (t : NeedsTable). t.nodes) u_is;
+    right = λ atoms table nodes goals is_kept are.
+        (let o = outlook_by p in
+        let needs_are : u.needs.items ≡ s.needs.items = ap (λ (t : NeedsTable). t.needs.items) u_is in
+        let goal_is : u.goal ≡ s.goal = ap (λ (t : NeedsTable). t.goal) u_is in
+        let goal_too : v.goal ≡ s.goal = ap (λ (t : NeedsTable). t.goal) v_is ∙ goal_is in
+        let here = kept atoms nodes goals are in
+        let at : number ≡ length u.needs.items = next ∙ ap length (sym needs_are) in
+        let all =
+        keeps_push o s.goal atoms networks s.needs.items v.needs.items needed (subst (λ k. k < length networks.networks) next low)
+        (subst (λ k. IsKept o s.goal atoms (network_at networks k) needed) next here) (pushed ∙ ap (λ l. l ++ needed ∷ []) needs_are) is_kept in
+        let before =
+        subst (AreChainsListed p atoms (chain_at networks) (network_at networks)) (sym u_is) (chains_more p atoms (chain_at networks) (network_at networks) s u.wanted table more are) in (
+          subst (λ (g : List Literal). Keeps o g atoms networks v.needs.items) (sym goal_too) all,
+          chains p atoms (chain_at networks) (network_at networks) table (λ told.
+              subst (λ (g : List Literal). IsListed p g atoms u.wanted.wants.items (network_at networks (length u.needs.items)) needed ids) (sym goal_is)
+              (subst (λ k. IsListed p s.goal atoms u.wanted.wants.items (network_at networks k) needed ids) at (listed atoms nodes goals are (ap (chain_at networks) at ∙ told)))) before,
+        ));
+  }
+
+-- what was found is right where more is kept
+pub found_then : (p : Prospects) (networks : NetworkTable) (s t : NeedsTable) (found : Found) → AreFollowed p networks s t → IsFound p s networks found → IsFound p t networks found
+found_then p networks s t found first is = record {
+  known = is.known;
+  other = is.other;
+  right = λ atoms nodes goals.
+      (let back = subst (λ (ns : List Node). AreNodes p atoms networks ns) (ap (λ v. v.items) first.nodes) nodes in
+      let wants =
+      subst (λ (ws : List Want). AreWants p.needs atoms ws s.goal) (ap (λ v. v.items) first.goals)
+      (subst (λ (l : List Literal). AreWants p.needs atoms t.goals.items l) first.goal goals) in
+      subst (λ (l : List Literal). IsKept (outlook_by p) l atoms (network_at networks found.number) found.needed) (sym first.goal) (is.right atoms back wants));
 }

@@ -19,7 +19,15 @@ use Rattle.state_table.specs.Table.{IsLater, state_of, Table}
 use Rattle.state_table.specs.declared.literal.CompiledLiteral.TheVariants.{Decided}
 use Rattle.state_table.proofs.Keys.{at_push}
 use Rattle.state_table.proofs.States.{later_more}
-use Rattle.needs_table.specs.Kept.{AreFirstWants, AreNodes, AreNoted, AreWants, IsNode}
+use Rattle.needs_table.specs.Kept.{AreFirstWants, AreNodes, AreWants, IsNode}
+use Rattle.htn_model.specs.Problem.{order_eq}
+use Rattle.htn_order.specs.Shapes.{chain}
+use Rattle.network_table.specs.Networks.{IsWhole, network_at}
+use Rattle.network_table.specs.Numbered.{Numbered}
+use Rattle.network_table.proofs.Growing.{numbers_stay}
+use Rattle.network_table.proofs.Remembering.{keeps_grown}
+use Rattle.needs_table.specs.Listed.{AreChainsOf, AreNoted, chain_at}
+use Rattle.needs_table.proofs.Listed.{chains_later}
 use Rattle.needs_table.specs.declared.node.Node.{Node}
 use Rattle.needs_table.specs.declared.prospects.Prospects.{Prospects}
 use Rattle.needs_table.specs.declared.table.NeedsTable.{NeedsTable}
@@ -178,18 +186,34 @@ node_at p atoms networks nodes id node low read are = are.each id node (slice_ge
 pub child_there : (networks : NetworkTable) (ids : List ℕ) (at d : ℕ) → at < length ids → child_of (map (child_of (children networks)) ids) at ≡ child_of (children networks) (get_or ids at d)
 child_there networks ids at d low = get_or-map (child_of (children networks)) ids at d (precondition []) low
 
--- ## Both
+-- ## All
+
+-- what chains need by ids stays right by later tables
+pub chains_grown : (p : Prospects) (atoms later : Table) (old new : NetworkTable) (t : NeedsTable) → IsLater atoms later → IsWhole old → IsGrown old new → length t.needs.items ≤ length old.networks
+    → AreChainsOf p atoms old t → AreChainsOf p later new t
+chains_grown p atoms later old new t grown whole networks within chains =
+    chains_later p atoms later (chain_at old) (chain_at new) (network_at old) (network_at new) t grown (λ number low.
+    let known : number < length old.networks = omega (arith, within, low) in (
+      ap (λ (m : Numbered). order_eq m.order (chain (length m.nodes))) (keeps_grown old new networks number known).1,
+      (numbers_stay old new number whole networks known).1,
+    )) chains
 
 -- it is right by later tables
-pub noted_later : (p : Prospects) (atoms later : Table) (old new : NetworkTable) (t : NeedsTable) → IsLater atoms later → IsGrown old new → AreNoted p atoms old t → AreNoted p later new t
-noted_later p atoms later old new t grown networks noted = record {
+pub noted_later : (p : Prospects) (atoms later : Table) (old new : NetworkTable) (t : NeedsTable) → IsLater atoms later → IsWhole old → IsGrown old new → length t.needs.items ≤ length old.networks
+    → AreNoted p atoms old t → AreNoted p later new t
+noted_later p atoms later old new t grown whole networks within noted = record {
   nodes = nodes_later p atoms later old new t.nodes.items grown networks noted.nodes;
   goals = wants_later p.needs atoms later t.goals.items (take (length t.goals.items) t.goal) grown noted.goals;
+  chains = chains_grown p atoms later old new t grown whole networks within noted.chains;
 }
 
 -- at first there is nothing of it
-pub noted_none : (p : Prospects) (atoms : Table) (networks : NetworkTable) (t : NeedsTable) → t.nodes.items ≡ [] → t.goals.items ≡ [] → AreNoted p atoms networks t
-noted_none p atoms networks t nodes goals = record {
+pub noted_none : (p : Prospects) (atoms : Table) (networks : NetworkTable) (t : NeedsTable) → t.nodes.items ≡ [] → t.goals.items ≡ [] → t.needs.items ≡ [] → t.lists.items ≡ [] → AreNoted p atoms networks t
+noted_none p atoms networks t nodes goals needs lists = record {
   nodes = nodes_none p atoms networks t.nodes.items nodes;
   goals = wants_none p.needs atoms t.goals.items t.goal goals;
+  chains = record {
+    as_many = ap length lists ∙ sym (ap length needs);
+    each = λ number low. (let none = ap length needs in absurd (omega (arith, low, none)));
+  };
 }

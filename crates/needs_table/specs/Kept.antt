@@ -42,11 +42,6 @@ pub record AreNodes (p : Prospects) (atoms : Table) (networks : NetworkTable) (n
   pub within : length nodes ≤ length (children networks)
   pub each : (id : ℕ) (node : Node) → slice_get nodes id ≡ Some node → IsNode p atoms node (child_of (children networks) id)
 
--- what is found once for all networks: of the first nodes, and of the goal
-pub record AreNoted (p : Prospects) (atoms : Table) (networks : NetworkTable) (t : NeedsTable) : Type 0 where
-  pub nodes : AreNodes p atoms networks t.nodes.items
-  pub goals : AreFirstWants p.needs atoms t.goals.items t.goal
-
 -- ## Networks
 
 -- nothing where a node of the network never ends, and else all that it needs, by this table of atoms and later ones

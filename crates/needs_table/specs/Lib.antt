@@ -1,4 +1,4 @@
 pub mod Kept
 pub mod Prospects
-pub mod Found
 pub mod Listed
+pub mod Found

@@ -9,10 +9,14 @@ use Rattle.network_needs.specs.Rows.{gives_by, literal_number}
 use Rattle.network_needs.specs.declared.needs.Needs.{Needs}
 use Rattle.network_needs.specs.declared.places.Spot.{Spot}
 use Rattle.state_table.specs.Compiled.{is_met}
-use Rattle.state_table.specs.Table.{IsLater, state_of, Table}
+use Rattle.state_table.specs.Table.{IsLater, IsTable, state_of, Table}
 use Rattle.state_table.specs.declared.compiled.CompiledLiterals.{CompiledLiterals}
 use Rattle.state_table.specs.declared.literal.CompiledLiteral.TheVariants.{Decided}
-use Rattle.needs_table.specs.Kept.{IsKept}
+use Rattle.htn_model.specs.Problem.{order_eq}
+use Rattle.htn_order.specs.Shapes.{chain}
+use Rattle.network_table.specs.Networks.{network_at, numbered_at}
+use Rattle.network_table.specs.declared.table.NetworkTable.{NetworkTable}
+use Rattle.needs_table.specs.Kept.{AreFirstWants, AreKept, AreNodes, AreWants, IsKept}
 use Rattle.needs_table.specs.Prospects.{outlook_by}
 use Rattle.needs_table.specs.declared.prospects.Prospects.{Prospects}
 use Rattle.needs_table.specs.declared.table.NeedsTable.{NeedsTable}
@@ -79,3 +83,26 @@ IsListedAt p atoms t number n = IsListed p t.goal atoms t.wanted.wants.items n (
 pub record AreChainsListed (p : Prospects) (atoms : Table) (is_chain : ℕ → Bool) (network : ℕ → Network) (t : NeedsTable) : Type 0 where
   pub as_many : length t.lists.items ≡ length t.needs.items
   pub each : (number : ℕ) → number < length t.needs.items → is_chain number ≡ true → IsListedAt p atoms t number (network number)
+
+-- whether the nodes of a network stand one after another
+abbrev pub chain_at : NetworkTable → ℕ → Bool
+chain_at networks n = order_eq (numbered_at networks n).order (chain (length (numbered_at networks n).nodes))
+
+-- so it is with the chains among the networks
+abbrev pub AreChainsOf : Prospects → Table → NetworkTable → NeedsTable → Type 0
+AreChainsOf p atoms networks t = AreChainsListed p atoms (chain_at networks) (network_at networks) t
+
+-- what is found once for all networks: of the first nodes, and of the goal; and what the first chains need by ids
+pub record AreNoted (p : Prospects) (atoms : Table) (networks : NetworkTable) (t : NeedsTable) : Type 0 where
+  pub nodes : AreNodes p atoms networks t.nodes.items
+  pub goals : AreFirstWants p.needs atoms t.goals.items t.goal
+  pub chains : AreChainsOf p atoms networks t
+
+-- more is kept, and all that is is right, if it was and all is known of nodes and the goal
+pub record AreFollowed (p : Prospects) (networks : NetworkTable) (old new : NeedsTable) : Type 0 where
+  pub goal : new.goal ≡ old.goal
+  pub goals : new.goals ≡ old.goals
+  pub nodes : new.nodes ≡ old.nodes
+  pub right : (atoms : Table) → IsTable atoms → AreNodes p atoms networks old.nodes.items → AreWants p.needs atoms old.goals.items old.goal
+      → AreKept (outlook_by p) atoms networks old → AreChainsOf p atoms networks old
+      → AreKept (outlook_by p) atoms networks new × AreChainsOf p atoms networks new

@@ -1,16 +1,16 @@
 //! What many networks need, found by several workers.
 ghost use Rattle.std.specs.Prelude.{◌≡◌, ◌<◌, ◌≤◌, All, length, IfOk, OnOk};
-ghost use Rattle.network_needs.specs.Needs.{Outlook};
 ghost use Rattle.needs_table.specs.Prospects.{outlook_by};
 ghost use Rattle.network_table.specs.Networks.{children, IsWhole};
-ghost use Rattle.network_table.specs.declared.table.NetworkTable.{NetworkTable as Networks};
-ghost use Rattle.state_table.specs.Table.{IsLater, Table};
-ghost use Rattle.needs_table.specs.Kept.{AreAllKept, AreKept, AreNodes, AreNoted, AreWants, Keeps};
-ghost use Rattle.needs_table.specs.Found.{HoldsFound, KeepsFrom};
+ghost use Rattle.state_table.specs.Table.{IsLater};
+ghost use Rattle.needs_table.specs.Kept.{AreAllKept, AreKept};
+ghost use Rattle.needs_table.specs.Listed.{AreFollowed, AreNoted};
+ghost use Rattle.needs_table.specs.Found.{HoldsFound, IsFound};
 
+use crate::chained::Chained;
 use crate::prospects::Prospects;
 use crate::table::NeedsTable;
-use network_table::NetworkTable;
+use network_table::{Entry, NetworkTable};
 use state_table::{AtomTable, CompiledLiterals};
 use std::alloc::{AllocError, Global};
 use std::thread::{Threads, map_indices};
@@ -30,15 +30,44 @@ fn parts_for(workers: usize) -> usize
     }
 }
 
-/// What the networks need from a number on.
+/// What the network of a number needs, which is no chain.
 #[derive(Drop)]
 pub(crate) struct Found {
-    first: usize,
-    needs: Vec<Option<CompiledLiterals>>,
+    number: u32,
+    needed: Option<CompiledLiterals>,
 }
 
 impl NeedsTable {
-    /// What so many networks need from a number on.
+    /// Adds what the network of a number needs, but of a chain, whose needs come from those of its rest.
+    fn find_one(
+        &self,
+        alloc: Global,
+        prospects: &Prospects,
+        networks: &NetworkTable,
+        number: usize,
+        found: &mut Vec<Found>,
+    ) -> Result<(), AllocError>
+        requires whole { IsWhole networks.now }
+        requires known { number < length networks.now.networks }
+        requires all { length (children networks.now) ≤ length self.now.nodes.items }
+        requires found { All (IsFound prospects.now self.now networks.now) found.old.items }
+        ensures { OnOk result (All (IsFound prospects.now self.now networks.now) found.new.items) }
+    {
+        let Ok(number) = u32::try_from(number) else {
+            return Ok(());
+        };
+        let Entry::Whole(network) = networks.entry(number) else {
+            return Ok(());
+        };
+        if network.nodes().is_empty() {
+            return Ok(());
+        }
+        let needed = self.needed_by(alloc, prospects, network)?;
+        found.push(Found { number, needed })?;
+        Ok(())
+    }
+
+    /// What so many networks need from a number on, but of chains.
     fn find(
         &self,
         alloc: Global,
@@ -46,22 +75,20 @@ impl NeedsTable {
         networks: &NetworkTable,
         from: usize,
         size: usize,
-    ) -> Result<Found, AllocError>
+    ) -> Result<Vec<Found>, AllocError>
         requires whole { IsWhole networks.now }
         requires all { length (children networks.now) ≤ length self.now.nodes.items }
         ensures { HoldsFound prospects.now self.now networks.now result }
     {
-        let all = networks.networks();
-        let first = from.min(all.len());
-        let mut needs = Vec::new(alloc);
-        for number in first..first.saturating_add(size).min(all.len()) {
-            let needed = self.needed_by(alloc, prospects, &all[number])?;
-            needs.push(needed)?;
+        let count = networks.len();
+        let mut found = Vec::new(alloc);
+        for number in from..from.saturating_add(size).min(count) {
+            self.find_one(alloc, prospects, networks, number, &mut found)?;
         }
-        Ok(Found { first, needs })
+        Ok(found)
     }
 
-    /// What networks need that is not known, by so many workers.
+    /// What networks need that is not known, but of chains, by so many workers.
     fn find_all<R: Threads + Sync>(
         &self,
         rt: &R,
@@ -69,7 +96,7 @@ impl NeedsTable {
         prospects: &Prospects,
         networks: &NetworkTable,
         workers: usize,
-    ) -> Result<Vec<Result<Found, AllocError>>, AllocError>
+    ) -> Result<Vec<Result<Vec<Found>, AllocError>>, AllocError>
         requires whole { IsWhole networks.now }
         requires all { length (children networks.now) ≤ length self.now.nodes.items }
         requires workers { 0 < workers }
@@ -77,12 +104,8 @@ impl NeedsTable {
     {
         let parts = parts_for(workers);
         let known = self.needs.len();
-        let size = networks
-            .networks()
-            .len()
-            .saturating_sub(known)
-            .div_ceil(parts);
-        let find = |part: usize| -> Result<Found, AllocError>
+        let size = networks.len().saturating_sub(known).div_ceil(parts);
+        let find = |part: usize| -> Result<Vec<Found>, AllocError>
             requires { IsWhole networks.now × length (children networks.now) ≤ length self.now.nodes.items }
             ensures { HoldsFound prospects.entry.now self.entry.now networks.entry.now result }
         {
@@ -92,26 +115,52 @@ impl NeedsTable {
         map_indices(rt, alloc, parts, &find)
     }
 
-    /// Puts down what was found, if it is that of the networks that come next.
-    fn put_down(&mut self, found: Found) -> Result<(), AllocError>
-        ensures kept { OnOk result ((o : Outlook) (atoms : Table) (networks : Networks)
-            → Keeps o self.old.goal atoms networks self.old.needs.items
-            → KeepsFrom o self.old.goal atoms networks found.first found.needs.items
-            → Keeps o self.old.goal atoms networks self.new.needs.items) }
-        ensures goal { OnOk result (self.new.goal ≡ self.old.goal) }
-        ensures goals { OnOk result (self.new.goals ≡ self.old.goals) }
-        ensures nodes { OnOk result (self.new.nodes ≡ self.old.nodes) }
+    /// Puts down what was found of a network, after what those before it need.
+    fn put_down(
+        &mut self,
+        alloc: Global,
+        prospects: &Prospects,
+        networks: &NetworkTable,
+        found: Found,
+    ) -> Result<(), AllocError>
+        requires whole { IsWhole networks.now }
+        requires all { length (children networks.now) ≤ length self.old.nodes.items }
+        requires found { IsFound prospects.now self.old networks.now found }
+        ensures { OnOk result (AreFollowed prospects.now networks.now self.old self.new) }
     {
-        let Found { first, mut needs } = found;
-        if self.needs.len() != first {
+        let Found { number, needed } = found;
+        self.keep_until(alloc, prospects, networks, number as usize)?;
+        if self.needs.len() != number as usize {
             return Ok(());
         }
-        self.needs.append(&mut needs)?;
+        let ids = Vec::new(alloc);
+        self.keep_next(Chained { needed, ids })?;
+        Ok(())
+    }
+
+    /// Puts down what a worker found.
+    #[tactic(auto, using(crate::proofs::Found::followed_itself))]
+    fn put_part(
+        &mut self,
+        alloc: Global,
+        prospects: &Prospects,
+        networks: &NetworkTable,
+        found: Vec<Found>,
+    ) -> Result<(), AllocError>
+        requires whole { IsWhole networks.now }
+        requires all { length (children networks.now) ≤ length self.old.nodes.items }
+        requires found { All (IsFound prospects.now self.old networks.now) found.items }
+        ensures { OnOk result (AreFollowed prospects.now networks.now self.old self.new) }
+    {
+        for one in found {
+            self.put_down(alloc, prospects, networks, one)?;
+        }
         Ok(())
     }
 
     /// Sees that each network that has a number has what it needs, by so many workers, where all is
     /// known of nodes and the goal.
+    #[tactic(auto, using(crate::proofs::Found::followed_itself))]
     fn keep_networks_all<R: Threads + Sync>(
         &mut self,
         rt: &R,
@@ -123,19 +172,14 @@ impl NeedsTable {
         requires whole { IsWhole networks.now }
         requires all { length (children networks.now) ≤ length self.old.nodes.items }
         requires workers { 0 < workers }
-        ensures kept { OnOk result ((atoms : Table) → AreKept (outlook_by prospects.now) atoms networks.now self.old
-            → AreNodes prospects.now atoms networks.now self.old.nodes.items
-            → AreWants prospects.now.needs atoms self.old.goals.items self.old.goal
-            → AreAllKept (outlook_by prospects.now) atoms networks.now self.new) }
-        ensures goal { OnOk result (self.new.goal ≡ self.old.goal) }
-        ensures goals { OnOk result (self.new.goals ≡ self.old.goals) }
-        ensures nodes { OnOk result (self.new.nodes ≡ self.old.nodes) }
+        ensures followed { OnOk result (AreFollowed prospects.now networks.now self.old self.new) }
+        ensures count { OnOk result (length networks.now.networks ≤ length self.new.needs.items) }
     {
         let parts = self.find_all(rt, alloc, prospects, networks, workers)?;
         for part in parts {
-            self.put_down(part?)?;
+            self.put_part(alloc, prospects, networks, part?)?;
         }
-        self.keep_networks(alloc, prospects, networks)?;
+        self.keep_until(alloc, prospects, networks, networks.len())?;
         Ok(())
     }
 
@@ -160,6 +204,7 @@ impl NeedsTable {
     {
         self.keep_goal(alloc, &prospects.needs, atoms)?;
         self.keep_nodes(alloc, prospects, atoms, networks)?;
+        let _count = atoms.len();
         self.keep_networks_all(rt, alloc, prospects, networks, workers)?;
         Ok(())
     }

@@ -1,5 +1,5 @@
 //! What networks need, by number.
-ghost use Rattle.std.specs.Prelude.{◌≡◌, ◌<◌, ◌≤◌, [], All, length, IfOk, OnOk};
+ghost use Rattle.std.specs.Prelude.{◌≡◌, ◌<◌, ◌≤◌, ◌+◌, [], true, All, length, IfOk, OnOk};
 ghost use Rattle.htn_model.specs.Problem as model;
 ghost use Rattle.network_needs.specs.Needs.{may_end, Outlook};
 ghost use Rattle.needs_table.specs.Prospects.{outlook_by};
@@ -7,8 +7,10 @@ ghost use Rattle.network_table.specs.Networks.{children, IsWhole, network_at};
 ghost use Rattle.network_table.specs.Numbered.{config_at, network_of};
 ghost use Rattle.network_table.specs.declared.table.NetworkTable.{NetworkTable as Networks};
 ghost use Rattle.state_table.specs.Table.{IsLater, IsTable, state_of, Table};
-ghost use Rattle.needs_table.specs.Kept.{AreAllKept, AreFirstWants, AreKept, AreNodes, AreNoted, AreWants, IsKept};
+ghost use Rattle.needs_table.specs.Kept.{AreAllKept, AreFirstWants, AreKept, AreNodes, AreWants, IsKept};
+ghost use Rattle.needs_table.specs.Listed.{AreChainsOf, AreFollowed, AreMoreWants, AreNoted, IsListed, chain_at};
 
+use crate::chained::Chained;
 use crate::needed::{push_needed, push_needed_goal};
 use crate::node::{Node, has_lost, places_of};
 use crate::prospects::Prospects;
@@ -16,7 +18,7 @@ use crate::want_table::WantTable;
 use crate::wants::{Want, wants_of};
 use htn_state::LiteralList;
 use network_needs::Needs;
-use network_table::{Network, NetworkTable};
+use network_table::{Entry, Network, NetworkTable};
 use state_table::{AtomTable, BitState, CompiledLiterals};
 use std::alloc::{AllocError, Global};
 
@@ -43,6 +45,7 @@ impl NeedsTable {
         ensures none { result.needs.items ≡ [] }
         ensures no_goals { result.goals.items ≡ [] }
         ensures no_nodes { result.nodes.items ≡ [] }
+        ensures no_lists { result.lists.items ≡ [] }
     {
         NeedsTable {
             goal,
@@ -71,9 +74,7 @@ impl NeedsTable {
         requires { AreFirstWants needs.now atoms.old self.old.goals.items self.old.goal }
         ensures later { OnOk result (IsLater atoms.old atoms.new) }
         ensures goals { OnOk result (AreWants needs.now atoms.new self.new.goals.items self.old.goal) }
-        ensures goal { OnOk result (self.new.goal ≡ self.old.goal) }
-        ensures nodes { OnOk result (self.new.nodes ≡ self.old.nodes) }
-        ensures needs { OnOk result (self.new.needs ≡ self.old.needs) }
+        ensures rest { OnOk result (self.new ≡ record self.old { goals = self.new.goals }) }
     {
         let _count = atoms.len();
         let goal = self.goal.as_slice();
@@ -99,9 +100,7 @@ impl NeedsTable {
         ensures later { OnOk result (IsLater atoms.old atoms.new) }
         ensures nodes { OnOk result (AreNodes prospects.now atoms.new networks.now self.new.nodes.items) }
         ensures all { OnOk result (length (children networks.now) ≤ length self.new.nodes.items) }
-        ensures goal { OnOk result (self.new.goal ≡ self.old.goal) }
-        ensures goals { OnOk result (self.new.goals ≡ self.old.goals) }
-        ensures needs { OnOk result (self.new.needs ≡ self.old.needs) }
+        ensures rest { OnOk result (self.new ≡ record self.old { nodes = self.new.nodes }) }
     {
         let _count = atoms.len();
         let children = networks.children();
@@ -141,28 +140,87 @@ impl NeedsTable {
         Ok(Some(found))
     }
 
-    /// Sees that each network that has a number has what it needs, where all is known of nodes and the goal.
-    pub(crate) fn keep_networks(
+    /// What the network of the next number needs, where all is known of nodes and the goal: of a chain from what its
+    /// rest needs.
+    fn needed_of(
         &mut self,
         alloc: Global,
         prospects: &Prospects,
         networks: &NetworkTable,
+        number: u32,
+    ) -> Result<Chained, AllocError>
+        requires whole { IsWhole networks.now }
+        requires known { number < length networks.now.networks }
+        requires next { number ≡ length self.old.needs.items }
+        requires all { length (children networks.now) ≤ length self.old.nodes.items }
+        ensures kept { IfOk result (λ c. (atoms : Table) → AreNodes prospects.now atoms networks.now self.old.nodes.items
+            → AreWants prospects.now.needs atoms self.old.goals.items self.old.goal
+            → AreChainsOf prospects.now atoms networks.now self.old
+            → IsKept (outlook_by prospects.now) self.old.goal atoms (network_at networks.now number) c.needed) }
+        ensures listed { IfOk result (λ c. (atoms : Table) → AreNodes prospects.now atoms networks.now self.old.nodes.items
+            → AreWants prospects.now.needs atoms self.old.goals.items self.old.goal
+            → AreChainsOf prospects.now atoms networks.now self.old → chain_at networks.now number ≡ true
+            → IsListed prospects.now self.old.goal atoms self.new.wanted.wants.items (network_at networks.now number)
+            c.needed c.ids.items) }
+        ensures more { OnOk result (AreMoreWants self.old.wanted.wants.items self.new.wanted.wants.items) }
+        ensures rest { OnOk result (self.new ≡ record self.old { wanted = self.new.wanted }) }
+    {
+        match networks.entry(number) {
+            Entry::Chain(link) => {
+                let found = self.needed_before(alloc, prospects, link.first, link.rest as usize)?;
+                Ok(found)
+            }
+            Entry::Whole(network) if network.nodes().is_empty() => {
+                let found = self.needed_at_end(alloc)?;
+                Ok(found)
+            }
+            Entry::Whole(network) => {
+                let needed = self.needed_by(alloc, prospects, network)?;
+                let ids = Vec::new(alloc);
+                Ok(Chained { needed, ids })
+            }
+        }
+    }
+
+    /// Keeps what the network of the next number needs, where all is known of nodes and the goal.
+    fn keep_number(
+        &mut self,
+        alloc: Global,
+        prospects: &Prospects,
+        networks: &NetworkTable,
+        number: usize,
     ) -> Result<(), AllocError>
         requires whole { IsWhole networks.now }
+        requires known { number < length networks.now.networks }
+        requires next { number ≡ length self.old.needs.items }
         requires all { length (children networks.now) ≤ length self.old.nodes.items }
-        ensures kept { OnOk result ((atoms : Table) → AreKept (outlook_by prospects.now) atoms networks.now self.old
-            → AreNodes prospects.now atoms networks.now self.old.nodes.items
-            → AreWants prospects.now.needs atoms self.old.goals.items self.old.goal
-            → AreAllKept (outlook_by prospects.now) atoms networks.now self.new) }
-        ensures goal { OnOk result (self.new.goal ≡ self.old.goal) }
-        ensures goals { OnOk result (self.new.goals ≡ self.old.goals) }
-        ensures nodes { OnOk result (self.new.nodes ≡ self.old.nodes) }
+        ensures followed { OnOk result (AreFollowed prospects.now networks.now self.old self.new) }
+        ensures count { OnOk result (length self.new.needs.items ≡ number + 1) }
     {
-        let all = networks.networks();
-        let first = self.needs.len();
-        for number in first..all.len() {
-            let needed = self.needed_by(alloc, prospects, &all[number])?;
-            self.needs.push(needed)?;
+        let Ok(id) = u32::try_from(number) else {
+            return Err(AllocError);
+        };
+        let found = self.needed_of(alloc, prospects, networks, id)?;
+        self.keep_next(found)?;
+        Ok(())
+    }
+
+    /// Sees that each network whose number is below an end has what it needs, where all is known of nodes and the goal.
+    pub(crate) fn keep_until(
+        &mut self,
+        alloc: Global,
+        prospects: &Prospects,
+        networks: &NetworkTable,
+        end: usize,
+    ) -> Result<(), AllocError>
+        requires whole { IsWhole networks.now }
+        requires end { end ≤ length networks.now.networks }
+        requires all { length (children networks.now) ≤ length self.old.nodes.items }
+        ensures followed { OnOk result (AreFollowed prospects.now networks.now self.old self.new) }
+        ensures count { OnOk result (end ≤ length self.new.needs.items) }
+    {
+        for number in self.needs.len()..end {
+            self.keep_number(alloc, prospects, networks, number)?;
         }
         Ok(())
     }
@@ -185,7 +243,8 @@ impl NeedsTable {
     {
         self.keep_goal(alloc, &prospects.needs, atoms)?;
         self.keep_nodes(alloc, prospects, atoms, networks)?;
-        self.keep_networks(alloc, prospects, networks)?;
+        let _count = atoms.len();
+        self.keep_until(alloc, prospects, networks, networks.len())?;
         Ok(())
     }
 

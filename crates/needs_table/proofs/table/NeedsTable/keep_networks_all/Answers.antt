@@ -1,46 +1,42 @@
-use Rattle.std.proofs.Common.{◌∙◌, List, ap, sym, subst}
+use Rattle.std.proofs.Common.{◌≤◌, ap, length, subst, sym}
 use Rattle.std.specs.Vec.Iter.{into_iter_items}
-use Rattle.htn_model.specs.Literal.{Literal}
-use Rattle.needs_table.specs.Found.{HoldsFound, KeepsFrom}
-use Rattle.needs_table.specs.Kept.{AreNodes, AreWants, Keeps}
-use Rattle.needs_table.specs.Prospects.{outlook_by}
-use Rattle.needs_table.specs.declared.node.Node.{Node}
-use Rattle.needs_table.specs.declared.wants.Want.{Want}
+use Rattle.network_table.specs.Networks.{children}
+use Rattle.network_table.proofs.Expanding.{all_more}
 use Rattle.network_table.proofs.Remembering.{holds_first, holds_rest}
+use Rattle.needs_table.specs.Found.{HoldsFound, IsFound}
+use Rattle.needs_table.proofs.Found.{followed_then, found_then}
 use Rattle.needs_table.proofs.table.NeedsTable.keep_networks_all.Goals as goal
+
+pub put_part-requires-clause-all : goal.put_part-requires-clause-all
+put_part-requires-clause-all g c =
+    subst (λ k. length (children c.args.networks.now) ≤ k) (ap (λ v. length v.items) (sym c.loop-part.invariant.followed.nodes)) c.requires.all
+
+pub put_part-requires-clause-found : goal.put_part-requires-clause-found
+put_part-requires-clause-found g c =
+    let p = c.args.prospects.now in
+    let t = c.args.networks.now in
+    let s = c.args.self.now in
+    let i = c.loop-part.invariant in
+    let own =
+    subst (HoldsFound p s t) c.in_ok-part.was
+    (holds_first (HoldsFound p s t) (into_iter_items c.loop-part.part-iterator) (into_iter_items c.next.new.self) c.in-Some.part c.in-Some.ensures.steps.0 i.parts) in
+    all_more (IsFound p s t) (IsFound p c.loop-part.self t) (λ found is. found_then p t s c.loop-part.self found i.followed is) c.in_ok-part.field-0.items own
 
 pub loop-part-preserved : goal.loop-part-preserved
 loop-part-preserved g c =
     let p = c.args.prospects.now in
-    let s = c.args.self.now in
     let t = c.args.networks.now in
-    let o = outlook_by p in
+    let s = c.args.self.now in
     let i = c.loop-part.invariant in
-    let done = c.in_ok-put_down.ensures in
-    let found = c.in_ok-part.field-0 in
-    let items = into_iter_items c.loop-part.part-iterator in
-    let rest = into_iter_items c.next.new.self in
-    let step = c.in-Some.ensures.steps.0 in
-    let own = subst (HoldsFound p s t) c.in_ok-part.was (holds_first (HoldsFound p s t) items rest c.in-Some.part step i.parts) in
     record {
-      parts = holds_rest (HoldsFound p s t) items rest c.in-Some.part step i.parts;
-      kept = λ atoms kept nodes goals.
-          (let from = subst (λ (l : List Literal). KeepsFrom o l atoms t found.first found.needs.items) (sym i.same_goal) (own atoms nodes goals) in
-          subst (λ (l : List Literal). Keeps o l atoms t c.put_down.new.self.needs.items) (sym done.goal) (done.kept o atoms t (i.kept atoms kept nodes goals) from));
-      same_goal = done.goal ∙ i.same_goal;
-      same_goals = done.goals ∙ i.same_goals;
-      same_nodes = done.nodes ∙ i.same_nodes;
+      parts = holds_rest (HoldsFound p s t) (into_iter_items c.loop-part.part-iterator) (into_iter_items c.next.new.self) c.in-Some.part c.in-Some.ensures.steps.0 i.parts;
+      followed = followed_then p t s c.loop-part.self c.put_part.new.self i.followed c.in_ok-put_part.ensures;
     }
 
-pub returns-clause-kept : goal.returns-clause-kept
-returns-clause-kept g c = λ atoms kept nodes goals.
-    let p = c.args.prospects.now in
-    let s = c.args.self.now in
-    let t = c.args.networks.now in
-    let u = c.loop-part.self in
-    let i = c.loop-part.invariant in
-    let noted = subst (λ (ns : List Node). AreNodes p atoms t ns) (ap (λ v. v.items) (sym i.same_nodes)) nodes in
-    let wanted =
-    subst (λ (l : List Literal). AreWants p.needs atoms u.goals.items l) (sym i.same_goal)
-    (subst (λ (ws : List Want). AreWants p.needs atoms ws s.goal) (ap (λ v. v.items) (sym i.same_goals)) goals) in
-    c.in_ok-keep_networks.ensures.kept atoms (i.kept atoms kept nodes goals) noted wanted
+pub keep_until-requires-clause-all : goal.keep_until-requires-clause-all
+keep_until-requires-clause-all g c =
+    subst (λ k. length (children c.args.networks.now) ≤ k) (ap (λ v. length v.items) (sym c.loop-part.invariant.followed.nodes)) c.requires.all
+
+pub returns-clause-followed : goal.returns-clause-followed
+returns-clause-followed g c =
+    followed_then c.args.prospects.now c.args.networks.now c.args.self.now c.loop-part.self c.keep_until.new.self c.loop-part.invariant.followed c.in_ok-keep_until.ensures.followed

@@ -6,6 +6,7 @@ use Rattle.htn_model.specs.Problem.{Child, precondition}
 use Rattle.network_table.specs.Networks.{children}
 use Rattle.state_table.proofs.States.{later_itself, later_more}
 use Rattle.needs_table.specs.Kept.{IsNode}
+use Rattle.needs_table.specs.declared.table.NeedsTable.{NeedsTable}
 use Rattle.needs_table.proofs.Noted.{nodes_push}
 use Rattle.needs_table.proofs.table.NeedsTable.keep_nodes.Goals as goal
 
@@ -13,9 +14,7 @@ pub loop-id-init : goal.loop-id-init
 loop-id-init c = record {
   later = later_itself c.args.atoms.now c.len-count.ensures.table;
   nodes = c.requires;
-  same_goal = refl;
-  same_goals = refl;
-  same_needs = refl;
+  rest = refl;
   count = sym (c.len-first.ensures ∙ c.args.self.now.nodes.ok.0);
 }
 
@@ -45,9 +44,7 @@ loop-id-preserved c =
     record {
       later = later_more c.args.atoms.now c.loop-id.atoms atoms i.later did.later;
       nodes = nodes_push n c.loop-id.atoms atoms t s.nodes.items _ node did.later (subst (λ k. k < length (children t)) (sym i.count) low) right c.in_ok-push.ensures.items i.nodes;
-      same_goal = i.same_goal;
-      same_goals = i.same_goals;
-      same_needs = i.same_needs;
+      rest = ap (λ (u : NeedsTable). record u { nodes = c.push.new.self }) i.rest;
       count = omega (arith, long, pushed, i.count);
     }
 

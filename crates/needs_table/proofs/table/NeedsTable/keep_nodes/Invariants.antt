@@ -8,8 +8,6 @@ abbrev pub invariant-loop-id : goal.invariant-loop-id
 invariant-loop-id l = record {
   later : IsLater l.initial.atoms l.atoms;
   nodes : AreNodes l.prospects l.atoms l.networks l.self.nodes.items;
-  same_goal : l.self.goal ≡ l.initial.self.goal;
-  same_goals : l.self.goals ≡ l.initial.self.goals;
-  same_needs : l.self.needs ≡ l.initial.self.needs;
+  rest : l.self ≡ record l.initial.self { nodes = l.self.nodes };
   count : length l.self.nodes.items ≡ l.id;
 }

@@ -1,14 +1,15 @@
-use Rattle.std.proofs.Common.{◌≡◌, ◌∙◌, List, ap, subst, sym}
-use Rattle.htn_model.specs.Literal.{Literal}
+use Rattle.std.proofs.Common.{◌≡◌, ◌∙◌, List, ap, arith, subst, sym}
 use Rattle.network_table.proofs.Expanding.{grown_itself}
 use Rattle.state_table.specs.Table.{IsLater}
 use Rattle.state_table.proofs.States.{later_more}
-use Rattle.needs_table.specs.Kept.{AreFirstWants, AreNodes, AreWants, Keeps}
+use Rattle.needs_table.specs.Kept.{AreKept, AreNodes, AreWants}
+use Rattle.needs_table.specs.Listed.{AreChainsOf}
 use Rattle.needs_table.specs.Prospects.{outlook_by}
 use Rattle.needs_table.specs.declared.node.Node.{Node}
-use Rattle.needs_table.specs.declared.wants.Want.{Want}
+use Rattle.needs_table.specs.declared.table.NeedsTable.{NeedsTable}
+use Rattle.needs_table.proofs.Found.{known_then}
 use Rattle.needs_table.proofs.Kept.{keeps_later}
-use Rattle.needs_table.proofs.Noted.{first_wants, nodes_more_atoms, wants_later}
+use Rattle.needs_table.proofs.Noted.{chains_grown, first_wants, nodes_more_atoms, wants_later}
 use Rattle.needs_table.proofs.table.NeedsTable.keep_up.Goals as goal
 
 pub keep_goal-requires : goal.keep_goal-requires
@@ -19,7 +20,7 @@ keep_nodes-requires c =
     let n = c.args.prospects.now in
     let t = c.args.networks.now in
     let did = c.in_ok-keep_goal.ensures in
-    subst (λ (ns : List Node). AreNodes n c.keep_goal.new.atoms t ns) (ap (λ v. v.items) (sym did.nodes))
+    subst (λ (ns : List Node). AreNodes n c.keep_goal.new.atoms t ns) (ap (λ (x : NeedsTable). x.nodes.items) (sym did.rest))
     (nodes_more_atoms n c.args.atoms.now c.keep_goal.new.atoms t c.args.self.now.nodes.items did.later c.requires.noted.nodes)
 
 pub returns-clause-later : goal.returns-clause-later
@@ -27,43 +28,57 @@ returns-clause-later c = later_more c.args.atoms.now c.keep_goal.new.atoms c.kee
 
 pub returns-clause-kept : goal.returns-clause-kept
 returns-clause-kept c =
-    let o = outlook_by c.args.prospects.now in
+    let p = c.args.prospects.now in
+    let o = outlook_by p in
     let t = c.args.networks.now in
     let s = c.args.self.now in
     let u = c.keep_nodes.new.self in
     let atoms = c.keep_nodes.new.atoms in
     let did = c.in_ok-keep_goal.ensures in
     let then = c.in_ok-keep_nodes.ensures in
-    let goals : u.goal ≡ s.goal = then.goal ∙ did.goal in
-    let needs = then.needs ∙ did.needs in
     let grown : IsLater c.args.atoms.now atoms = later_more c.args.atoms.now c.keep_goal.new.atoms atoms did.later then.later in
-    let before = keeps_later o s.goal c.args.atoms.now atoms t t s.needs.items grown c.requires.whole (grown_itself t) c.requires.kept in
-    let wanted =
-    subst (λ (ws : List Want). AreWants c.args.prospects.now.needs c.keep_nodes.new.atoms ws c.args.self.now.goal) (ap (λ v. v.items) (sym c.in_ok-keep_nodes.ensures.goals))
-    (wants_later c.args.prospects.now.needs c.keep_goal.new.atoms c.keep_nodes.new.atoms c.keep_goal.new.self.goals.items c.args.self.now.goal c.in_ok-keep_nodes.ensures.later c.in_ok-keep_goal.ensures.goals) in
-    let kept =
-    subst (λ (g : List Literal). Keeps o g atoms t u.needs.items) (sym goals)
-    (subst (λ ns. Keeps o s.goal atoms t ns) (ap (λ v. v.items) (sym needs)) before) in
-    c.in_ok-keep_networks.ensures.kept atoms kept then.nodes (subst (λ (g : List Literal). AreWants c.args.prospects.now.needs atoms u.goals.items g) (sym goals) wanted)
+    let are : u ≡ record s { goals = c.keep_goal.new.self.goals; nodes = u.nodes } = then.rest ∙ ap (λ (x : NeedsTable). record x { nodes = u.nodes }) did.rest in
+    let before : AreKept o atoms t u =
+    subst (AreKept o atoms t) (sym are) (keeps_later o s.goal c.args.atoms.now atoms t t s.needs.items grown c.requires.whole (grown_itself t) c.requires.kept) in
+    let first = chains_grown p c.args.atoms.now atoms t t s grown c.requires.whole (grown_itself t) c.requires.kept.within c.requires.noted.chains in
+    let chains : AreChainsOf p atoms t u = subst (AreChainsOf p atoms t) (sym are) (record { as_many = first.as_many; each = first.each }) in
+    let wanted : AreWants p.needs atoms u.goals.items u.goal =
+    subst (λ (x : NeedsTable). AreWants p.needs atoms x.goals.items x.goal) (sym are)
+    (wants_later p.needs c.keep_goal.new.atoms atoms c.keep_goal.new.self.goals.items s.goal then.later did.goals) in
+    let now = c.in_ok-keep_until.ensures.followed.right atoms c.len-count.ensures.table then.nodes wanted before chains in
+    record {
+      kept = now.0;
+      all = (let low = now.0.within in let high = c.in_ok-keep_until.ensures.count in omega (arith, low, high, c.len.ensures));
+    }
 
 pub returns-clause-noted : goal.returns-clause-noted
 returns-clause-noted c =
-    let n = c.args.prospects.now in
+    let p = c.args.prospects.now in
+    let o = outlook_by p in
     let t = c.args.networks.now in
-    let atoms = c.keep_nodes.new.atoms in
+    let s = c.args.self.now in
     let u = c.keep_nodes.new.self in
-    let v = c.keep_networks.new.self in
-    let did = c.in_ok-keep_networks.ensures in
-    let goals : v.goal ≡ c.args.self.now.goal = did.goal ∙ c.in_ok-keep_nodes.ensures.goal ∙ c.in_ok-keep_goal.ensures.goal in
-    let wanted =
-    subst (λ (ws : List Want). AreWants c.args.prospects.now.needs c.keep_nodes.new.atoms ws c.args.self.now.goal) (ap (λ v. v.items) (sym c.in_ok-keep_nodes.ensures.goals))
-    (wants_later c.args.prospects.now.needs c.keep_goal.new.atoms c.keep_nodes.new.atoms c.keep_goal.new.self.goals.items c.args.self.now.goal c.in_ok-keep_nodes.ensures.later c.in_ok-keep_goal.ensures.goals) in
+    let v = c.keep_until.new.self in
+    let atoms = c.keep_nodes.new.atoms in
+    let did = c.in_ok-keep_goal.ensures in
+    let then = c.in_ok-keep_nodes.ensures in
+    let grown : IsLater c.args.atoms.now atoms = later_more c.args.atoms.now c.keep_goal.new.atoms atoms did.later then.later in
+    let are : u ≡ record s { goals = c.keep_goal.new.self.goals; nodes = u.nodes } = then.rest ∙ ap (λ (x : NeedsTable). record x { nodes = u.nodes }) did.rest in
+    let before : AreKept o atoms t u =
+    subst (AreKept o atoms t) (sym are) (keeps_later o s.goal c.args.atoms.now atoms t t s.needs.items grown c.requires.whole (grown_itself t) c.requires.kept) in
+    let first = chains_grown p c.args.atoms.now atoms t t s grown c.requires.whole (grown_itself t) c.requires.kept.within c.requires.noted.chains in
+    let chains : AreChainsOf p atoms t u = subst (AreChainsOf p atoms t) (sym are) (record { as_many = first.as_many; each = first.each }) in
+    let wanted : AreWants p.needs atoms u.goals.items u.goal =
+    subst (λ (x : NeedsTable). AreWants p.needs atoms x.goals.items x.goal) (sym are)
+    (wants_later p.needs c.keep_goal.new.atoms atoms c.keep_goal.new.self.goals.items s.goal then.later did.goals) in
+    let followed = c.in_ok-keep_until.ensures.followed in
+    let known = known_then p t u v atoms followed then.nodes wanted in
     record {
-      nodes = subst (λ (ns : List Node). AreNodes n atoms t ns) (ap (λ w. w.items) (sym did.nodes)) c.in_ok-keep_nodes.ensures.nodes;
-      goals = subst (λ (g : List Literal). AreFirstWants n.needs atoms v.goals.items g) (sym goals)
-          (subst (λ (ws : List Want). AreFirstWants n.needs atoms ws c.args.self.now.goal) (ap (λ w. w.items) (sym did.goals))
-          (first_wants n.needs atoms u.goals.items c.args.self.now.goal wanted));
+      nodes = known.0;
+      goals = first_wants p.needs atoms v.goals.items v.goal known.1;
+      chains = (followed.right atoms c.len-count.ensures.table then.nodes wanted before chains).1;
     }
 
 pub returns-clause-goal : goal.returns-clause-goal
-returns-clause-goal c = c.in_ok-keep_networks.ensures.goal ∙ c.in_ok-keep_nodes.ensures.goal ∙ c.in_ok-keep_goal.ensures.goal
+returns-clause-goal c =
+    c.in_ok-keep_until.ensures.followed.goal ∙ ap (λ (x : NeedsTable). x.goal) c.in_ok-keep_nodes.ensures.rest ∙ ap (λ (x : NeedsTable). x.goal) c.in_ok-keep_goal.ensures.rest

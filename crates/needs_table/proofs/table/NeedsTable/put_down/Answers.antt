@@ -1,10 +1,20 @@
-use Rattle.std.proofs.Common.{◌≡◌, length, arith}
-use Rattle.needs_table.proofs.Found.{keeps_append}
+use Rattle.std.proofs.Common.{◌≡◌, ◌∙◌, arith, length, refl, sym, true≢false}
+use Rattle.needs_table.proofs.Found.{followed_next, followed_then, found_then}
+use Rattle.needs_table.proofs.Listed.{more_itself}
 use Rattle.needs_table.proofs.table.NeedsTable.put_down.Goals as goal
 
-pub returns-clause-kept : goal.returns-clause-kept
-returns-clause-kept c = λ o atoms networks keeps more.
-    let old = c.args.self.now.needs in
-    let own = old.ok.0 in
-    let place : length old.items ≡ c.args.found.first = omega arith in
-    keeps_append o c.args.self.now.goal atoms networks c.args.found.first old.items c.args.found.needs.items c.append.new.self.items place c.in_ok-append.ensures.items keeps more
+pub returns : goal.returns
+returns c =
+    let p = c.args.prospects.now in
+    let t = c.args.networks.now in
+    let s = c.args.self.now in
+    let u = c.keep_until.new.self in
+    let v = c.keep_next.new.self in
+    let number = c.args.found.number in
+    let before = c.in_ok-keep_until.ensures.followed in
+    let then = c.in_ok-keep_next.ensures in
+    let is = found_then p t s u c.args.found before c.requires.found in
+    let next : number ≡ length u.needs.items = omega (arith, c.if-len-number.false, c.len.ensures, u.needs.ok.0) in
+    followed_then p t s u v before
+    (followed_next p t u u v number c.args.found.needed c.new-ids.result.items next is.known (more_itself u.wanted.wants.items) refl then.needs then.chains then.rest
+    (λ atoms nodes goals chains. is.right atoms nodes goals) (λ atoms nodes goals chains told. absurd (true≢false (sym told ∙ is.other))))
