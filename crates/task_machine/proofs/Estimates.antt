@@ -1,7 +1,8 @@
 -- What the machine's bound from below is by its tables.
-use Rattle.std.proofs.Common.{◌≡◌, ◌∙◌, ◌<◌, ℕ, Bool, true, false, not, cond, length, max, sym, ap, ap₂, subst, arith}
+use Rattle.std.proofs.Common.{◌≡◌, ◌∙◌, ◌<◌, ◌≤◌, ℕ, Bool, true, false, not, cond, length, max, sym, ap, ap₂, subst, arith}
 use Rattle.htn_model.specs.Task.{Task}
-use Rattle.needs_table.specs.Kept.{AreKept, AreNoted}
+use Rattle.needs_table.specs.Kept.{AreKept}
+use Rattle.needs_table.specs.Listed.{AreNoted}
 use Rattle.needs_table.proofs.Kept.{keeps_later}
 use Rattle.needs_table.proofs.Noted.{noted_later}
 use Rattle.needs_table.specs.Prospects.{outlook_by}
@@ -35,6 +36,7 @@ kept_still known old new later same whole kept =
     (keeps_later (outlook_by known) old.needs.goal old.atoms new.atoms old.networks new.networks old.needs.needs.items later.atoms whole later.networks kept)
 
 -- and so does what is found once for nodes and the goal
-pub noted_still : (known : Prospects) (old new : Tables) → AreLater old new → new.needs ≡ old.needs → AreNoted known old.atoms old.networks old.needs → AreNoted known new.atoms new.networks new.needs
-noted_still known old new later same noted =
-    subst (AreNoted known new.atoms new.networks) (sym same) (noted_later known old.atoms new.atoms old.networks new.networks old.needs later.atoms later.networks noted)
+pub noted_still : (known : Prospects) (old new : Tables) → AreLater old new → new.needs ≡ old.needs → IsWhole old.networks → length old.needs.needs.items ≤ length old.networks.networks
+    → AreNoted known old.atoms old.networks old.needs → AreNoted known new.atoms new.networks new.needs
+noted_still known old new later same whole within noted =
+    subst (AreNoted known new.atoms new.networks) (sym same) (noted_later known old.atoms new.atoms old.networks new.networks old.needs later.atoms whole later.networks within noted)

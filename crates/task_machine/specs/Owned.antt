@@ -2,7 +2,8 @@
 use Rattle.std.specs.Prelude.{◌≡◌}
 use Rattle.htn_model.specs.Grounding.{problem_of}
 use Rattle.htn_model.specs.Task.{Task}
-use Rattle.needs_table.specs.Kept.{AreAllKept, AreNoted}
+use Rattle.needs_table.specs.Kept.{AreAllKept}
+use Rattle.needs_table.specs.Listed.{AreNoted}
 use Rattle.needs_table.specs.Prospects.{outlook_by}
 use Rattle.needs_table.specs.declared.prospects.Prospects.{Prospects}
 use Rattle.network_table.specs.Children.{AreBounds}

@@ -2,7 +2,8 @@
 ghost use Rattle.std.specs.Prelude.{◌≡◌, ◌<◌, ◌∷◌, ℕ, [], All, IfOk, IfNone, IfSome, IsSome, None, OnOk, length, map};
 ghost use Rattle.htn_model.specs.Grounding.{problem_of};
 ghost use Rattle.htn_model.specs.Task as model;
-ghost use Rattle.needs_table.specs.Kept.{AreKept, AreNoted};
+ghost use Rattle.needs_table.specs.Kept.{AreKept};
+ghost use Rattle.needs_table.specs.Listed.{AreNoted};
 ghost use Rattle.needs_table.specs.Prospects.{outlook_by};
 ghost use Rattle.network_table.specs.Expansions.{first_free};
 ghost use Rattle.network_table.specs.Networks.{children, expansion_at, IsWhole, Knows, network_at};
@@ -34,8 +35,7 @@ pub(crate) fn first_task(networks: &NetworkTable, network: u32) -> Option<u32>
     ensures none { IfNone result (first_free (network_at networks.now network) ≡ None) }
 {
     let (position, _) = networks.first_free_task(network)?;
-    let nodes = networks.network(network).nodes();
-    Some(nodes[position])
+    Some(networks.node_at(network, position))
 }
 
 /// The networks of the instances that stand at a number; none where nothing does.

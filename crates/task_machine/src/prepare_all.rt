@@ -3,7 +3,8 @@ ghost use Rattle.std.specs.Prelude.{◌≡◌, ◌<◌, ℕ, All, Contains, IfOk
 ghost use Rattle.htn_model.specs.Grounding.{problem_of};
 ghost use Rattle.htn_model.specs.Task as model;
 ghost use Rattle.indexmap.specs.IndexSet.{insert_key};
-ghost use Rattle.needs_table.specs.Kept.{AreKept, AreNoted};
+ghost use Rattle.needs_table.specs.Kept.{AreKept};
+ghost use Rattle.needs_table.specs.Listed.{AreNoted};
 ghost use Rattle.needs_table.specs.Prospects.{outlook_by};
 ghost use Rattle.network_table.specs.Networks.{expansion_at, IsWhole, Knows};
 ghost use Rattle.network_table.specs.declared.table.NetworkTable.{NetworkTable as Networks};
@@ -346,7 +347,7 @@ impl Tables {
         ensures later { OnOk result ((t : model.Task) → AreTables t self.old → AreLater self.old self.new) }
         ensures networks { OnOk result (self.new.networks ≡ self.old.networks) }
     {
-        let count = self.networks.networks().len();
+        let count = self.networks.len();
         let unknown = count.saturating_sub(self.needs.len());
         let workers = workers_for(unknown, workers);
         self.needs.keep_up_all(

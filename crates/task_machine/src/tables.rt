@@ -55,7 +55,8 @@ impl Tables {
         ensures sized { IfOk result (λ t. (sizes : TreeSizes) → HasSizes sizes t.networks) }
         ensures goal { IfOk result (λ t. t.needs.goal ≡ (problem_of task.now).goal) }
         ensures none { IfOk result (λ t. (t.needs.needs.items ≡ []) × (t.networks.networks ≡ [])) }
-        ensures nothing_noted { IfOk result (λ t. (t.needs.nodes.items ≡ []) × (t.needs.goals.items ≡ [])) }
+        ensures nothing_noted { IfOk result (λ t. (t.needs.nodes.items ≡ []) × (t.needs.goals.items ≡ [])
+            × (t.needs.lists.items ≡ [])) }
     {
         let fluents = fluent_predicates(alloc, task)?;
         let mut atoms = AtomTable::new(alloc, fluents, task.initial_atoms())?;

@@ -16,7 +16,7 @@ prepare_needs-requires-clause-kept c =
 
 pub prepare_needs-requires-clause-noted : goal.prepare_needs-requires-clause-noted
 prepare_needs-requires-clause-noted c =
-    noted_still c.args.self.now.prospects c.args.tables.now c.initials.new.self c.in_ok-initials.ensures.later c.in_ok-initials.ensures.needs c.requires.own.noted
+    noted_still c.args.self.now.prospects c.args.tables.now c.initials.new.self c.in_ok-initials.ensures.later c.in_ok-initials.ensures.needs c.requires.own.tables.networks c.requires.own.needed.kept.within c.requires.own.noted
 
 pub returns-clause-owned : goal.returns-clause-owned
 returns-clause-owned c =

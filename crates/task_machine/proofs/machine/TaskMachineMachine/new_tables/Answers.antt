@@ -17,5 +17,5 @@ returns c =
         kept = keeps_none (outlook_by m.prospects) found.needs.goal found.atoms found.networks found.needs.needs.items did.none.0;
         all = ap length did.none.0 ∙ sym (ap length did.none.1);
       };
-      noted = noted_none m.prospects found.atoms found.networks found.needs did.nothing_noted.0 did.nothing_noted.1;
+      noted = noted_none m.prospects found.atoms found.networks found.needs did.nothing_noted.0 did.nothing_noted.1 did.none.0 did.nothing_noted.2;
     }

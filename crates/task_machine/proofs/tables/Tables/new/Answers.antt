@@ -42,4 +42,4 @@ pub returns-clause-none : goal.returns-clause-none
 returns-clause-none c = (c.new-6.ensures.none, c.new-3.ensures.empty)
 
 pub returns-clause-nothing_noted : goal.returns-clause-nothing_noted
-returns-clause-nothing_noted c = (c.new-6.ensures.no_nodes, c.new-6.ensures.no_goals)
+returns-clause-nothing_noted c = (c.new-6.ensures.no_nodes, c.new-6.ensures.no_goals, c.new-6.ensures.no_lists)

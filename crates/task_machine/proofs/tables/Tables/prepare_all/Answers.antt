@@ -35,8 +35,9 @@ prepare_needs_all-requires-clause-kept g c κs within =
 
 pub prepare_needs_all-requires-clause-noted : goal.prepare_needs_all-requires-clause-noted
 prepare_needs_all-requires-clause-noted g c κs within =
+    let own = c.loop-rest.invariant.owned in
     let did = c.in_ok-prepare_block.ensures in
-    noted_still c.args.prospects.now c.loop-rest.self c.prepare_block.new.self did.later did.needs c.loop-rest.invariant.owned.noted
+    noted_still c.args.prospects.now c.loop-rest.self c.prepare_block.new.self did.later did.needs own.tables.networks own.needed.kept.within own.noted
 
 pub loop-rest-preserved : goal.loop-rest-preserved
 loop-rest-preserved g c =
