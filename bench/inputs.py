@@ -340,6 +340,57 @@ def hidden_parameters(size):
     return one_task(size, 60, ":parameters (?a ?b ?c ?d)")
 
 
+def row(count, task):
+    """So many tasks of one kind, one after another: `up` and `down` in turn, or `both`, which is one of each."""
+    domain = (
+        "(define (domain row)\n  (:predicates (p) (q) (r))\n  (:task both)\n"
+        "  (:method m-both :task (both) :ordered-subtasks (and (up) (down)))\n"
+        "  (:action up :precondition (and (not (p))) :effect (and (p) (q)))\n"
+        "  (:action down :precondition (and (p)) :effect (and (not (p)) (r))))\n"
+    )
+    tasks = [task[at % len(task)] for at in range(count)]
+    return {"domain.hddl": domain, "problem.hddl": problem("row", {}, tasks, [])}
+
+
+@texts(9)
+def actions_in_a_row(size):
+    """1,100 actions a size, one after another."""
+    return row(1_100 * size, ["up", "down"])
+
+
+@texts(9)
+def tasks_in_a_row(size):
+    """360 compound tasks a size, one after another, each of two actions."""
+    return row(360 * size, ["both"])
+
+
+def nested(size, subtasks):
+    """A task of an action and of itself, 360 deep a size."""
+    count = 360 * size
+    domain = (
+        "(define (domain deep)\n  (:types number)\n"
+        "  (:predicates (next ?a ?b - number) (end ?a - number) (p) (q))\n  (:task go :parameters (?a - number))\n"
+        "  (:method m-stop :parameters (?a - number) :task (go ?a) :precondition (and (end ?a)) :subtasks ())\n"
+        "  (:method m-go :parameters (?a ?b - number) :task (go ?a) :precondition (and (next ?a ?b))\n"
+        f"    :ordered-subtasks (and {subtasks}))\n"
+        "  (:action flip :effect (and (p) (not (q)))))\n"
+    )
+    facts = [f"next n-{at} n-{at + 1}" for at in range(1, count)] + [f"end n-{count}"]
+    return {"domain.hddl": domain, "problem.hddl": problem("deep", {"number": names("n", count)}, ["go n-1"], facts)}
+
+
+@texts(9)
+def nested_first(size):
+    """The task itself comes first: the network grows to all of the actions."""
+    return nested(size, "(go ?b) (flip)")
+
+
+@texts(9)
+def nested_last(size):
+    """The task itself comes last."""
+    return nested(size, "(flip) (go ?b)")
+
+
 @texts(6)
 def long_plan(size):
     """A plan to verify: 50,000 nested decompositions a size, each with an action."""
