@@ -1,5 +1,5 @@
 //! Values in shards.
-ghost use Rattle.std.specs.Prelude.{◌≡◌, ◌<◌, ◌++◌, ◌∷◌, ℕ, List, [], if◌then◌else◌, false, All, get_or, length, not, take, IfOk, OnErr, OnOk};
+ghost use Rattle.std.specs.Prelude.{◌≡◌, ◌<◌, ◌++◌, ◌∷◌, ℕ, List, [], if◌then◌else◌, false, All, get_or, length, not, take, vec_capacity, IfOk, OnErr, OnOk};
 ghost use Rattle.std.specs.List.{list_any};
 ghost use Rattle.indexmap.specs.IndexSet.{insert_all, insert_key};
 ghost use Rattle.sharded_set.specs.Shards.{AreNew, AreSharded, TakesBatch};
@@ -121,6 +121,16 @@ fn push_if<T: Copy>(values: &mut Vec<T>, value: T, is_new: bool) -> Result<(), A
     Ok(())
 }
 
+// Adds a value at the end, if it is new; there is room for it.
+fn push_in_room<T: Copy>(values: &mut Vec<T>, value: T, is_new: bool)
+    requires { length values.old.items < vec_capacity values.old }
+    ensures { values.new.items ≡ (if is_new then values.old.items ++ value ∷ [] else values.old.items) }
+{
+    if is_new && values.push(value).is_err() {
+        unreachable!()
+    }
+}
+
 // Adds to the values those of the last batch that were new to their shards, and notes which they are.
 fn push_new<T: Eq + Hash + Copy>(
     values: &mut Vec<T>,
@@ -224,6 +234,19 @@ impl<T: Eq + Hash + Copy + Drop + Send + Sync> ShardedSet<T> {
         self.values.reserve(more)?;
         let share = more / self.shards.len();
         reserve_all(self.shards.as_mut_slice(), share)
+    }
+
+    /// Adds a value, unless it is there, and tells whether it is new.
+    pub fn insert(&mut self, value: T) -> Result<bool, AllocError>
+        ensures ok { OnOk result (self.new ≡ insert_key T.eq self.old value) }
+        ensures new { IfOk result (λ is_new. is_new ≡ not (list_any (T.eq value) self.old)) }
+        ensures err { OnErr result (self.new ≡ self.old) }
+    {
+        self.values.reserve(1)?;
+        let shard = shard_of(&value, self.shards.len());
+        let is_new = self.shards[shard].insert(value)?;
+        push_in_room(&mut self.values, value, is_new);
+        Ok(is_new)
     }
 
     /// Adds each of a batch that is not there, one after another, in at most so many threads, and tells by the place in

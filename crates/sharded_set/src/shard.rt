@@ -54,6 +54,17 @@ impl<T: Eq + Hash + Copy> Shard<T> {
         self.is_new[place]
     }
 
+    /// Adds a value, unless it is there, and tells whether it is new.
+    pub(crate) fn insert(&mut self, value: T) -> Result<bool, AllocError>
+        ensures keys { OnOk result (self.new.values.keys ≡ insert_key T.eq self.old.values.keys value) }
+        ensures new { IfOk result (λ is_new. is_new ≡ not (list_any (T.eq value) self.old.values.keys)) }
+        ensures refused { OnErr result (self.new.values.keys ≡ self.old.values.keys) }
+        ensures places { self.new.is_new ≡ self.old.is_new }
+    {
+        let (_, is_new) = self.values.insert_full(value)?;
+        Ok(is_new)
+    }
+
     /// Adds a value if it is the shard's own, and tells whether it is and was new.
     fn take(&mut self, value: T, is_own: bool) -> Result<bool, AllocError>
         ensures keys { OnOk result (self.new.values.keys ≡ (if is_own then insert_key T.eq self.old.values.keys value else self.old.values.keys)) }
@@ -64,8 +75,7 @@ impl<T: Eq + Hash + Copy> Shard<T> {
         if !is_own {
             return Ok(false);
         }
-        let (_, is_new) = self.values.insert_full(value)?;
-        Ok(is_new)
+        self.insert(value)
     }
 
     /// Takes those of a batch that are its own and that it has not, one after another.
