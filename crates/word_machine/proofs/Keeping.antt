@@ -1,7 +1,7 @@
 -- What a list keeps of a batch for which there is room.
-use Rattle.std.proofs.Common.{◌≡◌, ℕ, suc, ◌+◌, ◌<◌, ◌≤◌, Bool, true, false, not, List, [], ◌∷◌, ◌++◌, length, map, take, get_or, All, slice_get, Some, refl, sym, ap, subst, ◌∙◌, inl, inr, arith, append_assoc, length-append, if◌then◌else◌}
+use Rattle.std.proofs.Common.{◌≡◌, suc, ◌+◌, ◌<◌, Bool, true, false, not, List, [], ◌∷◌, ◌++◌, length, map, get_or, All, refl, sym, ap, subst, ◌∙◌, inl, inr, arith, append_assoc, length-append, if◌then◌else◌}
 use Rattle.std.specs.List.{list_any}
-use Rattle.std.proofs.lemmas.List.{append-nil, map-append}
+use Rattle.std.proofs.lemmas.List.{append-nil}
 use Rattle.std.proofs.lemmas.List.Elements.{All-cons, All-head, All-nil, All-tail}
 use Rattle.indexmap.specs.IndexSet.{insert_all, insert_key}
 use Rattle.sharded_set.specs.Shards.{AreNew}
@@ -111,3 +111,18 @@ forest_more origins more forest each rank parent number at = elim (slice_get-app
       let place : rank ≡ length origins + new.0 = new.1 in
       omega (arith, own))
 ]
+
+-- one link more for one configuration more
+pub as_many_one : {C : Type 0} (eq : C → C → Bool) (keys : List C) (links : List Link) (c : C) (link : Link) (b : Bool) → b ≡ not (list_any (eq c) keys)
+    → length links ≡ length keys → length (links ++ (if b then link ∷ [] else [])) ≡ length (insert_key eq keys c)
+as_many_one eq keys links c link b is same =
+    ap (λ f. length (links ++ (if f then link ∷ [] else []))) is ∙ by (list_any (eq c) keys)
+  where
+    by : (there : Bool) → length (links ++ (if not there then link ∷ [] else [])) ≡ length (if there then keys else keys ++ c ∷ [])
+    by true = ap length (append-nil links) ∙ same
+    by false = length-append links (link ∷ []) ∙ ap (λ n. n + 1) same ∙ sym (length-append keys (c ∷ []))
+
+-- what holds of a link holds of it where it is added
+pub added-All : (P : Link → Type 0) (link : Link) (b : Bool) → P link → All P (if b then link ∷ [] else [])
+added-All P link true own = All-cons P link [] own (All-nil P)
+added-All P link false own = All-nil P

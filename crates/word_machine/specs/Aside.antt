@@ -1,8 +1,9 @@
 -- What a merge puts aside, to be kept with the others.
-use Rattle.std.specs.Prelude.{◌≡◌, ℕ, ◌≤◌, Bool, length, All}
+use Rattle.std.specs.Prelude.{◌≡◌, ℕ, ◌≤◌, Bool, List, length, All}
 use Rattle.word_machine.specs.declared.closed.Fitting.{Fitting}
-use Rattle.word_machine.specs.Contents.{Contents, IsOriginWithin, fitting, offer_all, origin_of}
-use Rattle.word_machine.specs.Meaning.{Meaning}
+use Rattle.word_machine.specs.declared.closed.Successor.{Successor}
+use Rattle.word_machine.specs.Contents.{Contents, IsOffered, IsOriginWithin, fitting, offer_all, origin_of}
+use Rattle.word_machine.specs.Meaning.{Meaning, contents_at, successor_at}
 
 -- as many links as configurations; each of these is numbered, and there is room for what is left of it; and each came
 -- from one of the first ranks
@@ -12,6 +13,17 @@ pub record IsAside {C R P : Type 0} (meaning : Meaning C R P) (measure : P → �
   pub within : All (λ l. IsOriginWithin ranks (origin_of l)) fits.links.items
   pub known : All meaning.knows fits.configurations.items
   pub fit : All (λ c. measure (meaning.point c) ≤ room) fits.configurations.items
+
+-- one that was reached is offered to a list, and leads to another, whatever is put aside for the two: configurations that
+-- are numbered and for which there is room
+abbrev pub IsPassedBy : {C R P : Type 0} → (C → C → Bool) → Meaning C R P → (P → ℕ) → ℕ → Successor R → Contents C
+    → Contents C → Type 0
+IsPassedBy {C} eq meaning measure room reached old new =
+    (fs : List (Successor C)) → All (λ (s : Successor C). meaning.knows s.configuration) fs
+    → All (λ (s : Successor C). measure (meaning.point s.configuration) ≤ room) fs
+    → IsOffered (contents_at meaning.point (offer_all eq (λ c. 0) 0 old fs)) (successor_at meaning.point_of reached)
+    (measure (meaning.point_of reached.configuration)) room
+    (contents_at meaning.point (offer_all eq (λ c. 0) 0 new fs))
 
 -- a list, with those that were put aside for it
 abbrev pub with_aside : {C : Type 0} → (C → C → Bool) → Contents C → Fitting C → Contents C

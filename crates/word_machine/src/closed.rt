@@ -303,6 +303,21 @@ impl<C: Eq + Hash + Copy + Drop + Send + Sync> Closed<C> {
         Ok(())
     }
 
+    /// Keeps a successor for which there is room, if it is new.
+    pub fn keep_one(&mut self, successor: Successor<C>) -> Result<(), AllocError>
+        requires { IsOriginWithin (length self.old.keys) successor.origin }
+        ensures ok { OnOk result (self.new ≡ offer C.eq self.old successor 0 0) }
+        ensures err { OnErr result (self.new ≡ self.old) }
+    {
+        // For the prover alone: a list has no more ranks than a link can name.
+        let ranks = self.configurations().len();
+        prove!(ranks <= NO_RANK);
+        self.links.reserve(1)?;
+        let is_new = self.configurations.insert(successor.configuration)?;
+        push_link(&mut self.links, Link::new(successor.origin), is_new);
+        Ok(())
+    }
+
     /// Offers a configuration to the list, which keeps it if it is new and there is room for what is left of it.
     pub fn keep<R: Threads + Sync>(
         &mut self,

@@ -1,7 +1,7 @@
 //! The merge of a level's successors into the closed list.
 ghost use Rattle.std.specs.Prelude.{◌≡◌, ◌<◌, ◌++◌, List, length, map, All, OnOk};
 ghost use Rattle.word_machine.specs.Answer.{measure_of};
-ghost use Rattle.word_machine.specs.Aside.{IsAside, with_aside};
+ghost use Rattle.word_machine.specs.Aside.{IsAside, IsPassedBy, with_aside};
 ghost use Rattle.word_machine.specs.Contents.{offer_all, initial_successors, AreOffered, IsOffered, IsOriginWithin};
 ghost use Rattle.word_machine.specs.Meaning.{AreMeasured, IsGrown, contents_at, successor_at, successors_of};
 ghost use Rattle.word_machine.specs.Ranks.{IsOwned};
@@ -42,6 +42,40 @@ pub fn offer_initials<M: Machine, R: Threads + Sync>(
     Ok(())
 }
 
+// Leaves out one that a worker reached and that is past the room, unless it is in the list: so it is offered, whatever is
+// put aside for the list. (The measure is named for the contract alone.)
+fn pass_by<M: Machine>(
+    machine: &M,
+    tables: &M::Tables,
+    closed: &mut Closed<M::Configuration>,
+    one: &Measured<M::Reached>,
+    measure: Measure,
+    room: u64,
+)
+    requires own { M.owns machine.now tables.now }
+    requires known { All (M.meaning machine.now tables.now).knows closed.old.keys }
+    requires allowed { (M.meaning machine.now tables.now).allows one.now.successor.configuration }
+    requires measured { one.now.left ≡ measure_of (M.words machine.now) (M.estimate machine.now) measure
+        ((M.meaning machine.now tables.now).point_of one.now.successor.configuration) }
+    requires past { room < one.now.left }
+    ensures keys { closed.new.keys ≡ closed.old.keys }
+    ensures origins { closed.new.origins ≡ closed.old.origins }
+    ensures offered { IsPassedBy M.Configuration.eq (M.meaning machine.now tables.now)
+        (measure_of (M.words machine.now) (M.estimate machine.now) measure) room one.now.successor closed.old closed.new }
+{
+    let origin = one.successor.origin;
+    let past = one.left - room;
+    if closed.has_cut_within(past) {
+        closed.count_passed_over(origin, past);
+        return;
+    }
+    let Some(found) = machine.find(tables, &one.successor.configuration) else {
+        closed.cut_off(origin, past);
+        return;
+    };
+    closed.leave_out(&found, origin, past);
+}
+
 // Puts one that a worker reached aside, to be kept with the others, if there is room for it; and else leaves it out.
 // (The measure is named for the contract alone.)
 fn put_aside<M: Machine>(
@@ -75,28 +109,91 @@ fn put_aside<M: Machine>(
         (measure_of (M.words machine.now) (M.estimate machine.now) measure reached.configuration) room
         (contents_at point (with_aside M.Configuration.eq closed.new fits.new))) }
 {
-    let Measured { successor, left } = one;
+    if one.left > room {
+        pass_by(machine, tables, closed, &one, measure, room);
+        return Ok(());
+    }
     let Successor {
         origin,
         configuration,
-    } = successor;
-    if left <= room {
-        // For the prover alone: a list has no more ranks than a number can name.
-        let ranks = closed.configurations().len();
-        prove!(ranks <= usize::MAX);
-        let kept = machine.keep(tables, configuration)?;
-        fits.push(origin, kept)?;
+    } = one.successor;
+    // For the prover alone: a list has no more ranks than a number can name.
+    let ranks = closed.configurations().len();
+    prove!(ranks <= usize::MAX);
+    let kept = machine.keep(tables, configuration)?;
+    fits.push(origin, kept)?;
+    Ok(())
+}
+
+// Offers one that a worker reached to the list. (The measure is named for the contract alone.)
+fn offer_one<M: Machine>(
+    machine: &M,
+    tables: &mut M::Tables,
+    closed: &mut Closed<M::Configuration>,
+    one: Measured<M::Reached>,
+    measure: Measure,
+    room: u64,
+) -> Result<(), AllocError>
+    requires own { M.owns machine.now tables.old }
+    requires known { All (M.meaning machine.now tables.old).knows closed.old.keys }
+    requires allowed { (M.meaning machine.now tables.old).allows one.successor.configuration }
+    requires belongs { M.belongs machine.now ((M.meaning machine.now tables.old).point_of one.successor.configuration) }
+    requires measured { one.left ≡ measure_of (M.words machine.now) (M.estimate machine.now) measure
+        ((M.meaning machine.now tables.old).point_of one.successor.configuration) }
+    requires within { IsOriginWithin (length closed.old.keys) one.successor.origin }
+    ensures owned { OnOk result (M.owns machine.now tables.new) }
+    ensures grown { OnOk result (IsGrown (M.meaning machine.now tables.old) (M.meaning machine.now tables.new)) }
+    ensures known { OnOk result (All (M.meaning machine.now tables.new).knows closed.new.keys) }
+    ensures keys { OnOk result ((more : List M.Configuration) × (closed.new.keys ≡ closed.old.keys ++ more)) }
+    ensures origins { OnOk result ((more : List Origin) × (closed.new.origins ≡ closed.old.origins ++ more)) }
+    ensures offered { OnOk result (
+        let point = (M.meaning machine.now tables.new).point in
+        let reached = successor_at (M.meaning machine.now tables.old).point_of one.successor in
+        IsOffered (contents_at point closed.old) reached
+        (measure_of (M.words machine.now) (M.estimate machine.now) measure reached.configuration) room
+        (contents_at point closed.new)) }
+{
+    if one.left > room {
+        pass_by(machine, tables, closed, &one, measure, room);
         return Ok(());
     }
-    if closed.has_cut_within(left - room) {
-        closed.count_passed_over(origin, left - room);
-        return Ok(());
+    let Successor {
+        origin,
+        configuration,
+    } = one.successor;
+    let configuration = machine.keep(tables, configuration)?;
+    closed.keep_one(Successor {
+        origin,
+        configuration,
+    })?;
+    Ok(())
+}
+
+// The merge of one worker: each is kept at once, and nothing is put aside. (The measure is named for the contract alone.)
+fn merge_alone<M: Machine>(
+    machine: &M,
+    tables: &mut M::Tables,
+    closed: &mut Closed<M::Configuration>,
+    batch: Chain<Measured<M::Reached>>,
+    measure: Measure,
+    room: u64,
+) -> Result<(), AllocError>
+    requires own { M.owns machine.now tables.old }
+    requires known { All (M.meaning machine.now tables.old).knows closed.old.keys }
+    requires allowed { All (λ s. (M.meaning machine.now tables.old).allows s.successor.configuration) batch }
+    requires belongs { All (λ s. M.belongs machine.now ((M.meaning machine.now tables.old).point_of s.successor.configuration)) batch }
+    requires measured { AreMeasured (measure_of (M.words machine.now) (M.estimate machine.now) measure) (M.meaning machine.now tables.old) batch }
+    requires within { All (λ s. IsOriginWithin (length closed.old.keys) s.successor.origin) batch }
+    ensures owned { OnOk result (M.owns machine.now tables.new) }
+    ensures grown { OnOk result (IsGrown (M.meaning machine.now tables.old) (M.meaning machine.now tables.new)) }
+    ensures known { OnOk result (All (M.meaning machine.now tables.new).knows closed.new.keys) }
+    ensures offered { OnOk result (AreOffered (measure_of (M.words machine.now) (M.estimate machine.now) measure) room (contents_at (M.meaning machine.now tables.new).point closed.old) (map (successor_at (M.meaning machine.now tables.old).point_of) (successors_of batch)) (contents_at (M.meaning machine.now tables.new).point closed.new)) }
+    ensures keys { OnOk result ((more : List M.Configuration) × (closed.new.keys ≡ closed.old.keys ++ more)) }
+    ensures origins { OnOk result ((more : List Origin) × (closed.new.origins ≡ closed.old.origins ++ more)) }
+{
+    for one in batch {
+        offer_one(machine, tables, closed, one, measure, room)?;
     }
-    let Some(found) = machine.find(tables, &configuration) else {
-        closed.cut_off(origin, left - room);
-        return Ok(());
-    };
-    closed.leave_out(&found, origin, left - room);
     Ok(())
 }
 
@@ -129,6 +226,9 @@ pub fn merge<M: Machine, R: Threads + Sync>(
     ensures keys { OnOk result ((more : List M.Configuration) × (closed.new.keys ≡ closed.old.keys ++ more)) }
     ensures origins { OnOk result ((more : List Origin) × (closed.new.origins ≡ closed.old.origins ++ more)) }
 {
+    if workers == 1 {
+        return merge_alone(machine, tables, closed, batch, measure, room);
+    }
     let mut fits = Fitting::with_capacity(alloc, batch.initial_len())?;
     for one in batch {
         put_aside(machine, tables, closed, &mut fits, one, measure, room)?;

@@ -1,10 +1,9 @@
-use Rattle.std.proofs.Common.{true, ◌≡◌, ◌-◌, ◌<◌, ◌≤◌, ◌++◌, ◌∷◌, [], ap, ◌∙◌, sym, subst}
+use Rattle.std.proofs.Common.{true, ◌≡◌, ◌≤◌, ◌++◌, ◌∷◌, [], ap, ◌∙◌, sym, subst}
 use Rattle.word_machine.specs.declared.closed.Successor.{Successor}
 use Rattle.word_machine.specs.Answer.{measure_of}
-use Rattle.word_machine.specs.Aside.{with_aside}
-use Rattle.word_machine.specs.Contents.{IsOffered, cut_more, fitting}
+use Rattle.word_machine.specs.Contents.{IsOffered, fitting}
 use Rattle.word_machine.specs.Meaning.{IsOneToOne, contents_at, successor_at}
-use Rattle.word_machine.proofs.Aside.{aside_still, fit_offered, fitting-All, fitting-push, found_offered, kept, none_offered, past_offered}
+use Rattle.word_machine.proofs.Aside.{aside_still, fit_offered, fitting-All, fitting-push, kept}
 use Rattle.word_machine.proofs.Meanings.{known_still}
 use Rattle.word_machine.proofs.merge.put_aside.Given as given
 use Rattle.word_machine.proofs.merge.put_aside.Goals as goal
@@ -25,8 +24,8 @@ one g machine tables own =
     (g.met.M.Machine g.world.𝓛 g.world.𝓜 g.world.𝓡 ((λ s x. x), (λ x. x), (λ x. x), λ x. x)).one_to_one
     machine tables own
 
-pub returns-then-left-room-clause-offered : goal.returns-then-left-room-clause-offered
-returns-then-left-room-clause-offered g c =
+pub returns-clause-offered : goal.returns-clause-offered
+returns-clause-offered g c =
     let machine = c.args.machine.now in
     let eq = g.M.Configuration.PartialEq.eq in
     let old = g.M.Machine.meaning machine c.args.tables.now in
@@ -48,7 +47,7 @@ returns-then-left-room-clause-offered g c =
     (known_still old new grown closed.keys c.requires.known)
     (fitting-All new.knows fits.links.items fits.configurations.items still.known)
     (fitting-All (λ x. left (new.point x) ≤ room) fits.links.items fits.configurations.items still.fit)
-    t c.in_ok-kept.ensures.known (subst (λ n. n ≤ room) (is_left ∙ ap left (sym same_point)) c.if-left-room.true) in
+    t c.in_ok-kept.ensures.known (subst (λ n. n ≤ room) (is_left ∙ ap left (sym same_point)) c.if-one-room.false) in
     let link = c.in_ok-push.ensures.links in
     let pushed : fitting c.push.new.self.links.items c.push.new.self.configurations.items ≡ batch ++ t ∷ [] =
     ap (λ l. fitting l c.push.new.self.configurations.items) link.1
@@ -61,71 +60,13 @@ returns-then-left-room-clause-offered g c =
     (subst (λ p. IsOffered before (record { origin = s.origin; configuration = p }) (left p) room
     (contents_at new.point (kept eq closed (batch ++ t ∷ [])))) same_point offered)
 
-pub returns-then-has_cut_within-clause-offered : goal.returns-then-has_cut_within-clause-offered
-returns-then-has_cut_within-clause-offered g c =
+pub returns-then-one-room-clause-offered : goal.returns-then-one-room-clause-offered
+returns-then-one-room-clause-offered g c =
     let machine = c.args.machine.now in
     let meaning = g.M.Machine.meaning machine c.args.tables.now in
     let left = measure_of (g.M.Machine.words machine) (g.M.Machine.estimate machine) c.args.measure in
-    let room = c.args.room in
-    let closed = c.args.closed.now in
-    let s = c.args.one.successor in
-    let fits = c.args.fits.now in
-    let is_left : c.args.one.left ≡ left (meaning.point_of s.configuration) = c.requires.measured in
-    let eq = g.M.Configuration.PartialEq.eq in
-    subst (λ l. IsOffered (contents_at meaning.point (with_aside eq closed fits)) (successor_at meaning.point_of s)
-    (left (meaning.point_of s.configuration)) room (contents_at meaning.point (with_aside eq l fits)))
-    (sym c.count_passed_over.ensures)
-    (past_offered eq (same g) (reflexive g) meaning.knows meaning.point
-    (one g machine c.args.tables.now c.requires.own) left room closed
-    (fitting fits.links.items fits.configurations.items) c.requires.known
-    (fitting-All meaning.knows fits.links.items fits.configurations.items c.requires.aside.known)
-    (fitting-All (λ x. left (meaning.point x) ≤ room) fits.links.items fits.configurations.items c.requires.aside.fit)
-    (successor_at meaning.point_of s) (subst (λ n. room < n) is_left c.if-left-room.false)
-    (c.has_cut_within.ensures.any c.if-has_cut_within.true)
-    (subst (λ n. closed.cut.past ≤ n - room) is_left (c.has_cut_within.ensures.past c.if-has_cut_within.true)))
-
-pub returns-in_default-clause-offered : goal.returns-in_default-clause-offered
-returns-in_default-clause-offered g c =
-    let machine = c.args.machine.now in
-    let meaning = g.M.Machine.meaning machine c.args.tables.now in
-    let left = measure_of (g.M.Machine.words machine) (g.M.Machine.estimate machine) c.args.measure in
-    let room = c.args.room in
-    let closed = c.args.closed.now in
-    let s = c.args.one.successor in
-    let fits = c.args.fits.now in
-    let is_left : c.args.one.left ≡ left (meaning.point_of s.configuration) = c.requires.measured in
-    none_offered g.M.Configuration.PartialEq.eq (same g) (reflexive g) meaning.knows meaning.point
-    (one g machine c.args.tables.now c.requires.own) left room closed
-    (fitting fits.links.items fits.configurations.items) c.requires.known
-    (fitting-All meaning.knows fits.links.items fits.configurations.items c.requires.aside.known)
-    (fitting-All (λ x. left (meaning.point x) ≤ room) fits.links.items fits.configurations.items c.requires.aside.fit)
-    (successor_at meaning.point_of s) (subst (λ n. room < n) is_left c.if-left-room.false)
-    c.in_default.ensures.none c.cut_off.new.self
-    (c.cut_off.ensures ∙ ap (λ n. record {
-      keys = closed.keys;
-      origins = closed.origins;
-      cut = cut_more closed.cut (n - room);
-    }) is_left)
-
-pub returns-clause-offered : goal.returns-clause-offered
-returns-clause-offered g c =
-    let machine = c.args.machine.now in
-    let meaning = g.M.Machine.meaning machine c.args.tables.now in
-    let left = measure_of (g.M.Machine.words machine) (g.M.Machine.estimate machine) c.args.measure in
-    let room = c.args.room in
-    let closed = c.args.closed.now in
-    let s = c.args.one.successor in
-    let fits = c.args.fits.now in
-    let is_left : c.args.one.left ≡ left (meaning.point_of s.configuration) = c.requires.measured in
-    found_offered g.M.Configuration.PartialEq.eq (same g) (reflexive g) meaning.knows meaning.point
-    (one g machine c.args.tables.now c.requires.own) left room closed
-    (fitting fits.links.items fits.configurations.items) c.requires.known
-    (fitting-All meaning.knows fits.links.items fits.configurations.items c.requires.aside.known)
-    (fitting-All (λ x. left (meaning.point x) ≤ room) fits.links.items fits.configurations.items c.requires.aside.fit)
-    (successor_at meaning.point_of s) (subst (λ n. room < n) is_left c.if-left-room.false)
-    c.in-Some.found c.in-Some.ensures.known c.in-Some.ensures.same c.leave_out.new.self c.leave_out.ensures.there
-    (λ missing. c.leave_out.ensures.cut missing ∙ ap (λ n. record {
-      keys = closed.keys;
-      origins = closed.origins;
-      cut = cut_more closed.cut (n - room);
-    }) is_left)
+    let links = c.args.fits.now.links.items in
+    let configurations = c.args.fits.now.configurations.items in
+    c.pass_by.ensures.offered (fitting links configurations)
+    (fitting-All meaning.knows links configurations c.requires.aside.known)
+    (fitting-All (λ x. left (meaning.point x) ≤ c.args.room) links configurations c.requires.aside.fit)
