@@ -6,3 +6,4 @@ mod set;
 mod shard;
 
 pub use set::ShardedSet;
+pub use shard::shard_of;

@@ -8,8 +8,8 @@ use indexmap::IndexSet;
 use std::alloc::{AllocError, Global};
 use std::hash::{FoldHasher, Hash, Hasher};
 
-/// The shard that a value falls to, of so many.
-pub(crate) fn shard_of<T: Hash>(value: &T, count: usize) -> usize
+/// The shard that a value falls to, of so many, by its hash.
+pub fn shard_of<T: Hash>(value: &T, count: usize) -> usize
     requires { 0 < count }
     ensures value { result ≡ home (T.hash_input value.now) count }
     ensures within { result < count }

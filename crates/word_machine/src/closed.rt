@@ -108,8 +108,8 @@ impl<C: Drop> Fitting<C> {
 // Of several workers each has so many at least.
 const FEW: usize = 1_000;
 
-// A list of no more than these gets much more room than it had at a restart: the room costs little, and to grow into it
-// a third of what it takes to fill it.
+// Up to so many places, a list gets sixteen times the room that it needed before a restart: the room costs little, and
+// to grow into it took a quarter of the time in which it was filled.
 const FEW_KEPT: usize = 32_768;
 
 // Adds a link if it is that of a new one; there is room for it.
@@ -180,7 +180,7 @@ impl<C: Eq + Hash + Copy + Drop + Send + Sync> Closed<C> {
     }
 
     /// Lets all go, and makes room for twice as many, and for sixteen times as many while these are few, as far as there
-    /// is memory: where that is refused, the list grows as it is filled, since so much may never be needed.
+    /// is memory: where that is refused, the list grows as it is filled. So much may never be needed.
     pub fn restart(&mut self)
         ensures { self.new ≡ record { keys = []; origins = []; cut = record { any = false; past = 2 ^ 64 - 1 } } }
     {
