@@ -14,8 +14,8 @@ pub enum Expanded<S, F> {
     Done { rank: usize, finish: F },
 }
 
-// Room is made for so many at most before they are there: a list that has so much is seldom moved as it grows, and of more
-// much may never be needed, where the first rank has many successors and the others few.
+// Room is made for so many at most before they are there: a list that has so much is seldom moved as it grows, and of
+// more much may never be needed, where the first rank has many successors and the others few.
 const MOST_ROOM: usize = 1_024;
 
 // Once the first of so many ranks was expanded, makes room for as many successors of each. Where memory is refused, the

@@ -14,8 +14,8 @@ pub record IsAside {C R P : Type 0} (meaning : Meaning C R P) (measure : P → �
   pub known : All meaning.knows fits.configurations.items
   pub fit : All (λ c. measure (meaning.point c) ≤ room) fits.configurations.items
 
--- one that was reached is offered to a list, and leads to another, whatever is put aside for the two: configurations that
--- are numbered and for which there is room
+-- one that was reached is offered to a list, and leads to another, whatever is put aside for the two: configurations
+-- that are numbered and for which there is room
 abbrev pub IsPassedBy : {C R P : Type 0} → (C → C → Bool) → Meaning C R P → (P → ℕ) → ℕ → Successor R → Contents C
     → Contents C → Type 0
 IsPassedBy {C} eq meaning measure room reached old new =

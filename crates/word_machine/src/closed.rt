@@ -179,8 +179,8 @@ impl<C: Eq + Hash + Copy + Drop + Send + Sync> Closed<C> {
         })
     }
 
-    /// Lets all go, and makes room for twice as many, and for sixteen times as many while these are few, as far as there
-    /// is memory: where that is refused, the list grows as it is filled. So much may never be needed.
+    /// Lets all go, and makes room for twice as many, and for sixteen times as many while these are few, as far as
+    /// there is memory: where that is refused, the list grows as it is filled. So much may never be needed.
     pub fn restart(&mut self)
         ensures { self.new ≡ record { keys = []; origins = []; cut = record { any = false; past = 2 ^ 64 - 1 } } }
     {

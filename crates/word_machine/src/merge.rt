@@ -42,8 +42,8 @@ pub fn offer_initials<M: Machine, R: Threads + Sync>(
     Ok(())
 }
 
-// Leaves out one that a worker reached and that is past the room, unless it is in the list: so it is offered, whatever is
-// put aside for the list. (The measure is named for the contract alone.)
+// Leaves out one that a worker reached and that is past the room, unless it is in the list: so it is offered, whatever
+// is put aside for the list. (The measure is named for the contract alone.)
 fn pass_by<M: Machine>(
     machine: &M,
     tables: &M::Tables,
@@ -169,7 +169,8 @@ fn offer_one<M: Machine>(
     Ok(())
 }
 
-// The merge of one worker: each is kept at once, and nothing is put aside. (The measure is named for the contract alone.)
+// The merge of one worker: each is kept at once, and nothing is put aside. (The measure is named for the contract
+// alone.)
 fn merge_alone<M: Machine>(
     machine: &M,
     tables: &mut M::Tables,
@@ -198,9 +199,9 @@ fn merge_alone<M: Machine>(
 }
 
 /// Offers what workers reached to the closed list, in their order. There is room for so many steps more, by this
-/// measure. What is past it gets no number: where the tables have none for it, it is not in the list. Once some was left
-/// out, what is no nearer is passed over, and looked for nowhere. (The measure is named for the contract alone: each
-/// has beside it how many steps are left by it.)
+/// measure. What is past it gets no number: where the tables have none for it, it is not in the list. Once some was
+/// left out, what is no nearer is passed over, and looked for nowhere. (The measure is named for the contract alone:
+/// each has beside it how many steps are left by it.)
 pub fn merge<M: Machine, R: Threads + Sync>(
     rt: &R,
     alloc: Global,
