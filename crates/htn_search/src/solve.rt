@@ -191,6 +191,7 @@ pub fn search_with_tables<G: Gate, R: Threads + Wait + Sync>(
     gate: &G,
 ) -> Result<(Answer, Tables), SearchFault>
     ensures answer { IfOk result (λ r. Answers task.now bounds.nodes r.0) }
+    ensures tables { IfOk result (λ r. AreTables task.now r.1) }
     ensures no_thread { IfErr result (λ e. e ≡ NoThread → 1 < bounds.workers) }
 {
     let searched = find_ranks(rt, alloc, task, bounds, gate)?;

@@ -10,7 +10,7 @@ use state_table::{CompiledLiteral, CompiledLiterals};
 use std::alloc::{AllocError, Global};
 use std::collections::HashMap;
 
-/// Wants by ids, few of which are of the same want.
+/// Wants by ids: a want that comes again mostly gets the id that it has. Nothing rests on that.
 #[derive(Drop)]
 pub(crate) struct WantTable {
     pub(crate) wants: Vec<Want>,

@@ -1,9 +1,12 @@
 -- Networks that are listed, made and numbered.
-use Rattle.std.proofs.Common.{◌≡◌, ℕ, ◌<◌, List, [], ◌∷◌, ◌++◌, length, get_or, refl, sym, ap, ap₂, subst, ◌∙◌, arith, All, Option, Some, None, slice_get, IfSome, zero, suc, length-append, append-nil, append_assoc}
-use Rattle.std.proofs.lemmas.List.{get_or_append_left, get_or_default, get_or-map, length-map, map_push}
+use Rattle.std.proofs.Common.{◌≡◌, ℕ, ◌<◌, List, [], ◌∷◌, ◌++◌, length, get_or, refl, sym, ap, ap₂, subst, ◌∙◌, arith, All, Option, Some, None, slice_get, IfSome, zero, suc, length-append}
+use Rattle.std.proofs.lemmas.List.{get_or_append_left, get_or_at, get_or_default, get_or-map, length-map, map-append}
 use Rattle.std.proofs.lemmas.List.Elements.{All-nil, All-push}
 use Rattle.std.proofs.lemmas.Option.{slice_get-get_or}
 use Rattle.network_table.specs.Numbered.{Numbered, IsWithin, replaced_numbered, nothing}
+use Rattle.network_table.specs.Entries.{IsAlone, IsKeptWhole, network_by, networks_alone}
+use Rattle.network_table.specs.declared.network_set.Entry.{Entry}
+use Rattle.network_table.specs.declared.network_set.Entry.TheVariants.{Whole}
 use Rattle.network_table.specs.Networks.{children, numbered_at, IsMore, IsNumberOf, IsWhole, Knows}
 use Rattle.network_table.specs.declared.notes.Notes.{Notes}
 use Rattle.network_table.proofs.Keys.{at_slice}
@@ -13,10 +16,8 @@ use Rattle.network_table.specs.declared.draft.Job.{Job}
 use Rattle.network_table.specs.declared.made.Place.{Place}
 use Rattle.network_table.specs.declared.notes.Known.{Known}
 use Rattle.network_table.specs.declared.table.NetworkTable.{NetworkTable}
-use Rattle.network_table.proofs.Expanding.{all_more, map_all, within_at, within_replaced}
-use Rattle.network_table.proofs.Tables.{more_itself, more_known, more_same, more_then}
-use Rattle.htn_model.specs.Problem.{Child}
-use Rattle.network_table.specs.Children.{numbered_children}
+use Rattle.network_table.proofs.Expanding.{all_more, within_at, within_replaced}
+use Rattle.network_table.proofs.Tables.{more_known, more_same}
 
 -- ## Making
 
@@ -46,30 +47,36 @@ placed_more t jobs ns more ms is p placed =
 
 -- nothing is made at first
 pub made_none : (t : NetworkTable) (jobs : List Job) → AreMade t jobs [] []
-made_none t jobs = record { within = All-nil (IsWithin (children t)); placed = All-nil (IsPlaced t jobs []) }
+made_none t jobs = record { alone = All-nil IsAlone; within = All-nil (IsWithin (children t)); placed = All-nil (IsPlaced t jobs []) }
 
 -- one more place, and maybe one more network
-pub made_push : (t : NetworkTable) (jobs : List Job) (ns ms more : List Numbered) (ps : List Place) (p : Place) (x : Numbered) → AreMade t jobs ns ps → ms ≡ ns ++ more
-    → All (IsWithin (children t)) ms → p.network < length ms → get_or ms p.network nothing ≡ x → x ≡ draft_network t jobs p.draft → AreMade t jobs ms (ps ++ p ∷ [])
-made_push t jobs ns ms more ps p x made is within inside there x_is = record {
-  within = within;
-  placed = All-push (IsPlaced t jobs ms) ps p (all_more (IsPlaced t jobs ns) (IsPlaced t jobs ms) (placed_more t jobs ns more ms is) ps made.placed) (inside, there ∙ x_is);
-}
+pub made_push : (t : NetworkTable) (jobs : List Job) (ns ms more : List Entry) (ps : List Place) (p : Place) (x : Numbered) → AreMade t jobs ns ps → ms ≡ ns ++ more
+    → All IsAlone ms → All (IsWithin (children t)) (networks_alone ms) → p.network < length (networks_alone ms) → get_or (networks_alone ms) p.network nothing ≡ x
+    → x ≡ draft_network t jobs p.draft → AreMade t jobs ms (ps ++ p ∷ [])
+made_push t jobs ns ms more ps p x made is alone within inside there x_is =
+    let longer = ap networks_alone is ∙ map-append (network_by []) ns more in
+    record {
+      alone = alone;
+      within = within;
+      placed = All-push (IsPlaced t jobs (networks_alone ms)) ps p
+          (all_more (IsPlaced t jobs (networks_alone ns)) (IsPlaced t jobs (networks_alone ms)) (placed_more t jobs (networks_alone ns) (networks_alone more) (networks_alone ms) longer) ps made.placed)
+          (inside, there ∙ x_is);
+    }
+
+-- one more network, with its place
+pub made_new : (t : NetworkTable) (jobs : List Job) (ns ms : List Entry) (ps : List Place) (p : Place) (x : Numbered) → AreMade t jobs ns ps → ms ≡ ns ++ Whole x ∷ []
+    → IsKeptWhole x → IsWithin (children t) x → p.network ≡ length ns → x ≡ draft_network t jobs p.draft → AreMade t jobs ms (ps ++ p ∷ [])
+made_new t jobs ns ms ps p x made is whole within last x_is =
+    let longer : networks_alone ms ≡ networks_alone ns ++ x ∷ [] = ap networks_alone is ∙ map-append (network_by []) ns (Whole x ∷ []) in
+    let low = length-map ns (network_by []) in
+    made_push t jobs ns ms (Whole x ∷ []) ps p x made is
+    (subst (All IsAlone) (sym is) (All-push IsAlone ns (Whole x) made.alone whole))
+    (subst (All (IsWithin (children t))) (sym longer) (All-push (IsWithin (children t)) (networks_alone ns) x made.within within))
+    (omega (arith, last, low, ap length longer, length-append (networks_alone ns) (x ∷ [])))
+    (ap (λ l. get_or l p.network nothing) longer ∙ get_or_at (networks_alone ns) x [] nothing p.network (omega (arith, last, low)))
+    x_is
 
 -- ## Numbering
-
--- of no networks there are no numbers
-pub no_numbers : (t : NetworkTable) → AreNumbersOf t [] []
-no_numbers t = record { known = All-nil (Knows t); each = refl }
-
--- one more network, one more number
-pub numbers_push : (s t : NetworkTable) (xs : List ℕ) (ns : List Numbered) (x : ℕ) (n : Numbered) → IsMore s t → AreNumbersOf s xs ns → IsNumberOf t x n
-    → AreNumbersOf t (xs ++ x ∷ []) (ns ++ n ∷ [])
-numbers_push s t xs ns x n more are is = record {
-  known = All-push (Knows t) xs x (all_more (Knows s) (Knows t) (λ y known. more_known s t y more known) xs are.known) is.0;
-  each = map_push (numbered_at t) xs x
-      ∙ ap₂ (λ l y. l ++ y ∷ []) (map_all (Knows s) (numbered_at t) (numbered_at s) (λ y known. more_same s t y more known) xs are.known ∙ are.each) is.1;
-}
 
 -- the number at a place is that of the network there
 pub number_there : (t : NetworkTable) (xs : List ℕ) (ns : List Numbered) (i x : ℕ) (n : Numbered) → AreNumbersOf t xs ns → i < length ns → get_or ns i nothing ≡ n → x ≡ get_or xs i x → IsNumberOf t x n
@@ -103,41 +110,6 @@ known_more s t jobs noted grown known are = all_more (λ o. IfSome o (IsKnown s 
     each : (o : Option Known) → IfSome o (IsKnown s jobs) → IfSome o (IsKnown t jobs)
     each None own = tt
     each (Some k) own = let after = grown k.number own.0 in (after.0, after.1 ∙ own.1 ∙ sym (same k.draft))
-
--- the first networks of some have numbers, and the rest are left
-pub record AreKept (s t : NetworkTable) (all rest : List Numbered) (numbers : List ℕ) : Type 0 where
-  pub whole : IsWhole t
-  pub more : IsMore s t
-  pub within : All (IsWithin (children s)) rest
-  pub seen : List Numbered
-  pub split : seen ++ rest ≡ all
-  pub numbered : AreNumbersOf t numbers seen
-
--- at first all are left
-pub kept_none : (t : NetworkTable) (all : List Numbered) → IsWhole t → All (IsWithin (children t)) all → AreKept t t all all []
-kept_none t all whole within = record { whole = whole; more = more_itself t; within = within; seen = []; split = refl; numbered = no_numbers t }
-
--- the nodes of the first that is left have numbers
-pub kept_within : (s t : NetworkTable) (all rest ns : List Numbered) (xs : List ℕ) (n : Numbered) → AreKept s t all rest xs → rest ≡ n ∷ ns → IsWithin (children t) n
-kept_within s t all rest ns xs n are is =
-    subst (λ (l : List Child). IsWithin l n) (ap numbered_children (sym are.more.children)) (subst (All (IsWithin (children s))) is are.within 0 n (omega arith))
-
--- one more gets its number
-pub kept_next : (s t u : NetworkTable) (all rest ns : List Numbered) (xs : List ℕ) (x : ℕ) (n : Numbered) → AreKept s t all rest xs → rest ≡ n ∷ ns → IsWhole u → IsMore t u
-    → IsNumberOf u x n → AreKept s u all ns (xs ++ x ∷ [])
-kept_next s t u all rest ns xs x n are is whole more number = record {
-  whole = whole;
-  more = more_then s t u are.more more;
-  within = λ k d inside. subst (All (IsWithin (children s))) is are.within (suc k) d (omega (arith, inside));
-  seen = are.seen ++ n ∷ [];
-  split = append_assoc are.seen (n ∷ []) ns ∙ ap (λ l. are.seen ++ l) (sym is) ∙ are.split;
-  numbered = numbers_push t u xs are.seen x n more are.numbered number;
-}
-
--- at last all have numbers
-pub kept_all : (s t : NetworkTable) (all rest : List Numbered) (xs : List ℕ) → AreKept s t all rest xs → length rest ≡ 0 → AreNumbersOf t xs all
-kept_all s t all [] xs are is = subst (AreNumbersOf t xs) (sym (append-nil are.seen) ∙ are.split) are.numbered
-kept_all s t all (x ∷ rest) xs are is = absurd (omega (arith, is))
 
 -- a table that has grown has the same networks, by their numbers
 abbrev pub KeepsNumbers : NetworkTable → NetworkTable → Type 0

@@ -4,6 +4,7 @@ use Rattle.std.specs.declared.alloc.AllocError.{AllocError}
 use Rattle.std.specs.declared.alloc.Global.{Global}
 use Rattle.std.specs.declared.vec.Vec.{Vec}
 use Rattle.network_table.specs.Numbered.{Numbered, IsWithin, replaced_numbered, nothing}
+use Rattle.network_table.specs.Entries.{IsAlone, networks_alone}
 use Rattle.network_table.specs.Networks.{children, expansion_at, numbered_at, IsGrown, IsNumberOf, IsWhole, Knows}
 use Rattle.network_table.specs.Expansions.{AreInstances, IsExpansion, IsSound, Live}
 use Rattle.network_table.specs.declared.assemble.Found.{Found}
@@ -14,6 +15,7 @@ use Rattle.network_table.specs.declared.made.Noted.{Noted}
 use Rattle.network_table.specs.declared.made.Standing.{Standing}
 use Rattle.network_table.specs.declared.made.Standing.TheVariants.{Unknown, MadeAt, HasNumber}
 use Rattle.network_table.specs.declared.made.Place.{Place}
+use Rattle.network_table.specs.declared.network_set.Entry.{Entry}
 use Rattle.network_table.specs.declared.notes.Known.{Known}
 use Rattle.network_table.specs.declared.notes.Notes.{Notes}
 use Rattle.network_table.specs.declared.table.NetworkTable.{NetworkTable}
@@ -36,10 +38,11 @@ draft_network t jobs d = drafted t d (slice_get jobs d.job)
 abbrev pub IsPlaced : NetworkTable → List Job → List Numbered → Place → Type 0
 IsPlaced t jobs networks p = (p.network < length networks) × (get_or networks p.network nothing ≡ draft_network t jobs p.draft)
 
--- networks whose nodes have numbers, with places of drafts among them
-pub record AreMade (t : NetworkTable) (jobs : List Job) (networks : List Numbered) (places : List Place) : Type 0 where
-  pub within : All (IsWithin (children t)) networks
-  pub placed : All (IsPlaced t jobs networks) places
+-- networks that are kept whole and whose nodes have numbers, with places of drafts among them
+pub record AreMade (t : NetworkTable) (jobs : List Job) (entries : List Entry) (places : List Place) : Type 0 where
+  pub alone : All IsAlone entries
+  pub within : All (IsWithin (children t)) (networks_alone entries)
+  pub placed : All (IsPlaced t jobs (networks_alone entries)) places
 
 -- the number is that of the draft's network
 abbrev pub IsKnown : NetworkTable → List Job → Known → Type 0
@@ -57,7 +60,7 @@ Stands t networks x (HasNumber number) = IsNumberOf t number x
 
 -- what a worker gives, if its memory does not run out
 abbrev pub HoldsMade : NetworkTable → List Job → Result Made AllocError → Type 0
-HoldsMade t jobs r = IfOk r (λ m. AreMade t jobs m.networks.items m.places.items × AreNoted t jobs m.noted.items)
+HoldsMade t jobs r = IfOk r (λ m. AreMade t jobs m.networks m.places.items × AreNoted t jobs m.noted.items)
 
 -- so are those that are noted
 abbrev pub AreKnown : NetworkTable → List Job → List (Option Known) → Type 0

@@ -1,5 +1,5 @@
 -- Networks as they are kept: the totally ordered ones by their first node and the network of the others.
-use Rattle.std.specs.Prelude.{◌≡◌, ℕ, ◌<◌, ◌+◌, ◌++◌, ◌∷◌, [], ◌⊎◌, ◌&&◌, List, Bool, true, false, fold, length, get_or, nat_eq}
+use Rattle.std.specs.Prelude.{◌≡◌, ℕ, ◌<◌, ◌+◌, ◌++◌, ◌∷◌, [], ◌⊎◌, ◌&&◌, List, All, Bool, true, false, fold, length, map, get_or, nat_eq}
 use Rattle.std.specs.Bool.{Decides}
 use Rattle.std.specs.Cmp.{IsEquivalence, IsPartialEquivalence, partial_equiv_from_equiv, unsigned_Decides, decided, first_so, second_so}
 use Rattle.std.specs.Hash as fed
@@ -33,17 +33,34 @@ network_by networks (Whole network) = network
 abbrev pub networks_of : List Entry → List Numbered
 networks_of entries = fold (λ networks entry. networks ++ network_by networks entry ∷ []) [] entries
 
+-- a network is kept whole: it is no chain, or has no node
+abbrev pub IsKeptWhole : Numbered → Type 0
+IsKeptWhole network = (network ≡ nothing) ⊎ (IsChain network → ⊥)
+
 -- a chain is kept over a chain among the networks, and nothing else that is one is kept whole, but that without nodes
 abbrev pub Fits : List Numbered → Entry → Type 0
 Fits networks (Chain link) = (link.rest < length networks) × IsChain (get_or networks link.rest nothing)
-Fits networks (Whole network) = (network ≡ nothing) ⊎ (IsChain network → ⊥)
+Fits networks (Whole network) = IsKeptWhole network
+
+-- an entry is kept over no other, so that it fits anywhere
+abbrev pub IsAlone : Entry → Type 0
+IsAlone = Fits []
+
+-- what such entries stand for
+abbrev pub networks_alone : List Entry → List Numbered
+networks_alone = map (network_by [])
+
+-- by their order, the places of networks among others
+pub record ArePlacesOf (networks : List Numbered) (places : List ℕ) (sought : List Numbered) : Type 0 where
+  pub inside : All (λ p. p < length networks) places
+  pub each : map (λ p. get_or networks p nothing) places ≡ sought
 
 -- an entry is that of the network at a place: it stands for it, and a chain is kept over one at a place before
 abbrev pub IsEntryAt : List Numbered → ℕ → Entry → Type 0
 IsEntryAt networks place (Chain link) =
     (link.rest < place) × IsChain (get_or networks link.rest nothing)
     × (get_or networks place nothing ≡ chained link.first (get_or networks link.rest nothing))
-IsEntryAt networks place (Whole network) = ((network ≡ nothing) ⊎ (IsChain network → ⊥)) × (get_or networks place nothing ≡ network)
+IsEntryAt networks place (Whole network) = IsKeptWhole network × (get_or networks place nothing ≡ network)
 
 -- each is that of the network at its place
 abbrev pub AreLinked : List Entry → Type 0

@@ -5,12 +5,11 @@ ghost use Rattle.network_table.specs.Networks.{children, expansion_at, IsGrown, 
 ghost use Rattle.network_table.specs.Expansions.{AreInstances, IsSound, Live};
 ghost use Rattle.network_table.specs.declared.draft.Job.{Job as Jobs};
 ghost use Rattle.network_table.specs.declared.table.NetworkTable.{NetworkTable as Networks};
-ghost use Rattle.network_table.specs.Drafts.{AreExpanded, AreKnown, AreMade, AreNoted, AreNumbersOf, AreRemembered, HoldsFound, HoldsMade, IsFound, IsKnown};
+ghost use Rattle.network_table.specs.Drafts.{AreExpanded, AreKnown, AreMade, AreNoted, AreRemembered, HoldsFound, HoldsMade, IsFound, IsKnown};
 
 use crate::assemble::Found;
 use crate::draft::{Job, Listed, starts_of};
 use crate::made::{Made, Noted};
-use crate::network::Network;
 use crate::notes::Known;
 use crate::table::NetworkTable;
 use std::alloc::{AllocError, Global};
@@ -29,23 +28,8 @@ fn note_at(noted: &mut Vec<Option<Known>>, at: usize, known: Known)
 }
 
 impl NetworkTable {
-    /// The numbers of networks, which they may get only now.
-    fn keep_all(&mut self, alloc: Global, networks: Vec<Network>) -> Result<Vec<u32>, AllocError>
-        requires whole { IsWhole self.old }
-        requires within { All (IsWithin (children self.old)) networks.items }
-        ensures whole { OnOk result (IsWhole self.new) }
-        ensures more { OnOk result (IsMore self.old self.new) }
-        ensures each { IfOk result (λ v. AreNumbersOf self.new v.items networks.items) }
-    {
-        let mut numbers = Vec::with_capacity(alloc, networks.len())?;
-        for network in networks {
-            numbers.push(self.keep(network)?)?;
-        }
-        Ok(numbers)
-    }
-
-    /// Notes the numbers of the drafts whose networks were found in the table. (The table and the jobs are named for the
-    /// contract alone.)
+    /// Notes the numbers of the drafts whose networks were found in the table. (The table and the jobs are named for
+    /// the contract alone.)
     fn note_found(&self, jobs: &[Job], found: &[Noted], noted: &mut Vec<Option<Known>>)
         requires found { AreNoted self.now jobs.now found.now }
         requires noted { AreKnown self.now jobs.now noted.old.items }
@@ -57,16 +41,19 @@ impl NetworkTable {
     }
 
     /// Numbers what was made, and notes for each draft the number of its network.
-    fn note_made(
+    fn note_made<R: Threads + Sync>(
         &mut self,
+        rt: &R,
         alloc: Global,
+        workers: usize,
         jobs: &[Job],
         made: Made,
         noted: &mut Vec<Option<Known>>,
     ) -> Result<(), AllocError>
         requires whole { IsWhole self.old }
         requires known { All (λ j. Knows self.old j.network) jobs.now }
-        requires made { AreMade self.old jobs.now made.networks.items made.places.items }
+        requires workers { 0 < workers }
+        requires made { AreMade self.old jobs.now made.networks made.places.items }
         requires noted { AreKnown self.old jobs.now noted.old.items }
         ensures whole { OnOk result (IsWhole self.new) }
         ensures more { OnOk result (IsMore self.old self.new) }
@@ -77,7 +64,7 @@ impl NetworkTable {
             places,
             noted: _,
         } = made;
-        let numbers = self.keep_all(alloc, networks)?;
+        let numbers = self.keep_all(rt, alloc, networks, workers)?;
         for index in 0..places.len() {
             let place = places[index];
             let number = numbers[place.network];
@@ -91,15 +78,18 @@ impl NetworkTable {
     }
 
     /// Numbers what all workers made, and notes for each draft the number of its network.
-    fn note_all(
+    fn note_all<R: Threads + Sync>(
         &mut self,
+        rt: &R,
         alloc: Global,
+        workers: usize,
         jobs: &[Job],
         shards: Vec<Result<Made, AllocError>>,
         count: usize,
     ) -> Result<Vec<Option<Known>>, AllocError>
         requires whole { IsWhole self.old }
         requires known { All (λ j. Knows self.old j.network) jobs.now }
+        requires workers { 0 < workers }
         requires made { All (HoldsMade self.old jobs.now) shards.items }
         ensures whole { OnOk result (IsWhole self.new) }
         ensures more { OnOk result (IsMore self.old self.new) }
@@ -109,7 +99,7 @@ impl NetworkTable {
         for made in shards {
             let made = made?;
             self.note_found(jobs, &made.noted, &mut noted);
-            self.note_made(alloc, jobs, made, &mut noted)?;
+            self.note_made(rt, alloc, workers, jobs, made, &mut noted)?;
         }
         Ok(noted)
     }
@@ -277,7 +267,7 @@ impl NetworkTable {
         let parts = workers.saturating_mul(PARTS);
         let drafts = self.list_all(rt, alloc, jobs, parts)?;
         let shards = self.make_all(rt, alloc, jobs, drafts.as_slice(), workers)?;
-        let noted = self.note_all(alloc, jobs, shards, drafts.len())?;
+        let noted = self.note_all(rt, alloc, workers, jobs, shards, drafts.len())?;
         let all = self.assemble_all(rt, alloc, jobs, drafts.as_slice(), noted.as_slice(), parts)?;
         self.remember_all(jobs, all)?;
         // What is not found yet is found here: nothing, but where a note was missing.

@@ -14,6 +14,7 @@ mod draft;
 mod expand;
 mod expand_all;
 mod expansion;
+mod keep_all;
 mod laws;
 mod made;
 mod network;

@@ -1,6 +1,7 @@
 //! Makes what many networks become.
 ghost use Rattle.std.specs.Prelude.{◌≡◌, ◌<◌, true, List, All, IfOk, IfSome, OnOk, length, get_or};
 ghost use Rattle.network_table.specs.Numbered.{IsWithin, nothing};
+ghost use Rattle.network_table.specs.Entries.{IsKeptWhole, networks_alone};
 ghost use Rattle.network_table.specs.Networks.{children, IsNumberOf, IsWhole, Knows};
 ghost use Rattle.htn_model.specs.Problem.{Child};
 ghost use Rattle.network_table.specs.Drafts.{draft_network, inner_at, AreMade, AreNoted, Stands};
@@ -11,6 +12,7 @@ use crate::network_set::Entry;
 use crate::notes::Known;
 use crate::table::NetworkTable;
 use indexmap::IndexMap;
+use interner::Batch;
 use std::alloc::{AllocError, Global};
 
 /// Where the network of a draft stands, and where the draft is listed.
@@ -28,10 +30,11 @@ pub(crate) struct Noted {
     pub(crate) known: Known,
 }
 
-/// Networks that were made of drafts, with the places of the drafts; and the drafts whose networks have numbers already.
+/// Networks that were made of drafts, with the places of the drafts; and the drafts whose networks have numbers
+/// already. None is a chain: the networks are to be numbered side by side, and a chain is kept over another.
 #[derive(Drop)]
 pub(crate) struct Made {
-    pub(crate) networks: Vec<Network>,
+    pub(crate) networks: Batch<Entry>,
     pub(crate) places: Vec<Place>,
     pub(crate) noted: Vec<Noted>,
 }
@@ -65,20 +68,29 @@ fn inner_of<'a>(
 }
 
 /// Whether a network stands at a place among some.
-fn is_at(networks: &[Network], place: usize, network: &Network) -> bool
-    ensures { result ≡ true → (place < length networks.now) × (get_or networks.now place nothing ≡ network.now) }
+fn is_at(networks: &Batch<Entry>, place: usize, network: &Network) -> bool
+    ensures { let all = networks_alone networks.now in
+        result ≡ true → (place < length all) × (get_or all place nothing ≡ network.now) }
 {
-    place < networks.len() && networks[place] == *network
+    if place >= networks.len() {
+        return false;
+    }
+    match networks.get(place) {
+        Entry::Whole(kept) => kept == network,
+        Entry::Chain(_) => false,
+    }
 }
 
 impl NetworkTable {
-    /// Makes the network of a draft, if the draft is one of the jobs'.
+    /// Makes the network of a draft, if the draft is one of the jobs' and the network is no chain: what is one is made
+    /// where it is numbered.
     fn make(&self, alloc: Global, jobs: &[Job], draft: Draft) -> Result<Option<Network>, AllocError>
         requires whole { IsWhole self.now }
         requires known { All (λ j. Knows self.now j.network) jobs.now }
         requires within { All (λ j. All (IsWithin (children self.now)) j.instances.now) jobs.now }
         ensures value { IfOk result (λ o. IfSome o (λ n. n ≡ draft_network self.now jobs.now draft)) }
         ensures within { IfOk result (λ o. IfSome o (λ n. IsWithin (children self.now) n)) }
+        ensures whole { IfOk result (λ o. IfSome o IsKeptWhole) }
     {
         if draft.job >= jobs.len() {
             return Ok(None);
@@ -95,6 +107,9 @@ impl NetworkTable {
             return Ok(None);
         };
         let next = whole.replaced(alloc, draft.position, inner)?;
+        if next.is_chain() {
+            return Ok(None);
+        }
         Ok(Some(next))
     }
 
@@ -115,12 +130,12 @@ impl NetworkTable {
     /// table unless it stands where the hint tells.
     fn standing_of(
         &self,
-        networks: &[Network],
+        networks: &Batch<Entry>,
         hint: Standing,
         network: Network,
     ) -> (Standing, Network)
         requires { IsWhole self.now }
-        ensures standing { Stands self.now networks.now network result.0 }
+        ensures standing { Stands self.now (networks_alone networks.now) network result.0 }
         ensures network { result.1 ≡ network }
     {
         match hint {
@@ -144,12 +159,13 @@ impl NetworkTable {
         draft: Draft,
         network: Network,
     ) -> Result<Standing, AllocError>
-        requires made { AreMade self.now jobs.now made.old.networks.items made.old.places.items }
+        requires made { AreMade self.now jobs.now made.old.networks made.old.places.items }
         requires noted { AreNoted self.now jobs.now made.old.noted.items }
-        requires stands { Stands self.now made.old.networks.items network standing }
+        requires stands { Stands self.now (networks_alone made.old.networks) network standing }
         requires draft { network ≡ draft_network self.now jobs.now draft }
+        requires whole { IsKeptWhole network }
         requires within { IsWithin (children self.now) network }
-        ensures made { OnOk result (AreMade self.now jobs.now made.new.networks.items made.new.places.items) }
+        ensures made { OnOk result (AreMade self.now jobs.now made.new.networks made.new.places.items) }
         ensures noted { OnOk result (AreNoted self.now jobs.now made.new.noted.items) }
     {
         match standing {
@@ -164,7 +180,7 @@ impl NetworkTable {
             }
             Standing::Unknown => {
                 let place = made.networks.len();
-                made.networks.push(network)?;
+                made.networks.push(Entry::Whole(network))?;
                 made.places.push(Place {
                     at,
                     draft,
@@ -188,9 +204,9 @@ impl NetworkTable {
         requires whole { IsWhole self.now }
         requires known { All (λ j. Knows self.now j.network) jobs.now }
         requires within { All (λ j. All (IsWithin (children self.now)) j.instances.now) jobs.now }
-        requires made { AreMade self.now jobs.now made.old.networks.items made.old.places.items }
+        requires made { AreMade self.now jobs.now made.old.networks made.old.places.items }
         requires noted { AreNoted self.now jobs.now made.old.noted.items }
-        ensures made { OnOk result (AreMade self.now jobs.now made.new.networks.items made.new.places.items) }
+        ensures made { OnOk result (AreMade self.now jobs.now made.new.networks made.new.places.items) }
         ensures noted { OnOk result (AreNoted self.now jobs.now made.new.noted.items) }
     {
         let Some(next) = self.make(alloc, jobs, draft)? else {
@@ -200,7 +216,8 @@ impl NetworkTable {
         self.put(jobs, made, standing, at, draft, next)
     }
 
-    /// Makes the networks of the drafts that fall to a shard, equal ones mostly once, and finds those that have numbers.
+    /// Makes the networks of the drafts that fall to a shard, equal ones mostly once, and finds those that have
+    /// numbers.
     pub(crate) fn make_shard(
         &self,
         alloc: Global,
@@ -213,10 +230,11 @@ impl NetworkTable {
         requires known { All (λ j. Knows self.now j.network) jobs.now }
         requires within { All (λ j. All (IsWithin (children self.now)) j.instances.now) jobs.now }
         requires count { 0 < count }
-        ensures { IfOk result (λ m. AreMade self.now jobs.now m.networks.items m.places.items × AreNoted self.now jobs.now m.noted.items) }
+        ensures { IfOk result (λ m. AreMade self.now jobs.now m.networks m.places.items
+            × AreNoted self.now jobs.now m.noted.items) }
     {
         let mut made = Made {
-            networks: Vec::new(alloc),
+            networks: Batch::new(alloc)?,
             places: Vec::new(alloc),
             noted: Vec::new(alloc),
         };

@@ -1,14 +1,15 @@
 //! Networks, none twice, of which the totally ordered ones share their nodes.
-ghost use Rattle.std.specs.Prelude.{◌≡◌, ◌<◌, ◌≤◌, ◌++◌, ◌∷◌, [], ℕ, IfNone, IfOk, IfSome, OnOk, cond, length, get_or, true};
+ghost use Rattle.std.specs.Prelude.{◌≡◌, ◌<◌, ◌≤◌, ◌++◌, ◌∷◌, [], ℕ, List, All, Contains, IfNone, IfOk, IfSome, OnOk, cond, length, get_or, true};
 ghost use Rattle.htn_model.specs.PlanFile.{IsWithoutRepeats};
-ghost use Rattle.network_table.specs.Numbered.{nothing};
-ghost use Rattle.network_table.specs.Entries.{Fits, IsChain, IsEntryAt, network_by};
+ghost use Rattle.network_table.specs.Numbered.{Numbered, nothing};
+ghost use Rattle.network_table.specs.Entries.{ArePlacesOf, Fits, IsAlone, IsChain, IsEntryAt, network_by, networks_alone};
 
 use crate::network::Network;
-use indexmap::IndexSet;
+use interner::{Batch, Interner};
 use std::alloc::{AllocError, Global};
 use std::hash::{Hash, Hasher};
 use std::marker::Model;
+use std::thread::Threads;
 
 /// The first node of a totally ordered network, and the network of the others, both by number.
 #[derive(Clone, Copy, Drop)]
@@ -70,18 +71,10 @@ impl Hash for Entry {
     }
 }
 
-/// The entry at a place.
-fn entry_at(entries: &[Entry], place: usize) -> &Entry
-    requires { place < length entries.now }
-    ensures { result.now ≡ get_or entries.now place result.now }
-{
-    &entries[place]
-}
-
 /// Networks in the order in which they were added, none twice.
 #[derive(Drop)]
 pub struct NetworkSet {
-    entries: IndexSet<Entry>,
+    entries: Interner<Entry>,
 }
 
 impl Model for NetworkSet {
@@ -91,19 +84,18 @@ impl Model for NetworkSet {
 
     ghost Value = { List Numbered };
 
-    ghost view = { λ s. networks_of s.entries.keys };
+    ghost view = { λ s. networks_of s.entries };
 
-    ghost invariant = { λ s. AreLinked s.entries.keys };
+    ghost invariant = { λ s. AreLinked s.entries };
 }
 
 impl NetworkSet {
     /// No networks.
-    pub(crate) fn new(alloc: Global) -> NetworkSet
-        ensures { result ≡ [] }
+    pub(crate) fn new(alloc: Global) -> Result<NetworkSet, AllocError>
+        ensures { IfOk result (λ s. s ≡ []) }
     {
-        NetworkSet {
-            entries: IndexSet::new(alloc),
-        }
+        let entries = Interner::new(alloc)?;
+        Ok(NetworkSet { entries })
     }
 
     /// How many there are.
@@ -120,7 +112,7 @@ impl NetworkSet {
         // each node of a chain has a place of its own
         ensures short { IsChain (get_or self.now place nothing) → length (get_or self.now place nothing).nodes ≤ place }
     {
-        entry_at(self.entries.as_slice(), place)
+        self.entries.get(place)
     }
 
     /// The place of the network that an entry stands for, if that is kept.
@@ -129,7 +121,7 @@ impl NetworkSet {
         ensures none { IfNone result ((n : ℕ) → n < length self.now → Fits self.now entry.now
             → get_or self.now n nothing ≡ network_by self.now entry.now → IsWithoutRepeats self.now → ⊥) }
     {
-        self.entries.get_index_of(entry)
+        self.entries.number_of(entry)
     }
 
     /// The place of the network that an entry stands for, and whether it comes only now, as the last.
@@ -140,7 +132,26 @@ impl NetworkSet {
         ensures last { IfOk result (λ r. r.1 ≡ true → r.0 ≡ length self.old) }
         ensures distinct { OnOk result (IsWithoutRepeats self.old → IsWithoutRepeats self.new) }
     {
-        let placed = self.entries.insert_full(entry)?;
+        let placed = self.entries.intern(entry)?;
         Ok(placed)
+    }
+
+    /// The places of networks that are kept whole, which may come only now, found by so many workers.
+    pub(crate) fn insert_all<R: Threads + Sync>(
+        &mut self,
+        rt: &R,
+        alloc: Global,
+        networks: Batch<Entry>,
+        workers: usize,
+    ) -> Result<Vec<usize>, AllocError>
+        requires workers { 0 < workers }
+        requires alone { All IsAlone networks }
+        ensures grown { OnOk result ((more : List Numbered) × (self.new ≡ self.old ++ more)
+            × All (Contains (networks_alone networks)) more) }
+        ensures places { IfOk result (λ v. ArePlacesOf self.new v.items (networks_alone networks)) }
+        ensures distinct { OnOk result (IsWithoutRepeats self.old → IsWithoutRepeats self.new) }
+    {
+        let places = self.entries.intern_all(rt, alloc, networks, workers)?;
+        Ok(places)
     }
 }

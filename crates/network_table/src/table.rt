@@ -24,11 +24,11 @@ use std::alloc::{AllocError, Global};
 /// that it takes, and what becomes of it, once that is known.
 #[derive(Drop)]
 pub struct NetworkTable {
-    children: ChildTable,
-    networks: NetworkSet,
-    open_lens: Vec<u64>,
-    bounds: Vec<u64>,
-    expansions: Vec<Option<Expansion>>,
+    pub(crate) children: ChildTable,
+    pub(crate) networks: NetworkSet,
+    pub(crate) open_lens: Vec<u64>,
+    pub(crate) bounds: Vec<u64>,
+    pub(crate) expansions: Vec<Option<Expansion>>,
 }
 
 /// A place, if a word of 32 bits holds it.
@@ -40,7 +40,7 @@ fn number_at(place: Option<usize>) -> Option<u32>
 }
 
 /// The sum of the bounds of a network's nodes.
-fn sum_bounds(children: &ChildTable, network: &Network) -> u64
+pub(crate) fn sum_bounds(children: &ChildTable, network: &Network) -> u64
     requires whole { AreWhole children.now }
     requires within { IsWithin (numbered_children children.now) network.now }
     ensures { result ≡ bound_of children.now network.now }
@@ -54,20 +54,21 @@ fn sum_bounds(children: &ChildTable, network: &Network) -> u64
 
 impl NetworkTable {
     /// No network has a number.
-    pub fn new(alloc: Global) -> NetworkTable
-        ensures whole { IsWhole result }
-        ensures bounds { (measure : model.Child → ℕ) → AreBounds measure result.children }
-        ensures sound { (live : Live) → IsSound live result }
-        ensures none { (n : ℕ) → expansion_at result n ≡ None }
-        ensures empty { result.networks ≡ [] }
+    pub fn new(alloc: Global) -> Result<NetworkTable, AllocError>
+        ensures whole { IfOk result IsWhole }
+        ensures bounds { IfOk result (λ t. (measure : model.Child → ℕ) → AreBounds measure t.children) }
+        ensures sound { IfOk result (λ t. (live : Live) → IsSound live t) }
+        ensures none { IfOk result (λ t. (n : ℕ) → expansion_at t n ≡ None) }
+        ensures empty { IfOk result (λ t. t.networks ≡ []) }
     {
-        NetworkTable {
+        let networks = NetworkSet::new(alloc)?;
+        Ok(NetworkTable {
             children: ChildTable::new(alloc),
-            networks: NetworkSet::new(alloc),
+            networks,
             open_lens: Vec::new(alloc),
             bounds: Vec::new(alloc),
             expansions: Vec::new(alloc),
-        }
+        })
     }
 
     /// How many networks have numbers.

@@ -65,7 +65,7 @@ impl Tables {
         Ok(Tables {
             atoms,
             states: StateTable::new(alloc),
-            networks: NetworkTable::new(alloc),
+            networks: NetworkTable::new(alloc)?,
             goal,
             performers: Vec::new(alloc),
             instances: Vec::new(alloc),

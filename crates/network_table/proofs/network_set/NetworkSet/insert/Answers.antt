@@ -1,15 +1,15 @@
-use Rattle.std.proofs.Common.{◌≡◌, ◌<◌, ◌∙◌, ◌++◌, ◌∷◌, [], ℕ, Bool, true, false, not, List, length, get_or, ap, refl, subst, sym, arith, Some, slice_get, true≢false, length-append, inl, inr}
+use Rattle.std.proofs.Common.{◌≡◌, ◌<◌, ◌∙◌, ◌++◌, ◌∷◌, [], ℕ, Bool, true, false, not, List, length, get_or, ap, refl, subst, sym, arith, true≢false}
 use Rattle.std.specs.List.{list_any}
-use Rattle.std.proofs.lemmas.Bool.{cases_lt}
 use Rattle.std.proofs.lemmas.List.{get_or_append_left}
 use Rattle.std.proofs.lemmas.List.Folds.{list_any_at}
 use Rattle.indexmap.specs.IndexSet.{insert_key}
+use Rattle.interner.specs.Interning.{IsNumberOf}
 use Rattle.htn_model.specs.PlanFile.{IsWithoutRepeats}
 use Rattle.network_table.specs.Numbered.{Numbered, nothing}
 use Rattle.network_table.specs.Entries.{AreLinked, Fits, chained, entry_eq, entry_eq-decides, network_by, networks_of}
 use Rattle.network_table.specs.declared.network_set.Entry.{Entry}
 use Rattle.network_table.specs.declared.network_set.Entry.TheVariants.{Chain, Whole}
-use Rattle.network_table.proofs.Keys.{at_slice, inserted_new, inserted_old}
+use Rattle.network_table.proofs.Keys.{inserted_new, inserted_old}
 use Rattle.network_table.proofs.Linking.{distinct_push, entry_is, linked_push, network_at_place, networks_len, networks_push}
 use Rattle.network_table.proofs.network_set.NetworkSet.insert.Goals as goal
 
@@ -65,58 +65,40 @@ module _ (keys after : List Entry) (e : Entry) (b : Bool) (linked : AreLinked ke
           absent is n low (entry_is keys linked distinct n e e low fits same)))
       by false is = subst (λ ks. IsWithoutRepeats (networks_of ks)) (sym (old_keys is)) distinct
 
-  module _ (place : ℕ) (k : Entry) (stored : slice_get after place ≡ Some k) (same : entry_eq e k ≡ true) where
+  module _ (place : ℕ) (number : IsNumberOf entry_eq after e place) where
     -- it stands at its place
-    placed : (place < length after) × (get_or after place e ≡ e)
-    placed = let seen = at_slice after place k e stored in (seen.0, seen.1 ∙ sym ((entry_eq-decides e k).0 same))
+    placed : get_or after place e ≡ e
+    placed = sym ((entry_eq-decides e (get_or after place e)).0 (number.1 e))
 
     -- its network stands there
     placed_network : (place < length (networks_of after)) × (get_or (networks_of after) place nothing ≡ network_by (networks_of keys) e)
     placed_network = (
-      omega (arith, placed.0, networks_len after),
-      network_at_place (networks_of after) place (get_or after place e) (linked_after place e placed.0)
-          ∙ ap (network_by (networks_of after)) placed.1 ∙ same_after,
+      omega (arith, number.0, networks_len after),
+      network_at_place (networks_of after) place (get_or after place e) (linked_after place e number.0)
+          ∙ ap (network_by (networks_of after)) placed ∙ same_after,
     )
-
-    -- where it is new it stands last
-    placed_last : b ≡ true → place ≡ length (networks_of keys)
-    placed_last new =
-        let are_new = new_keys new in
-        let long = ap length are_new in
-        elim (cases_lt place (length keys)) [
-          | inl low ↦ absurd (absent new place low (sym (ap (λ ks. get_or ks place e) are_new ∙ get_or_append_left keys (e ∷ []) e place low) ∙ placed.1))
-          | inr on ↦ omega (arith, on, placed.0, long, length-append keys (e ∷ []), networks_len keys)
-        ]
 
 pub invariant_of-self-2 : goal.invariant_of-self-2
 invariant_of-self-2 c =
-    let keys = c.self.inside.entries.keys in
+    let keys = c.self.inside.entries in
     let fits : Fits (networks_of keys) c.args.entry = subst (λ ns. Fits ns c.args.entry) (sym c.self.view_is) c.requires in
-    linked_after keys c.insert_full.new.self.keys c.args.entry c.in_ok-placed.placed.1 c.self.invariant fits c.in_ok-placed.ensures.keys c.in_ok-placed.ensures.added
+    linked_after keys c.intern.new.self c.args.entry c.in_ok-placed.placed.1 c.self.invariant fits c.in_ok-placed.ensures.values c.in_ok-placed.ensures.new
 
 pub returns-clause-place : goal.returns-clause-place
 returns-clause-place c =
-    let keys = c.self.inside.entries.keys in
-    let after = c.insert_full.new.self.keys in
-    let stored = c.in_ok-placed.ensures.stored in
+    let keys = c.self.inside.entries in
     let fits : Fits (networks_of keys) c.args.entry = subst (λ ns. Fits ns c.args.entry) (sym c.self.view_is) c.requires in
     let found =
-    placed_network keys after c.args.entry c.in_ok-placed.placed.1 c.self.invariant fits c.in_ok-placed.ensures.keys c.in_ok-placed.ensures.added c.in_ok-placed.placed.0 stored.0 stored.1 stored.2 in
+    placed_network keys c.intern.new.self c.args.entry c.in_ok-placed.placed.1 c.self.invariant fits c.in_ok-placed.ensures.values c.in_ok-placed.ensures.new c.in_ok-placed.placed.0 c.in_ok-placed.ensures.number in
     (found.0, found.1 ∙ ap (λ ns. network_by ns c.args.entry) c.self.view_is)
 
 pub returns-clause-last : goal.returns-clause-last
-returns-clause-last c =
-    let keys = c.self.inside.entries.keys in
-    let after = c.insert_full.new.self.keys in
-    let stored = c.in_ok-placed.ensures.stored in
-    let fits : Fits (networks_of keys) c.args.entry = subst (λ ns. Fits ns c.args.entry) (sym c.self.view_is) c.requires in
-    λ new. placed_last keys after c.args.entry c.in_ok-placed.placed.1 c.self.invariant fits c.in_ok-placed.ensures.keys c.in_ok-placed.ensures.added c.in_ok-placed.placed.0 stored.0 stored.1 stored.2 new
-    ∙ ap length c.self.view_is
+returns-clause-last c = λ new. c.in_ok-placed.ensures.last new ∙ sym (networks_len c.self.inside.entries) ∙ ap length c.self.view_is
 
 pub returns-clause-distinct : goal.returns-clause-distinct
 returns-clause-distinct c =
-    let keys = c.self.inside.entries.keys in
+    let keys = c.self.inside.entries in
     let fits : Fits (networks_of keys) c.args.entry = subst (λ ns. Fits ns c.args.entry) (sym c.self.view_is) c.requires in
     λ distinct.
-    distinct_after keys c.insert_full.new.self.keys c.args.entry c.in_ok-placed.placed.1 c.self.invariant fits c.in_ok-placed.ensures.keys c.in_ok-placed.ensures.added
+    distinct_after keys c.intern.new.self c.args.entry c.in_ok-placed.placed.1 c.self.invariant fits c.in_ok-placed.ensures.values c.in_ok-placed.ensures.new
     (subst IsWithoutRepeats (sym c.self.view_is) distinct)

@@ -1,0 +1,178 @@
+//! Numbers many networks at once, by several workers.
+ghost use Rattle.std.specs.Prelude.{◌≡◌, ◌<◌, ◌≤◌, ◌+◌, ◌^◌, ◌++◌, ◌∷◌, [], ℕ, All, IfOk, OnOk, None, drop, get_or, length, map};
+ghost use Rattle.network_table.specs.Children.{AreWhole};
+ghost use Rattle.network_table.specs.Numbered.{IsWithin, nothing};
+ghost use Rattle.network_table.specs.Entries.{IsAlone, IsKeptWhole, networks_alone};
+ghost use Rattle.network_table.specs.Networks.{children, expansion_at, IsMore, IsWhole, numbered_at};
+ghost use Rattle.network_table.specs.Measures.{AreMeasurable, measure_of};
+ghost use Rattle.network_table.specs.Drafts.{AreNumbersOf};
+
+use crate::network_set::Entry;
+use crate::table::{NetworkTable, sum_bounds};
+use interner::Batch;
+use std::alloc::{AllocError, Global};
+use std::thread::{Threads, for_each_mut};
+
+/// To start a worker takes about as long as to number so many networks.
+const NETWORKS_A_WORKER: usize = 500;
+
+/// How many nodes a network has, and the sum of the bounds of these.
+#[derive(Clone, Copy, Drop)]
+pub(crate) struct Measure {
+    pub(crate) open_len: u64,
+    pub(crate) bound: u64,
+}
+
+/// As many of some workers as so many networks bear.
+fn workers_for(count: usize, workers: usize) -> usize
+    requires { 0 < workers }
+    ensures { 0 < result }
+{
+    workers.min(count / NETWORKS_A_WORKER + 1)
+}
+
+/// Places as numbers, if words of 32 bits hold them.
+fn numbers_of(alloc: Global, places: &[usize]) -> Result<Vec<u32>, AllocError>
+    ensures { IfOk result (λ v. v.items ≡ places.now) }
+{
+    let mut numbers = Vec::with_capacity(alloc, places.len())?;
+    for place in places {
+        let Ok(number) = u32::try_from(*place) else {
+            return Err(AllocError);
+        };
+        numbers.push(number)?;
+    }
+    Ok(numbers)
+}
+
+impl NetworkTable {
+    /// How many nodes the network at a place has, and the sum of the bounds of these, where it is kept whole.
+    fn measure(&self, place: usize) -> Measure
+        requires placed { place < length self.now.networks }
+        requires kept { IsKeptWhole (numbered_at self.now place) }
+        requires whole { AreWhole self.now.children }
+        requires within { IsWithin (children self.now) (numbered_at self.now place) }
+        ensures { result ≡ measure_of self.now.children (numbered_at self.now place) }
+    {
+        let Entry::Whole(network) = self.networks.entry(place) else {
+            unreachable!()
+        };
+        Measure {
+            open_len: network.nodes().len() as u64,
+            bound: sum_bounds(&self.children, network),
+        }
+    }
+
+    /// The same of the network that stands so many places after another.
+    fn measure_after(&self, first: usize, at: usize) -> Measure
+        requires measurable { AreMeasurable self.now first }
+        requires placed { at < length (drop first self.now.networks) }
+        requires fits { first + at < 2 ^ 64 }
+        ensures { result ≡ measure_of self.now.children (get_or (drop first self.now.networks) at nothing) }
+    {
+        self.measure(first + at)
+    }
+
+    /// The same of each network from a place on, put into as many slots by so many workers.
+    fn measure_each<R: Threads + Sync>(
+        &self,
+        rt: &R,
+        workers: usize,
+        first: usize,
+        slots: &mut [Measure],
+    )
+        requires workers { 0 < workers }
+        requires measurable { AreMeasurable self.now first }
+        requires many { length slots.old ≡ length (drop first self.now.networks) }
+        requires fits { first + length slots.old < 2 ^ 64 }
+        ensures { slots.new ≡ map (measure_of self.now.children) (drop first self.now.networks) }
+    {
+        let measure = |at: usize, slot: &mut Measure|
+            requires { AreMeasurable self.now first × (at < length (drop first self.now.networks))
+                × (first + at < 2 ^ 64) }
+            ensures { slot.new
+                ≡ measure_of self.entry.now.children (get_or (drop first self.entry.now.networks) at nothing) }
+        {
+            *slot = self.measure_after(first, at);
+        };
+        for_each_mut(rt, slots, workers, &measure);
+    }
+
+    /// The same of each network from a place on, found by so many workers.
+    fn measures<R: Threads + Sync>(
+        &self,
+        rt: &R,
+        alloc: Global,
+        workers: usize,
+        first: usize,
+    ) -> Result<Vec<Measure>, AllocError>
+        requires workers { 0 < workers }
+        requires first { first ≤ length self.now.networks }
+        requires measurable { AreMeasurable self.now first }
+        ensures { IfOk result (λ v. v.items ≡ map (measure_of self.now.children) (drop first self.now.networks)) }
+    {
+        let none = Measure {
+            open_len: 0,
+            bound: 0,
+        };
+        let mut measures = vec![in alloc; none; self.networks.len() - first]?;
+        self.measure_each(rt, workers, first, measures.as_mut_slice());
+        Ok(measures)
+    }
+
+    /// Puts down the measure of the network that comes next.
+    fn put_measure(&mut self, one: Measure) -> Result<(), AllocError>
+        ensures children { self.new.children ≡ self.old.children }
+        ensures networks { self.new.networks ≡ self.old.networks }
+        ensures open_lens { OnOk result (self.new.open_lens.items ≡ self.old.open_lens.items ++ one.open_len ∷ []) }
+        ensures bounds { OnOk result (self.new.bounds.items ≡ self.old.bounds.items ++ one.bound ∷ []) }
+        ensures expansions { OnOk result (self.new.expansions.items ≡ self.old.expansions.items ++ None ∷ []) }
+    {
+        self.open_lens.push(one.open_len)?;
+        self.bounds.push(one.bound)?;
+        self.expansions.push(None)?;
+        Ok(())
+    }
+
+    /// Puts down the measures of the networks that come next.
+    fn put_measures(&mut self, all: &[Measure]) -> Result<(), AllocError>
+        ensures children { self.new.children ≡ self.old.children }
+        ensures networks { self.new.networks ≡ self.old.networks }
+        ensures open_lens { OnOk result (self.new.open_lens.items
+            ≡ self.old.open_lens.items ++ map (λ m. m.open_len) all.now) }
+        ensures bounds { OnOk result (self.new.bounds.items ≡ self.old.bounds.items ++ map (λ m. m.bound) all.now) }
+        ensures many { OnOk result (length self.new.expansions.items
+            ≡ length self.old.expansions.items + length all.now) }
+        ensures expansions { OnOk result ((n : ℕ) → expansion_at self.new n ≡ expansion_at self.old n) }
+    {
+        for one in all {
+            self.put_measure(*one)?;
+        }
+        Ok(())
+    }
+
+    /// The numbers of networks that are kept whole, which they may get only now, found by so many workers.
+    pub(crate) fn keep_all<R: Threads + Sync>(
+        &mut self,
+        rt: &R,
+        alloc: Global,
+        networks: Batch<Entry>,
+        workers: usize,
+    ) -> Result<Vec<u32>, AllocError>
+        requires workers { 0 < workers }
+        requires whole { IsWhole self.old }
+        requires alone { All IsAlone networks }
+        requires within { All (IsWithin (children self.old)) (networks_alone networks) }
+        ensures whole { OnOk result (IsWhole self.new) }
+        ensures more { OnOk result (IsMore self.old self.new) }
+        ensures each { IfOk result (λ v. AreNumbersOf self.new v.items (networks_alone networks)) }
+    {
+        let workers = workers_for(networks.len(), workers);
+        let first = self.networks.len();
+        let places = self.networks.insert_all(rt, alloc, networks, workers)?;
+        let measures = self.measures(rt, alloc, workers, first)?;
+        self.put_measures(measures.as_slice())?;
+        let numbers = numbers_of(alloc, places.as_slice())?;
+        Ok(numbers)
+    }
+}
