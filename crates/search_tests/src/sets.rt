@@ -17,3 +17,14 @@ fn a_value_is_added_once(rt: HostRuntime) -> Result<(), Fail> {
     assert!(rt; !set.contains(&7));
     Ok(())
 }
+
+#[test]
+fn a_value_is_added_alone(rt: HostRuntime) -> Result<(), Fail> {
+    let mut set: ShardedSet<u64> = ShardedSet::new(rt.alloc(), 4)?;
+    let first = set.insert(5)?;
+    let second = set.insert(7)?;
+    let again = set.insert(5)?;
+    assert_eq!(rt; [first, second, again], [true, true, false]);
+    assert_eq!(rt; set.values(), [5, 7].as_slice());
+    Ok(())
+}
