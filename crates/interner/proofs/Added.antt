@@ -1,5 +1,5 @@
 -- A value that an interner is given.
-use Rattle.std.proofs.Common.{◌≡◌, ℕ, ◌+◌, ◌<◌, ◌≤◌, Bool, true, false, true≢false, not, List, [], ◌∷◌, ◌++◌, length, get_or, set, map, refl, sym, ap, ap₂, subst, ◌∙◌, arith, if◌then◌else◌}
+use Rattle.std.proofs.Common.{◌≡◌, ℕ, ◌<◌, Bool, true, false, true≢false, not, List, [], ◌∷◌, ◌++◌, length, get_or, set, refl, sym, ap, ap₂, subst, ◌∙◌, arith, if◌then◌else◌}
 use Rattle.std.specs.List.{list_any}
 use Rattle.std.specs.Hash.{HashWrites}
 use Rattle.std.specs.Cmp.{IsEquivalence}
@@ -7,7 +7,7 @@ use Rattle.std.proofs.lemmas.List.{get_or-map, get_or_push, length-map, length_p
 use Rattle.indexmap.specs.IndexSet.{insert_key}
 use Rattle.sharded_set.specs.Shards.{home}
 use Rattle.interner.specs.Bins.{keys_of, numbers_of}
-use Rattle.interner.specs.Interning.{IsInterner, IsNumberOf, IsNumbering, values_at}
+use Rattle.interner.specs.Interning.{IsInterner, IsNumberOf, values_at}
 use Rattle.interner.specs.declared.bin.Bin.{Bin}
 use Rattle.interner.specs.declared.spot.Spot.{Spot}
 use Rattle.interner.specs.declared.spot.TheConstants.{SHARDS}

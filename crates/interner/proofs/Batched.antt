@@ -1,16 +1,15 @@
 -- Bins that take a batch, step by step.
-use Rattle.std.proofs.Common.{◌≡◌, ℕ, ◌+◌, ◌<◌, ◌≤◌, Bool, false, List, [], ◌∷◌, ◌++◌, Vec, Global, length, take, take_at, get_or, map, All, Contains, refl, sym, ap, subst, ◌∙◌, inl, inr, arith, length-append, append-nil}
+use Rattle.std.proofs.Common.{◌≡◌, ℕ, ◌<◌, ◌≤◌, Bool, false, List, [], ◌++◌, Vec, Global, length, take, take_at, get_or, sym, ap, subst, ◌∙◌, inl, inr, arith, length-append, append-nil}
 use Rattle.std.specs.List.{list_any}
 use Rattle.std.specs.Hash.{HashWrites}
-use Rattle.std.specs.Cmp.{IsEquivalence}
 use Rattle.std.proofs.lemmas.Bool.{cases_lt}
 use Rattle.std.proofs.lemmas.List.{get_or-map, get_or_past, length-map}
 use Rattle.interner.specs.Bins.{GetsNumbers, HasAdded, HasInterned, TakesPending, keys_of, numbers_of, taken_of}
-use Rattle.interner.specs.Interning.{AreApart, AreNumbersOf, AreWithin, HasGrown, IsInterner, IsNumberOf, IsNumbering, IsSpread, lists_of}
+use Rattle.interner.specs.Interning.{AreApart, AreNumbersOf, HasGrown, IsInterner, IsNumbering, IsSpread, lists_of}
 use Rattle.interner.specs.declared.bin.Bin.{Bin}
 use Rattle.interner.specs.declared.spot.Spot.{Spot}
 use Rattle.interner.specs.declared.spot.TheConstants.{SHARDS}
-use Rattle.interner.proofs.Gets.{grown_none, grown_same, grown_then, same_map}
+use Rattle.interner.proofs.Gets.{grown_same, grown_then, same_map}
 use Rattle.interner.proofs.Interned.{TakesAll}
 use Rattle.interner.proofs.Places.{element}
 use Rattle.sharded_set.proofs.Sharing.{each_fails}

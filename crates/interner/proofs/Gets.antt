@@ -1,8 +1,8 @@
 -- Bins whose values get numbers.
-use Rattle.std.proofs.Common.{◌≡◌, ℕ, zero, suc, ◌+◌, ◌<◌, List, [], ◌∷◌, ◌++◌, length, set, get_or, map, refl, sym, ap, ap₂, subst, ◌∙◌, inl, inr, arith, append-nil, append_assoc, get_or-set_same, get_or-set_other}
+use Rattle.std.proofs.Common.{◌≡◌, ℕ, suc, ◌<◌, List, [], ◌∷◌, ◌++◌, length, set, get_or, map, refl, sym, ap, ap₂, subst, ◌∙◌, inl, inr, arith, append-nil, append_assoc, get_or-set_same, get_or-set_other}
 use Rattle.std.proofs.lemmas.Bool.{cases_eq}
 use Rattle.std.proofs.lemmas.List.{get_or_default}
-use Rattle.interner.specs.Bins.{GetsNumbers, keys_of, numbers_of, taken_of}
+use Rattle.interner.specs.Bins.{GetsNumbers, keys_of, taken_of}
 use Rattle.interner.specs.Interning.{HasGrown}
 use Rattle.interner.specs.declared.bin.Bin.{Bin}
 

@@ -1,16 +1,15 @@
 -- Batches that an interner takes.
-use Rattle.std.proofs.Common.{◌≡◌, ℕ, zero, suc, ◌+◌, ◌-◌, ◌<◌, ◌≤◌, Bool, true, false, List, [], ◌∷◌, ◌++◌, length, get_or, map, All, Contains, refl, sym, ap, subst, ◌∙◌, inl, inr, arith, length-append}
+use Rattle.std.proofs.Common.{◌≡◌, ℕ, ◌+◌, ◌-◌, ◌<◌, ◌≤◌, Bool, true, List, [], ◌++◌, length, get_or, map, All, Contains, refl, sym, ap, subst, ◌∙◌, inl, inr, arith, length-append}
 use Rattle.std.specs.Hash.{HashWrites}
 use Rattle.std.specs.Cmp.{IsEquivalence}
 use Rattle.std.proofs.lemmas.Bool.{cases_lt}
-use Rattle.std.proofs.lemmas.List.{get_or-append_right, get_or-map, get_or_append_left, length-map}
-use Rattle.std.proofs.lemmas.List.Elements.{All-contains}
+use Rattle.std.proofs.lemmas.List.{get_or-append_right, get_or-map, length-map}
 use Rattle.sharded_set.specs.Shards.{home}
-use Rattle.interner.specs.Interning.{AreApart, AreHome, AreNumbersOf, AreWithin, HasGrown, IsInterner, IsNumberOf, IsNumbering, IsSpread, number_by, values_at}
+use Rattle.interner.specs.Interning.{AreApart, AreNumbersOf, AreWithin, HasGrown, IsInterner, IsNumberOf, IsNumbering, IsSpread, number_by, values_at}
 use Rattle.interner.specs.declared.spot.Spot.{Spot}
 use Rattle.interner.specs.declared.spot.TheConstants.{SHARDS}
 use Rattle.interner.proofs.Numbered.{long_values, number_of_place, places_within}
-use Rattle.interner.proofs.Places.{at_append, at_grown, at_spot, element, long_at, origin, same_grown, within_grown}
+use Rattle.interner.proofs.Places.{at_append, at_grown, at_spot, element, long_at, origin, same_grown}
 
 -- what each shard has after a batch, and the numbers of all
 pub record TakesAll {T : Type 0} (eq : T → T → Bool) (feed : T → HashWrites) (lists : List (List T)) (keys next : List (List T)) (numbers after taken : List (List ℕ)) (spots then : List Spot) : Type 0 where

@@ -1,16 +1,16 @@
 -- Numbers for the values of shards.
-use Rattle.std.proofs.Common.{◌≡◌, ℕ, zero, suc, ◌+◌, ◌<◌, ◌≤◌, ◌⊎◌, Bool, true, false, true≢false, not, List, [], ◌∷◌, ◌++◌, length, set, get_or, All, Contains, map, refl, sym, ap, subst, ◌∙◌, inl, inr, arith, append-nil, length-append, length-set}
+use Rattle.std.proofs.Common.{◌≡◌, ℕ, ◌+◌, ◌<◌, ◌≤◌, ◌⊎◌, Bool, true, false, true≢false, List, [], ◌∷◌, ◌++◌, length, get_or, refl, sym, ap, subst, ◌∙◌, inl, inr, arith, length-set}
 use Rattle.std.specs.List.{list_any}
 use Rattle.std.specs.Hash.{HashWrites}
 use Rattle.std.specs.Cmp.{IsEquivalence}
 use Rattle.std.proofs.lemmas.Bool.{cases_eq, cases_lt}
-use Rattle.std.proofs.lemmas.List.{get_or-append-add, get_or-append_right, get_or-map, get_or_append_left, get_or_push, length-map, length_push}
+use Rattle.std.proofs.lemmas.List.{get_or_append_left, get_or_push, length_push}
 use Rattle.std.proofs.lemmas.List.Folds.{Any-from_list_any, list_any_at, list_any_none}
 use Rattle.sharded_set.specs.Shards.{home}
-use Rattle.interner.specs.Interning.{AreApart, AreHome, AreNumbersOf, AreWithin, HasGrown, IsInterner, IsNumberOf, IsNumbering, IsSpread, number_by, values_at}
+use Rattle.interner.specs.Interning.{AreApart, AreWithin, IsInterner, IsNumberOf, IsNumbering, values_at}
 use Rattle.interner.specs.declared.spot.Spot.{Spot}
 use Rattle.interner.specs.declared.spot.TheConstants.{SHARDS}
-use Rattle.interner.proofs.Places.{at_append, at_grown, at_spot, last_spot, long_at, origin, own_more, pushed, row_other, row_same, rows_grown, same_grown, values_more, within_grown, within_more}
+use Rattle.interner.proofs.Places.{at_spot, last_spot, long_at, origin, own_more, pushed, row_other, row_same, rows_grown, same_grown, values_more, within_more}
 use Rattle.sharded_set.proofs.Sharing.{each_fails}
 
 module _ (numbers : List (List ℕ)) (spots : List Spot) (so : IsNumbering numbers spots) (k : ℕ) (inside : k < length numbers) where

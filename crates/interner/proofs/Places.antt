@@ -1,5 +1,5 @@
 -- Values at spots of lists.
-use Rattle.std.proofs.Common.{◌≡◌, ℕ, zero, suc, ◌+◌, ◌<◌, ◌≤◌, ◌⊎◌, Bool, true, false, true≢false, List, [], ◌∷◌, ◌++◌, length, take, drop, set, get_or, map, flat_map, All, refl, sym, ap, subst, ◌∙◌, inl, inr, arith, append_assoc, append-nil, length-append, length-set, get_or-set_same, get_or-set_other}
+use Rattle.std.proofs.Common.{◌≡◌, ℕ, zero, suc, ◌<◌, List, [], ◌∷◌, ◌++◌, length, take, drop, set, get_or, map, All, refl, sym, ap, subst, ◌∙◌, inl, inr, arith, append_assoc, append-nil, length-append, length-set, get_or-set_same, get_or-set_other}
 use Rattle.std.specs.Prelude.{Result, Ok, Err, OnErr, OnOk}
 use Rattle.std.specs.Hash.{HashWrites}
 use Rattle.std.proofs.lemmas.Bool.{cases_eq, cases_lt}

@@ -1,12 +1,12 @@
 -- What a bin takes of a batch.
-use Rattle.std.proofs.Common.{◌≡◌, ℕ, zero, suc, ◌+◌, ◌<◌, ◌≤◌, Bool, true, false, true≢false, cond, not, ◌||◌, List, [], ◌∷◌, ◌++◌, length, get_or, Some, slice_get, All, Contains, refl, sym, ap, subst, ◌∙◌, inl, inr, arith, append_assoc, append-nil, length-append, if◌then◌else◌}
+use Rattle.std.proofs.Common.{◌≡◌, ℕ, zero, suc, ◌+◌, ◌<◌, Bool, true, false, true≢false, cond, not, ◌||◌, List, [], ◌∷◌, ◌++◌, length, get_or, Some, slice_get, All, Contains, refl, sym, ap, subst, ◌∙◌, inl, inr, arith, append_assoc, append-nil, if◌then◌else◌}
 use Rattle.std.specs.List.{list_any, position_or_len}
 use Rattle.std.specs.Cmp.{IsEquivalence}
 use Rattle.std.proofs.lemmas.Bool.{cases_lt}
-use Rattle.std.proofs.lemmas.List.{get_or-append_right, get_or_append_left, get_or_push, length_push}
+use Rattle.std.proofs.lemmas.List.{get_or_append_left, get_or_push, length_push}
 use Rattle.std.proofs.lemmas.List.Elements.{All-push, Contains-append_left, Contains-push}
 use Rattle.indexmap.specs.IndexSet.{insert_key}
-use Rattle.interner.specs.Interning.{AreApart, AreNumbersOf, HasGrown, IsNumberOf}
+use Rattle.interner.specs.Interning.{AreApart, HasGrown, IsNumberOf}
 use Rattle.interner.specs.Bins.{HasInterned}
 use Rattle.interner.proofs.Numbered.{apart_more}
 use Rattle.interner.proofs.Places.{same_grown, below_grown}

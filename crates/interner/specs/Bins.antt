@@ -1,5 +1,5 @@
 -- The shards of an interner.
-use Rattle.std.specs.Prelude.{◌≡◌, ℕ, ◌<◌, ◌++◌, Bool, true, false, List, [], All, Contains, map, get_or, length}
+use Rattle.std.specs.Prelude.{◌≡◌, ℕ, ◌++◌, Bool, false, List, All, Contains, map, length}
 use Rattle.interner.specs.Interning.{AreApart, AreNumbersOf, HasGrown}
 use Rattle.interner.specs.declared.bin.Bin.{Bin}
 

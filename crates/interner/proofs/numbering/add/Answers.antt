@@ -1,11 +1,11 @@
-use Rattle.std.proofs.Common.{◌≡◌, ◌<◌, Bool, true, false, not, List, [], ◌∷◌, ◌++◌, length, get_or, ℕ, set, refl, sym, ap, ◌∙◌, subst, arith, if◌then◌else◌}
+use Rattle.std.proofs.Common.{◌≡◌, ◌<◌, not, List, [], ◌∷◌, ◌++◌, length, get_or, ℕ, set, sym, ap, ◌∙◌, subst, arith, if◌then◌else◌}
 use Rattle.std.proofs.lemmas.List.{get_or_default}
 use Rattle.std.specs.List.{list_any}
 use Rattle.interner.specs.Bins.{keys_of, numbers_of}
 use Rattle.interner.specs.Interning.{IsNumberOf, values_at}
 use Rattle.interner.proofs.Numbered.{long_values}
 use Rattle.interner.proofs.Places.{on_error}
-use Rattle.interner.proofs.Added.{bin_within, found_here, full_here, insert_absent, insert_present, interner_new, interner_old, is_absent, is_present, number_here, number_new, values_new, values_old}
+use Rattle.interner.proofs.Added.{found_here, full_here, insert_absent, insert_present, interner_new, interner_old, is_absent, is_present, number_here, number_new, values_new, values_old}
 use Rattle.interner.proofs.numbering.add.Goals as goal
 
 pub returns-in_err-index-clause-interner : goal.returns-in_err-index-clause-interner

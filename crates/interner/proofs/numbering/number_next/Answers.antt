@@ -1,4 +1,4 @@
-use Rattle.std.proofs.Common.{◌≡◌, ◌++◌, ◌∷◌, [], List, ℕ, ap, refl, length, arith, get_or, ◌∙◌}
+use Rattle.std.proofs.Common.{◌≡◌, ◌++◌, ◌∷◌, [], ap, refl, length, arith, get_or, ◌∙◌}
 use Rattle.interner.specs.declared.bin.Bin.{Bin}
 use Rattle.interner.proofs.Gets.{gets_at, grown_same}
 use Rattle.interner.proofs.Places.{put_more}

@@ -1,4 +1,4 @@
-use Rattle.std.proofs.Common.{◌≡◌, ◌<◌, Vec, Global, ap, ◌∙◌, length, get_or, arith}
+use Rattle.std.proofs.Common.{◌<◌, Vec, Global, ap, ◌∙◌, length, get_or, arith}
 use Rattle.interner.specs.Interning.{lists_of}
 use Rattle.interner.proofs.Places.{long_at, place_within, read_at, shard_within}
 use Rattle.interner.proofs.batch.Batch.get.Goals as goal

@@ -1,4 +1,4 @@
-use Rattle.std.proofs.Common.{◌≡◌, ap, length, arith}
+use Rattle.std.proofs.Common.{ap, length, arith}
 use Rattle.interner.specs.Interning.{lists_of}
 use Rattle.interner.proofs.Places.{long_at}
 use Rattle.interner.proofs.batch.Batch.len.Goals as goal

@@ -1,4 +1,4 @@
-use Rattle.std.proofs.Common.{◌≡◌, ◌∙◌, sym, ap}
+use Rattle.std.proofs.Common.{◌∙◌, sym}
 use Rattle.interner.proofs.Taken.{last_place, place_of}
 use Rattle.interner.proofs.bin.Bin.add.Goals as goal
 

@@ -1,4 +1,4 @@
-use Rattle.std.proofs.Common.{◌≡◌, ◌<◌, ap, ◌∙◌, length, get_or, arith}
+use Rattle.std.proofs.Common.{◌<◌, ap, ◌∙◌, length, get_or, arith}
 use Rattle.interner.specs.Bins.{keys_of, numbers_of}
 use Rattle.interner.specs.declared.bin.Bin.{Bin}
 use Rattle.interner.proofs.Numbered.{long_values, places_within}

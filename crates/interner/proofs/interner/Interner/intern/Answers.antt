@@ -1,4 +1,4 @@
-use Rattle.std.proofs.Common.{◌≡◌, ◌++◌, List, ℕ, Bool, IfOk, length, take, drop, sym, subst, arith}
+use Rattle.std.proofs.Common.{◌≡◌, ◌++◌, List, IfOk, length, take, drop, sym, subst, arith}
 use Rattle.interner.specs.Bins.{keys_of}
 use Rattle.interner.specs.Interning.{IsNumberOf, values_at}
 use Rattle.interner.specs.declared.bin.Bin.{Bin}

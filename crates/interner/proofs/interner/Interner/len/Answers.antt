@@ -1,4 +1,4 @@
-use Rattle.std.proofs.Common.{◌≡◌, ap, length, arith}
+use Rattle.std.proofs.Common.{ap, length, arith}
 use Rattle.interner.specs.Bins.{keys_of, numbers_of}
 use Rattle.interner.proofs.Numbered.{long_values}
 use Rattle.interner.proofs.interner.Interner.len.Goals as goal
