@@ -62,6 +62,7 @@ impl<S: Drop> Iterator for Chain<S> {
 
     ghost remaining = { item_count (λ c. c) };
 
+    #[inline(always)]
     fn next(&mut self) -> Option<S> {
         if let Some(value) = self.first.next() {
             return Some(value);

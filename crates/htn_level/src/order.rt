@@ -14,9 +14,12 @@ pub enum Expanded<S, F> {
     Done { rank: usize, finish: F },
 }
 
-// Room is made for so many at most before they are there: a list that has so much is seldom moved as it grows, and of
-// more much may never be needed, where the first rank has many successors and the others few.
-const MOST_ROOM: usize = 1_024;
+// A piece has room for so many at least: few pieces of a small level fill it, and room that isn't filled costs nothing.
+const LEAST_ROOM: usize = 256;
+
+// No more room is made than for these before they are there: where a first rank has many more than the others, what is
+// not filled stays small.
+const MOST_ROOM: usize = 4_096;
 
 // Once the first of so many ranks was expanded, makes room for as many successors of each. Where memory is refused, the
 // list grows as it is filled.
@@ -40,7 +43,8 @@ pub fn expand_in_order<W: Expand>(
     requires can { (rank : ℕ) → first ≤ rank → rank < last → W.can_expand work.now rank }
     ensures { IfOk result (IsExpanded (W.has_successors work.now) (W.finishes work.now) first last) }
 {
-    let mut successors = Vec::with_capacity(alloc, last - first)?;
+    let room = (last - first).max(LEAST_ROOM);
+    let mut successors = Vec::with_capacity(alloc, room)?;
     for rank in first..last {
         if let Some(finish) = work.expand(rank, &mut successors)? {
             return Ok(Expanded::Done { rank, finish });

@@ -118,9 +118,14 @@ loop-one-preserved g c =
         own = e.owned;
         grown = grown_more old mid new i.grown e.grown;
         known = e.known;
-        keys = (i.keys.0 ++ e.keys.0, e.keys.1 ∙ ap (λ l. l ++ e.keys.0) i.keys.1 ∙ append_assoc first.keys i.keys.0 e.keys.0);
-        origins = (i.origins.0 ++ e.origins.0,
-            e.origins.1 ∙ ap (λ l. l ++ e.origins.0) i.origins.1 ∙ append_assoc first.origins i.origins.0 e.origins.0);
+        keys = (
+          i.keys.0 ++ e.keys.0,
+          e.keys.1 ∙ ap (λ l. l ++ e.keys.0) i.keys.1 ∙ append_assoc first.keys i.keys.0 e.keys.0,
+        );
+        origins = (
+          i.origins.0 ++ e.origins.0,
+          e.origins.1 ∙ ap (λ l. l ++ e.origins.0) i.origins.1 ∙ append_assoc first.origins i.origins.0 e.origins.0,
+        );
         offered = offered_more left room mid new e.grown old.point_of first now done one
             (known_still old mid i.grown first.keys c.requires.known) i.known i.offered after own;
         parts = append_assoc done (one ∷ []) rest ∙ joined;
