@@ -11,8 +11,7 @@ use Rattle.interner.specs.declared.spot.Spot.{Spot}
 use Rattle.interner.specs.declared.spot.TheConstants.{SHARDS}
 use Rattle.interner.proofs.Gets.{grown_same, grown_then, same_map}
 use Rattle.interner.proofs.Interned.{TakesAll}
-use Rattle.interner.proofs.Places.{element}
-use Rattle.sharded_set.proofs.Sharing.{each_fails}
+use Rattle.interner.proofs.Places.{each_fails, element}
 
 module _ {T : Type 0} (eq : T → T → Bool) (feed : T → HashWrites) (by_shard : List (Vec T Global)) (routes : List Spot) (spread : IsSpread feed (lists_of by_shard) routes)
     (old given took : List (Bin T)) (spots : List Spot) (was : IsInterner eq feed (keys_of old) (numbers_of old) spots)

@@ -10,8 +10,7 @@ use Rattle.sharded_set.specs.Shards.{home}
 use Rattle.interner.specs.Interning.{AreApart, AreWithin, IsInterner, IsNumberOf, IsNumbering, values_at}
 use Rattle.interner.specs.declared.spot.Spot.{Spot}
 use Rattle.interner.specs.declared.spot.TheConstants.{SHARDS}
-use Rattle.interner.proofs.Places.{at_spot, last_spot, long_at, origin, own_more, pushed, row_other, row_same, rows_grown, same_grown, values_more, within_more}
-use Rattle.sharded_set.proofs.Sharing.{each_fails}
+use Rattle.interner.proofs.Places.{at_spot, each_fails, last_spot, long_at, origin, own_more, pushed, row_other, row_same, rows_grown, same_grown, values_more, within_more}
 
 module _ (numbers : List (List ℕ)) (spots : List Spot) (so : IsNumbering numbers spots) (k : ℕ) (inside : k < length numbers) where
   -- the numbers, and the spots, with one more

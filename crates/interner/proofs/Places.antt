@@ -1,9 +1,11 @@
 -- Values at spots of lists.
-use Rattle.std.proofs.Common.{◌≡◌, ℕ, zero, suc, ◌<◌, List, [], ◌∷◌, ◌++◌, length, take, drop, set, get_or, map, All, refl, sym, ap, subst, ◌∙◌, inl, inr, arith, append_assoc, append-nil, length-append, length-set, get_or-set_same, get_or-set_other}
+use Rattle.std.proofs.Common.{◌≡◌, ℕ, zero, suc, ◌<◌, Bool, true, false, true≢false, List, [], ◌∷◌, ◌++◌, length, take, drop, set, get_or, map, All, refl, sym, ap, subst, ◌∙◌, inl, inr, arith, append_assoc, append-nil, length-append, length-set, get_or-set_same, get_or-set_other}
 use Rattle.std.specs.Prelude.{Result, Ok, Err, OnErr, OnOk}
 use Rattle.std.specs.Hash.{HashWrites}
+use Rattle.std.specs.List.{list_any}
 use Rattle.std.proofs.lemmas.Bool.{cases_eq, cases_lt}
 use Rattle.std.proofs.lemmas.List.{get_or-map, get_or_append_left, get_or_push, get_or_past, length-map, length_push, map-set, set-get_or}
+use Rattle.std.proofs.lemmas.List.Folds.{list_any_at}
 use Rattle.sharded_set.specs.Shards.{home}
 use Rattle.interner.specs.Interning.{AreHome, AreWithin, HasGrown, IsSpread, values_at}
 use Rattle.interner.specs.declared.spot.Spot.{Spot}
@@ -12,6 +14,14 @@ use Rattle.interner.specs.declared.spot.TheConstants.{SHARDS}
 -- some spot
 abbrev pub origin : Spot
 origin = record { shard = 0; index = 0 }
+
+-- where none passes a test, each fails it
+pub each_fails : {X : Type 0} (p : X → Bool) (xs : List X) → list_any p xs ≡ false → (k : ℕ) (d : X) → k < length xs → p (get_or xs k d) ≡ false
+each_fails p xs none k d inside = by (p (get_or xs k d)) refl
+  where
+    by : (b : Bool) → p (get_or xs k d) ≡ b → b ≡ false
+    by false is = refl
+    by true is = absurd (true≢false (sym (list_any_at p xs k d inside is) ∙ none))
 
 -- what stands at a place
 pub element : {X : Type 0} (xs : List X) (k : ℕ) → k < length xs → X
