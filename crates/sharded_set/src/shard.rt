@@ -55,7 +55,6 @@ impl<T: Eq + Hash + Copy> Shard<T> {
     }
 
     /// Adds a value, unless it is there, and tells whether it is new.
-    #[inline(always)]
     pub(crate) fn insert(&mut self, value: T) -> Result<bool, AllocError>
         ensures keys { OnOk result (self.new.values.keys ≡ insert_key T.eq self.old.values.keys value) }
         ensures new { IfOk result (λ is_new. is_new ≡ not (list_any (T.eq value) self.old.values.keys)) }

@@ -44,37 +44,32 @@ pub fn offer_initials<M: Machine, R: Threads + Sync>(
 
 // Leaves out one that a worker reached and that is past the room, unless it is in the list: so it is offered, whatever
 // is put aside for the list. (The measure is named for the contract alone.)
-#[inline(never)]
 fn pass_by<M: Machine>(
     machine: &M,
     tables: &M::Tables,
     closed: &mut Closed<M::Configuration>,
-    one: Measured<M::Reached>,
+    one: &Measured<M::Reached>,
     measure: Measure,
     room: u64,
 )
     requires own { M.owns machine.now tables.now }
     requires known { All (M.meaning machine.now tables.now).knows closed.old.keys }
-    requires allowed { (M.meaning machine.now tables.now).allows one.successor.configuration }
-    requires measured { one.left ≡ measure_of (M.words machine.now) (M.estimate machine.now) measure
-        ((M.meaning machine.now tables.now).point_of one.successor.configuration) }
-    requires past { room < one.left }
+    requires allowed { (M.meaning machine.now tables.now).allows one.now.successor.configuration }
+    requires measured { one.now.left ≡ measure_of (M.words machine.now) (M.estimate machine.now) measure
+        ((M.meaning machine.now tables.now).point_of one.now.successor.configuration) }
+    requires past { room < one.now.left }
     ensures keys { closed.new.keys ≡ closed.old.keys }
     ensures origins { closed.new.origins ≡ closed.old.origins }
     ensures offered { IsPassedBy M.Configuration.eq (M.meaning machine.now tables.now)
-        (measure_of (M.words machine.now) (M.estimate machine.now) measure) room one.successor closed.old closed.new }
+        (measure_of (M.words machine.now) (M.estimate machine.now) measure) room one.now.successor closed.old closed.new }
 {
-    let Measured { successor, left } = one;
-    let Successor {
-        origin,
-        configuration,
-    } = successor;
-    let past = left - room;
+    let origin = one.successor.origin;
+    let past = one.left - room;
     if closed.has_cut_within(past) {
         closed.count_passed_over(origin, past);
         return;
     }
-    let Some(found) = machine.find(tables, &configuration) else {
+    let Some(found) = machine.find(tables, &one.successor.configuration) else {
         closed.cut_off(origin, past);
         return;
     };
@@ -115,7 +110,7 @@ fn put_aside<M: Machine>(
         (contents_at point (with_aside M.Configuration.eq closed.new fits.new))) }
 {
     if one.left > room {
-        pass_by(machine, tables, closed, one, measure, room);
+        pass_by(machine, tables, closed, &one, measure, room);
         return Ok(());
     }
     let Successor {
@@ -159,7 +154,7 @@ fn offer_one<M: Machine>(
         (contents_at point closed.new)) }
 {
     if one.left > room {
-        pass_by(machine, tables, closed, one, measure, room);
+        pass_by(machine, tables, closed, &one, measure, room);
         return Ok(());
     }
     let Successor {

@@ -29,8 +29,8 @@ returns-then-has_cut_within-clause-offered g c = λ fs known fit.
     let left = measure_of (g.M.Machine.words machine) (g.M.Machine.estimate machine) c.args.measure in
     let room = c.args.room in
     let closed = c.args.closed.now in
-    let s = c.args.one.successor in
-    let is_left : c.args.one.left ≡ left (meaning.point_of s.configuration) = c.requires.measured in
+    let s = c.args.one.now.successor in
+    let is_left : c.args.one.now.left ≡ left (meaning.point_of s.configuration) = c.requires.measured in
     let eq = g.M.Configuration.PartialEq.eq in
     subst (λ l. IsOffered (contents_at meaning.point (kept eq closed fs)) (successor_at meaning.point_of s)
     (left (meaning.point_of s.configuration)) room (contents_at meaning.point (kept eq l fs)))
@@ -49,8 +49,8 @@ returns-in_default-clause-offered g c = λ fs known fit.
     let left = measure_of (g.M.Machine.words machine) (g.M.Machine.estimate machine) c.args.measure in
     let room = c.args.room in
     let closed = c.args.closed.now in
-    let s = c.args.one.successor in
-    let is_left : c.args.one.left ≡ left (meaning.point_of s.configuration) = c.requires.measured in
+    let s = c.args.one.now.successor in
+    let is_left : c.args.one.now.left ≡ left (meaning.point_of s.configuration) = c.requires.measured in
     none_offered g.M.Configuration.PartialEq.eq (same g) (reflexive g) meaning.knows meaning.point
     (one g machine c.args.tables.now c.requires.own) left room closed
     fs c.requires.known known fit
@@ -69,8 +69,8 @@ returns-clause-offered g c = λ fs known fit.
     let left = measure_of (g.M.Machine.words machine) (g.M.Machine.estimate machine) c.args.measure in
     let room = c.args.room in
     let closed = c.args.closed.now in
-    let s = c.args.one.successor in
-    let is_left : c.args.one.left ≡ left (meaning.point_of s.configuration) = c.requires.measured in
+    let s = c.args.one.now.successor in
+    let is_left : c.args.one.now.left ≡ left (meaning.point_of s.configuration) = c.requires.measured in
     found_offered g.M.Configuration.PartialEq.eq (same g) (reflexive g) meaning.knows meaning.point
     (one g machine c.args.tables.now c.requires.own) left room closed
     fs c.requires.known known fit
