@@ -62,10 +62,11 @@ impl Tables {
         let mut atoms = AtomTable::new(alloc, fluents, task.initial_atoms())?;
         let literals = goal_literals(alloc, task)?;
         let goal = CompiledLiterals::of(alloc, &mut atoms, literals.as_slice())?;
+        let networks = NetworkTable::new(alloc)?;
         Ok(Tables {
             atoms,
             states: StateTable::new(alloc),
-            networks: NetworkTable::new(alloc)?,
+            networks,
             goal,
             performers: Vec::new(alloc),
             instances: Vec::new(alloc),
