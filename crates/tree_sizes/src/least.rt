@@ -22,7 +22,7 @@ struct Search {
     pending: Vec<Pending>,
     /// By task, the instances in which it stands.
     uses: Vec<Vec<u32>>,
-    /// By size, the tasks of which an instance has it.
+    /// By size, the tasks of which an instance has it, as far as the greatest that one had.
     reached: Vec<Vec<u32>>,
 }
 
@@ -35,20 +35,22 @@ impl Search {
             sizes.push(OUT_OF_REACH)?;
             uses.push(Vec::new(alloc))?;
         }
-        let mut reached = Vec::new(alloc);
-        for _ in 0..OUT_OF_REACH {
-            reached.push(Vec::new(alloc))?;
-        }
         Ok(Search {
             sizes,
             pending: Vec::new(alloc),
             uses,
-            reached,
+            reached: Vec::new(alloc),
         })
     }
 
-    /// An instance of the task has this size.
-    fn reach(&mut self, task: u32, size: u32) -> Result<(), AllocError> {
+    /// An instance of the task has this size. What is out of reach is not noted.
+    fn reach(&mut self, alloc: Global, task: u32, size: u32) -> Result<(), AllocError> {
+        if size >= OUT_OF_REACH {
+            return Ok(());
+        }
+        for _ in self.reached.len()..=size as usize {
+            self.reached.push(Vec::new(alloc))?;
+        }
         if let Some(tasks) = self.reached.get_mut(size as usize) {
             tasks.push(task)?;
         }
@@ -56,7 +58,7 @@ impl Search {
     }
 
     /// Takes in an instance. A subtask that is not searched has the size 1.
-    fn add(&mut self, parts: &Parts) -> Result<(), AllocError> {
+    fn add(&mut self, alloc: Global, parts: &Parts) -> Result<(), AllocError> {
         let Ok(place) = u32::try_from(self.pending.len()) else {
             return Err(AllocError);
         };
@@ -79,13 +81,13 @@ impl Search {
             missing,
         })?;
         if missing == 0 {
-            self.reach(task, size)?;
+            self.reach(alloc, task, size)?;
         }
         Ok(())
     }
 
     /// A subtask of the instance at a place has this size.
-    fn lengthen(&mut self, place: u32, size: u32) -> Result<(), AllocError> {
+    fn lengthen(&mut self, alloc: Global, place: u32, size: u32) -> Result<(), AllocError> {
         let Some(pending) = self.pending.get_mut(place as usize) else {
             return Ok(());
         };
@@ -93,7 +95,7 @@ impl Search {
         pending.missing = pending.missing.saturating_sub(1);
         let (task, sum, missing) = (pending.task, pending.size, pending.missing);
         if missing == 0 {
-            self.reach(task, sum)?;
+            self.reach(alloc, task, sum)?;
         }
         Ok(())
     }
@@ -112,7 +114,7 @@ impl Search {
         };
         let places = mem::replace(uses, Vec::new(alloc));
         for place in &places {
-            self.lengthen(*place, size)?;
+            self.lengthen(alloc, *place, size)?;
         }
         Ok(())
     }
@@ -138,9 +140,12 @@ pub(crate) fn least_sizes(
 ) -> Result<Vec<u32>, AllocError> {
     let mut search = Search::new(alloc, expanded)?;
     for parts in instances {
-        search.add(parts)?;
+        search.add(alloc, parts)?;
     }
     for size in 1..OUT_OF_REACH {
+        if size as usize >= search.reached.len() {
+            break;
+        }
         search.settle_reached(alloc, size)?;
     }
     Ok(search.sizes)
