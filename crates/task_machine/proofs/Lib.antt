@@ -7,4 +7,5 @@ pub mod Prefixes
 pub mod Results
 pub mod Square
 pub mod Stepping
+pub mod Taking
 pub mod Wider

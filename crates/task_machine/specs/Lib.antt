@@ -5,5 +5,6 @@ pub mod Laws
 pub mod Meaning
 pub mod Owned
 pub mod Prefix
+pub mod Site
 pub mod Steps
 pub mod Tables

@@ -1,5 +1,5 @@
 //! The successors of a configuration.
-ghost use Rattle.std.specs.Prelude.{true, false, ◌≡◌, ◌<◌, ◌++◌, ℕ, List, Some, length, option_map, IfOk, IfSome, IfNone, IsSome, OnErr};
+ghost use Rattle.std.specs.Prelude.{true, false, ◌≡◌, ◌<◌, ◌++◌, ℕ, List, Some, length, option_map, slice_get, IfOk, IfSome, IfNone, IsSome, OnErr};
 ghost use Rattle.htn_model.specs.Grounding.{problem_of};
 ghost use Rattle.htn_model.specs.Levels.{is_done};
 ghost use Rattle.htn_model.specs.Literal.{Action as ModelAction};
@@ -9,6 +9,7 @@ ghost use Rattle.htn_net.specs.Listed.{listing_machine};
 ghost use Rattle.needs_table.specs.Prospects.{outlook_by};
 ghost use Rattle.needs_table.specs.declared.prospects.Prospects.{Prospects};
 ghost use Rattle.network_table.specs.Expansions.{IsKnownRemoval};
+ghost use Rattle.network_table.specs.declared.expansion.Removal.{Removal as Removals};
 ghost use Rattle.network_table.specs.Networks.{expansion_at, IsWhole, network_at, Knows};
 ghost use Rattle.network_table.specs.Numbered.{config_at};
 ghost use Rattle.state_table.specs.Compiled.{IsCompiled};
@@ -22,8 +23,7 @@ ghost use Rattle.word_machine.specs.declared.closed.Measured.{Measured};
 ghost use Rattle.task_machine.specs.Bounds.{BelongsTo, bound_by, left_by, lies_beyond};
 ghost use Rattle.task_machine.specs.Owned.{AreOwned};
 ghost use Rattle.task_machine.specs.Meaning.{allows, config_in, knows, meaning, network_number, point, point_of, state_at};
-ghost use Rattle.task_machine.specs.Prefix.{IsReached};
-ghost use Rattle.task_machine.specs.Steps.{rank_count, removed};
+ghost use Rattle.task_machine.specs.Site.{AreTaken, IsReachedFrom, IsSite, LeadsBy, Takes, known_at};
 ghost use Rattle.task_machine.specs.Tables.{AreTables, slot};
 ghost use Rattle.task_machine.specs.declared.configuration.Reached.{Reached};
 
@@ -93,14 +93,16 @@ impl Tables {
     }
 }
 
-/// How many ranks a network has that becomes this.
-fn rank_count(expansion: &Expansion) -> usize
-    ensures { result ≡ rank_count expansion.now }
-{
-    match expansion {
-        Expansion::Decomposed(_, networks) => networks.len(),
-        Expansion::Performed(removals) => removals.len(),
-    }
+/// The configuration that is expanded.
+#[derive(Clone, Copy)]
+struct Site<'a> {
+    tables: &'a Tables,
+    rank: usize,
+    from: Configuration,
+    /// The state of its number.
+    before: &'a BitState,
+    /// What has more steps left is left out.
+    horizon: Horizon,
 }
 
 /// Whether so many steps are more than the horizon has.
@@ -115,61 +117,6 @@ fn is_past(horizon: Horizon, left: u64) -> bool
 }
 
 impl<'a> TaskMachine<'a> {
-    /// Where a free node leads, with the network without it, if its literals hold.
-    fn performed(
-        &self,
-        tables: &Tables,
-        state: u32,
-        removal: &Removal,
-    ) -> Result<Option<Reached>, AllocError>
-        requires own { AreTables self.now.task.now tables.now }
-        requires state { state < length tables.now.states }
-        requires known { IsKnownRemoval tables.now.networks removal.now }
-        requires performer { IsSome (slot tables.now.performers.items removal.now.node) }
-        ensures allowed { IfOk result (λ o. IfSome o (allows tables.now)) }
-        ensures leads { IfOk result (λ o. option_map (point_of tables.now) o
-            ≡ removed self.now.task.now tables.now.networks (state_at tables.now state) removal.now) }
-    {
-        let network = removal.network;
-        let before = &tables.states.states()[state as usize];
-        let Some(performer) = &tables.performers[removal.node as usize] else {
-            unreachable!()
-        };
-        match performer {
-            Performer::Step(literals) => {
-                if !literals.hold(before) {
-                    return Ok(None);
-                }
-                Ok(Some(Reached::Known(Configuration { state, network })))
-            }
-            Performer::Action(action) => tables.acted(before, action, network),
-            Performer::Never => Ok(None),
-        }
-    }
-
-    /// Where a rank leads, if it leads on.
-    fn reached_by(
-        &self,
-        tables: &Tables,
-        from: Configuration,
-        expansion: &Expansion,
-        rank: usize,
-    ) -> Result<Option<Reached>, AllocError>
-        requires own { AreTables self.now.task.now tables.now }
-        requires known { knows tables.now from }
-        requires expansion { expansion_at tables.now.networks from.network ≡ Some expansion.now }
-        requires rank { rank < rank_count expansion.now }
-        ensures { IfOk result (IsReached (listing_machine self.now.task.now) (meaning tables.now) from rank) }
-    {
-        match expansion {
-            Expansion::Decomposed(_, networks) => Ok(Some(Reached::Known(Configuration {
-                state: from.state,
-                network: networks[rank],
-            }))),
-            Expansion::Performed(removals) => self.performed(tables, from.state, &removals[rank]),
-        }
-    }
-
     /// Whether what was reached is done.
     fn is_done_at(&self, tables: &Tables, reached: &Reached) -> bool
         requires own { AreTables self.now.task.now tables.now }
@@ -195,6 +142,184 @@ impl<'a> TaskMachine<'a> {
             Measure::OpenNodes => tables.networks.open_len(reached.network()),
             Measure::LowerBound => tables.lower_bound_of(reached),
         }
+    }
+
+    /// How many steps are left at least of a configuration, by a measure.
+    fn left_in(&self, tables: &Tables, state: &BitState, network: u32, measure: Measure) -> u64
+        requires own { AreOwned self.now.task.now self.now.sizes self.now.prospects tables.now }
+        requires known { Knows tables.now.networks network }
+        requires belongs { BelongsTo self.now.task.now self.now.prospects (config_in tables.now state.now network) }
+        ensures { result ≡ left_by self.now.task.now self.now.sizes self.now.prospects measure
+            (config_in tables.now state.now network) }
+    {
+        match measure {
+            Measure::OpenNodes => tables.networks.open_len(network),
+            Measure::LowerBound => tables.lower_bound(state, network),
+        }
+    }
+
+    /// Adds the successor by a number that leaves the state, unless it is beyond the horizon. If it is done, it says so
+    /// and adds nothing.
+    #[inline(always)]
+    fn add_known(
+        &self,
+        site: &Site,
+        number: usize,
+        network: u32,
+        successors: &mut Vec<Measured<Reached>>,
+    ) -> Result<bool, AllocError>
+        requires own { AreOwned self.now.task.now self.now.sizes self.now.prospects site.now.tables.now }
+        requires site { IsSite self.now.task.now self.now.prospects site.now }
+        requires reached { IsReachedFrom self.now.task.now site.now number (Some (known_at site.now network)) }
+        ensures taken { IfOk result (λ is_done. Takes self.now.task.now self.now.sizes self.now.prospects site.now number
+            is_done successors.old.items successors.new.items) }
+        ensures refused { OnErr result (successors.new.items ≡ successors.old.items) }
+    {
+        let tables = site.tables;
+        if tables.is_finished(site.before, network) {
+            return Ok(true);
+        }
+        let left = self.left_in(tables, site.before, network, site.horizon.measure);
+        if is_past(site.horizon, left) {
+            return Ok(false);
+        }
+        let origin = Origin::Step {
+            parent: site.rank,
+            number: number as u64,
+        };
+        let configuration = Reached::Known(Configuration {
+            state: site.from.state,
+            network,
+        });
+        let successor = Successor {
+            origin,
+            configuration,
+        };
+        successors.push(Measured { successor, left })?;
+        Ok(false)
+    }
+
+    /// Adds the successor by a number that leads there, unless it is beyond the horizon. If it is done, it says so and
+    /// adds nothing.
+    fn add_reached(
+        &self,
+        site: &Site,
+        number: usize,
+        reached: Reached,
+        successors: &mut Vec<Measured<Reached>>,
+    ) -> Result<bool, AllocError>
+        requires own { AreOwned self.now.task.now self.now.sizes self.now.prospects site.now.tables.now }
+        requires site { IsSite self.now.task.now self.now.prospects site.now }
+        requires reached { IsReachedFrom self.now.task.now site.now number (Some reached) }
+        ensures taken { IfOk result (λ is_done. Takes self.now.task.now self.now.sizes self.now.prospects site.now number
+            is_done successors.old.items successors.new.items) }
+        ensures refused { OnErr result (successors.new.items ≡ successors.old.items) }
+    {
+        let tables = site.tables;
+        if self.is_done_at(tables, &reached) {
+            return Ok(true);
+        }
+        let left = self.left_of(tables, &reached, site.horizon.measure);
+        if is_past(site.horizon, left) {
+            return Ok(false);
+        }
+        let origin = Origin::Step {
+            parent: site.rank,
+            number: number as u64,
+        };
+        let successor = Successor {
+            origin,
+            configuration: tables.looked_up(reached),
+        };
+        successors.push(Measured { successor, left })?;
+        Ok(false)
+    }
+
+    /// Adds the successor by a number that performs a free node, if its literals hold and it is not beyond the horizon.
+    /// If it is done, it says so and adds nothing.
+    fn add_performed(
+        &self,
+        site: &Site,
+        number: usize,
+        removal: &Removal,
+        successors: &mut Vec<Measured<Reached>>,
+    ) -> Result<bool, AllocError>
+        requires own { AreOwned self.now.task.now self.now.sizes self.now.prospects site.now.tables.now }
+        requires site { IsSite self.now.task.now self.now.prospects site.now }
+        requires leads { LeadsBy self.now.task.now site.now number removal.now }
+        ensures taken { IfOk result (λ is_done. Takes self.now.task.now self.now.sizes self.now.prospects site.now number
+            is_done successors.old.items successors.new.items) }
+        ensures refused { OnErr result (successors.new.items ≡ successors.old.items) }
+    {
+        let network = removal.network;
+        let Some(performer) = &site.tables.performers[removal.node as usize] else {
+            unreachable!()
+        };
+        match performer {
+            Performer::Step(literals) => {
+                if !literals.hold(site.before) {
+                    return Ok(false);
+                }
+                self.add_known(site, number, network, successors)
+            }
+            Performer::Action(action) => {
+                let Some(reached) = site.tables.acted(site.before, action, network)? else {
+                    return Ok(false);
+                };
+                self.add_reached(site, number, reached, successors)
+            }
+            Performer::Never => Ok(false),
+        }
+    }
+
+    /// Adds the successors by all ranks of a network that becomes these. If one is done, it returns the least number
+    /// that leads to a done one.
+    fn add_decomposed(
+        &self,
+        site: &Site,
+        networks: &[u32],
+        successors: &mut Vec<Measured<Reached>>,
+    ) -> Result<Option<u64>, AllocError>
+        requires own { AreOwned self.now.task.now self.now.sizes self.now.prospects site.now.tables.now }
+        requires site { IsSite self.now.task.now self.now.prospects site.now }
+        requires reached { (number network : ℕ) → slice_get networks.now number ≡ Some network
+            → IsReachedFrom self.now.task.now site.now number (Some (known_at site.now network)) }
+        ensures taken { IfOk result (AreTaken self.now.task.now self.now.sizes self.now.prospects site.now
+            (length networks.now) successors.old.items successors.new.items) }
+        ensures refused { OnErr result ((more : List (Measured Reached))
+            × (successors.new.items ≡ successors.old.items ++ more)) }
+    {
+        for number in 0..networks.len() {
+            if self.add_known(site, number, networks[number], successors)? {
+                return Ok(Some(number as u64));
+            }
+        }
+        Ok(None)
+    }
+
+    /// Adds the successors by all ranks of a network whose free nodes go. If one is done, it returns the least number
+    /// that leads to a done one.
+    fn add_removed(
+        &self,
+        site: &Site,
+        removals: &[Removal],
+        successors: &mut Vec<Measured<Reached>>,
+    ) -> Result<Option<u64>, AllocError>
+        requires own { AreOwned self.now.task.now self.now.sizes self.now.prospects site.now.tables.now }
+        requires site { IsSite self.now.task.now self.now.prospects site.now }
+        requires leads { (number : ℕ) (removal : Removals) → slice_get removals.now number ≡ Some removal
+            → LeadsBy self.now.task.now site.now number removal }
+        ensures taken { IfOk result (AreTaken self.now.task.now self.now.sizes self.now.prospects site.now
+            (length removals.now) successors.old.items successors.new.items) }
+        ensures refused { OnErr result ((more : List (Measured Reached))
+            × (successors.new.items ≡ successors.old.items ++ more)) }
+    {
+        for number in 0..removals.len() {
+            if self.add_performed(site, number, &removals[number], successors)? {
+                return Ok(Some(number as u64));
+            }
+        }
+        Ok(None)
     }
 
     /// Adds the successors of a configuration in the order of their ranks, each with this rank for its parent's and
@@ -227,27 +352,16 @@ impl<'a> TaskMachine<'a> {
         let Some(expansion) = tables.networks.expansion(from.network) else {
             unreachable!()
         };
-        for number in 0..rank_count(expansion) {
-            let Some(reached) = self.reached_by(tables, from, expansion, number)? else {
-                continue;
-            };
-            if self.is_done_at(tables, &reached) {
-                return Ok(Some(number as u64));
-            }
-            let left = self.left_of(tables, &reached, horizon.measure);
-            if is_past(horizon, left) {
-                continue;
-            }
-            let origin = Origin::Step {
-                parent: rank,
-                number: number as u64,
-            };
-            let successor = Successor {
-                origin,
-                configuration: tables.looked_up(reached),
-            };
-            successors.push(Measured { successor, left })?;
+        let site = Site {
+            tables,
+            rank,
+            from,
+            before: &tables.states.states()[from.state as usize],
+            horizon,
+        };
+        match expansion {
+            Expansion::Decomposed(_, networks) => self.add_decomposed(&site, networks, successors),
+            Expansion::Performed(removals) => self.add_removed(&site, removals, successors),
         }
-        Ok(None)
     }
 }

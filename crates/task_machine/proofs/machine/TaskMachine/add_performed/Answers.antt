@@ -1,0 +1,114 @@
+use Rattle.std.proofs.Common.{◌≡◌, [], get_or, true, false, None, Some, option_map, sym, ap, subst, ◌∙◌}
+use Rattle.std.proofs.lemmas.Option.{slice_get-get_or}
+use Rattle.htn_model.specs.Literal.{holds}
+use Rattle.htn_model.specs.Problem.{perform_action}
+use Rattle.network_table.specs.Networks.{network_at}
+use Rattle.network_table.specs.Numbered.{config_at}
+use Rattle.state_table.specs.Table.{IsSetOf, state_of}
+use Rattle.task_machine.specs.Meaning.{state_at}
+use Rattle.task_machine.specs.Site.{IsReachedFrom, known_at}
+use Rattle.task_machine.specs.declared.performer.Performer.TheVariants.{Step, Action as Acts, Never}
+use Rattle.task_machine.proofs.Performing.{acts, never, performer_of, step_goes, step_stays}
+use Rattle.task_machine.proofs.Taking.{takes_none}
+use Rattle.task_machine.proofs.machine.TaskMachine.add_performed.Goals as goal
+
+pub returns-then-not-hold-clause-taken : goal.returns-then-not-hold-clause-taken
+returns-then-not-hold-clause-taken c =
+    let m = c.args.self.now in
+    let t = m.task.now in
+    let site = c.args.site.now in
+    let tables = site.tables.now in
+    let r = c.args.removal.now in
+    let own = c.requires.own.tables in
+    let right =
+    performer_of t tables own r.node c.index.result.now (Step c.in-Step.literals) c.requires.leads.performer
+    c.index.ensures (c.in-Some.is ∙ ap Some c.in-Step.is) in
+    let told = c.hold.ensures tables.atoms right.0 own.atoms.table right.2 in
+    let same = ap (λ w. holds (state_of tables.atoms w) right.0) c.requires.site.words in
+    let test = c.if-not-hold.true in
+    let fails : holds (state_at tables site.from.state) right.0 ≡ false = cc in
+    let stays = step_stays t tables.networks (state_at tables site.from.state) r right.0 right.1 fails in
+    takes_none t m.sizes m.prospects site c.args.number c.args.successors.now.items (c.requires.leads.leads None tt stays)
+
+pub add_known-requires-clause-reached : goal.add_known-requires-clause-reached
+add_known-requires-clause-reached c =
+    let t = c.args.self.now.task.now in
+    let site = c.args.site.now in
+    let tables = site.tables.now in
+    let r = c.args.removal.now in
+    let own = c.requires.own.tables in
+    let right =
+    performer_of t tables own r.node c.index.result.now (Step c.in-Step.literals) c.requires.leads.performer
+    c.index.ensures (c.in-Some.is ∙ ap Some c.in-Step.is) in
+    let told = c.hold.ensures tables.atoms right.0 own.atoms.table right.2 in
+    let same = ap (λ w. holds (state_of tables.atoms w) right.0) c.requires.site.words in
+    let test = c.if-not-hold.false in
+    let hold : holds (state_at tables site.from.state) right.0 ≡ true = cc in
+    let goes = step_goes t tables.networks (state_at tables site.from.state) r right.0 right.1 hold in
+    c.requires.leads.leads (Some (known_at site r.network)) (c.requires.site.known.0, c.requires.leads.known.0) goes
+
+pub acted-requires-clause-compiled : goal.acted-requires-clause-compiled
+acted-requires-clause-compiled c =
+    let site = c.args.site.now in
+    let right =
+    performer_of c.args.self.now.task.now site.tables.now c.requires.own.tables c.args.removal.now.node c.index.result.now
+    (Acts c.in-Action.action) c.requires.leads.performer c.index.ensures (c.in-Some.is ∙ ap Some c.in-Action.is) in
+    (right.1, right.4)
+
+pub acted-requires-clause-set : goal.acted-requires-clause-set
+acted-requires-clause-set c =
+    let site = c.args.site.now in
+    let states = site.tables.now.states in
+    let n = site.from.state in
+    subst (IsSetOf site.tables.now.atoms) (sym c.requires.site.words)
+    (c.requires.own.tables.sets n (get_or states n []) (slice_get-get_or states n [] c.requires.site.known.0))
+
+pub returns-in_default-2-clause-taken : goal.returns-in_default-2-clause-taken
+returns-in_default-2-clause-taken c =
+    let m = c.args.self.now in
+    let t = m.task.now in
+    let site = c.args.site.now in
+    let tables = site.tables.now in
+    let r = c.args.removal.now in
+    let right =
+    performer_of t tables c.requires.own.tables r.node c.index.result.now (Acts c.in-Action.action)
+    c.requires.leads.performer c.index.ensures (c.in-Some.is ∙ ap Some c.in-Action.is) in
+    let to = option_map (λ after. config_at after (network_at tables.networks r.network)) in
+    let here = ap (λ w. to (perform_action (state_of tables.atoms w) (Some right.1))) c.requires.site.words in
+    let does = acts t tables.networks (state_at tables site.from.state) r right.0 right.1 right.2 right.3 in
+    let acted = c.in_ok-reached-in-Action.ensures in
+    let reached =
+    c.requires.leads.leads c.in_ok-reached-in-Action.field-0 acted.allowed (acted.leads right.1 right.4 ∙ here ∙ does) in
+    takes_none t m.sizes m.prospects site c.args.number c.args.successors.now.items
+    (subst (IsReachedFrom t site c.args.number) c.in_default-2.is reached)
+
+pub add_reached-requires-clause-reached : goal.add_reached-requires-clause-reached
+add_reached-requires-clause-reached c =
+    let t = c.args.self.now.task.now in
+    let site = c.args.site.now in
+    let tables = site.tables.now in
+    let r = c.args.removal.now in
+    let right =
+    performer_of t tables c.requires.own.tables r.node c.index.result.now (Acts c.in-Action.action)
+    c.requires.leads.performer c.index.ensures (c.in-Some.is ∙ ap Some c.in-Action.is) in
+    let to = option_map (λ after. config_at after (network_at tables.networks r.network)) in
+    let here = ap (λ w. to (perform_action (state_of tables.atoms w) (Some right.1))) c.requires.site.words in
+    let does = acts t tables.networks (state_at tables site.from.state) r right.0 right.1 right.2 right.3 in
+    let acted = c.in_ok-reached-in-Action.ensures in
+    let reached =
+    c.requires.leads.leads c.in_ok-reached-in-Action.field-0 acted.allowed (acted.leads right.1 right.4 ∙ here ∙ does) in
+    subst (IsReachedFrom t site c.args.number) c.in-Some-2.is reached
+
+pub returns-in-Never-clause-taken : goal.returns-in-Never-clause-taken
+returns-in-Never-clause-taken c =
+    let m = c.args.self.now in
+    let t = m.task.now in
+    let site = c.args.site.now in
+    let tables = site.tables.now in
+    let r = c.args.removal.now in
+    let right =
+    performer_of t tables c.requires.own.tables r.node c.index.result.now Never c.requires.leads.performer
+    c.index.ensures (c.in-Some.is ∙ ap Some c.in-Never.is) in
+    let state = state_at tables site.from.state in
+    takes_none t m.sizes m.prospects site c.args.number c.args.successors.now.items
+    (c.requires.leads.leads None tt (never t tables.networks state r (right state)))
