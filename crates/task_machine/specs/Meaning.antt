@@ -40,8 +40,3 @@ point_of t (New words network) = config_in t words network
 -- by these tables
 abbrev pub meaning : Tables → Meaning Configuration Reached Config
 meaning t = record { knows = knows t; point = point t; allows = allows t; point_of = point_of t }
-
--- the number of its network
-abbrev pub network_number : Reached → ℕ
-network_number (Known c) = c.network
-network_number (New words network) = network

@@ -1,6 +1,4 @@
 //! Configurations by numbers.
-ghost use Rattle.std.specs.Prelude.{◌≡◌};
-ghost use Rattle.task_machine.specs.Meaning.{network_number};
 
 use state_table::BitState;
 
@@ -18,16 +16,4 @@ pub enum Reached {
     Known(Configuration),
     /// Its state has none yet; the number is that of its network.
     New(BitState, u32),
-}
-
-impl Reached {
-    /// The number of its network.
-    pub fn network(&self) -> u32
-        ensures { result ≡ network_number self.now }
-    {
-        match self {
-            Reached::Known(known) => known.network,
-            Reached::New(_, network) => *network,
-        }
-    }
 }

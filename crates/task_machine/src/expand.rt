@@ -1,31 +1,21 @@
 //! The successors of a configuration.
 ghost use Rattle.std.specs.Prelude.{true, false, ◌≡◌, ◌<◌, ◌++◌, ℕ, List, Some, length, option_map, slice_get, IfOk, IfSome, IfNone, IsSome, OnErr};
-ghost use Rattle.htn_model.specs.Grounding.{problem_of};
-ghost use Rattle.htn_model.specs.Levels.{is_done};
 ghost use Rattle.htn_model.specs.Literal.{Action as ModelAction};
 ghost use Rattle.htn_model.specs.Problem.{perform_action};
-ghost use Rattle.htn_model.specs.Task as model;
 ghost use Rattle.htn_net.specs.Listed.{listing_machine};
-ghost use Rattle.needs_table.specs.Prospects.{outlook_by};
-ghost use Rattle.needs_table.specs.declared.prospects.Prospects.{Prospects};
-ghost use Rattle.network_table.specs.Expansions.{IsKnownRemoval};
 ghost use Rattle.network_table.specs.declared.expansion.Removal.{Removal as Removals};
-ghost use Rattle.network_table.specs.Networks.{expansion_at, IsWhole, network_at, Knows};
-ghost use Rattle.network_table.specs.Numbered.{config_at};
+ghost use Rattle.network_table.specs.Networks.{expansion_at, Knows};
 ghost use Rattle.state_table.specs.Compiled.{IsCompiled};
 ghost use Rattle.state_table.specs.Table.{IsSetOf, IsTable, state_of};
-ghost use Rattle.tree_sizes.specs.Sizes.{size_of};
-ghost use Rattle.tree_sizes.specs.declared.tree_sizes.TreeSizes.{TreeSizes};
 ghost use Rattle.word_machine.specs.Expansion.{IsLeastDone};
 ghost use Rattle.word_machine.specs.Machine.{IsDone, IsLiveStep};
 ghost use Rattle.word_machine.specs.Meaning.{AreMeasured, AreSuccessors, successors_of};
 ghost use Rattle.word_machine.specs.declared.closed.Measured.{Measured};
-ghost use Rattle.task_machine.specs.Bounds.{BelongsTo, bound_by, left_by, lies_beyond};
+ghost use Rattle.task_machine.specs.Bounds.{BelongsTo, left_by, lies_beyond};
 ghost use Rattle.task_machine.specs.Owned.{AreOwned};
-ghost use Rattle.task_machine.specs.Meaning.{allows, config_in, knows, meaning, network_number, point, point_of, state_at};
+ghost use Rattle.task_machine.specs.Meaning.{allows, config_in, knows, meaning, point, point_of};
 ghost use Rattle.task_machine.specs.Site.{AreTaken, IsReachedFrom, IsSite, LeadsBy, Takes, known_at};
-ghost use Rattle.task_machine.specs.Tables.{AreTables, slot};
-ghost use Rattle.task_machine.specs.declared.configuration.Reached.{Reached};
+ghost use Rattle.task_machine.specs.declared.configuration.Reached.TheVariants.{New};
 
 use crate::configuration::{Configuration, Reached};
 use crate::machine::TaskMachine;
@@ -37,59 +27,36 @@ use std::alloc::AllocError;
 use word_machine::{Horizon, Measure, Measured, Origin, Successor};
 
 impl Tables {
-    /// How many steps are left at least of what was reached, by the machine's own bound.
-    fn lower_bound_of(&self, reached: &Reached) -> u64
-        requires whole { IsWhole self.now.networks }
-        requires allowed { allows self.now reached.now }
-        requires needed { network_number reached.now < length self.now.needs.needs.items }
-        ensures { (t : model.Task) (sizes : TreeSizes) (known : Prospects) → AreOwned t sizes known self.now
-            → result ≡ bound_by (problem_of t) (size_of sizes) (outlook_by known) (point_of self.now reached.now) }
-    {
-        match reached {
-            Reached::Known(at) => {
-                self.lower_bound(&self.states.states()[at.state as usize], at.network)
-            }
-            Reached::New(state, network) => self.lower_bound(state, *network),
-        }
-    }
-
-    /// What was reached, by the number of its state if that has one. It takes no memory.
-    fn looked_up(&self, reached: Reached) -> Reached
-        requires { allows self.now reached }
+    /// A state with a network, by the number of the state if that has one. It takes no memory.
+    fn looked_up(&self, state: BitState, network: u32) -> Reached
+        requires { allows self.now (New state network) }
         ensures allowed { allows self.now result }
-        ensures point { point_of self.now result ≡ point_of self.now reached }
+        ensures point { point_of self.now result ≡ config_in self.now state network }
     {
-        let Reached::New(state, network) = reached else {
-            return reached;
-        };
         match self.states.number_of(&state) {
             Some(state) => Reached::Known(Configuration { state, network }),
             None => Reached::New(state, network),
         }
     }
 
-    /// Where an action leads, with this network, if its precondition holds: its state is written out.
+    /// The state after an action, if its precondition holds: it is written out.
     fn acted(
         &self,
         before: &BitState,
         action: &CompiledAction,
-        network: u32,
-    ) -> Result<Option<Reached>, AllocError>
+    ) -> Result<Option<BitState>, AllocError>
         requires table { IsTable self.now.atoms }
         requires compiled { (model : ModelAction) × IsCompiled self.now.atoms action.now model }
         requires set { IsSetOf self.now.atoms before.now }
-        requires known { Knows self.now.networks network }
-        ensures allowed { IfOk result (λ o. IfSome o (allows self.now)) }
+        ensures set { IfOk result (λ o. IfSome o (IsSetOf self.now.atoms)) }
         ensures leads { IfOk result (λ o. (model : ModelAction) → IsCompiled self.now.atoms action.now model
-            → option_map (point_of self.now) o
-            ≡ option_map (λ after. config_at after (network_at self.now.networks network))
-            (perform_action (state_of self.now.atoms before.now) (Some model))) }
+            → option_map (state_of self.now.atoms) o ≡ perform_action (state_of self.now.atoms before.now) (Some model)) }
     {
         if !action.applies(before) {
             return Ok(None);
         }
         let after = action.after(before)?;
-        Ok(Some(Reached::New(after, network)))
+        Ok(Some(after))
     }
 }
 
@@ -117,33 +84,6 @@ fn is_past(horizon: Horizon, left: u64) -> bool
 }
 
 impl<'a> TaskMachine<'a> {
-    /// Whether what was reached is done.
-    fn is_done_at(&self, tables: &Tables, reached: &Reached) -> bool
-        requires own { AreTables self.now.task.now tables.now }
-        requires allowed { allows tables.now reached.now }
-        ensures { result ≡ is_done (problem_of self.now.task.now) (point_of tables.now reached.now) }
-    {
-        match reached {
-            Reached::Known(at) => {
-                tables.is_finished(&tables.states.states()[at.state as usize], at.network)
-            }
-            Reached::New(state, network) => tables.is_finished(state, *network),
-        }
-    }
-
-    /// How many steps are left at least of what was reached, by a measure.
-    fn left_of(&self, tables: &Tables, reached: &Reached, measure: Measure) -> u64
-        requires own { AreOwned self.now.task.now self.now.sizes self.now.prospects tables.now }
-        requires allowed { allows tables.now reached.now }
-        requires belongs { BelongsTo self.now.task.now self.now.prospects (point_of tables.now reached.now) }
-        ensures { result ≡ left_by self.now.task.now self.now.sizes self.now.prospects measure (point_of tables.now reached.now) }
-    {
-        match measure {
-            Measure::OpenNodes => tables.networks.open_len(reached.network()),
-            Measure::LowerBound => tables.lower_bound_of(reached),
-        }
-    }
-
     /// How many steps are left at least of a configuration, by a measure.
     fn left_in(&self, tables: &Tables, state: &BitState, network: u32, measure: Measure) -> u64
         requires own { AreOwned self.now.task.now self.now.sizes self.now.prospects tables.now }
@@ -199,27 +139,28 @@ impl<'a> TaskMachine<'a> {
         Ok(false)
     }
 
-    /// Adds the successor by a number that leads there, unless it is beyond the horizon. If it is done, it says so and
-    /// adds nothing.
-    fn add_reached(
+    /// Adds the successor by a number that leads to this state and network, unless it is beyond the horizon. If it is
+    /// done, it says so and adds nothing.
+    fn add_new(
         &self,
         site: &Site,
         number: usize,
-        reached: Reached,
+        state: BitState,
+        network: u32,
         successors: &mut Vec<Measured<Reached>>,
     ) -> Result<bool, AllocError>
         requires own { AreOwned self.now.task.now self.now.sizes self.now.prospects site.now.tables.now }
         requires site { IsSite self.now.task.now self.now.prospects site.now }
-        requires reached { IsReachedFrom self.now.task.now site.now number (Some reached) }
+        requires reached { IsReachedFrom self.now.task.now site.now number (Some (New state network)) }
         ensures taken { IfOk result (λ is_done. Takes self.now.task.now self.now.sizes self.now.prospects site.now number
             is_done successors.old.items successors.new.items) }
         ensures refused { OnErr result (successors.new.items ≡ successors.old.items) }
     {
         let tables = site.tables;
-        if self.is_done_at(tables, &reached) {
+        if tables.is_finished(&state, network) {
             return Ok(true);
         }
-        let left = self.left_of(tables, &reached, site.horizon.measure);
+        let left = self.left_in(tables, &state, network, site.horizon.measure);
         if is_past(site.horizon, left) {
             return Ok(false);
         }
@@ -229,7 +170,7 @@ impl<'a> TaskMachine<'a> {
         };
         let successor = Successor {
             origin,
-            configuration: tables.looked_up(reached),
+            configuration: tables.looked_up(state, network),
         };
         successors.push(Measured { successor, left })?;
         Ok(false)
@@ -263,10 +204,10 @@ impl<'a> TaskMachine<'a> {
                 self.add_known(site, number, network, successors)
             }
             Performer::Action(action) => {
-                let Some(reached) = site.tables.acted(site.before, action, network)? else {
+                let Some(after) = site.tables.acted(site.before, action)? else {
                     return Ok(false);
                 };
-                self.add_reached(site, number, reached, successors)
+                self.add_new(site, number, after, network, successors)
             }
             Performer::Never => Ok(false),
         }

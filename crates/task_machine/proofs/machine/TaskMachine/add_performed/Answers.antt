@@ -1,12 +1,15 @@
-use Rattle.std.proofs.Common.{◌≡◌, [], get_or, true, false, None, Some, option_map, sym, ap, subst, ◌∙◌}
+use Rattle.std.proofs.Common.{◌≡◌, [], get_or, true, false, None, Option, Some, option_map, sym, ap, subst, ◌∙◌}
+use Rattle.std.specs.Prelude.{IfSome}
 use Rattle.std.proofs.lemmas.Option.{slice_get-get_or}
 use Rattle.htn_model.specs.Literal.{holds}
 use Rattle.htn_model.specs.Problem.{perform_action}
+use Rattle.htn_model.specs.State.{State}
 use Rattle.network_table.specs.Networks.{network_at}
 use Rattle.network_table.specs.Numbered.{config_at}
 use Rattle.state_table.specs.Table.{IsSetOf, state_of}
 use Rattle.task_machine.specs.Meaning.{state_at}
-use Rattle.task_machine.specs.Site.{IsReachedFrom, known_at}
+use Rattle.task_machine.specs.Site.{known_at}
+use Rattle.task_machine.specs.declared.configuration.Reached.TheVariants.{New}
 use Rattle.task_machine.specs.declared.performer.Performer.TheVariants.{Step, Action as Acts, Never}
 use Rattle.task_machine.proofs.Performing.{acts, never, performer_of, step_goes, step_stays}
 use Rattle.task_machine.proofs.Taking.{takes_none}
@@ -73,17 +76,15 @@ returns-in_default-2-clause-taken c =
     let right =
     performer_of t tables c.requires.own.tables r.node c.index.result.now (Acts c.in-Action.action)
     c.requires.leads.performer c.index.ensures (c.in-Some.is ∙ ap Some c.in-Action.is) in
-    let to = option_map (λ after. config_at after (network_at tables.networks r.network)) in
+    let to = λ (o : Option State). option_map (λ after. config_at after (network_at tables.networks r.network)) o in
     let here = ap (λ w. to (perform_action (state_of tables.atoms w) (Some right.1))) c.requires.site.words in
     let does = acts t tables.networks (state_at tables site.from.state) r right.0 right.1 right.2 right.3 in
-    let acted = c.in_ok-reached-in-Action.ensures in
-    let reached =
-    c.requires.leads.leads c.in_ok-reached-in-Action.field-0 acted.allowed (acted.leads right.1 right.4 ∙ here ∙ does) in
-    takes_none t m.sizes m.prospects site c.args.number c.args.successors.now.items
-    (subst (IsReachedFrom t site c.args.number) c.in_default-2.is reached)
+    let leads = ap to (c.in_ok-after-in-Action.ensures.leads right.1 right.4) ∙ here ∙ does in
+    let none = ap (λ o. to (option_map (state_of tables.atoms) o)) (sym c.in_default-2.is) ∙ leads in
+    takes_none t m.sizes m.prospects site c.args.number c.args.successors.now.items (c.requires.leads.leads None tt none)
 
-pub add_reached-requires-clause-reached : goal.add_reached-requires-clause-reached
-add_reached-requires-clause-reached c =
+pub add_new-requires-clause-reached : goal.add_new-requires-clause-reached
+add_new-requires-clause-reached c =
     let t = c.args.self.now.task.now in
     let site = c.args.site.now in
     let tables = site.tables.now in
@@ -91,13 +92,14 @@ add_reached-requires-clause-reached c =
     let right =
     performer_of t tables c.requires.own.tables r.node c.index.result.now (Acts c.in-Action.action)
     c.requires.leads.performer c.index.ensures (c.in-Some.is ∙ ap Some c.in-Action.is) in
-    let to = option_map (λ after. config_at after (network_at tables.networks r.network)) in
+    let to = λ (o : Option State). option_map (λ after. config_at after (network_at tables.networks r.network)) o in
     let here = ap (λ w. to (perform_action (state_of tables.atoms w) (Some right.1))) c.requires.site.words in
     let does = acts t tables.networks (state_at tables site.from.state) r right.0 right.1 right.2 right.3 in
-    let acted = c.in_ok-reached-in-Action.ensures in
-    let reached =
-    c.requires.leads.leads c.in_ok-reached-in-Action.field-0 acted.allowed (acted.leads right.1 right.4 ∙ here ∙ does) in
-    subst (IsReachedFrom t site c.args.number) c.in-Some-2.is reached
+    let acted = c.in_ok-after-in-Action.ensures in
+    let leads = ap to (acted.leads right.1 right.4) ∙ here ∙ does in
+    let there = ap (λ o. to (option_map (state_of tables.atoms) o)) (sym c.in-Some-2.is) ∙ leads in
+    let set = subst (λ o. IfSome o (IsSetOf tables.atoms)) c.in-Some-2.is acted.set in
+    c.requires.leads.leads (Some (New c.in-Some-2.after r.network)) (set, c.requires.leads.known.0) there
 
 pub returns-in-Never-clause-taken : goal.returns-in-Never-clause-taken
 returns-in-Never-clause-taken c =

@@ -1,8 +1,5 @@
-use Rattle.std.proofs.Common.{◌≡◌, true, false, cond, Some, None, option_map, sym, ap, ◌∙◌}
+use Rattle.std.proofs.Common.{◌≡◌, true, false, cond, Some, None, sym, ap, ◌∙◌}
 use Rattle.htn_model.specs.Literal.{after, holds}
-use Rattle.htn_model.specs.State.{State}
-use Rattle.network_table.specs.Networks.{network_at}
-use Rattle.network_table.specs.Numbered.{config_at}
 use Rattle.state_table.specs.Table.{state_of}
 use Rattle.task_machine.proofs.tables.Tables.acted.Goals as goal
 
@@ -13,12 +10,11 @@ returns-then-not-applies-clause-leads c = λ model compiled.
     let is = c.applies.ensures tables.atoms model c.requires.table compiled in
     let test = c.if-not-applies.true in
     let fails : holds state model.precondition ≡ false = cc in
-    let to = λ (next : State). config_at next (network_at tables.networks c.args.network) in
-    sym (ap (λ b. option_map to (cond b (Some (after state model)) None)) fails)
+    sym (ap (λ b. cond b (Some (after state model)) None) fails)
 
-pub returns-clause-allowed : goal.returns-clause-allowed
-returns-clause-allowed c =
-    (c.in_ok-after.ensures.within c.args.self.now.atoms c.requires.compiled.0 c.requires.compiled.1 c.requires.set, c.requires.known)
+pub returns-clause-set : goal.returns-clause-set
+returns-clause-set c =
+    c.in_ok-after.ensures.within c.args.self.now.atoms c.requires.compiled.0 c.requires.compiled.1 c.requires.set
 
 pub returns-clause-leads : goal.returns-clause-leads
 returns-clause-leads c = λ model compiled.
@@ -28,6 +24,4 @@ returns-clause-leads c = λ model compiled.
     let test = c.if-not-applies.false in
     let holds : holds state model.precondition ≡ true = cc in
     let next = c.in_ok-after.ensures.state tables.atoms model c.requires.table compiled in
-    let to = λ (s : State). config_at s (network_at tables.networks c.args.network) in
-    let does = ap (λ b. option_map to (cond b (Some (after state model)) None)) holds in
-    ap Some (ap to next) ∙ sym does
+    ap Some next ∙ sym (ap (λ b. cond b (Some (after state model)) None) holds)
