@@ -157,6 +157,30 @@ fn run_in<'s, 'a: 's, E, W: Expand + 's, G: Gate + 's, R: Threads>(
     }
 }
 
+// Runs the worker of the only pass, here.
+fn run_alone<W: Expand, G: Gate>(
+    alloc: Global,
+    job: Job<W, G>,
+    mut passes: Vec<Pass>,
+) -> Result<Vec<Worked<W::Successor, W::Finish>>, LevelFault>
+    requires one { vec_len passes ≡ 1 }
+    requires passes { All (λ p. p ≡ new_pass job.desk.now) passes.items }
+    requires can { CanExpandAll (W.can_expand job.level.work.now) job.level.first job.level.last }
+    requires pieces { HasPieces job.level.first job.level.last job.level.piece job.desk.now.pieces }
+    ensures len { IfOk result (λ home. vec_len home ≡ 1) }
+    ensures right { IfOk result (λ home. All (IsWorked (W.has_successors job.entry.level.work.now) (W.finishes job.entry.level.work.now) job.entry.level.first job.entry.level.last job.entry.level.piece job.entry.desk.now) home.items) }
+    ensures no_thread { IfErr result (λ e. e ≡ NoThread → ⊥) }
+{
+    let Some(own) = passes.pop() else {
+        unreachable!()
+    };
+    let mut home = Vec::with_capacity(alloc, 1)?;
+    if take_in(job, &mut home, work_off(alloc, job, own)) {
+        return Err(LevelFault::OutOfMemory);
+    }
+    Ok(home)
+}
+
 /// Runs a worker for each pass, each but one in a thread of its own, and waits for all.
 pub fn run<W: Expand, G: Gate, R: Threads + Wait + Sync>(
     rt: &R,
@@ -172,6 +196,9 @@ pub fn run<W: Expand, G: Gate, R: Threads + Wait + Sync>(
     ensures right { IfOk result (λ home. All (IsWorked (W.has_successors job.entry.level.work.now) (W.finishes job.entry.level.work.now) job.entry.level.first job.entry.level.last job.entry.level.piece job.entry.desk.now) home.items) }
     ensures no_thread { IfErr result (λ e. e ≡ NoThread → 1 < vec_len passes) }
 {
+    if passes.len() == 1 {
+        return run_alone(alloc, job, passes);
+    }
     thread::scope(
         thread::scope_env(),
         rt,

@@ -1,8 +1,8 @@
 -- What a free node makes of a state.
-use Rattle.std.proofs.Common.{◌≡◌, ℕ, zero, suc, ◌<◌, ◌≤◌, List, [], ◌∷◌, get_or, length, Bool, true, false, true≢false, cond, Option, Some, None, option_map, option_and_then, refl, sym, ap, ◌∙◌, arith}
-use Rattle.std.specs.Prelude.{Result, Ok, Err, IfOk, IfSome, IsSome}
+use Rattle.std.proofs.Common.{◌≡◌, ℕ, zero, suc, ◌<◌, ◌≤◌, List, [], ◌∷◌, get_or, length, Bool, true, false, true≢false, cond, Option, Some, None, option_map, option_and_then, sym, ap, ◌∙◌, arith}
+use Rattle.std.specs.Prelude.{IfSome, IsSome}
 use Rattle.std.proofs.lemmas.List.{get_or_read}
-use Rattle.std.proofs.lemmas.Option.{slice_get_past, slice_get_read}
+use Rattle.std.proofs.lemmas.Option.{slice_get_past}
 use Rattle.htn_model.specs.Choice.{child_of}
 use Rattle.htn_model.specs.Grounding.{problem_of}
 use Rattle.htn_model.specs.Literal.{Literal, Action as ModelAction, holds}
@@ -17,7 +17,6 @@ use Rattle.network_table.specs.declared.expansion.Expansion.{Expansion}
 use Rattle.network_table.specs.declared.expansion.Expansion.TheVariants.{Decomposed, Performed}
 use Rattle.network_table.specs.declared.expansion.Removal.{Removal}
 use Rattle.network_table.specs.declared.table.NetworkTable.{NetworkTable}
-use Rattle.state_table.specs.Table.{IsSetOf}
 use Rattle.task_machine.specs.Meaning.{knows, meaning, point, point_of, state_at}
 use Rattle.task_machine.specs.Prefix.{IsReached}
 use Rattle.task_machine.specs.Steps.{rank_count, removed, step_after}
@@ -27,12 +26,6 @@ use Rattle.task_machine.specs.declared.configuration.Reached.{Reached}
 use Rattle.task_machine.specs.declared.performer.Performer.{Performer}
 use Rattle.task_machine.specs.declared.tables.Tables.{Tables}
 use Rattle.task_machine.proofs.Stepping.{ranks_lead}
-
--- two facts of what a call returned
-pub both_ok : {A E : Type 0} (P Q S : A → Type 0) → ((a : A) → P a → Q a → S a)
-    → (r : Result A E) → IfOk r P → IfOk r Q → IfOk r S
-both_ok P Q S join (Ok a) p q = join a p q
-both_ok P Q S join (Err e) p q = tt
 
 module _ (t : Task) (networks : NetworkTable) (state : State) (r : Removal) where
   -- the node that goes
@@ -119,9 +112,3 @@ module _ (t : Task) (tables : Tables) (own : AreTables t tables) where
     -- the words of a state that has a number
     pub words_at : words ≡ get_or tables.states i []
     words_at = get_or_read tables.states i words inside (read ∙ ap (λ l. get_or l i words) same) []
-
-    -- they are a set of the table's atoms
-    pub set_at : IsSetOf tables.atoms words
-    set_at =
-        own.sets i words (slice_get_read tables.states (length tables.states) i words refl inside
-        (read ∙ ap (λ l. get_or l i words) same))

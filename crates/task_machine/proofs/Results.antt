@@ -1,5 +1,5 @@
 -- Facts of what a call returned.
-use Rattle.std.specs.Prelude.{Option, Some, None, Result, Ok, Err, IfNone, IfOk, OnOk}
+use Rattle.std.specs.Prelude.{Option, Some, None, Result, Ok, Err, IfNone, IfOk, OnErr, OnOk}
 
 -- what follows where it did not fail
 pub then_on_ok : {A E P Q : Type 0} (r : Result A E) → (P → Q) → OnOk r P → OnOk r Q
@@ -20,3 +20,8 @@ both_on_ok (Err e) implies p q = tt
 pub both_if_ok : {A E : Type 0} (P Q R : A → Type 0) (r : Result A E) → ((a : A) → P a → Q a → R a) → IfOk r P → IfOk r Q → IfOk r R
 both_if_ok P Q R (Ok a) implies p q = implies a p q
 both_if_ok P Q R (Err e) implies p q = tt
+
+-- what holds at any rate holds where a call failed
+pub on_error : {A E P : Type 0} (r : Result A E) → P → OnErr r P
+on_error (Ok a) p = tt
+on_error (Err e) p = p

@@ -1,6 +1,6 @@
 -- Numbers taken one after another from a configuration that is expanded.
 use Rattle.std.proofs.Common.{◌≡◌, ℕ, ◌≤◌, ◌++◌, ◌∷◌, [], List, true, false, true≢false, Option, Some, None, refl, sym, arith}
-use Rattle.std.specs.Prelude.{Err, IfNone, Ok, OnErr, Result}
+use Rattle.std.specs.Prelude.{IfNone}
 use Rattle.htn_model.specs.Grounding.{problem_of}
 use Rattle.htn_model.specs.Levels.{is_done}
 use Rattle.htn_model.specs.Machine.{Config}
@@ -96,8 +96,3 @@ module _ (t : Task) (sizes : TreeSizes) (p : Prospects) (site : Site) (old new :
       (left_by t sizes p site.horizon.measure) (λ at n. refl) site.rank site.from n old new taken.whole
       (λ k past. leads_nowhere t site.tables.now own site.from known e at k (let far : rank_count e ≤ k = omega arith in far))
   taken_whole (Some number) n taken e all own known at = tt
-
--- what holds at any rate holds where a call failed
-pub on_error : {A E P : Type 0} (r : Result A E) → P → OnErr r P
-on_error (Ok a) p = tt
-on_error (Err e) p = p

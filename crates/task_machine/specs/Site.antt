@@ -26,7 +26,7 @@ pub record IsSite (t : Task) (p : Prospects) (site : Site) : Type 0 where
 
 -- the same state with another network
 abbrev pub known_at : Site → ℕ → Reached
-known_at site network = Known (record { state = site.from.state; network = network })
+known_at site network = Known site.from.state network
 
 -- a number leads to this, if it leads on
 abbrev pub IsReachedFrom : Task → Site → ℕ → Option Reached → Type 0

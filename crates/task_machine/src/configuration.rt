@@ -12,8 +12,9 @@ pub struct Configuration {
 /// A configuration that a worker reached.
 #[derive(Drop)]
 pub enum Reached {
-    /// Its state has a number.
-    Known(Configuration),
-    /// Its state has none yet; the number is that of its network.
+    /// The numbers of its state and of its network: each by itself, since a processor that has just copied a value
+    /// around them waits before it can read both as one word.
+    Known(u32, u32),
+    /// Its state, which has no number yet, and the number of its network.
     New(BitState, u32),
 }

@@ -11,6 +11,7 @@ ghost use Rattle.word_machine.specs.Expansion.{IsLeastDone};
 ghost use Rattle.word_machine.specs.Machine.{IsDone, IsLiveStep};
 ghost use Rattle.word_machine.specs.Meaning.{AreMeasured, AreSuccessors, successors_of};
 ghost use Rattle.word_machine.specs.declared.closed.Measured.{Measured};
+ghost use Rattle.word_machine.specs.declared.closed.Origin.TheVariants.{Step};
 ghost use Rattle.task_machine.specs.Bounds.{BelongsTo, left_by, lies_beyond};
 ghost use Rattle.task_machine.specs.Owned.{AreOwned};
 ghost use Rattle.task_machine.specs.Meaning.{allows, config_in, knows, meaning, point, point_of};
@@ -34,7 +35,7 @@ impl Tables {
         ensures point { point_of self.now result ≡ config_in self.now state network }
     {
         match self.states.number_of(&state) {
-            Some(state) => Reached::Known(Configuration { state, network }),
+            Some(state) => Reached::Known(state, network),
             None => Reached::New(state, network),
         }
     }
@@ -64,6 +65,7 @@ impl Tables {
 #[derive(Clone, Copy)]
 struct Site<'a> {
     tables: &'a Tables,
+    /// The rank of the configuration.
     rank: usize,
     from: Configuration,
     /// The state of its number.
@@ -72,7 +74,24 @@ struct Site<'a> {
     horizon: Horizon,
 }
 
-/// Whether so many steps are more than the horizon has.
+// What a list gets for the successor by a number, of which so many steps are left at least.
+fn measured(site: &Site, number: usize, configuration: Reached, left: u64) -> Measured<Reached>
+    ensures { result ≡ record {
+        successor = record { origin = Step site.now.rank number; configuration = configuration };
+        left = left } }
+{
+    let origin = Origin::Step {
+        parent: site.rank,
+        number: number as u64,
+    };
+    let successor = Successor {
+        origin,
+        configuration,
+    };
+    Measured { successor, left }
+}
+
+// Whether so many steps are more than the horizon has.
 fn is_past(horizon: Horizon, left: u64) -> bool
     ensures past { result ≡ true → (most : ℕ) × (horizon.most_left ≡ Some most) × (most < left) }
     ensures within { result ≡ false → ((most : ℕ) × (horizon.most_left ≡ Some most) × (most < left)) → ⊥ }
@@ -98,8 +117,8 @@ impl<'a> TaskMachine<'a> {
         }
     }
 
-    /// Adds the successor by a number that leaves the state, unless it is beyond the horizon. If it is done, it says so
-    /// and adds nothing.
+    /// Adds the successor by a number that leads to another network in the same state, unless it is beyond the horizon.
+    /// If it is done, it says so: nobody reads the list then.
     #[inline(always)]
     fn add_known(
         &self,
@@ -123,24 +142,13 @@ impl<'a> TaskMachine<'a> {
         if is_past(site.horizon, left) {
             return Ok(false);
         }
-        let origin = Origin::Step {
-            parent: site.rank,
-            number: number as u64,
-        };
-        let configuration = Reached::Known(Configuration {
-            state: site.from.state,
-            network,
-        });
-        let successor = Successor {
-            origin,
-            configuration,
-        };
-        successors.push(Measured { successor, left })?;
+        let configuration = Reached::Known(site.from.state, network);
+        successors.push(measured(site, number, configuration, left))?;
         Ok(false)
     }
 
     /// Adds the successor by a number that leads to this state and network, unless it is beyond the horizon. If it is
-    /// done, it says so and adds nothing.
+    /// done, it says so: nobody reads the list then.
     fn add_new(
         &self,
         site: &Site,
@@ -164,20 +172,13 @@ impl<'a> TaskMachine<'a> {
         if is_past(site.horizon, left) {
             return Ok(false);
         }
-        let origin = Origin::Step {
-            parent: site.rank,
-            number: number as u64,
-        };
-        let successor = Successor {
-            origin,
-            configuration: tables.looked_up(state, network),
-        };
-        successors.push(Measured { successor, left })?;
+        let configuration = tables.looked_up(state, network);
+        successors.push(measured(site, number, configuration, left))?;
         Ok(false)
     }
 
     /// Adds the successor by a number that performs a free node, if its literals hold and it is not beyond the horizon.
-    /// If it is done, it says so and adds nothing.
+    /// If it is done, it says so: nobody reads the list then.
     fn add_performed(
         &self,
         site: &Site,

@@ -143,7 +143,7 @@ impl<'a> Machine for TaskMachine<'a> {
 
     fn keep(&self, tables: &mut Tables, reached: Reached) -> Result<Configuration, AllocError> {
         match reached {
-            Reached::Known(known) => Ok(known),
+            Reached::Known(state, network) => Ok(Configuration { state, network }),
             Reached::New(state, network) => {
                 let state = tables.states.keep(state)?;
                 Ok(Configuration { state, network })
@@ -153,7 +153,10 @@ impl<'a> Machine for TaskMachine<'a> {
 
     fn find(&self, tables: &Tables, reached: &Reached) -> Option<Configuration> {
         match reached {
-            Reached::Known(known) => Some(*known),
+            Reached::Known(state, network) => Some(Configuration {
+                state: *state,
+                network: *network,
+            }),
             Reached::New(state, network) => {
                 let state = tables.states.number_of(state)?;
                 Some(Configuration {

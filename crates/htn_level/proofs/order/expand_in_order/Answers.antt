@@ -1,4 +1,4 @@
-use Rattle.std.proofs.Common.{◌≡◌, List, ◌++◌, sym, subst, ◌∙◌, arith}
+use Rattle.std.proofs.Common.{◌≡◌, List, ◌++◌, sym, subst, arith}
 use Rattle.std.proofs.lemmas.Option.{MatchOption-at_some, MatchOption-at_none}
 use Rattle.htn_level.specs.Level.{AreSuccessors}
 use Rattle.htn_level.proofs.Ranks.{no_ranks, one_more, of_each}
@@ -7,7 +7,7 @@ use Rattle.htn_level.proofs.order.expand_in_order.Goals as goal
 pub loop-rank-init : goal.loop-rank-init
 loop-rank-init g c =
     let has_successors = g.W.Expand.has_successors c.args.work.now in
-    subst (AreSuccessors has_successors c.args.first c.args.first) (sym c.in_ok-successors.ensures.items) (no_ranks has_successors c.args.first)
+    subst (AreSuccessors has_successors c.args.first c.args.first) (sym c.new-successors.ensures.items) (no_ranks has_successors c.args.first)
 
 pub loop-rank-preserved : goal.loop-rank-preserved
 loop-rank-preserved g c =
@@ -16,7 +16,7 @@ loop-rank-preserved g c =
     let before = c.loop-rank.successors.items in
     let grown = c.expand.new.successors.items in
     let added : (more : List g.row.W-Successor.Denot) × (grown ≡ before ++ more) × has_successors rank more = MatchOption-at_none _ _ c.in_default.is c.in_ok-finish.ensures.whole in
-    one_more has_successors c.args.first rank before added.0 c.make_room.new.successors.items c.loop-rank.invariant added.2 (c.make_room.ensures ∙ added.1)
+    one_more has_successors c.args.first rank before added.0 grown c.loop-rank.invariant added.2 added.1
 
 pub returns-in-Some : goal.returns-in-Some
 returns-in-Some g c =

@@ -1,4 +1,4 @@
-use Rattle.std.proofs.Common.{◌∙◌, ◌<◌, false, refl, sym, ap, subst}
+use Rattle.std.proofs.Common.{◌∙◌, ◌<◌, ◌++◌, ◌∷◌, [], false, refl, sym, ap, subst}
 use Rattle.htn_model.specs.Grounding.{problem_of}
 use Rattle.htn_model.specs.Levels.{is_done}
 use Rattle.task_machine.specs.Bounds.{BelongsTo, left_by}
@@ -63,4 +63,5 @@ returns-clause-taken c =
     let taken =
     takes_more t m.sizes m.prospects site c.args.number old at c.requires.reached unfinished at c.requires.reached.allowed refl
     c.left_in-left.result left in
-    subst (Takes t m.sizes m.prospects site c.args.number false old) (sym c.in_ok-push.ensures.items) taken
+    subst (Takes t m.sizes m.prospects site c.args.number false old) (sym (c.in_ok-push.ensures.items
+    ∙ ap (λ m. old ++ m ∷ []) c.measured.ensures)) taken

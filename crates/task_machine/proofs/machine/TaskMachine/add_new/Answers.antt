@@ -1,4 +1,4 @@
-use Rattle.std.proofs.Common.{◌∙◌, ◌<◌, false, sym, subst}
+use Rattle.std.proofs.Common.{◌∙◌, ◌<◌, ◌++◌, ◌∷◌, [], false, sym, ap, subst}
 use Rattle.task_machine.specs.Site.{Takes}
 use Rattle.task_machine.specs.declared.configuration.Reached.TheVariants.{New}
 use Rattle.task_machine.proofs.Taking.{belongs_there, takes_done, takes_more, takes_past}
@@ -14,8 +14,8 @@ pub left_in-left-requires-clause-belongs : goal.left_in-left-requires-clause-bel
 left_in-left-requires-clause-belongs c =
     belongs_there c.args.self.now c.args.site.now c.requires.site c.args.number (New c.args.state c.args.network) c.requires.reached
 
-pub looked_up-requires : goal.looked_up-requires
-looked_up-requires c = c.requires.reached.allowed
+pub looked_up-configuration-requires : goal.looked_up-configuration-requires
+looked_up-configuration-requires c = c.requires.reached.allowed
 
 pub returns-then-is_finished-clause-taken : goal.returns-then-is_finished-clause-taken
 returns-then-is_finished-clause-taken c =
@@ -43,6 +43,7 @@ returns-clause-taken c =
     let old = c.args.successors.now.items in
     let taken =
     takes_more t m.sizes m.prospects site c.args.number old (New c.args.state c.args.network) c.requires.reached
-    (sym (c.is_finished.ensures t c.requires.own.tables) ∙ c.if-is_finished.false) c.looked_up.result
-    c.looked_up.ensures.allowed c.looked_up.ensures.point c.left_in-left.result c.left_in-left.ensures in
-    subst (Takes t m.sizes m.prospects site c.args.number false old) (sym c.in_ok-push.ensures.items) taken
+    (sym (c.is_finished.ensures t c.requires.own.tables) ∙ c.if-is_finished.false) c.looked_up-configuration.result
+    c.looked_up-configuration.ensures.allowed c.looked_up-configuration.ensures.point c.left_in-left.result c.left_in-left.ensures in
+    subst (Takes t m.sizes m.prospects site c.args.number false old) (sym (c.in_ok-push.ensures.items
+    ∙ ap (λ m. old ++ m ∷ []) c.measured.ensures)) taken

@@ -1,7 +1,7 @@
 use Rattle.std.proofs.Common.{◌≡◌, ℕ, ◌<◌, ◌∙◌, length, subst, arith}
 use Rattle.std.proofs.lemmas.Option.{slice_get-get_or}
 use Rattle.task_machine.specs.Site.{HasMade}
-use Rattle.task_machine.proofs.Taking.{on_error}
+use Rattle.task_machine.proofs.Results.{on_error}
 use Rattle.task_machine.proofs.machine.TaskMachine.add_removed.Goals as goal
 
 pub add_performed-requires-clause-leads : goal.add_performed-requires-clause-leads

@@ -30,7 +30,7 @@ add_decomposed-requires-clause-reached c = λ number network there.
     (of.known number network inside) in
     let leads = ap (option_map (λ n. config_at (state_at tables from.state) (network_at tables.networks n))) here in
     rank_reached t tables c.requires.own.tables from c.requires.known e at number
-    (Some (Known (record { state = from.state; network = network }))) (c.requires.known.0, known) leads
+    (Some (Known from.state network)) (c.requires.known.0, known) leads
 
 pub add_removed-requires-clause-leads : goal.add_removed-requires-clause-leads
 add_removed-requires-clause-leads c = λ number removal there.
