@@ -12,8 +12,8 @@ pub struct Configuration {
 /// A configuration that a worker reached.
 #[derive(Drop)]
 pub enum Reached {
-    /// The numbers of its state and of its network: each by itself, since a processor that has just copied a value
-    /// around them waits before it can read both as one word.
+    /// The numbers of its state and of its network. (As one `Configuration` the merge reads them as one word, which
+    /// took a twentieth of a small puzzle's time.)
     Known(u32, u32),
     /// Its state, which has no number yet, and the number of its network.
     New(BitState, u32),
