@@ -77,8 +77,9 @@ struct Site<'a> {
 // What a list gets for the successor by a number, of which so many steps are left at least.
 fn measured(site: &Site, number: usize, configuration: Reached, left: u64) -> Measured<Reached>
     ensures { result ≡ record {
-        successor = record { origin = Step site.now.rank number; configuration = configuration };
-        left = left } }
+      successor = record { origin = Step site.now.rank number; configuration = configuration };
+      left = left;
+    } }
 {
     let origin = Origin::Step {
         parent: site.rank,
