@@ -220,15 +220,15 @@ module _ (t : Task) (old new : Tables) (own : AreTables t old) (later : AreLater
   -- what was allowed stays so
   allowed_stays : (r : Reached) → allows old r → allows new r
   allowed_stays (Known state n) known = known_stays (record { state = state; network = n }) known
-  allowed_stays (New words n) allowed = (
-    later_set old.atoms new.atoms later.atoms words allowed.0,
+  allowed_stays (New state n) allowed = (
+    later_set old.atoms new.atoms later.atoms state.value allowed.0,
     (numbers_stay old.networks new.networks n own.networks later.networks allowed.1).0,
   )
 
   -- what was reached stands for the same point
   reached_stays : (r : Reached) → allows old r → point_of new r ≡ point_of old r
   reached_stays (Known state n) known = point_stays (record { state = state; network = n }) known
-  reached_stays (New words n) allowed = config_stays words n allowed.0 allowed.1
+  reached_stays (New state n) allowed = config_stays state.value n allowed.0 allowed.1
 
   -- what stood for a configuration still stands for it
   pub meaning_grown : MeaningGrown (meaning old) (meaning new)

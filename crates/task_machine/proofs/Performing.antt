@@ -1,6 +1,6 @@
 -- What a free node makes of a state.
 use Rattle.std.proofs.Common.{◌≡◌, ℕ, zero, suc, ◌<◌, ◌≤◌, List, [], ◌∷◌, get_or, length, Bool, true, false, true≢false, cond, Option, Some, None, option_map, option_and_then, sym, ap, ◌∙◌, arith}
-use Rattle.std.specs.Prelude.{IfSome, IsSome}
+use Rattle.std.specs.Prelude.{IsSome}
 use Rattle.std.proofs.lemmas.List.{get_or_read}
 use Rattle.std.proofs.lemmas.Option.{slice_get_past}
 use Rattle.htn_model.specs.Choice.{child_of}
@@ -17,12 +17,10 @@ use Rattle.network_table.specs.declared.expansion.Expansion.{Expansion}
 use Rattle.network_table.specs.declared.expansion.Expansion.TheVariants.{Decomposed, Performed}
 use Rattle.network_table.specs.declared.expansion.Removal.{Removal}
 use Rattle.network_table.specs.declared.table.NetworkTable.{NetworkTable}
-use Rattle.task_machine.specs.Meaning.{knows, meaning, point, point_of, state_at}
-use Rattle.task_machine.specs.Prefix.{IsReached}
+use Rattle.task_machine.specs.Meaning.{knows, point, state_at}
 use Rattle.task_machine.specs.Steps.{rank_count, removed, step_after}
 use Rattle.task_machine.specs.Tables.{AreTables, IsPerformer, slot}
 use Rattle.task_machine.specs.declared.configuration.Configuration.{Configuration}
-use Rattle.task_machine.specs.declared.configuration.Reached.{Reached}
 use Rattle.task_machine.specs.declared.performer.Performer.{Performer}
 use Rattle.task_machine.specs.declared.tables.Tables.{Tables}
 use Rattle.task_machine.proofs.Stepping.{ranks_lead}
@@ -75,16 +73,10 @@ module _ (t : Task) (tables : Tables) (own : AreTables t tables) where
   module _ (from : Configuration) (known : knows tables from) (e : Expansion)
       (at : expansion_at tables.networks from.network ≡ Some e) where
     -- where a rank leads
-    leads_after : (rank : ℕ) → (listing_machine t).step (point tables from) rank
+    pub leads_after : (rank : ℕ) → (listing_machine t).step (point tables from) rank
         ≡ step_after t tables.networks (state_at tables from.state) e rank
     leads_after = ranks_lead t tables.networks from.network e (own.sound from.network e known.1 at)
         (state_at tables from.state)
-
-    -- the same in the tables' meaning
-    pub rank_reached : (rank : ℕ) (o : Option Reached) → IfSome o (meaning tables).allows
-        → step_after t tables.networks (state_at tables from.state) e rank ≡ option_map (point_of tables) o
-        → IsReached (listing_machine t) (meaning tables) from rank o
-    rank_reached rank o allowed leads = record { allowed = allowed; leads = leads_after rank ∙ leads }
 
     -- past the last rank nothing is led to
     pub leads_nowhere : (n : ℕ) → rank_count e ≤ n → (listing_machine t).step (point tables from) n ≡ None

@@ -1,5 +1,5 @@
 -- Successors made in the order of their numbers.
-use Rattle.std.proofs.Common.{◌≡◌, ℕ, zero, suc, ◌+◌, ◌<◌, ◌≤◌, true, false, true≢false, List, [], ◌∷◌, ◌++◌, All, length, map, get_or, Option, Some, None, option_map, append_assoc, refl, sym, ap, subst, ◌∙◌, inl, inr, arith}
+use Rattle.std.proofs.Common.{◌≡◌, ℕ, zero, suc, ◌+◌, ◌<◌, ◌≤◌, true, false, true≢false, List, [], ◌∷◌, ◌++◌, All, length, map, get_or, Some, None, append_assoc, refl, sym, ap, subst, ◌∙◌, inl, inr, arith}
 use Rattle.std.specs.List.{AllZip}
 use Rattle.std.specs.List.Sorted.{IsStrictlyIncreasing}
 use Rattle.std.proofs.lemmas.Bool.{cases_lt}
@@ -12,7 +12,7 @@ use Rattle.word_machine.specs.declared.closed.Successor.{Successor}
 use Rattle.word_machine.specs.Expansion.{IsSuccessor, IsExpansionOf, IsLeastDone}
 use Rattle.word_machine.specs.Machine.{WordMachine, IsDone, IsLiveStep}
 use Rattle.word_machine.specs.Meaning.{AreMeasured, AreSuccessors, Meaning, successor_at, successors_of}
-use Rattle.task_machine.specs.Prefix.{StepBelow, IsPrefix, IsMade, IsReached}
+use Rattle.task_machine.specs.Prefix.{StepBelow, IsPrefix, IsMade}
 
 -- what holds of two lists place by place still does with one more of each
 all_zip_push : {A B : Type 0} (R : A → B → Type 0) (xs : List A) (ys : List B) (x : A) (y : B) → AllZip R xs ys
@@ -228,60 +228,57 @@ module _ {C R P : Type 0} (m : WordMachine P) (meaning : Meaning C R P) (beyond 
         ] in
         (so.more, so.pushed, (so.allowed, prefix_whole m beyond p (meaning.point c) n (views so.more) so.prefix low), so.measured)
 
-    module _ (o : Option R) (at : IsReached m meaning c n o) where
-      -- a number that leads nowhere
-      pub made_skip : o ≡ None → IsMade m meaning beyond measure p c (n + 1) old new
-      made_skip none =
-          let nowhere : m.step (meaning.point c) n ≡ None = at.leads ∙ ap (option_map meaning.point_of) none in
+    -- a number that leads nowhere
+    pub made_skip : m.step (meaning.point c) n ≡ None → IsMade m meaning beyond measure p c (n + 1) old new
+    made_skip nowhere = record {
+      more = so.more;
+      pushed = so.pushed;
+      allowed = so.allowed;
+      prefix = prefix_skip m beyond p (meaning.point c) n (views so.more) so.prefix
+          (λ d step. none-some d (sym nowhere ∙ step.0));
+      measured = so.measured;
+    }
+
+    module _ (to : P) (at : m.step (meaning.point c) n ≡ Some to) where
+      -- where it leads
+      leads_to : IsLiveStep m (meaning.point c) n to
+      leads_to = alive n to at
+
+      -- a number that leads to what is not done
+      pub made_more : m.is_done to ≡ false → (q : R) → meaning.allows q → meaning.point_of q ≡ to
+          → (left : ℕ) → left ≡ measure to
+          → IsMade m meaning beyond measure p c (n + 1) old
+          (new ++ record { successor = record { origin = Stepped p n; configuration = q }; left = left } ∷ [])
+      made_more unfinished q may same left measured =
+          let x : Successor R = record { origin = Stepped p n; configuration = q } in
+          let s : Measured R = record { successor = x; left = left } in
           record {
-            more = so.more;
-            pushed = so.pushed;
-            allowed = so.allowed;
-            prefix = prefix_skip m beyond p (meaning.point c) n (views so.more) so.prefix
-                (λ d step. none-some d (sym nowhere ∙ step.0));
-            measured = so.measured;
+            more = so.more ++ s ∷ [];
+            pushed = ap (λ l. l ++ s ∷ []) so.pushed ∙ append_assoc old so.more (s ∷ []);
+            allowed = subst (All IsAllowed) (sym (successors_more so.more s))
+                (All-append IsAllowed (successors_of so.more) (x ∷ []) so.allowed
+                (All-cons IsAllowed x [] may (All-nil IsAllowed)));
+            prefix = subst (IsPrefix m beyond p (meaning.point c) (n + 1)) (sym (views_more so.more s))
+                (prefix_more m beyond p (meaning.point c) n (views so.more) so.prefix (meaning.point_of q)
+                (subst (IsLiveStep m (meaning.point c) n) (sym same) leads_to)
+                (λ done. true≢false (sym done ∙ ap m.is_done same ∙ unfinished)));
+            measured = All-append IsMeasured so.more (s ∷ []) so.measured
+                (All-cons IsMeasured s [] (measured ∙ ap measure (sym same)) (All-nil IsMeasured));
           }
 
-      module _ (r : R) (some : o ≡ Some r) where
-        -- where it leads
-        leads_to : IsLiveStep m (meaning.point c) n (meaning.point_of r)
-        leads_to = alive n (meaning.point_of r) (at.leads ∙ ap (option_map meaning.point_of) some)
+      -- a number that leads to what is beyond, and not done
+      pub made_past : m.is_done to ≡ false → beyond to → IsMade m meaning beyond measure p c (n + 1) old new
+      made_past unfinished far = record {
+        more = so.more;
+        pushed = so.pushed;
+        allowed = so.allowed;
+        prefix = prefix_past m beyond p (meaning.point c) n (views so.more) so.prefix to leads_to
+            (λ done. true≢false (sym done ∙ unfinished), far);
+        measured = so.measured;
+      }
 
-        -- a number that leads to what is not done
-        pub made_more : m.is_done (meaning.point_of r) ≡ false → (q : R) → meaning.allows q → meaning.point_of q ≡ meaning.point_of r
-            → (left : ℕ) → left ≡ measure (meaning.point_of r)
-            → IsMade m meaning beyond measure p c (n + 1) old
-            (new ++ record { successor = record { origin = Stepped p n; configuration = q }; left = left } ∷ [])
-        made_more unfinished q may same left measured =
-            let x : Successor R = record { origin = Stepped p n; configuration = q } in
-            let s : Measured R = record { successor = x; left = left } in
-            record {
-              more = so.more ++ s ∷ [];
-              pushed = ap (λ l. l ++ s ∷ []) so.pushed ∙ append_assoc old so.more (s ∷ []);
-              allowed = subst (All IsAllowed) (sym (successors_more so.more s))
-                  (All-append IsAllowed (successors_of so.more) (x ∷ []) so.allowed
-                  (All-cons IsAllowed x [] may (All-nil IsAllowed)));
-              prefix = subst (IsPrefix m beyond p (meaning.point c) (n + 1)) (sym (views_more so.more s))
-                  (prefix_more m beyond p (meaning.point c) n (views so.more) so.prefix (meaning.point_of q)
-                  (subst (IsLiveStep m (meaning.point c) n) (sym same) leads_to)
-                  (λ done. true≢false (sym done ∙ ap m.is_done same ∙ unfinished)));
-              measured = All-append IsMeasured so.more (s ∷ []) so.measured
-                  (All-cons IsMeasured s [] (measured ∙ ap measure (sym same)) (All-nil IsMeasured));
-            }
-
-        -- a number that leads to what is beyond, and not done
-        pub made_past : m.is_done (meaning.point_of r) ≡ false → beyond (meaning.point_of r) → IsMade m meaning beyond measure p c (n + 1) old new
-        made_past unfinished far = record {
-          more = so.more;
-          pushed = so.pushed;
-          allowed = so.allowed;
-          prefix = prefix_past m beyond p (meaning.point c) n (views so.more) so.prefix (meaning.point_of r) leads_to
-              (λ done. true≢false (sym done ∙ unfinished), far);
-          measured = so.measured;
-        }
-
-        -- a number that leads to what is done is the least
-        pub made_done : m.is_done (meaning.point_of r) ≡ true
-            → IsLeastDone (IsLiveStep m) (IsDone m) (meaning.point c) n
-        made_done done =
-            prefix_done m beyond p (meaning.point c) n (views so.more) so.prefix (meaning.point_of r) leads_to done
+      -- a number that leads to what is done is the least
+      pub made_done : m.is_done to ≡ true
+          → IsLeastDone (IsLiveStep m) (IsDone m) (meaning.point c) n
+      made_done done =
+          prefix_done m beyond p (meaning.point c) n (views so.more) so.prefix to leads_to done

@@ -16,7 +16,7 @@ use Rattle.word_machine.specs.declared.closed.Measured.{Measured}
 use Rattle.word_machine.specs.declared.closed.Origin.TheVariants.{Step as Stepped}
 use Rattle.task_machine.specs.Bounds.{BelongsTo, belonging_lawful, left_by, lies_beyond}
 use Rattle.task_machine.specs.Meaning.{allows, knows, meaning, point, point_of}
-use Rattle.task_machine.specs.Site.{AreTaken, IsReachedFrom, IsSite, Takes}
+use Rattle.task_machine.specs.Site.{AreTaken, IsSite, LeadsTo, Takes}
 use Rattle.task_machine.specs.Steps.{rank_count}
 use Rattle.task_machine.specs.Tables.{AreTables}
 use Rattle.task_machine.specs.declared.configuration.Reached.{Reached}
@@ -26,11 +26,11 @@ use Rattle.task_machine.proofs.Performing.{leads_nowhere}
 use Rattle.task_machine.proofs.Prefixes.{made_done, made_more, made_past, made_skip, made_whole}
 
 -- what a number leads to is one of the machine's
-pub belongs_there : (m : TaskMachine) (site : Site) → IsSite m.task.now m.prospects site → (number : ℕ) (r : Reached)
-    → IsReachedFrom m.task.now site number (Some r) → BelongsTo m.task.now m.prospects (point_of site.tables.now r)
-belongs_there m site is number r reached =
+pub belongs_there : (m : TaskMachine) (site : Site) → IsSite m.task.now m.prospects site → (number : ℕ) (to : Config)
+    → LeadsTo m.task.now site number (Some to) → BelongsTo m.task.now m.prospects to
+belongs_there m site is number to leads =
     (belonging_lawful m.task.now (size_of m.sizes) m.prospects m.grounded m.known).stays (point site.tables.now site.from)
-    (point_of site.tables.now r) number is.belongs reached.leads
+    to number is.belongs leads
 
 module _ (t : Task) (sizes : TreeSizes) (p : Prospects) (site : Site) (number : ℕ) (old : List (Measured Reached)) where
   -- more steps are left than the horizon has
@@ -42,44 +42,44 @@ module _ (t : Task) (sizes : TreeSizes) (p : Prospects) (site : Site) (number : 
   measure = left_by t sizes p site.horizon.measure
 
   -- a number that leads nowhere adds nothing
-  pub takes_none : IsReachedFrom t site number None → Takes t sizes p site number false old old
-  takes_none reached = record {
+  pub takes_none : LeadsTo t site number None → Takes t sizes p site number false old old
+  takes_none nowhere = record {
     goes_on = λ no first made.
         made_skip (listing_machine t) (meaning site.tables.now) far measure (λ at n. refl) site.rank site.from number first
-        old made None reached refl;
+        old made nowhere;
     ends = λ yes first made. absurd (true≢false (sym yes));
   }
 
-  module _ (r : Reached) (reached : IsReachedFrom t site number (Some r)) where
+  module _ (to : Config) (leads : LeadsTo t site number (Some to)) where
     -- one that leads to what is done is the least
-    pub takes_done : (new : List (Measured Reached)) → is_done (problem_of t) (point_of site.tables.now r) ≡ true
+    pub takes_done : (new : List (Measured Reached)) → is_done (problem_of t) to ≡ true
         → Takes t sizes p site number true old new
     takes_done new done = record {
       goes_on = λ no first made. absurd (true≢false no);
       ends = λ yes first made.
           made_done (listing_machine t) (meaning site.tables.now) far measure (λ at n. refl) site.rank site.from number
-          first old made (Some r) reached r refl done;
+          first old made to leads done;
     }
 
     -- one that leads past the horizon adds nothing
-    pub takes_past : is_done (problem_of t) (point_of site.tables.now r) ≡ false → far (point_of site.tables.now r)
+    pub takes_past : is_done (problem_of t) to ≡ false → far to
         → Takes t sizes p site number false old old
     takes_past unfinished past = record {
       goes_on = λ no first made.
           made_past (listing_machine t) (meaning site.tables.now) far measure (λ at n. refl) site.rank site.from number
-          first old made (Some r) reached r refl unfinished past;
+          first old made to leads unfinished past;
       ends = λ yes first made. absurd (true≢false (sym yes));
     }
 
     -- any other adds what it leads to
-    pub takes_more : is_done (problem_of t) (point_of site.tables.now r) ≡ false → (q : Reached) → allows site.tables.now q
-        → point_of site.tables.now q ≡ point_of site.tables.now r → (left : ℕ) → left ≡ measure (point_of site.tables.now r)
+    pub takes_more : is_done (problem_of t) to ≡ false → (q : Reached) → allows site.tables.now q
+        → point_of site.tables.now q ≡ to → (left : ℕ) → left ≡ measure to
         → Takes t sizes p site number false old
         (old ++ record { successor = record { origin = Stepped site.rank number; configuration = q }; left = left } ∷ [])
     takes_more unfinished q may same left measured = record {
       goes_on = λ no first made.
           made_more (listing_machine t) (meaning site.tables.now) far measure (λ at n. refl) site.rank site.from number
-          first old made (Some r) reached r refl unfinished q may same left measured;
+          first old made to leads unfinished q may same left measured;
       ends = λ yes first made. absurd (true≢false (sym yes));
     }
 

@@ -30,12 +30,12 @@ point t c = config_in t (get_or t.states c.state []) c.network
 -- the same of a configuration whose state may have no number
 abbrev pub allows : Tables → Reached → Type 0
 allows t (Known state network) = knows t (record { state = state; network = network })
-allows t (New words network) = IsSetOf t.atoms words × Knows t.networks network
+allows t (New state network) = IsSetOf t.atoms state.value × Knows t.networks network
 
 -- what it stands for
 abbrev pub point_of : Tables → Reached → Config
 point_of t (Known state network) = point t (record { state = state; network = network })
-point_of t (New words network) = config_in t words network
+point_of t (New state network) = config_in t state.value network
 
 -- by these tables
 abbrev pub meaning : Tables → Meaning Configuration Reached Config

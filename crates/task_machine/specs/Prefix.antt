@@ -1,5 +1,5 @@
 -- The successors of a configuration by the numbers below a bound.
-use Rattle.std.specs.Prelude.{◌≡◌, ℕ, ◌<◌, ◌++◌, List, map, All, Option, option_map, IfSome}
+use Rattle.std.specs.Prelude.{◌≡◌, ℕ, ◌<◌, ◌++◌, List, map, All}
 use Rattle.word_machine.specs.declared.closed.Measured.{Measured}
 use Rattle.word_machine.specs.declared.closed.Successor.{Successor}
 use Rattle.word_machine.specs.Expansion.{IsExpansionOf}
@@ -24,9 +24,3 @@ pub record IsMade {C R P : Type 0} (m : WordMachine P) (meaning : Meaning C R P)
   pub allowed : All (λ s. meaning.allows s.configuration) (successors_of more)
   pub prefix : IsPrefix m beyond rank (meaning.point c) bound (map (successor_at meaning.point_of) (successors_of more))
   pub measured : AreMeasured measure meaning more
-
--- the number leads to this, if it leads on
-pub record IsReached {C R P : Type 0} (m : WordMachine P) (meaning : Meaning C R P) (c : C) (number : ℕ)
-    (reached : Option R) : Type 0 where
-  pub allowed : IfSome reached meaning.allows
-  pub leads : m.step (meaning.point c) number ≡ option_map meaning.point_of reached

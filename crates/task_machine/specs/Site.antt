@@ -1,6 +1,7 @@
 -- The configuration that is expanded, and what taking its numbers one after another makes of a list.
-use Rattle.std.specs.Prelude.{◌≡◌, ℕ, ◌+◌, Bool, true, false, [], List, get_or, option_map, Option, IfNone, IfSome, IsSome}
+use Rattle.std.specs.Prelude.{◌≡◌, ℕ, ◌+◌, Bool, true, false, [], List, get_or, Option, IfNone, IfSome, IsSome}
 use Rattle.htn_net.specs.Listed.{listing_machine}
+use Rattle.htn_model.specs.Machine.{Config}
 use Rattle.htn_model.specs.Task.{Task}
 use Rattle.network_table.specs.Expansions.{IsKnownRemoval}
 use Rattle.network_table.specs.declared.expansion.Removal.{Removal}
@@ -10,12 +11,11 @@ use Rattle.word_machine.specs.Expansion.{IsLeastDone}
 use Rattle.word_machine.specs.Machine.{IsDone, IsLiveStep}
 use Rattle.word_machine.specs.declared.closed.Measured.{Measured}
 use Rattle.task_machine.specs.Bounds.{BelongsTo, left_by, lies_beyond}
-use Rattle.task_machine.specs.Meaning.{allows, knows, meaning, point, point_of, state_at}
-use Rattle.task_machine.specs.Prefix.{IsMade, IsReached}
+use Rattle.task_machine.specs.Meaning.{knows, meaning, point, state_at}
+use Rattle.task_machine.specs.Prefix.{IsMade}
 use Rattle.task_machine.specs.Steps.{removed}
 use Rattle.task_machine.specs.Tables.{slot}
 use Rattle.task_machine.specs.declared.configuration.Reached.{Reached}
-use Rattle.task_machine.specs.declared.configuration.Reached.TheVariants.{Known}
 use Rattle.task_machine.specs.declared.expand.Site.{Site}
 
 -- the configuration is one of the machine's, and its state is this
@@ -25,20 +25,18 @@ pub record IsSite (t : Task) (p : Prospects) (site : Site) : Type 0 where
   pub belongs : BelongsTo t p (point site.tables.now site.from)
 
 -- the same state with another network
-abbrev pub known_at : Site → ℕ → Reached
-known_at site network = Known site.from.state network
+abbrev pub point_at : Site → ℕ → Config
+point_at site network = point site.tables.now (record { state = site.from.state; network = network })
 
--- a number leads to this, if it leads on
-abbrev pub IsReachedFrom : Task → Site → ℕ → Option Reached → Type 0
-IsReachedFrom t site = IsReached (listing_machine t) (meaning site.tables.now) site.from
+-- a number leads there, if it leads on
+abbrev pub LeadsTo : Task → Site → ℕ → Option Config → Type 0
+LeadsTo t site number to = (listing_machine t).step (point site.tables.now site.from) number ≡ to
 
 -- a number leads where this free node goes
 pub record LeadsBy (t : Task) (site : Site) (number : ℕ) (removal : Removal) : Type 0 where
   pub known : IsKnownRemoval site.tables.now.networks removal
   pub performer : IsSome (slot site.tables.now.performers.items removal.node)
-  pub leads : (o : Option Reached) → IfSome o (allows site.tables.now)
-      → option_map (point_of site.tables.now) o ≡ removed t site.tables.now.networks (state_at site.tables.now site.from.state) removal
-      → IsReachedFrom t site number o
+  pub leads : LeadsTo t site number (removed t site.tables.now.networks (state_at site.tables.now site.from.state) removal)
 
 module _ (t : Task) (sizes : TreeSizes) (p : Prospects) (site : Site) where
   -- what a list got by the numbers below a bound

@@ -15,8 +15,7 @@ ghost use Rattle.word_machine.specs.declared.closed.Origin.TheVariants.{Step};
 ghost use Rattle.task_machine.specs.Bounds.{BelongsTo, left_by, lies_beyond};
 ghost use Rattle.task_machine.specs.Owned.{AreOwned};
 ghost use Rattle.task_machine.specs.Meaning.{allows, config_in, knows, meaning, point, point_of};
-ghost use Rattle.task_machine.specs.Site.{AreTaken, IsReachedFrom, IsSite, LeadsBy, Takes, known_at};
-ghost use Rattle.task_machine.specs.declared.configuration.Reached.TheVariants.{New};
+ghost use Rattle.task_machine.specs.Site.{AreTaken, IsSite, LeadsBy, LeadsTo, Takes, point_at};
 
 use crate::configuration::{Configuration, Reached};
 use crate::machine::TaskMachine;
@@ -24,19 +23,23 @@ use crate::performer::Performer;
 use crate::tables::Tables;
 use network_table::{Expansion, Removal};
 use state_table::{BitState, CompiledAction};
-use std::alloc::AllocError;
+use std::alloc::{AllocError, Global};
 use word_machine::{Horizon, Measure, Measured, Origin, Successor};
 
 impl Tables {
-    /// A state with a network, by the number of the state if that has one. It takes no memory.
-    fn looked_up(&self, state: BitState, network: u32) -> Reached
-        requires { allows self.now (New state network) }
-        ensures allowed { allows self.now result }
-        ensures point { point_of self.now result ≡ config_in self.now state network }
+    /// A state with a network, by the number of the state if that has one: it takes memory only where it has none.
+    fn looked_up(&self, alloc: Global, state: BitState, network: u32) -> Result<Reached, AllocError>
+        requires set { IsSetOf self.now.atoms state }
+        requires known { Knows self.now.networks network }
+        ensures allowed { IfOk result (allows self.now) }
+        ensures point { IfOk result (λ r. point_of self.now r ≡ config_in self.now state network) }
     {
         match self.states.number_of(&state) {
-            Some(state) => Reached::Known(state, network),
-            None => Reached::New(state, network),
+            Some(state) => Ok(Reached::Known(state, network)),
+            None => {
+                let state = Box::new(alloc, state)?;
+                Ok(Reached::New(state, network))
+            }
         }
     }
 
@@ -130,7 +133,8 @@ impl<'a> TaskMachine<'a> {
     ) -> Result<bool, AllocError>
         requires own { AreOwned self.now.task.now self.now.sizes self.now.prospects site.now.tables.now }
         requires site { IsSite self.now.task.now self.now.prospects site.now }
-        requires reached { IsReachedFrom self.now.task.now site.now number (Some (known_at site.now network)) }
+        requires known { Knows site.now.tables.now.networks network }
+        requires leads { LeadsTo self.now.task.now site.now number (Some (point_at site.now network)) }
         ensures taken { IfOk result (λ is_done. Takes self.now.task.now self.now.sizes self.now.prospects site.now number
             is_done successors.old.items successors.new.items) }
         ensures refused { OnErr result (successors.new.items ≡ successors.old.items) }
@@ -160,7 +164,9 @@ impl<'a> TaskMachine<'a> {
     ) -> Result<bool, AllocError>
         requires own { AreOwned self.now.task.now self.now.sizes self.now.prospects site.now.tables.now }
         requires site { IsSite self.now.task.now self.now.prospects site.now }
-        requires reached { IsReachedFrom self.now.task.now site.now number (Some (New state network)) }
+        requires set { IsSetOf site.now.tables.now.atoms state }
+        requires known { Knows site.now.tables.now.networks network }
+        requires leads { LeadsTo self.now.task.now site.now number (Some (config_in site.now.tables.now state network)) }
         ensures taken { IfOk result (λ is_done. Takes self.now.task.now self.now.sizes self.now.prospects site.now number
             is_done successors.old.items successors.new.items) }
         ensures refused { OnErr result (successors.new.items ≡ successors.old.items) }
@@ -173,7 +179,7 @@ impl<'a> TaskMachine<'a> {
         if is_past(site.horizon, left) {
             return Ok(false);
         }
-        let configuration = tables.looked_up(state, network);
+        let configuration = tables.looked_up(*successors.allocator(), state, network)?;
         successors.push(measured(site, number, configuration, left))?;
         Ok(false)
     }
@@ -225,8 +231,10 @@ impl<'a> TaskMachine<'a> {
     ) -> Result<Option<u64>, AllocError>
         requires own { AreOwned self.now.task.now self.now.sizes self.now.prospects site.now.tables.now }
         requires site { IsSite self.now.task.now self.now.prospects site.now }
-        requires reached { (number network : ℕ) → slice_get networks.now number ≡ Some network
-            → IsReachedFrom self.now.task.now site.now number (Some (known_at site.now network)) }
+        requires known { (number network : ℕ) → slice_get networks.now number ≡ Some network
+            → Knows site.now.tables.now.networks network }
+        requires leads { (number network : ℕ) → slice_get networks.now number ≡ Some network
+            → LeadsTo self.now.task.now site.now number (Some (point_at site.now network)) }
         ensures taken { IfOk result (AreTaken self.now.task.now self.now.sizes self.now.prospects site.now
             (length networks.now) successors.old.items successors.new.items) }
         ensures refused { OnErr result ((more : List (Measured Reached))

@@ -145,7 +145,8 @@ impl<'a> Machine for TaskMachine<'a> {
         match reached {
             Reached::Known(state, network) => Ok(Configuration { state, network }),
             Reached::New(state, network) => {
-                let state = tables.states.keep(state)?;
+                let words = Box::into_inner(state);
+                let state = tables.states.keep(words)?;
                 Ok(Configuration { state, network })
             }
         }
@@ -158,7 +159,7 @@ impl<'a> Machine for TaskMachine<'a> {
                 network: *network,
             }),
             Reached::New(state, network) => {
-                let state = tables.states.number_of(state)?;
+                let state = tables.states.number_of(&**state)?;
                 Some(Configuration {
                     state,
                     network: *network,

@@ -4,11 +4,17 @@ use Rattle.task_machine.specs.Site.{HasMade}
 use Rattle.task_machine.proofs.Results.{on_error}
 use Rattle.task_machine.proofs.machine.TaskMachine.add_decomposed.Goals as goal
 
-pub add_known-requires-clause-reached : goal.add_known-requires-clause-reached
-add_known-requires-clause-reached c =
+pub add_known-requires-clause-known : goal.add_known-requires-clause-known
+add_known-requires-clause-known c =
     let number = c.loop-number.number in
     let inside : number < length c.args.networks.now = c.loop-number-test.true in
-    c.requires.reached number _ (slice_get-get_or c.args.networks.now number 0 inside)
+    c.requires.known number _ (slice_get-get_or c.args.networks.now number 0 inside)
+
+pub add_known-requires-clause-leads : goal.add_known-requires-clause-leads
+add_known-requires-clause-leads c =
+    let number = c.loop-number.number in
+    let inside : number < length c.args.networks.now = c.loop-number-test.true in
+    c.requires.leads number _ (slice_get-get_or c.args.networks.now number 0 inside)
 
 pub returns-in_err-add_known-clause-refused : goal.returns-in_err-add_known-clause-refused
 returns-in_err-add_known-clause-refused c =

@@ -1,4 +1,4 @@
-use Rattle.std.proofs.Common.{◌≡◌, [], get_or, true, false, None, Option, Some, option_map, sym, ap, subst, ◌∙◌}
+use Rattle.std.proofs.Common.{◌≡◌, [], get_or, true, false, Option, Some, option_map, sym, ap, subst, ◌∙◌}
 use Rattle.std.specs.Prelude.{IfSome}
 use Rattle.std.proofs.lemmas.Option.{slice_get-get_or}
 use Rattle.htn_model.specs.Literal.{holds}
@@ -8,8 +8,6 @@ use Rattle.network_table.specs.Networks.{network_at}
 use Rattle.network_table.specs.Numbered.{config_at}
 use Rattle.state_table.specs.Table.{IsSetOf, state_of}
 use Rattle.task_machine.specs.Meaning.{state_at}
-use Rattle.task_machine.specs.Site.{known_at}
-use Rattle.task_machine.specs.declared.configuration.Reached.TheVariants.{New}
 use Rattle.task_machine.specs.declared.performer.Performer.TheVariants.{Step, Action as Acts, Never}
 use Rattle.task_machine.proofs.Performing.{acts, never, performer_of, step_goes, step_stays}
 use Rattle.task_machine.proofs.Taking.{takes_none}
@@ -31,10 +29,13 @@ returns-then-not-hold-clause-taken c =
     let test = c.if-not-hold.true in
     let fails : holds (state_at tables site.from.state) right.0 ≡ false = cc in
     let stays = step_stays t tables.networks (state_at tables site.from.state) r right.0 right.1 fails in
-    takes_none t m.sizes m.prospects site c.args.number c.args.successors.now.items (c.requires.leads.leads None tt stays)
+    takes_none t m.sizes m.prospects site c.args.number c.args.successors.now.items (c.requires.leads.leads ∙ sym stays)
 
-pub add_known-requires-clause-reached : goal.add_known-requires-clause-reached
-add_known-requires-clause-reached c =
+pub add_known-requires-clause-known : goal.add_known-requires-clause-known
+add_known-requires-clause-known c = c.requires.leads.known.0
+
+pub add_known-requires-clause-leads : goal.add_known-requires-clause-leads
+add_known-requires-clause-leads c =
     let t = c.args.self.now.task.now in
     let site = c.args.site.now in
     let tables = site.tables.now in
@@ -48,7 +49,7 @@ add_known-requires-clause-reached c =
     let test = c.if-not-hold.false in
     let hold : holds (state_at tables site.from.state) right.0 ≡ true = cc in
     let goes = step_goes t tables.networks (state_at tables site.from.state) r right.0 right.1 hold in
-    c.requires.leads.leads (Some (known_at site r.network)) (c.requires.site.known.0, c.requires.leads.known.0) goes
+    c.requires.leads.leads ∙ sym goes
 
 pub acted-requires-clause-compiled : goal.acted-requires-clause-compiled
 acted-requires-clause-compiled c =
@@ -81,10 +82,17 @@ returns-in_default-2-clause-taken c =
     let does = acts t tables.networks (state_at tables site.from.state) r right.0 right.1 right.2 right.3 in
     let leads = ap to (c.in_ok-after-in-Action.ensures.leads right.1 right.4) ∙ here ∙ does in
     let none = ap (λ o. to (option_map (state_of tables.atoms) o)) (sym c.in_default-2.is) ∙ leads in
-    takes_none t m.sizes m.prospects site c.args.number c.args.successors.now.items (c.requires.leads.leads None tt none)
+    takes_none t m.sizes m.prospects site c.args.number c.args.successors.now.items (c.requires.leads.leads ∙ sym none)
 
-pub add_new-requires-clause-reached : goal.add_new-requires-clause-reached
-add_new-requires-clause-reached c =
+pub add_new-requires-clause-set : goal.add_new-requires-clause-set
+add_new-requires-clause-set c =
+    subst (λ o. IfSome o (IsSetOf c.args.site.now.tables.now.atoms)) c.in-Some-2.is c.in_ok-after-in-Action.ensures.set
+
+pub add_new-requires-clause-known : goal.add_new-requires-clause-known
+add_new-requires-clause-known c = c.requires.leads.known.0
+
+pub add_new-requires-clause-leads : goal.add_new-requires-clause-leads
+add_new-requires-clause-leads c =
     let t = c.args.self.now.task.now in
     let site = c.args.site.now in
     let tables = site.tables.now in
@@ -95,11 +103,9 @@ add_new-requires-clause-reached c =
     let to = λ (o : Option State). option_map (λ after. config_at after (network_at tables.networks r.network)) o in
     let here = ap (λ w. to (perform_action (state_of tables.atoms w) (Some right.1))) c.requires.site.words in
     let does = acts t tables.networks (state_at tables site.from.state) r right.0 right.1 right.2 right.3 in
-    let acted = c.in_ok-after-in-Action.ensures in
-    let leads = ap to (acted.leads right.1 right.4) ∙ here ∙ does in
+    let leads = ap to (c.in_ok-after-in-Action.ensures.leads right.1 right.4) ∙ here ∙ does in
     let there = ap (λ o. to (option_map (state_of tables.atoms) o)) (sym c.in-Some-2.is) ∙ leads in
-    let set = subst (λ o. IfSome o (IsSetOf tables.atoms)) c.in-Some-2.is acted.set in
-    c.requires.leads.leads (Some (New c.in-Some-2.after r.network)) (set, c.requires.leads.known.0) there
+    c.requires.leads.leads ∙ sym there
 
 pub returns-in-Never-clause-taken : goal.returns-in-Never-clause-taken
 returns-in-Never-clause-taken c =
@@ -113,4 +119,4 @@ returns-in-Never-clause-taken c =
     c.index.ensures (c.in-Some.is ∙ ap Some c.in-Never.is) in
     let state = state_at tables site.from.state in
     takes_none t m.sizes m.prospects site c.args.number c.args.successors.now.items
-    (c.requires.leads.leads None tt (never t tables.networks state r (right state)))
+    (c.requires.leads.leads ∙ sym (never t tables.networks state r (right state)))

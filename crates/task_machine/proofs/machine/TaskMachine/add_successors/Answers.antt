@@ -9,13 +9,12 @@ use Rattle.network_table.specs.declared.expansion.Expansion.TheVariants.{Decompo
 use Rattle.task_machine.specs.Meaning.{state_at}
 use Rattle.task_machine.specs.Steps.{removed}
 use Rattle.task_machine.specs.Tables.{slot}
-use Rattle.task_machine.specs.declared.configuration.Reached.TheVariants.{Known}
-use Rattle.task_machine.proofs.Performing.{rank_reached}
+use Rattle.task_machine.proofs.Performing.{leads_after}
 use Rattle.task_machine.proofs.Taking.{taken_whole}
 use Rattle.task_machine.proofs.machine.TaskMachine.add_successors.Goals as goal
 
-pub add_decomposed-requires-clause-reached : goal.add_decomposed-requires-clause-reached
-add_decomposed-requires-clause-reached c = λ number network there.
+pub add_decomposed-requires-clause-known : goal.add_decomposed-requires-clause-known
+add_decomposed-requires-clause-known c = λ number network there.
     let t = c.args.self.now.task.now in
     let tables = c.args.tables.now in
     let from = c.args.from in
@@ -25,12 +24,20 @@ add_decomposed-requires-clause-reached c = λ number network there.
     let of = c.requires.own.tables.sound from.network e c.requires.known.1 at in
     let here = subst (λ l. slice_get l number ≡ Some network) c.deref.ensures.value there in
     let inside = slice_get_within networks.items number network here in
-    let known : Knows tables.networks network =
     subst (Knows tables.networks) (get_or_from_slice_get networks.items number network network here)
-    (of.known number network inside) in
+    (of.known number network inside)
+
+pub add_decomposed-requires-clause-leads : goal.add_decomposed-requires-clause-leads
+add_decomposed-requires-clause-leads c = λ number network there.
+    let t = c.args.self.now.task.now in
+    let tables = c.args.tables.now in
+    let from = c.args.from in
+    let networks = c.in-Decomposed.networks in
+    let e = Decomposed c.in-Decomposed.field-0 networks in
+    let at = sym c.in-Some.ensures ∙ ap Some c.in-Decomposed.is in
+    let here = subst (λ l. slice_get l number ≡ Some network) c.deref.ensures.value there in
     let leads = ap (option_map (λ n. config_at (state_at tables from.state) (network_at tables.networks n))) here in
-    rank_reached t tables c.requires.own.tables from c.requires.known e at number
-    (Some (Known from.state network)) (c.requires.known.0, known) leads
+    leads_after t tables c.requires.own.tables from c.requires.known e at number ∙ leads
 
 pub add_removed-requires-clause-leads : goal.add_removed-requires-clause-leads
 add_removed-requires-clause-leads c = λ number removal there.
@@ -48,9 +55,8 @@ add_removed-requires-clause-leads c = λ number removal there.
       known = subst (IsKnownRemoval tables.networks) same (of.known number removal inside);
       performer = subst (λ r. IsSome (slot tables.performers.items r.node)) same
           (c.requires.own.tables.performed from.network (Performed removals) at number removal inside);
-      leads = λ o allowed leads.
-          rank_reached t tables c.requires.own.tables from c.requires.known (Performed removals) at number o allowed
-          (ap (option_and_then removes) here ∙ sym leads);
+      leads = leads_after t tables c.requires.own.tables from c.requires.known (Performed removals) at number
+          ∙ ap (option_and_then removes) here;
     }
 
 pub returns-in-Decomposed-clause-whole : goal.returns-in-Decomposed-clause-whole
