@@ -1,4 +1,4 @@
-//! The workers of one level, each in a thread of its own but the first.
+//! The workers of one level, each in a thread of its own.
 ghost use Rattle.std.specs.Prelude.{◌≡◌, ◌<◌, ◌≤◌, ◌*◌, ◌+◌, ◌∷◌, ◌++◌, length, vec_len, vec_capacity, All, IfOk, IfSome, IfErr, false};
 ghost use Rattle.htn_level.specs.declared.fault.LevelFault.TheVariants.{NoThread};
 ghost use Rattle.htn_desk.specs.Desk.{new_pass};
@@ -66,7 +66,6 @@ fn start_all<'s, 'a: 's, E, W: Expand + 's, G: Gate + 's>(
     requires pieces { HasPieces job.level.first job.level.last job.level.piece job.desk.now.pieces }
     ensures promised { IfOk result (λ s. All (λ h. h.promise ≡ job.entry) s.handles.items) }
     ensures all { IfOk result (λ s. s.refused ≡ false → vec_len s.handles ≡ vec_len passes) }
-    ensures none { IfOk result (λ s. vec_len passes ≡ 0 → s.refused ≡ false) }
 {
     let mut handles = Vec::with_capacity(alloc, passes.len())?;
     for pass in passes {
@@ -126,15 +125,16 @@ fn join_all<'a, W: Expand, G: Gate, R: Threads>(
     refused
 }
 
-// Runs a worker for each pass: one here, and the others in threads of the scope.
+// Runs a worker for each pass in a thread of the scope. This thread only starts them and waits: a system may put a new
+// thread behind the one that starts it.
 fn run_in<'s, 'a: 's, E, W: Expand + 's, G: Gate + 's, R: Threads>(
     scope: &Scope<'s, E>,
     rt: &R,
     alloc: Global,
     job: Job<'a, W, G>,
-    mut passes: Vec<Pass>,
+    passes: Vec<Pass>,
 ) -> Result<Vec<Worked<W::Successor, W::Finish>>, LevelFault>
-    requires some { 0 < vec_len passes }
+    requires several { 1 < vec_len passes }
     requires passes { All (λ p. p ≡ new_pass job.desk.now) passes.items }
     requires can { CanExpandAll (W.can_expand job.level.work.now) job.level.first job.level.last }
     requires pieces { HasPieces job.level.first job.level.last job.level.piece job.desk.now.pieces }
@@ -142,13 +142,9 @@ fn run_in<'s, 'a: 's, E, W: Expand + 's, G: Gate + 's, R: Threads>(
     ensures right { IfOk result (λ home. All (IsWorked (W.has_successors job.entry.level.work.now) (W.finishes job.entry.level.work.now) job.entry.level.first job.entry.level.last job.entry.level.piece job.entry.desk.now) home.items) }
     ensures no_thread { IfErr result (λ e. e ≡ NoThread → 1 < vec_len passes) }
 {
-    let Some(own) = passes.pop() else {
-        unreachable!()
-    };
-    let mut home = Vec::with_capacity(alloc, passes.len() + 1)?;
+    let mut home = Vec::with_capacity(alloc, passes.len())?;
     let Started { handles, refused } = start_all(scope, alloc, job, passes)?;
-    let short = take_in(job, &mut home, work_off(alloc, job, own));
-    if join_all(rt, job, handles, &mut home) || short {
+    if join_all(rt, job, handles, &mut home) {
         Err(LevelFault::OutOfMemory)
     } else if refused {
         Err(LevelFault::NoThread)
@@ -181,7 +177,7 @@ fn run_alone<W: Expand, G: Gate>(
     Ok(home)
 }
 
-/// Runs a worker for each pass, each but one in a thread of its own, and waits for all.
+/// Runs a worker for each pass, each in a thread of its own, and waits for all; a single one runs here.
 pub fn run<W: Expand, G: Gate, R: Threads + Wait + Sync>(
     rt: &R,
     alloc: Global,
@@ -203,7 +199,7 @@ pub fn run<W: Expand, G: Gate, R: Threads + Wait + Sync>(
         thread::scope_env(),
         rt,
         move |scope| -> Result<Vec<Worked<W::Successor, W::Finish>>, LevelFault>
-            requires some { 0 < vec_len passes }
+            requires several { 1 < vec_len passes }
             requires passes { All (λ p. p ≡ new_pass job.desk.now) passes.items }
             requires can { CanExpandAll (W.can_expand job.level.work.now) job.level.first job.level.last }
             requires pieces { HasPieces job.level.first job.level.last job.level.piece job.desk.now.pieces }

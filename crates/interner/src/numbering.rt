@@ -13,7 +13,8 @@ use crate::spot::{SHARDS, Spot};
 use std::alloc::{AllocError, Global};
 use std::hash::Hash;
 use std::mem::swap;
-use std::thread::{Threads, for_each_mut};
+use side_by_side::for_each_mut;
+use std::thread::Threads;
 
 /// Bins that have no value.
 pub(crate) fn new_bins<T: Eq + Hash + Drop>(

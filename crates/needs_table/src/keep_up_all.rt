@@ -13,22 +13,8 @@ use crate::table::NeedsTable;
 use network_table::{Entry, NetworkTable};
 use state_table::{AtomTable, CompiledLiterals};
 use std::alloc::{AllocError, Global};
-use std::thread::{Threads, map_indices};
-
-/// The work of several workers is cut into so many parts for each, so that none waits long for another.
-const PARTS: usize = 2;
-
-/// How many parts so many workers take.
-fn parts_for(workers: usize) -> usize
-    requires { 0 < workers }
-    ensures { 0 < result }
-{
-    if workers == 1 {
-        1
-    } else {
-        workers.saturating_mul(PARTS)
-    }
-}
+use side_by_side::map_indices;
+use std::thread::Threads;
 
 /// What the network of a number needs, which is no chain.
 #[derive(Drop)]
@@ -102,9 +88,8 @@ impl NeedsTable {
         requires workers { 0 < workers }
         ensures { IfOk result (λ v. All (HoldsFound prospects.now self.now networks.now) v.items) }
     {
-        let parts = parts_for(workers);
         let known = self.needs.len();
-        let size = networks.len().saturating_sub(known).div_ceil(parts);
+        let size = networks.len().saturating_sub(known).div_ceil(workers);
         let find = |part: usize| -> Result<Vec<Found>, AllocError>
             requires { IsWhole networks.now × length (children networks.now) ≤ length self.now.nodes.items }
             ensures { HoldsFound prospects.entry.now self.entry.now networks.entry.now result }
@@ -112,7 +97,7 @@ impl NeedsTable {
             let from = known.saturating_add(part.saturating_mul(size));
             self.find(alloc, prospects, networks, from, size)
         };
-        map_indices(rt, alloc, parts, &find)
+        map_indices(rt, alloc, workers, &find)
     }
 
     /// Puts down what was found of a network, after what those before it need.

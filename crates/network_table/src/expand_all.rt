@@ -13,10 +13,8 @@ use crate::made::{Made, Noted};
 use crate::notes::Known;
 use crate::table::NetworkTable;
 use std::alloc::{AllocError, Global};
-use std::thread::{Threads, map_indices};
-
-/// The work is cut into so many parts for each worker, so that all end at about the same time.
-const PARTS: usize = 2;
+use side_by_side::map_indices;
+use std::thread::Threads;
 
 /// Notes the number of a draft's network where the draft is listed.
 fn note_at(noted: &mut Vec<Option<Known>>, at: usize, known: Known)
@@ -264,11 +262,10 @@ impl NetworkTable {
             self.expand_each(alloc, jobs)?;
             return Ok(());
         }
-        let parts = workers.saturating_mul(PARTS);
-        let drafts = self.list_all(rt, alloc, jobs, parts)?;
+        let drafts = self.list_all(rt, alloc, jobs, workers)?;
         let shards = self.make_all(rt, alloc, jobs, drafts.as_slice(), workers)?;
         let noted = self.note_all(rt, alloc, workers, jobs, shards, drafts.len())?;
-        let all = self.assemble_all(rt, alloc, jobs, drafts.as_slice(), noted.as_slice(), parts)?;
+        let all = self.assemble_all(rt, alloc, jobs, drafts.as_slice(), noted.as_slice(), workers)?;
         self.remember_all(jobs, all)?;
         // What is not found yet is found here: nothing, but where a note was missing.
         self.expand_each(alloc, jobs)?;

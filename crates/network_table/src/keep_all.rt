@@ -11,7 +11,8 @@ use crate::network_set::Entry;
 use crate::table::{NetworkTable, sum_bounds};
 use interner::Batch;
 use std::alloc::{AllocError, Global};
-use std::thread::{Threads, for_each_mut};
+use side_by_side::for_each_mut;
+use std::thread::Threads;
 
 /// To start a worker takes about as long as to number so many networks.
 const NETWORKS_A_WORKER: usize = 500;

@@ -9,7 +9,8 @@ use crate::shard::{Shard, shard_of};
 use std::alloc::{AllocError, Global};
 use std::hash::Hash;
 use std::marker::Model;
-use std::thread::{Threads, for_each_mut};
+use side_by_side::for_each_mut;
+use std::thread::Threads;
 
 /// Values in the order in which they were added, none of them twice.
 #[derive(Drop)]

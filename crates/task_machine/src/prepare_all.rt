@@ -23,7 +23,8 @@ use indexmap::IndexSet;
 use needs_table::Prospects;
 use network_table::{Job, NetworkTable};
 use std::alloc::{AllocError, Global};
-use std::thread::{Threads, map_indices};
+use side_by_side::map_indices;
+use std::thread::Threads;
 use tree_sizes::TreeSizes;
 
 /// How many networks are expanded together at most: what is listed of them is kept until they are.
