@@ -10,10 +10,10 @@ ghost use Rattle.interner.specs.declared.spot.Spot.{Spot};
 
 use crate::bin::Bin;
 use crate::spot::{SHARDS, Spot};
+use side_by_side::for_each_mut;
 use std::alloc::{AllocError, Global};
 use std::hash::Hash;
 use std::mem::swap;
-use side_by_side::for_each_mut;
 use std::thread::Threads;
 
 /// Bins that have no value.

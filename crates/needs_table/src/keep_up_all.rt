@@ -11,9 +11,9 @@ use crate::chained::Chained;
 use crate::prospects::Prospects;
 use crate::table::NeedsTable;
 use network_table::{Entry, NetworkTable};
+use side_by_side::map_indices;
 use state_table::{AtomTable, CompiledLiterals};
 use std::alloc::{AllocError, Global};
-use side_by_side::map_indices;
 use std::thread::Threads;
 
 /// What the network of a number needs, which is no chain.

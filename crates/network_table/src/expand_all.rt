@@ -12,8 +12,8 @@ use crate::draft::{Job, Listed, starts_of};
 use crate::made::{Made, Noted};
 use crate::notes::Known;
 use crate::table::NetworkTable;
-use std::alloc::{AllocError, Global};
 use side_by_side::map_indices;
+use std::alloc::{AllocError, Global};
 use std::thread::Threads;
 
 /// Notes the number of a draft's network where the draft is listed.
@@ -265,7 +265,14 @@ impl NetworkTable {
         let drafts = self.list_all(rt, alloc, jobs, workers)?;
         let shards = self.make_all(rt, alloc, jobs, drafts.as_slice(), workers)?;
         let noted = self.note_all(rt, alloc, workers, jobs, shards, drafts.len())?;
-        let all = self.assemble_all(rt, alloc, jobs, drafts.as_slice(), noted.as_slice(), workers)?;
+        let all = self.assemble_all(
+            rt,
+            alloc,
+            jobs,
+            drafts.as_slice(),
+            noted.as_slice(),
+            workers,
+        )?;
         self.remember_all(jobs, all)?;
         // What is not found yet is found here: nothing, but where a note was missing.
         self.expand_each(alloc, jobs)?;

@@ -10,11 +10,11 @@ ghost use Rattle.network_table.specs.Drafts.{AreNumbersOf};
 use crate::network_set::Entry;
 use crate::table::{NetworkTable, sum_bounds};
 use interner::Batch;
+use side_by_side::{for_each_mut, workers_for};
 use std::alloc::{AllocError, Global};
-use side_by_side::for_each_mut;
 use std::thread::Threads;
 
-/// To start a worker takes about as long as to number so many networks.
+/// Of several workers each numbers so many networks at least: to start one for fewer takes longer.
 const NETWORKS_A_WORKER: usize = 500;
 
 /// How many nodes a network has, and the sum of the bounds of these.
@@ -22,14 +22,6 @@ const NETWORKS_A_WORKER: usize = 500;
 pub(crate) struct Measure {
     pub(crate) open_len: u64,
     pub(crate) bound: u64,
-}
-
-/// As many of some workers as so many networks bear.
-fn workers_for(count: usize, workers: usize) -> usize
-    requires { 0 < workers }
-    ensures { 0 < result }
-{
-    workers.min(count / NETWORKS_A_WORKER + 1)
 }
 
 /// Places as numbers, if words of 32 bits hold them.
@@ -168,7 +160,7 @@ impl NetworkTable {
         ensures more { OnOk result (IsMore self.old self.new) }
         ensures each { IfOk result (λ v. AreNumbersOf self.new v.items (networks_alone networks)) }
     {
-        let workers = workers_for(networks.len(), workers);
+        let workers = workers_for(networks.len(), NETWORKS_A_WORKER, workers);
         let first = self.networks.len();
         let places = self.networks.insert_all(rt, alloc, networks, workers)?;
         let measures = self.measures(rt, alloc, workers, first)?;

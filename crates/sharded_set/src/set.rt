@@ -6,10 +6,10 @@ ghost use Rattle.sharded_set.specs.Shards.{AreNew, AreSharded, TakesBatch};
 ghost use Rattle.sharded_set.specs.declared.shard.Shard.{Shard};
 
 use crate::shard::{Shard, shard_of};
+use side_by_side::for_each_mut;
 use std::alloc::{AllocError, Global};
 use std::hash::Hash;
 use std::marker::Model;
-use side_by_side::for_each_mut;
 use std::thread::Threads;
 
 /// Values in the order in which they were added, none of them twice.

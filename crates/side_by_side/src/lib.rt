@@ -3,6 +3,8 @@
 
 mod change;
 mod map;
+mod share;
 
 pub use change::for_each_mut;
 pub use map::map_indices;
+pub use share::workers_for;

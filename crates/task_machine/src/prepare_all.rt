@@ -22,8 +22,8 @@ use htn_task::Task;
 use indexmap::IndexSet;
 use needs_table::Prospects;
 use network_table::{Job, NetworkTable};
+use side_by_side::{map_indices, workers_for};
 use std::alloc::{AllocError, Global};
-use side_by_side::map_indices;
 use std::thread::Threads;
 use tree_sizes::TreeSizes;
 
@@ -45,14 +45,6 @@ struct Listed {
 struct Part {
     first: usize,
     listed: Vec<Listed>,
-}
-
-/// How many workers so many networks take.
-fn workers_for(count: usize, workers: usize) -> usize
-    requires { 0 < workers }
-    ensures { 0 < result }
-{
-    workers.min(count / LEAST_SHARED).max(1)
 }
 
 /// Notes a network if it is not known what becomes of it.
@@ -288,7 +280,7 @@ impl Tables {
         ensures needs { OnOk result (self.new.needs ≡ self.old.needs) }
         ensures ready { OnOk result (All (λ n. IsSome (expansion_at self.new.networks n)) block.now) }
     {
-        let workers = workers_for(block.len(), workers);
+        let workers = workers_for(block.len(), LEAST_SHARED, workers);
         let found = list_block(rt, alloc, &self.networks, block, workers)?;
         self.prepare_firsts(alloc, task, sizes, found.as_slice())?;
         let jobs = jobs_of(alloc, &self.instances, found.as_slice())?;
@@ -350,7 +342,7 @@ impl Tables {
     {
         let count = self.networks.len();
         let unknown = count.saturating_sub(self.needs.len());
-        let workers = workers_for(unknown, workers);
+        let workers = workers_for(unknown, LEAST_SHARED, workers);
         self.needs.keep_up_all(
             rt,
             alloc,

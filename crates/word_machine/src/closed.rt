@@ -9,6 +9,7 @@ ghost use Rattle.word_machine.specs.declared.closed.Origin.TheVariants.{Step};
 use crate::edge::Edge;
 use crate::overshoots::Overshoots;
 use sharded_set::ShardedSet;
+use side_by_side::workers_for;
 use std::alloc::{AllocError, Global};
 use std::hash::Hash;
 use std::marker::Model;
@@ -105,8 +106,8 @@ impl<C: Drop> Fitting<C> {
     }
 }
 
-// Of several workers each has so many at least.
-const FEW: usize = 1_000;
+/// Of several workers each keeps so many at least.
+pub const FEW: usize = 1_000;
 
 // Up to so many places, a list gets sixteen times the room that it needed before a restart: the room costs little, and
 // to grow into it took a quarter of the time in which it was filled.
@@ -294,7 +295,7 @@ impl<C: Eq + Hash + Copy + Drop + Send + Sync> Closed<C> {
         ensures ok { OnOk result (self.new ≡ offer_all C.eq (λ c. 0) 0 self.old (fitting batch.now.links.items batch.now.configurations.items)) }
         ensures err { OnErr result (self.new ≡ self.old) }
     {
-        let threads = workers.min(batch.links.len() / FEW).max(1);
+        let threads = workers_for(batch.links.len(), FEW, workers);
         self.links.reserve(batch.links.len())?;
         let is_new = self
             .configurations

@@ -7,10 +7,11 @@ ghost use Rattle.word_machine.specs.Meaning.{AreMeasured, IsGrown, contents_at, 
 ghost use Rattle.word_machine.specs.Ranks.{IsOwned};
 ghost use Rattle.word_machine.specs.declared.closed.Origin.{Origin};
 
-use crate::closed::{Closed, Fitting, Measured, Origin, Successor};
+use crate::closed::{Closed, FEW, Fitting, Measured, Origin, Successor};
 use crate::machine::Machine;
 use crate::measure::{Measure, measured};
 use htn_level::Chain;
+use side_by_side::workers_for;
 use std::alloc::{AllocError, Global};
 use std::thread::Threads;
 
@@ -169,7 +170,7 @@ fn offer_one<M: Machine>(
     Ok(())
 }
 
-// The merge of one worker: each is kept at once, and nothing is put aside. (The measure is named for the contract
+// The merge of one worker, and of few successors: each is kept at once, and nothing is put aside. (The measure is named for the contract
 // alone.)
 fn merge_alone<M: Machine>(
     machine: &M,
@@ -196,6 +197,40 @@ fn merge_alone<M: Machine>(
         offer_one(machine, tables, closed, one, measure, room)?;
     }
     Ok(())
+}
+
+// The merge of several workers: what fits is put aside, and kept together. (The measure is named for the contract
+// alone.)
+fn merge_shared<M: Machine, R: Threads + Sync>(
+    rt: &R,
+    alloc: Global,
+    workers: usize,
+    machine: &M,
+    tables: &mut M::Tables,
+    closed: &mut Closed<M::Configuration>,
+    batch: Chain<Measured<M::Reached>>,
+    measure: Measure,
+    room: u64,
+) -> Result<(), AllocError>
+    requires workers { 0 < workers }
+    requires own { M.owns machine.now tables.old }
+    requires known { All (M.meaning machine.now tables.old).knows closed.old.keys }
+    requires allowed { All (λ s. (M.meaning machine.now tables.old).allows s.successor.configuration) batch }
+    requires belongs { All (λ s. M.belongs machine.now ((M.meaning machine.now tables.old).point_of s.successor.configuration)) batch }
+    requires measured { AreMeasured (measure_of (M.words machine.now) (M.estimate machine.now) measure) (M.meaning machine.now tables.old) batch }
+    requires within { All (λ s. IsOriginWithin (length closed.old.keys) s.successor.origin) batch }
+    ensures owned { OnOk result (M.owns machine.now tables.new) }
+    ensures grown { OnOk result (IsGrown (M.meaning machine.now tables.old) (M.meaning machine.now tables.new)) }
+    ensures known { OnOk result (All (M.meaning machine.now tables.new).knows closed.new.keys) }
+    ensures offered { OnOk result (AreOffered (measure_of (M.words machine.now) (M.estimate machine.now) measure) room (contents_at (M.meaning machine.now tables.new).point closed.old) (map (successor_at (M.meaning machine.now tables.old).point_of) (successors_of batch)) (contents_at (M.meaning machine.now tables.new).point closed.new)) }
+    ensures keys { OnOk result ((more : List M.Configuration) × (closed.new.keys ≡ closed.old.keys ++ more)) }
+    ensures origins { OnOk result ((more : List Origin) × (closed.new.origins ≡ closed.old.origins ++ more)) }
+{
+    let mut fits = Fitting::with_capacity(alloc, batch.initial_len())?;
+    for one in batch {
+        put_aside(machine, tables, closed, &mut fits, one, measure, room)?;
+    }
+    closed.keep_all(rt, alloc, &fits, workers)
 }
 
 /// Offers what workers reached to the closed list, in their order. There is room for so many steps more, by this
@@ -227,12 +262,10 @@ pub fn merge<M: Machine, R: Threads + Sync>(
     ensures keys { OnOk result ((more : List M.Configuration) × (closed.new.keys ≡ closed.old.keys ++ more)) }
     ensures origins { OnOk result ((more : List Origin) × (closed.new.origins ≡ closed.old.origins ++ more)) }
 {
-    if workers == 1 {
+    if workers_for(batch.initial_len(), FEW, workers) == 1 {
         return merge_alone(machine, tables, closed, batch, measure, room);
     }
-    let mut fits = Fitting::with_capacity(alloc, batch.initial_len())?;
-    for one in batch {
-        put_aside(machine, tables, closed, &mut fits, one, measure, room)?;
-    }
-    closed.keep_all(rt, alloc, &fits, workers)
+    merge_shared(
+        rt, alloc, workers, machine, tables, closed, batch, measure, room,
+    )
 }

@@ -10,7 +10,7 @@ use Rattle.word_machine.proofs.Aside.{fitting-All, kept_known, keys_more, origin
 use Rattle.word_machine.proofs.Meanings.{grown_more, known_still, measured_still}
 use Rattle.word_machine.proofs.Offering.{offered_more}
 use Rattle.word_machine.proofs.Places.{All-between}
-use Rattle.word_machine.proofs.merge.merge.Goals as goal
+use Rattle.word_machine.proofs.merge.merge_shared.Goals as goal
 
 pub loop-one-init : goal.loop-one-init
 loop-one-init g c =

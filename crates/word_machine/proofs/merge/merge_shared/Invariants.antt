@@ -4,7 +4,7 @@ use Rattle.word_machine.specs.Answer.{measure_of}
 use Rattle.word_machine.specs.Aside.{IsAside, with_aside}
 use Rattle.word_machine.specs.Contents.{AreOffered}
 use Rattle.word_machine.specs.Meaning.{IsGrown, contents_at, successor_at, successors_of}
-use Rattle.word_machine.proofs.merge.merge.Given as goal
+use Rattle.word_machine.proofs.merge.merge_shared.Given as goal
 
 -- the successors so far were offered to the list with those that are put aside
 abbrev pub invariant-loop-one : goal.invariant-loop-one

@@ -1,0 +1,30 @@
+use side_by_side::{for_each_mut, map_indices};
+use std::test::*;
+
+#[test]
+fn results_stand_in_the_order_of_their_calls(rt: HostRuntime) -> Result<(), Fail> {
+    let double = |i: usize| -> usize { i.wrapping_mul(2) };
+    for count in [0, 1, 2, 7] {
+        let results = map_indices(&rt, rt.alloc(), count, &double)?;
+        assert_eq!(rt; results.len(), count);
+        for (i, result) in results.iter().enumerate() {
+            assert_eq!(rt; *result, i.wrapping_mul(2));
+        }
+    }
+    Ok(())
+}
+
+#[test]
+fn each_place_is_changed_by_its_call(rt: HostRuntime) -> Result<(), Fail> {
+    let add = |i: usize, slot: &mut usize| {
+        *slot = slot.wrapping_add(i);
+    };
+    for threads in [1, 2, 3, 8] {
+        let mut slots = [10, 20, 30, 40, 50];
+        for_each_mut(&rt, &mut slots, threads, &add);
+        assert_eq!(rt; slots, [10, 21, 32, 43, 54]);
+        let mut none: [usize; 0] = [];
+        for_each_mut(&rt, &mut none, threads, &add);
+    }
+    Ok(())
+}
