@@ -1,4 +1,4 @@
-use side_by_side::{for_each_mut, map_indices};
+use side_by_side::{for_each_mut, map_indices, workers_for};
 use std::test::*;
 
 #[test]
@@ -11,6 +11,15 @@ fn results_stand_in_the_order_of_their_calls(rt: HostRuntime) -> Result<(), Fail
             assert_eq!(rt; *result, i.wrapping_mul(2));
         }
     }
+    Ok(())
+}
+
+#[test]
+fn workers_have_so_many_each(rt: HostRuntime) -> Result<(), Fail> {
+    assert_eq!(rt; workers_for(0, 500, 4), 1);
+    assert_eq!(rt; workers_for(999, 500, 4), 1);
+    assert_eq!(rt; workers_for(1_500, 500, 4), 3);
+    assert_eq!(rt; workers_for(9_999, 500, 4), 4);
     Ok(())
 }
 

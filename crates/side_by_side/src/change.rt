@@ -7,7 +7,7 @@ ghost use Rattle.side_by_side.specs.Parts.{IsChanged, IsReady};
 use std::thread::{Threads, join_mut};
 
 /// Calls `f(i, &mut s[i])` at each place, in at most so many threads. With one, all calls are made here. Else this thread
-/// only starts the others and waits for them, as in `map_indices`.
+/// only starts the others and waits for them, as in `map_indices`. The stack grows with `threads`.
 pub fn for_each_mut<R: Threads + Sync, T: Send, F: Fn(usize, &mut T) + Sync>(
     rt: &R,
     s: &mut [T],
