@@ -170,8 +170,8 @@ fn offer_one<M: Machine>(
     Ok(())
 }
 
-// The merge of one worker, and of few successors: each is kept at once, and nothing is put aside. (The measure is named for the contract
-// alone.)
+// The merge of one worker, and of few successors: each is kept at once, and nothing is put aside. (The measure is named
+// for the contract alone.)
 fn merge_alone<M: Machine>(
     machine: &M,
     tables: &mut M::Tables,
