@@ -35,20 +35,34 @@ const VERSION: &str = "0.1.0";
 
 // What stands below the help of the program, and of each of its commands.
 const CALLS: &str = "Examples:
-  htnplan plan domain.hddl problem.hddl --nodes 50 > plan.txt
+  htnplan plan domain.hddl problem.hddl --nodes 200 > plan.txt
   htnplan verify domain.hddl problem.hddl plan.txt
 
-The language of domains and problems is described in docs/LANGUAGE.md, that of plans in docs/PLANS.md.";
+Status: 0 yes (a plan, valid), 1 no (none, unsolvable, invalid), 2 command line, 3 a text is refused,
+4 memory or threads, 5 files or output.";
+
+const NODES: &str = "Nodes of a plan, at most: tasks, actions, precondition steps; after `none` try more";
 
 const PLAN_CALL: &str = "Example:
-  htnplan plan domain.hddl problem.hddl --nodes 50
+  htnplan plan domain.hddl problem.hddl --nodes 200 > plan.txt
 
-The language of domains and problems is described in docs/LANGUAGE.md, that of plans in docs/PLANS.md.";
+`none`: no plan has at most N nodes, and a greater N may help. `unsolvable`: there is no plan of any size.
 
-const VERIFY_CALL: &str = "Example:
+Status: 0 a plan, 1 none or unsolvable, 2 command line, 3 a text is refused, 4 memory or threads,
+5 files or output.";
+
+const VERIFY_CALL: &str = "Examples:
   htnplan verify domain.hddl problem.hddl plan.txt
+  htnplan plan domain.hddl problem.hddl | htnplan verify domain.hddl problem.hddl /dev/stdin
 
-The language of domains and problems is described in docs/LANGUAGE.md, that of plans in docs/PLANS.md.";
+After `invalid:` stands the first of these that holds:
+  Structure          the lines are no forest below `root`
+  NoInstance ID      the line with this ID (or `root`) is nothing that the domain allows
+  NotExecutable ID   when its turn comes, a precondition of this action is false
+  GoalFails          the goal is false after all actions
+  NoArrangement      the actions in this order keep to no order of the tasks and preconditions above them
+
+Status: 0 valid, 1 invalid, 2 command line, 3 a text is refused, 4 memory, 5 files or output.";
 
 /// Reads the words, of which the first is the program's name. Words that are refused ask for nothing. Help and the
 /// version are shown only where a word asks for them.
@@ -87,7 +101,7 @@ fn command<'a>(alloc: Global) -> Result<Command<'a>, AllocError>
     let verify = verify(alloc)?;
     let program = Command::new(alloc, "htnplan")
         .version(VERSION)
-        .about("Plans hierarchical tasks and verifies plans, and every answer is proved")
+        .about("Plans hierarchical tasks (HDDL) and verifies plans; the program is proved")
         .after_help(CALLS)
         .subcommand_required(true)
         .arg_required_else_help(true);
@@ -107,13 +121,13 @@ fn plan<'a>(alloc: Global) -> Result<Command<'a>, AllocError>
         value_parser!(u64).range(1..=1_000_000),
     );
     Command::new(alloc, "plan")
-        .about("Prints the plan with the fewest nodes, or `none`, or `unsolvable`")
+        .about("Prints the plan with the fewest nodes, or `none` (none so small), or `unsolvable`")
         .after_help(PLAN_CALL)
         .arg(file(alloc, "DOMAIN", "The file of the domain, in HDDL"))?
         .arg(file(alloc, "PROBLEM", "The file of the problem, in HDDL"))?
-        .arg(nodes.help("Compound tasks, actions and precondition steps of a plan, at most"))?
-        .arg(workers.help("Threads that search"))?
-        .arg(piece.help("Configurations that a worker takes at a time"))
+        .arg(nodes.help(NODES))?
+        .arg(workers.help("Threads that search; changes no answer"))?
+        .arg(piece.help("For experiments: how work is cut; changes no answer"))
 }
 
 // The command `verify`.
@@ -121,7 +135,7 @@ fn verify<'a>(alloc: Global) -> Result<Command<'a>, AllocError>
     ensures { IfOk result (λ c. (app_of c ≡ line.verify) × ((fields_of c).has_globals ≡ false)) }
 {
     Command::new(alloc, "verify")
-        .about("Prints `valid` where the plan solves the problem, or else `invalid:` and why")
+        .about("Prints `valid`, or `invalid:` and the first cause")
         .after_help(VERIFY_CALL)
         .arg(file(alloc, "DOMAIN", "The file of the domain, in HDDL"))?
         .arg(file(alloc, "PROBLEM", "The file of the problem, in HDDL"))?

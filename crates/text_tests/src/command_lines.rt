@@ -132,13 +132,13 @@ fn shown(alloc: Global, line: &str) -> Result<String, Fail> {
     }
 }
 
-const HELP: &str = "Plans hierarchical tasks and verifies plans, and every answer is proved
+const HELP: &str = "Plans hierarchical tasks (HDDL) and verifies plans; the program is proved
 
 Usage: htnplan <COMMAND>
 
 Commands:
-  plan    Prints the plan with the fewest nodes, or `none`, or `unsolvable`
-  verify  Prints `valid` where the plan solves the problem, or else `invalid:` and why
+  plan    Prints the plan with the fewest nodes, or `none` (none so small), or `unsolvable`
+  verify  Prints `valid`, or `invalid:` and the first cause
   help    Print this message or the help of the given subcommand(s)
 
 Options:
@@ -146,14 +146,38 @@ Options:
   -V, --version  Print version
 
 Examples:
-  htnplan plan domain.hddl problem.hddl --nodes 50 > plan.txt
+  htnplan plan domain.hddl problem.hddl --nodes 200 > plan.txt
   htnplan verify domain.hddl problem.hddl plan.txt
 
-The language of domains and problems is described in docs/LANGUAGE.md, that of plans in docs/PLANS.md.
+Status: 0 yes (a plan, valid), 1 no (none, unsolvable, invalid), 2 command line, 3 a text is refused,
+4 memory or threads, 5 files or output.
 ";
 
-const HELP_OF_VERIFY: &str =
-    "Prints `valid` where the plan solves the problem, or else `invalid:` and why
+const HELP_OF_PLAN: &str =
+    "Prints the plan with the fewest nodes, or `none` (none so small), or `unsolvable`
+
+Usage: htnplan plan [OPTIONS] <DOMAIN> <PROBLEM>
+
+Arguments:
+  <DOMAIN>   The file of the domain, in HDDL
+  <PROBLEM>  The file of the problem, in HDDL
+
+Options:
+      --nodes <N>    Nodes of a plan, at most: tasks, actions, precondition steps; after `none` try more [default: 100]
+      --workers <N>  Threads that search; changes no answer [default: 1]
+      --piece <N>    For experiments: how work is cut; changes no answer [default: 64]
+  -h, --help         Print help
+
+Example:
+  htnplan plan domain.hddl problem.hddl --nodes 200 > plan.txt
+
+`none`: no plan has at most N nodes, and a greater N may help. `unsolvable`: there is no plan of any size.
+
+Status: 0 a plan, 1 none or unsolvable, 2 command line, 3 a text is refused, 4 memory or threads,
+5 files or output.
+";
+
+const HELP_OF_VERIFY: &str = "Prints `valid`, or `invalid:` and the first cause
 
 Usage: htnplan verify <DOMAIN> <PROBLEM> <PLAN>
 
@@ -165,10 +189,18 @@ Arguments:
 Options:
   -h, --help  Print help
 
-Example:
+Examples:
   htnplan verify domain.hddl problem.hddl plan.txt
+  htnplan plan domain.hddl problem.hddl | htnplan verify domain.hddl problem.hddl /dev/stdin
 
-The language of domains and problems is described in docs/LANGUAGE.md, that of plans in docs/PLANS.md.
+After `invalid:` stands the first of these that holds:
+  Structure          the lines are no forest below `root`
+  NoInstance ID      the line with this ID (or `root`) is nothing that the domain allows
+  NotExecutable ID   when its turn comes, a precondition of this action is false
+  GoalFails          the goal is false after all actions
+  NoArrangement      the actions in this order keep to no order of the tasks and preconditions above them
+
+Status: 0 valid, 1 invalid, 2 command line, 3 a text is refused, 4 memory, 5 files or output.
 ";
 
 #[test]
@@ -177,6 +209,7 @@ fn texts(rt: HostRuntime) -> Result<(), Fail> {
     let rows = [
         ("htnplan --version", "htnplan 0.1.0\n"),
         ("htnplan --help", HELP),
+        ("htnplan plan --help", HELP_OF_PLAN),
         ("htnplan verify --help", HELP_OF_VERIFY),
     ];
     for (line, text) in rows {
