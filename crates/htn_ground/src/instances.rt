@@ -72,12 +72,19 @@ fn relation_of(positive: bool, left: Term, right: Term) -> Option<Relation>
     }
 }
 
+/// Whether an object has a type that a place or a parameter names.
+fn has_type(task: &Task, type_number: u16, object: u16) -> bool
+    ensures { result ≡ schema.has_type task.now type_number object }
+{
+    task.objects_of(type_number).binary_search(&object).is_ok()
+}
+
 /// What the type of a place says of an object there.
 fn place_constant(task: &Task, place: Place) -> bool
     ensures { result ≡ search.place_constant task.now (place_of place) }
 {
     match place.term {
-        Term::Object(object) => task.has_type(place.type_number, object),
+        Term::Object(object) => has_type(task, place.type_number, object),
         Term::Parameter(_) => true,
     }
 }
@@ -88,7 +95,7 @@ fn place_single(task: &Task, place: Place, at: usize, object: u16) -> bool
 {
     match &place.term {
         Term::Object(_) => true,
-        Term::Parameter(p) => at != *p as usize || task.has_type(place.type_number, object),
+        Term::Parameter(p) => at != *p as usize || has_type(task, place.type_number, object),
     }
 }
 
@@ -404,7 +411,7 @@ fn places_hold(task: &Task, places: &[Place], values: &[u16]) -> bool
     ensures { result ≡ list_all (λ p. has_type task.now p.1 (model.value_of values.now p.0)) (places_of places.now) }
 {
     for place in places {
-        if !task.has_type(place.type_number, value_of(values, place.term)) {
+        if !has_type(task, place.type_number, value_of(values, place.term)) {
             return false;
         }
     }
@@ -427,7 +434,7 @@ fn have_types(task: &Task, types: &[u16], values: &[u16]) -> bool
         return false;
     }
     for (place, type_number) in types.iter().enumerate() {
-        if !task.has_type(*type_number, values[place]) {
+        if !has_type(task, *type_number, values[place]) {
             return false;
         }
     }

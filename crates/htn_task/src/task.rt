@@ -3,7 +3,7 @@ ghost use Rattle.std.specs.Prelude.{◌≡◌, IfOk, MatchOption};
 ghost use Rattle.std.specs.List.Sorted.{IsStrictlySortedBy};
 ghost use Rattle.std.specs.Ordering.{nat_cmp};
 ghost use Rattle.htn_model.specs.Instances.{action_at};
-ghost use Rattle.htn_model.specs.Task.{IsWellTyped, has_type, is_compound, method_names, objects_of, predicate_names, predicate_types, task_names, task_types, type_names};
+ghost use Rattle.htn_model.specs.Task.{IsWellTyped, is_compound, method_names, objects_of, predicate_names, predicate_types, task_names, task_types, type_names};
 ghost use Rattle.htn_task.specs.Numbers.{number_of};
 
 use crate::formula::FormulaList;
@@ -230,8 +230,9 @@ impl Task {
         &self.parts.goal
     }
 
-    /// The objects that have a type, ascending; none where no type has the number. The task of two texts has them for
-    /// the types of places, parameters and quantified variables.
+    /// The objects that are listed for a type, ascending; none where no type has the number. The task of two texts
+    /// lists the objects of only those types that a place, a parameter or a quantified variable names: for any other
+    /// type the list is empty, though objects have it.
     pub fn objects_of(&self, type_number: u16) -> &[u16]
         ensures value { result.now ≡ objects_of self.now type_number }
         ensures ascending { IsStrictlySortedBy nat_cmp result.now }
@@ -240,13 +241,6 @@ impl Task {
             Some(declared) => declared.objects(),
             None => &[],
         }
-    }
-
-    /// Whether an object has a type.
-    pub fn has_type(&self, type_number: u16, object: u16) -> bool
-        ensures { result ≡ has_type self.now type_number object }
-    {
-        self.objects_of(type_number).binary_search(&object).is_ok()
     }
 
     /// The types of a predicate's places; none where no predicate has the number.

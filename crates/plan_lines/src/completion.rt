@@ -1,6 +1,7 @@
 //! Whether values that are given are those of an instance.
 ghost use Rattle.std.specs.Prelude.{◌≡◌, ◌≤◌, length, IfOk, MatchOption};
 ghost use Rattle.std.specs.List.{list_all, list_any};
+ghost use Rattle.htn_model.specs.Task as model;
 ghost use Rattle.htn_task.specs.Views.{term_of};
 ghost use Rattle.htn_ground.specs.Places.{place_of, places_of};
 ghost use Rattle.plan_lines.specs.Allowed as spec;
@@ -24,12 +25,19 @@ fn equality_so_far(given: &[Option<u16>], equality: &EqualitySchema) -> bool
     }
 }
 
+/// Whether an object has a type that a place names.
+fn has_type(task: &Task, type_number: u16, object: u16) -> bool
+    ensures { result ≡ model.has_type task.now type_number object }
+{
+    task.objects_of(type_number).binary_search(&object).is_ok()
+}
+
 /// Whether an argument has the type of its place, if it has an object.
 fn place_so_far(task: &Task, given: &[Option<u16>], place: Place) -> bool
     ensures { result ≡ spec.place_so_far task.now given.now (place_of place) }
 {
     match object_of(given, place.term) {
-        Some(object) => task.has_type(place.type_number, object),
+        Some(object) => has_type(task, place.type_number, object),
         None => true,
     }
 }

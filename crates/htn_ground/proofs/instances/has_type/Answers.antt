@@ -1,7 +1,7 @@
 use Rattle.std.proofs.Common.{◌∙◌, List, ap, nat_eq, ℕ}
 use Rattle.std.specs.List.{list_any}
 use Rattle.htn_task.proofs.Found.{found}
-use Rattle.htn_task.proofs.task.Task.has_type.Goals as goal
+use Rattle.htn_ground.proofs.instances.has_type.Goals as goal
 
 pub returns : goal.returns
 returns c =
