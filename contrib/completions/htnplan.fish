@@ -1,0 +1,19 @@
+# Completion for fish. A new command is a line of the list, a new option a `complete` line below.
+set -l commands \
+    "plan\t'Prints the plan with the fewest nodes'" \
+    "verify\t'Prints whether a plan is valid'"
+
+# Whether the command is the given one; an empty word stands for none so far.
+function __htnplan_command_is
+    set -l words (commandline -opc)
+    test "$words[2]" = "$argv[1]"
+end
+
+complete -c htnplan -n '__htnplan_command_is ""' -f -a "$commands help\t'Shows the help of a command'"
+complete -c htnplan -n '__htnplan_command_is help' -f -a "$commands"
+complete -c htnplan -n '__htnplan_command_is ""' -s V -l version -d 'Prints the version'
+complete -c htnplan -s h -l help -d 'Prints help'
+
+complete -c htnplan -n '__htnplan_command_is plan' -l nodes -x -d 'Nodes of a plan, at most (100)'
+complete -c htnplan -n '__htnplan_command_is plan' -l workers -x -d 'Threads that search (1)'
+complete -c htnplan -n '__htnplan_command_is plan' -l piece -x -d 'For experiments: how work is cut (64)'
