@@ -125,12 +125,11 @@ fn expect_calls<R: Threads + Wait + Sync + Abort + AllocGlobal>(
 }
 
 // The endless task leads from its one configuration to the same one. The task in need has two instances, one of them
-// dead, so there are two levels of one configuration each; and a search within one step before, where nothing is listed
-// that tells that two are wanted, so that the first level is expanded twice.
+// dead, so there are two levels of one configuration each.
 #[test]
 fn each_piece_passes_the_gate_once(rt: HostRuntime) -> Result<(), Fail> {
     expect_calls(&rt, ENDLESS, 10_000, 1, "unsolvable\n")?;
-    expect_calls(&rt, NEED, 2, 3, "==>\nroot 0\n0 t -> m-need\n<==\n")
+    expect_calls(&rt, NEED, 2, 2, "==>\nroot 0\n0 t -> m-need\n<==\n")
 }
 
 #[test]

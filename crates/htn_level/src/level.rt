@@ -45,7 +45,7 @@ fn pieces_of(len: u64, size: u64) -> u64
 }
 
 /// Expands a level by this many workers, who draw pieces of so many ranks. The answer is that of one worker who goes
-/// through the level in order.
+/// through the level in order. A gate sees each piece that is drawn by its number in the whole level.
 pub fn expand_level<W: Expand, G: Gate, R: Threads + Wait + Sync>(
     rt: &R,
     alloc: Global,

@@ -33,8 +33,8 @@ pub trait Expand: Sync {
         ensures refused { OnErr result ((more : List Self.Successor) × (successors.new.items ≡ successors.old.items ++ more)) };
 }
 
-/// Each piece that a worker takes goes through the gate once, before the look at the least place and before its
-/// expansion.
+/// Each piece that a worker takes goes through the gate once, by its number in the level, before the look at the least
+/// place and before its expansion.
 pub trait Gate: Sync {
     fn at(&self, piece: u64);
 }

@@ -1,5 +1,5 @@
 //! A worker: it draws pieces from the desk until none is left.
-ghost use Rattle.std.specs.Prelude.{◌≡◌, ◌<◌, ◌≤◌, ◌*◌, ◌+◌, ◌++◌, true, false, min, All, IfOk};
+ghost use Rattle.std.specs.Prelude.{◌≡◌, ◌<◌, ◌≤◌, ◌*◌, ◌+◌, ◌^◌, ◌++◌, true, false, min, All, IfOk};
 ghost use Rattle.htn_desk.specs.Desk.{new_pass};
 ghost use Rattle.htn_level.specs.Workers.{CanExpandAll, HasPieces, IsOutcome, TakesPiece, IsWorked, piece_first, piece_last};
 
@@ -9,7 +9,7 @@ use crate::work::{Expand, Gate};
 use htn_desk::{Desk, Pass};
 use std::alloc::{AllocError, Global};
 
-/// A level: the ranks from `first` on and below `last`.
+/// A level, or a part of one: the ranks from `first` on and below `last`.
 #[derive_where(Clone, Copy)]
 pub struct Level<'a, W: Expand> {
     pub work: &'a W,
@@ -17,6 +17,8 @@ pub struct Level<'a, W: Expand> {
     pub last: usize,
     /// How many ranks a piece has. The last piece may have fewer.
     pub piece: usize,
+    /// How many pieces of the whole level come before these. A gate sees the numbers that follow.
+    pub pieces_before: u64,
 }
 
 /// What the workers of one level share.
@@ -49,6 +51,13 @@ fn bounds_of<W: Expand>(level: Level<W>, number: u64) -> (usize, usize)
 {
     let first = level.first + number as usize * level.piece;
     (first, first + (level.last - first).min(level.piece))
+}
+
+// The number of a piece in the whole level. (No level has so many pieces that the sum is cut off.)
+fn number_in_level<W: Expand>(level: Level<W>, number: u64) -> u64
+    ensures { level.entry.pieces_before + number < 2 ^ 64 → result ≡ level.entry.pieces_before + number }
+{
+    level.pieces_before.saturating_add(number)
 }
 
 // Skips the piece if its first rank is above the least place reported, and else expands it.
@@ -90,7 +99,7 @@ pub fn work_off<W: Expand, G: Gate>(
 {
     let mut pieces = Vec::new(alloc);
     while let Some(number) = job.desk.claim(&mut pass) {
-        job.gate.at(number);
+        job.gate.at(number_in_level(job.level, number));
         let outcome = take_piece(alloc, job, &mut pass, number)?;
         pieces.push(Piece { number, outcome })?;
     }

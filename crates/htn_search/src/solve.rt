@@ -20,7 +20,7 @@ use std::sync::Wait;
 use std::thread::Threads;
 use task_machine::{Tables, TaskMachine};
 use tree_sizes::enumerate;
-use word_machine::{Bounds, Found, Gate, Machine, SearchFault, find_word_in};
+use word_machine::{Bounds, Effort, Found, Gate, Machine, SearchFault, find_word_in};
 
 // How much is listed at most to find sizes and needs, and how many configurations a search by these keeps at most,
 // before more is listed. To list as much as a stage does takes no longer than to keep some times as many
@@ -64,28 +64,40 @@ fn search_by<M: Machine, G: Gate, R: Threads + Wait + Sync>(
     rt: &R,
     alloc: Global,
     machine: &M,
-    most_kept: usize,
+    effort: Effort,
     bounds: Bounds,
     gate: &G,
 ) -> Result<Option<Searched<M::Tables>>, SearchFault>
     ensures answer { IfOk result (λ o. IfSome o (λ s. IsAnswer (M.words machine.now) bounds.nodes s.found)) }
     ensures own { IfOk result (λ o. IfSome o (λ s. M.owns machine.now s.tables)) }
-    ensures given_up { IfOk result (λ o. IfNone o (most_kept < 2 ^ 64 - 1)) }
+    ensures given_up { IfOk result (λ o. IfNone o (effort.most_kept < 2 ^ 64 - 1)) }
     ensures no_thread { IfErr result (λ e. e ≡ NoThread → 1 < bounds.workers) }
 {
     let mut tables = machine.new_tables()?;
-    match find_word_in(rt, alloc, machine, &mut tables, bounds, most_kept, gate)? {
+    match find_word_in(rt, alloc, machine, &mut tables, bounds, effort, gate)? {
         Some(found) => Ok(Some(Searched { found, tables })),
         None => Ok(None),
     }
 }
 
-/// How many configurations are kept at most: as many as are held where more would not be listed with a greater limit.
-fn most_kept(stage: Stage, is_cut: bool) -> usize
-    ensures cut { is_cut ≡ true → result ≡ stage.kept }
-    ensures whole { is_cut ≡ false → result ≡ 2 ^ 64 - 1 }
+/// The limits of the searches of a stage. Where more would not be listed with a greater limit, no search is given up.
+/// Where nothing is listed, few configurations are kept, and growing bounds would spare nothing: so the first search has
+/// the whole bound.
+fn effort_of(stage: Stage, is_cut: bool, bounds: Bounds) -> Effort
+    ensures cut { is_cut ≡ true → result.most_kept ≡ stage.kept }
+    ensures whole { is_cut ≡ false → result.most_kept ≡ 2 ^ 64 - 1 }
 {
-    if is_cut { stage.kept } else { usize::MAX }
+    if !is_cut {
+        return Effort {
+            most_kept: usize::MAX,
+            first_bound: 0,
+        };
+    }
+    let first_bound = if stage.listed == 0 { bounds.nodes } else { 0 };
+    Effort {
+        most_kept: stage.kept,
+        first_bound,
+    }
 }
 
 /// The least finishing word of ranks of a task, or that there is none; None where it is given up, since more would be
@@ -104,9 +116,9 @@ fn search_stage<G: Gate, R: Threads + Wait + Sync>(
     ensures no_thread { IfErr result (λ e. e ≡ NoThread → 1 < bounds.workers) }
 {
     let listed = enumerate(alloc, task, stage.listed)?;
-    let kept = most_kept(stage, listed.is_cut(task));
+    let effort = effort_of(stage, listed.is_cut(task), bounds);
     let machine = TaskMachine::new(alloc, task, listed)?;
-    search_by(rt, alloc, &machine, kept, bounds, gate)
+    search_by(rt, alloc, &machine, effort, bounds, gate)
 }
 
 /// The least finishing word of ranks of a task, or that there is none.

@@ -6,8 +6,8 @@ use Rattle.search_tests.specs.declared.tallies.Tally.{Tally}
 
 -- what a number leads to, of tasks of which at least one is open, less that one
 abbrev pub go_on : ℕ → ℕ → ℕ → Option Tally
-go_on rest value zero = Some record { tasks = rest; value = (value + 1) % 1000; stuck = false }
-go_on rest value (suc zero) = Some record { tasks = suc rest; value = (value * 2) % 1000; stuck = false }
+go_on rest value zero = Some record { tasks = rest; value = (value + 1) % 1000000; stuck = false }
+go_on rest value (suc zero) = Some record { tasks = suc rest; value = (value * 2) % 1000000; stuck = false }
 go_on rest value (suc (suc zero)) = Some record { tasks = suc rest; value = value; stuck = true }
 go_on rest value (suc (suc (suc number))) = None
 
@@ -27,18 +27,18 @@ counting target initials = record {
   is_dead = λ c number. nat_eq number 2;
 }
 
--- below 1,000
+-- below 1,000,000
 abbrev pub clipped : Tally → Tally
-clipped c = record { tasks = c.tasks % 1000; value = c.value % 1000; stuck = c.stuck }
+clipped c = record { tasks = c.tasks % 1000000; value = c.value % 1000000; stuck = c.stuck }
 
 -- after a task is carried out, and after one is replaced
 abbrev pub carried : Tally → Tally
-carried c = record { tasks = c.tasks - 1; value = (c.value + 1) % 1000; stuck = false }
+carried c = record { tasks = c.tasks - 1; value = (c.value + 1) % 1000000; stuck = false }
 
 -- after a task is replaced
 abbrev pub doubled : Tally → Tally
-doubled c = record { tasks = c.tasks; value = (c.value * 2) % 1000; stuck = false }
+doubled c = record { tasks = c.tasks; value = (c.value * 2) % 1000000; stuck = false }
 
 -- a step for each task, and one more where the value that comes out is not the one that is wanted
 abbrev pub estimate : ℕ → Tally → ℕ
-estimate target c = if nat_eq ((c.value + c.tasks) % 1000) (target % 1000) then c.tasks else c.tasks + 1
+estimate target c = if nat_eq ((c.value + c.tasks) % 1000000) (target % 1000000) then c.tasks else c.tasks + 1

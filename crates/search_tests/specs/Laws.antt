@@ -19,22 +19,22 @@ go_open false zero value number is some = absurd (omega arith)
 go_open false (suc rest) value number is some = let e : rest ≡ suc rest - 1 = omega arith in ap (λ r. go_on r value number) e
 
 -- tasks and values stay small
-stays : (stuck : Bool) (tasks value n : ℕ) (d : Tally) → tasks < 1000 → value < 1000 → go_by stuck tasks value n ≡ Some d → (d.tasks < 1000) × (d.value < 1000)
+stays : (stuck : Bool) (tasks value n : ℕ) (d : Tally) → tasks < 1000000 → value < 1000000 → go_by stuck tasks value n ≡ Some d → (d.tasks < 1000000) × (d.value < 1000000)
 stays true tasks value n d few own e = absurd (none-some d e)
 stays false zero value n d few own e = absurd (none-some d e)
 stays false (suc rest) value zero d few own e =
     let t : rest ≡ d.tasks = ap (λ (x : Tally). x.tasks) (same_Some _ d e) in
-    let v : (value + 1) % 1000 ≡ d.value = ap (λ (x : Tally). x.value) (same_Some _ d e) in (omega arith, omega arith)
+    let v : (value + 1) % 1000000 ≡ d.value = ap (λ (x : Tally). x.value) (same_Some _ d e) in (omega arith, omega arith)
 stays false (suc rest) value (suc zero) d few own e =
     let t : suc rest ≡ d.tasks = ap (λ (x : Tally). x.tasks) (same_Some _ d e) in
-    let v : (value * 2) % 1000 ≡ d.value = ap (λ (x : Tally). x.value) (same_Some _ d e) in (omega arith, omega arith)
+    let v : (value * 2) % 1000000 ≡ d.value = ap (λ (x : Tally). x.value) (same_Some _ d e) in (omega arith, omega arith)
 stays false (suc rest) value (suc (suc zero)) d few own e =
     let t : suc rest ≡ d.tasks = ap (λ (x : Tally). x.tasks) (same_Some _ d e) in
     let v : value ≡ d.value = ap (λ (x : Tally). x.value) (same_Some _ d e) in (omega arith, omega arith)
 stays false (suc rest) value (suc (suc (suc n))) d few own e = absurd (none-some d e)
 
 -- what is left where the sum comes out, and where it does not
-left_is : (target tasks value : ℕ) → (b : Bool) → nat_eq ((value + tasks) % 1000) (target % 1000) ≡ b → (if nat_eq ((value + tasks) % 1000) (target % 1000) then tasks else tasks + 1) ≡ (if b then tasks else tasks + 1)
+left_is : (target tasks value : ℕ) → (b : Bool) → nat_eq ((value + tasks) % 1000000) (target % 1000000) ≡ b → (if nat_eq ((value + tasks) % 1000000) (target % 1000000) then tasks else tasks + 1) ≡ (if b then tasks else tasks + 1)
 left_is target tasks value b is = ap (λ b. if b then tasks else tasks + 1) is
 
 -- at most one step more than tasks
@@ -54,20 +54,20 @@ left_same false tasks = omega arith
 
 -- a step lowers what is left by at most one
 lowers_one : (target : ℕ) (stuck : Bool) (tasks value n : ℕ) (d : Tally) → (n ≡ 2 → ⊥) → go_by stuck tasks value n ≡ Some d
-    → (if nat_eq ((value + tasks) % 1000) (target % 1000) then tasks else tasks + 1) ≤ estimate target d + 1
+    → (if nat_eq ((value + tasks) % 1000000) (target % 1000000) then tasks else tasks + 1) ≤ estimate target d + 1
 lowers_one target true tasks value n d live e = absurd (none-some d e)
 lowers_one target false zero value n d live e = absurd (none-some d e)
 lowers_one target false (suc rest) value zero d live e =
-    let c : Tally = record { tasks = rest; value = (value + 1) % 1000; stuck = false } in
-    let sum : (value + suc rest) % 1000 ≡ ((value + 1) % 1000 + rest) % 1000 = omega arith in
-    let own : (if nat_eq ((value + suc rest) % 1000) (target % 1000) then suc rest else suc rest + 1) ≤ estimate target c + 1 =
-    subst (λ s. (if nat_eq ((value + suc rest) % 1000) (target % 1000) then suc rest else suc rest + 1) ≤ (if nat_eq s (target % 1000) then rest else rest + 1) + 1) sum
-    (left_same (nat_eq ((value + suc rest) % 1000) (target % 1000)) rest) in
-    subst (λ (x : Tally). (if nat_eq ((value + suc rest) % 1000) (target % 1000) then suc rest else suc rest + 1) ≤ estimate target x + 1) (same_Some c d e) own
+    let c : Tally = record { tasks = rest; value = (value + 1) % 1000000; stuck = false } in
+    let sum : (value + suc rest) % 1000000 ≡ ((value + 1) % 1000000 + rest) % 1000000 = omega arith in
+    let own : (if nat_eq ((value + suc rest) % 1000000) (target % 1000000) then suc rest else suc rest + 1) ≤ estimate target c + 1 =
+    subst (λ s. (if nat_eq ((value + suc rest) % 1000000) (target % 1000000) then suc rest else suc rest + 1) ≤ (if nat_eq s (target % 1000000) then rest else rest + 1) + 1) sum
+    (left_same (nat_eq ((value + suc rest) % 1000000) (target % 1000000)) rest) in
+    subst (λ (x : Tally). (if nat_eq ((value + suc rest) % 1000000) (target % 1000000) then suc rest else suc rest + 1) ≤ estimate target x + 1) (same_Some c d e) own
 lowers_one target false (suc rest) value (suc zero) d live e =
     let t : suc rest ≡ d.tasks = ap (λ (x : Tally). x.tasks) (same_Some _ d e) in
-    let most = left_at_most (nat_eq ((value + suc rest) % 1000) (target % 1000)) (suc rest) in
-    let least = left_at_least (nat_eq ((d.value + d.tasks) % 1000) (target % 1000)) d.tasks in
+    let most = left_at_most (nat_eq ((value + suc rest) % 1000000) (target % 1000000)) (suc rest) in
+    let least = left_at_least (nat_eq ((d.value + d.tasks) % 1000000) (target % 1000000)) d.tasks in
     omega (arith, most, least)
 lowers_one target false (suc rest) value (suc (suc zero)) d live e = absurd (live refl)
 lowers_one target false (suc rest) value (suc (suc (suc n))) d live e = absurd (none-some d e)
@@ -97,7 +97,7 @@ given_up false (suc rest) value (suc (suc zero)) d two e = sym (ap (λ (x : Tall
 given_up false (suc rest) value (suc (suc (suc n))) d two e = absurd (omega arith)
 
 -- the two to begin with are small
-pub clipped_small : (c d : Tally) → All (λ (t : Tally). (t.tasks < 1000) × (t.value < 1000)) (clipped c ∷ clipped d ∷ [])
+pub clipped_small : (c d : Tally) → All (λ (t : Tally). (t.tasks < 1000000) × (t.value < 1000000)) (clipped c ∷ clipped d ∷ [])
 clipped_small c d zero x inside = (omega arith, omega arith)
 clipped_small c d (suc zero) x inside = (omega arith, omega arith)
 clipped_small c d (suc (suc k)) x inside = absurd (omega arith)
@@ -120,7 +120,7 @@ module _ (target : ℕ) (initials : List Tally) where
   stuck_never d e (n ∷ ns) stuck leads done = none-some leads.0 (ap (λ b. go_by b d.tasks d.value n) (sym stuck) ∙ leads.1)
 
   -- the machine is lawful
-  pub lawful : All (λ (c : Tally). (c.tasks < 1000) × (c.value < 1000)) initials → IsLawful (counting target initials) (λ c. (c.tasks < 1000) × (c.value < 1000))
+  pub lawful : All (λ (c : Tally). (c.tasks < 1000000) × (c.value < 1000000)) initials → IsLawful (counting target initials) (λ c. (c.tasks < 1000000) × (c.value < 1000000))
   lawful small = record {
     starts = small;
     stays = λ c d n own step. stays c.stuck c.tasks c.value n d own.0 own.1 step;
@@ -138,9 +138,9 @@ module _ (target : ℕ) (initials : List Tally) where
         let parts = and_parts (nat_eq c.tasks 0) (nat_eq c.value target) (and_parts (not c.stuck) (nat_eq c.tasks 0 && nat_eq c.value target) done).1 in
         let none : c.tasks ≡ 0 = eqb-true c.tasks 0 parts.0 in
         let value : c.value ≡ target = eqb-true c.value target parts.1 in
-        let sum : (c.value + c.tasks) % 1000 ≡ target % 1000 = ap (λ t. (c.value + t) % 1000) none ∙ (let z : c.value + 0 ≡ c.value = omega arith in ap (λ v. v % 1000) (z ∙ value)) in
-        left_is target c.tasks c.value true (eq-eqb ((c.value + c.tasks) % 1000) (target % 1000) sum) ∙ none);
-    above_open = λ c. left_at_least (nat_eq ((c.value + c.tasks) % 1000) (target % 1000)) c.tasks;
+        let sum : (c.value + c.tasks) % 1000000 ≡ target % 1000000 = ap (λ t. (c.value + t) % 1000000) none ∙ (let z : c.value + 0 ≡ c.value = omega arith in ap (λ v. v % 1000000) (z ∙ value)) in
+        left_is target c.tasks c.value true (eq-eqb ((c.value + c.tasks) % 1000000) (target % 1000000) sum) ∙ none);
+    above_open = λ c. left_at_least (nat_eq ((c.value + c.tasks) % 1000000) (target % 1000000)) c.tasks;
   }
 
   -- both ways on, while a task is open
@@ -156,8 +156,8 @@ module _ (target : ℕ) (initials : List Tally) where
       ascending (suc k) inside = absurd (omega arith)
 
       each : All (λ n. (d : Tally) × IsLiveStep (counting target initials) c n d) (0 ∷ 1 ∷ [])
-      each zero d inside = (record { tasks = c.tasks - 1; value = (c.value + 1) % 1000; stuck = false }, (go_open c.stuck c.tasks c.value 0 free some, λ dead. true≢false (sym dead)))
-      each (suc zero) d inside = (record { tasks = suc (c.tasks - 1); value = (c.value * 2) % 1000; stuck = false }, (go_open c.stuck c.tasks c.value 1 free some, λ dead. true≢false (sym dead)))
+      each zero d inside = (record { tasks = c.tasks - 1; value = (c.value + 1) % 1000000; stuck = false }, (go_open c.stuck c.tasks c.value 0 free some, λ dead. true≢false (sym dead)))
+      each (suc zero) d inside = (record { tasks = suc (c.tasks - 1); value = (c.value * 2) % 1000000; stuck = false }, (go_open c.stuck c.tasks c.value 1 free some, λ dead. true≢false (sym dead)))
       each (suc (suc k)) d inside = absurd (omega arith)
 
       all : (n : ℕ) (d : Tally) → IsLiveStep (counting target initials) c n d → Contains (0 ∷ 1 ∷ []) n
@@ -188,7 +188,7 @@ carries_out c free some = go_open c.stuck c.tasks c.value 0 free some
 pub doubles : (c : Tally) → c.stuck ≡ false → 0 < c.tasks → go_by c.stuck c.tasks c.value 1 ≡ Some (doubled c)
 doubles c free some =
     let e : suc (c.tasks - 1) ≡ c.tasks = omega arith in
-    go_open c.stuck c.tasks c.value 1 free some ∙ ap (λ t. Some record { tasks = t; value = (c.value * 2) % 1000; stuck = false }) e
+    go_open c.stuck c.tasks c.value 1 free some ∙ ap (λ t. Some record { tasks = t; value = (c.value * 2) % 1000000; stuck = false }) e
 
 module _ (target : ℕ) (initials : List Tally) (c : Tally) (free : c.stuck ≡ false) (some : 0 < c.tasks) where
   -- where carrying out is done, it is by the least number

@@ -10,7 +10,7 @@ use std::alloc::{AllocError, Global};
 use std::thread::Threads;
 use word_machine::{Horizon, Machine, Measure, Measured, Origin, Successor};
 
-/// Two tallies to begin with, tasks and values below 1,000, and the value that is wanted.
+/// Two tallies to begin with, tasks and values below 1,000,000, and the value that is wanted.
 #[derive(Clone, Copy, Debug)]
 pub struct Counter {
     pub target: u64,
@@ -23,31 +23,31 @@ fn clip(tally: Tally) -> Tally
     ensures { result ≡ clipped tally }
 {
     Tally {
-        tasks: tally.tasks % 1000,
-        value: tally.value % 1000,
+        tasks: tally.tasks % 1_000_000,
+        value: tally.value % 1_000_000,
         ..tally
     }
 }
 
 fn carry_out(tally: Tally) -> Tally
     requires some { 0 < tally.tasks }
-    requires small { tally.value < 1000 }
+    requires small { tally.value < 1000000 }
     ensures { result ≡ carried tally }
 {
     Tally {
         tasks: tally.tasks - 1,
-        value: (tally.value + 1) % 1000,
+        value: (tally.value + 1) % 1_000_000,
         stuck: false,
     }
 }
 
 fn double(tally: Tally) -> Tally
-    requires small { tally.value < 1000 }
+    requires small { tally.value < 1000000 }
     ensures { result ≡ doubled tally }
 {
     Tally {
         tasks: tally.tasks,
-        value: (tally.value * 2) % 1000,
+        value: (tally.value * 2) % 1_000_000,
         stuck: false,
     }
 }
@@ -61,11 +61,11 @@ fn is_wanted(target: u64, tally: Tally) -> bool
 
 // At least so many steps are left: one for each task, and one to double where the value does not come out otherwise.
 fn steps_left(target: u64, tally: Tally) -> u64
-    requires few { tally.tasks < 1000 }
-    requires small { tally.value < 1000 }
+    requires few { tally.tasks < 1000000 }
+    requires small { tally.value < 1000000 }
     ensures { result ≡ estimate target tally }
 {
-    if (tally.value + tally.tasks) % 1000 == target % 1000 {
+    if (tally.value + tally.tasks) % 1_000_000 == target % 1_000_000 {
         tally.tasks
     } else {
         tally.tasks + 1
@@ -74,8 +74,8 @@ fn steps_left(target: u64, tally: Tally) -> u64
 
 /// How many steps are left at least, by this measure.
 pub fn left_of(target: u64, measure: Measure, tally: Tally) -> u64
-    requires few { tally.tasks < 1000 }
-    requires small { tally.value < 1000 }
+    requires few { tally.tasks < 1000000 }
+    requires small { tally.value < 1000000 }
     ensures { result ≡ measure_of (counting target []) (estimate target) measure tally }
 {
     match measure {
@@ -117,7 +117,7 @@ impl Machine for Counter {
 
     ghost words = { λ m. counting m.target (clipped m.first ∷ clipped m.second ∷ []) };
 
-    ghost belongs = { λ m c. (c.tasks < 1000) × (c.value < 1000) };
+    ghost belongs = { λ m c. (c.tasks < 1000000) × (c.value < 1000000) };
 
     ghost estimate = { λ m c. estimate m.target c };
 

@@ -125,6 +125,7 @@ fn three(work: &Twice) -> Level<Twice>
         first: 1,
         last: 4,
         piece: 1,
+        pieces_before: 0,
     }
 }
 
@@ -148,6 +149,48 @@ fn each_level_has_its_workers(rt: HostRuntime) -> Result<(), Fail> {
         assert!(rt; matches!(&answer, ExpandedLevel::Whole(_)));
         assert!(rt; !gate.ran_out());
         assert_eq!(rt; gate.calls(), 3 * levels);
+    }
+    Ok(())
+}
+
+// Notes the least and the greatest number of a piece, and counts the pieces.
+#[derive(Drop)]
+struct Noting {
+    least: AtomicU64,
+    greatest: AtomicU64,
+    calls: AtomicU64,
+}
+
+impl Gate for Noting {
+    fn at(&self, piece: u64) {
+        self.least.fetch_min(piece, Ordering::SeqCst);
+        self.greatest.fetch_max(piece, Ordering::SeqCst);
+        self.calls.fetch_add(1, Ordering::SeqCst);
+    }
+}
+
+// The first two pieces of three ranks, from the rank 3 on, are expanded already.
+#[test]
+fn pieces_are_numbered_through_the_level(rt: HostRuntime) -> Result<(), Fail> {
+    for workers in 1..4u64 {
+        let work = Twice::up_to(u64::MAX);
+        let gate = Noting {
+            least: AtomicU64::new(u64::MAX),
+            greatest: AtomicU64::new(0),
+            calls: AtomicU64::new(0),
+        };
+        let level = Level {
+            work: &work,
+            first: 9,
+            last: 16,
+            piece: 3,
+            pieces_before: 2,
+        };
+        let answer = expand_level(&rt, rt.alloc(), level, workers, &gate).map_err(|_| "expanded")?;
+        assert!(rt; matches!(&answer, ExpandedLevel::Whole(_)));
+        assert_eq!(rt; gate.least.load(Ordering::SeqCst), 2);
+        assert_eq!(rt; gate.greatest.load(Ordering::SeqCst), 4);
+        assert_eq!(rt; gate.calls.load(Ordering::SeqCst), 3);
     }
     Ok(())
 }
@@ -188,6 +231,7 @@ fn all_agree<R: Threads + Wait + Sync>(
                 first,
                 last,
                 piece,
+                pieces_before: 0,
             };
             if !is_same(
                 alloc,
@@ -219,6 +263,7 @@ fn an_empty_level_is_whole(rt: HostRuntime) -> Result<(), Fail> {
         first: 5,
         last: 5,
         piece: 1_000_000,
+        pieces_before: 0,
     };
     let answer = expand_level(&rt, rt.alloc(), level, 64, &NoGate).map_err(|_| "expanded")?;
     let is_empty = match answer {

@@ -1,4 +1,5 @@
 //! Searches over the small machine: each answer for several numbers of workers and sizes of pieces.
+ghost use Rattle.std.specs.Prelude.{◌<◌};
 
 use crate::counter::Counter;
 use crate::tallies::Tally;
@@ -9,7 +10,7 @@ use std::sync::atomic::{AtomicU64, Ordering};
 use std::test::Fail;
 use std::thread::Threads;
 use word_machine::{
-    Bounds, Found, Gate, Machine, NoGate, find_word, find_word_deepening, find_word_in,
+    Bounds, Effort, Found, Gate, Machine, NoGate, find_word, find_word_deepening, find_word_in,
 };
 
 fn tally(tasks: u64, value: u64) -> Tally {
@@ -160,19 +161,149 @@ fn nothing_to_find(rt: HostRuntime) -> Result<(), Fail> {
     expect(&rt, &machine, 10_000, "unsolvable")
 }
 
-// One task at the value 0: to carry it out gives no wanted value, and to double gives the same tally. So there is one
-// level, whose one piece goes through the gate once, however far the bound.
-#[test]
-fn each_piece_passes_the_gate_once(rt: HostRuntime) -> Result<(), Fail> {
-    let machine = counter(rt.alloc(), 5, tally(1, 0), tally(1, 0));
+// Expects this answer of one search, and that pieces go through so often.
+fn expect_calls_of_one<R: Threads + Wait + Sync + Abort>(
+    rt: &R,
+    machine: &Counter,
+    nodes: u64,
+    wanted: &str,
+    calls: u64,
+) -> Result<(), Fail> {
     let gate = CountingGate {
         calls: AtomicU64::new(0),
     };
-    let bounds = Bounds::new(10_000, 1, 1).ok_or("in range")?;
-    let found = answer(&rt, &machine, bounds, &gate)?;
-    assert_eq!(rt; found.as_str(), "unsolvable");
-    assert_eq!(rt; gate.calls.load(Ordering::SeqCst), 2);
+    let bounds = Bounds::new(nodes, 1, 1).ok_or("in range")?;
+    let found = answer(rt, machine, bounds, &gate)?;
+    assert_eq!(rt; found.as_str(), wanted);
+    assert_eq!(rt; gate.calls.load(Ordering::SeqCst), calls);
     Ok(())
+}
+
+// What is stuck leads nowhere: so there is one level, whose one piece goes through the gate once, however far the bound.
+// One task at the value 0 leads to the same tally where it is doubled, and to none and the value 1 where it is carried
+// out, which is not wanted: so there are two levels, each with one piece.
+#[test]
+fn each_piece_passes_the_gate_once(rt: HostRuntime) -> Result<(), Fail> {
+    let alloc: Global = rt.alloc();
+    let stuck = Tally {
+        tasks: 1,
+        value: 0,
+        stuck: true,
+    };
+    let machine = counter(alloc, 5, stuck, stuck);
+    expect_calls_of_one(&rt, &machine, 10_000, "unsolvable", 1)?;
+    let machine = counter(alloc, 5, tally(1, 0), tally(1, 0));
+    expect_calls_of_one(&rt, &machine, 10_000, "unsolvable", 2)
+}
+
+// A search whose first bound is the whole one goes through each level once: from two tasks at the value 0 the word has 4
+// steps, and 3 are known to be left at least. With a bound that grows, the first levels are searched twice.
+#[test]
+fn one_search_within_the_whole_bound(rt: HostRuntime) -> Result<(), Fail> {
+    let alloc: Global = rt.alloc();
+    let machine = counter(alloc, 5, tally(2, 0), tally(2, 0));
+    let bounds = Bounds::new(9, 1, 1_000).ok_or("in range")?;
+    for (first_bound, calls) in [(9, 4), (0, 7)] {
+        let gate = CountingGate {
+            calls: AtomicU64::new(0),
+        };
+        let effort = Effort {
+            most_kept: 1_000,
+            first_bound,
+        };
+        let mut tables = machine.new_tables()?;
+        let found = find_word_in(&rt, alloc, &machine, &mut tables, bounds, effort, &gate)?;
+        let word = text(alloc, found.ok_or("not given up")?)?;
+        assert_eq!(rt; word.as_str(), "[0, 0, 1, 1, 0]");
+        assert_eq!(rt; gate.calls.load(Ordering::SeqCst), calls);
+    }
+    Ok(())
+}
+
+// How often the piece of each number went through.
+#[derive(Drop)]
+struct NumberingGate {
+    calls: Vec<AtomicU64>,
+    past: AtomicU64,
+}
+
+impl Gate for NumberingGate {
+    fn at(&self, piece: u64) {
+        let place = piece as usize;
+        if place < self.calls.len() {
+            self.calls[place].fetch_add(1, Ordering::SeqCst);
+        } else {
+            self.past.fetch_add(1, Ordering::SeqCst);
+        }
+    }
+}
+
+fn numbering(alloc: Global, most: usize) -> Result<NumberingGate, Fail> {
+    let mut calls = Vec::with_capacity(alloc, most)?;
+    for _ in 0..most {
+        calls.push(AtomicU64::new(0))?;
+    }
+    Ok(NumberingGate {
+        calls,
+        past: AtomicU64::new(0),
+    })
+}
+
+// How many tallies each level has from 8 tasks at the value 1, where tasks and steps together are 23 at most. A program
+// of a few lines counted them, which keeps pairs of numbers in a set.
+const WIDTHS: [usize; 23] = [
+    1, 2, 4, 8, 15, 27, 47, 80, 134, 220, 352, 562, 895, 1421, 2248, 3541, 5548, 8624, 13203,
+    19587, 27374, 34462, 35786,
+];
+
+// How many levels have a piece of this number, where a piece has so many ranks.
+fn levels_with(number: usize, piece: usize) -> u64
+    requires { 0 < piece }
+{
+    let mut levels: u64 = 0;
+    for width in WIDTHS {
+        if number < width.div_ceil(piece) {
+            levels = levels.saturating_add(1);
+        }
+    }
+    levels
+}
+
+// Expects that a gate sees each piece of each level once, by its number.
+fn expect_each_once<R: Threads + Wait + Sync + Abort>(
+    rt: &R,
+    machine: &Counter,
+    workers: u64,
+    piece: u64,
+) -> Result<(), Fail> {
+    let gate = numbering(machine.alloc, 400)?;
+    let bounds = Bounds::new(23, workers, piece).ok_or("in range")?;
+    let found = answer(rt, machine, bounds, &gate)?;
+    assert_eq!(rt; found.as_str(), "none");
+    assert_eq!(rt; gate.past.load(Ordering::SeqCst), 0);
+    for number in 0..gate.calls.len() {
+        let calls = gate.calls[number].load(Ordering::SeqCst);
+        assert_eq!(rt;
+            calls,
+            levels_with(number, bounds.piece as usize),
+            "piece {number}"
+        );
+    }
+    Ok(())
+}
+
+// The last two levels are expanded in two blocks, of about 32,768 ranks each: so a block has 327 pieces of 100 ranks.
+#[test]
+fn a_gate_sees_each_small_piece_of_a_wide_level_once(rt: HostRuntime) -> Result<(), Fail> {
+    let machine = counter(rt.alloc(), 999_999, tally(8, 1), tally(8, 1));
+    expect_each_once(&rt, &machine, 1, 100)
+}
+
+// A piece of more ranks than a block would have is a block of its own.
+#[test]
+fn a_gate_sees_each_large_piece_of_a_wide_level_once(rt: HostRuntime) -> Result<(), Fail> {
+    let machine = counter(rt.alloc(), 999_999, tally(8, 1), tally(8, 1));
+    expect_each_once(&rt, &machine, 1, 33_000)
 }
 
 // No word has fewer than 3 steps. To double the value is one, and leaves 2: so a dive sees that the bound is met, and
@@ -198,10 +329,17 @@ fn a_search_is_given_up(rt: HostRuntime) -> Result<(), Fail> {
     let machine = counter(alloc, 3, tally(2, 0), tally(3, 900));
     let bounds = Bounds::new(9, 1, 1).ok_or("in range")?;
     let mut tables = machine.new_tables()?;
-    let given_up = find_word_in(&rt, alloc, &machine, &mut tables, bounds, 1, &NoGate)?;
+    let few = Effort {
+        most_kept: 1,
+        first_bound: 0,
+    };
+    let given_up = find_word_in(&rt, alloc, &machine, &mut tables, bounds, few, &NoGate)?;
     assert!(rt; given_up.is_none());
-    let most = usize::MAX;
-    let found = find_word_in(&rt, alloc, &machine, &mut tables, bounds, most, &NoGate)?;
+    let all = Effort {
+        most_kept: usize::MAX,
+        first_bound: 0,
+    };
+    let found = find_word_in(&rt, alloc, &machine, &mut tables, bounds, all, &NoGate)?;
     let word = text(alloc, found.ok_or("not given up")?)?;
     assert_eq!(rt; word.as_str(), "[0, 0, 1, 0]");
     Ok(())

@@ -1,6 +1,7 @@
 //! The step from one level to the next: its ranks are expanded block by block, and what a block reaches is offered to
-//! the closed list before the next one is expanded, so that no more than a block's successors are held at once.
-ghost use Rattle.std.specs.Prelude.{◌≡◌, ◌<◌, ◌≤◌, ◌++◌, List, length, map, All, IfOk, IfErr, IfSome, IfNone, OnOk};
+//! the closed list before the next one is expanded, so that no more than a block's successors are held at once. A block
+//! has whole pieces, which are numbered through the level.
+ghost use Rattle.std.specs.Prelude.{◌≡◌, ◌*◌, ◌/◌, ◌<◌, ◌≤◌, ◌++◌, List, length, map, All, IfOk, IfErr, IfSome, IfNone, OnOk};
 ghost use Rattle.word_machine.specs.Machine.{IsDone, IsLiveStep};
 ghost use Rattle.word_machine.specs.Answer.{IsBeyond, measure_of};
 ghost use Rattle.word_machine.specs.Advance.{HasAdvanced};
@@ -22,8 +23,22 @@ use std::alloc::Global;
 use std::sync::Wait;
 use std::thread::Threads;
 
-/// So many ranks make a block.
+// A block has about so many ranks.
 const BLOCK: usize = 32_768;
+
+// How many ranks a block has where it is not the last of its level: those of as many whole pieces as `BLOCK` ranks have
+// room for, and of one at least.
+fn block_len(piece: usize) -> usize
+    requires { 0 < piece }
+    ensures whole { piece ≤ 32768 → result ≡ 32768 / piece * piece }
+    ensures one { 32768 < piece → result ≡ piece }
+    ensures some { 0 < result }
+{
+    if piece > BLOCK {
+        return piece;
+    }
+    BLOCK / piece * piece
+}
 
 /// The first rank with a done successor, and the least number that leads to one.
 #[derive(Clone, Copy, Debug)]
@@ -32,15 +47,16 @@ pub struct FirstDone {
     pub number: u64,
 }
 
-/// Expands the ranks from `from` on and below `to`, and offers what they reach to the closed list; there is room for so
-/// many steps more. Where one has a done successor, it tells the first such rank and the least number that leads to
-/// one; and the list begins as before.
+/// Expands the ranks from `from` on and below `to` of the level that begins at `low`, and offers what they reach to the
+/// closed list; there is room for so many steps more. Where one has a done successor, it tells the first such rank and
+/// the least number that leads to one; and the list begins as before.
 pub fn advance_block<M: Machine, G: Gate, R: Threads + Wait + Sync>(
     rt: &R,
     alloc: Global,
     machine: &M,
     tables: &mut M::Tables,
     closed: &mut Closed<M::Configuration>,
+    low: usize,
     from: usize,
     to: usize,
     horizon: Horizon,
@@ -48,6 +64,7 @@ pub fn advance_block<M: Machine, G: Gate, R: Threads + Wait + Sync>(
     bounds: Bounds,
     gate: &G,
 ) -> Result<Option<FirstDone>, SearchFault>
+    requires started { low ≤ from }
     requires ordered { from ≤ to }
     requires within { to ≤ length closed.old.keys }
     requires own { M.owns machine.now tables.old }
@@ -65,7 +82,7 @@ pub fn advance_block<M: Machine, G: Gate, R: Threads + Wait + Sync>(
     let kept = &closed.configurations()[..to];
     prepare_ranks(rt, machine, tables, kept, from, workers)?;
     match expand_ranks(
-        rt, alloc, machine, tables, kept, from, horizon, bounds, gate,
+        rt, alloc, machine, tables, kept, low, from, horizon, bounds, gate,
     )? {
         ExpandedLevel::Whole(reached) => {
             let measure = horizon.measure;
@@ -108,11 +125,12 @@ pub fn advance<M: Machine, G: Gate, R: Threads + Wait + Sync>(
     ensures no_thread { IfErr result (λ e. e ≡ NoThread → 1 < bounds.workers) }
 {
     let high = closed.configurations().len();
+    let block = block_len(bounds.piece as usize);
     let mut from = low;
     while from < high {
-        let to = from.saturating_add(BLOCK).min(high);
+        let to = from.saturating_add(block).min(high);
         if let Some(done) = advance_block(
-            rt, alloc, machine, tables, closed, from, to, horizon, room, bounds, gate,
+            rt, alloc, machine, tables, closed, low, from, to, horizon, room, bounds, gate,
         )? {
             return Ok(Some(done));
         }

@@ -180,9 +180,9 @@ impl<C: Eq + Hash + Copy + Drop + Send + Sync> Closed<C> {
         })
     }
 
-    /// Lets all go, and makes room for twice as many, and for sixteen times as many while these are few, as far as
-    /// there is memory: where that is refused, the list grows as it is filled. So much may never be needed.
-    pub fn restart(&mut self)
+    /// Lets all go, and makes room for twice as many, and for sixteen times as many while these are few. All is let go
+    /// also where so much room is refused.
+    pub fn restart(&mut self) -> Result<(), AllocError>
         ensures { self.new ≡ record { keys = []; origins = []; cut = record { any = false; past = 2 ^ 64 - 1 } } }
     {
         let kept = self.links.len();
@@ -196,8 +196,8 @@ impl<C: Eq + Hash + Copy + Drop + Send + Sync> Closed<C> {
         self.least_past = u64::MAX;
         self.overshoots = Overshoots::new();
         self.edge = Edge::new();
-        let _refused = self.links.reserve(room);
-        let _refused = self.configurations.reserve(room);
+        self.links.reserve(room)?;
+        self.configurations.reserve(room)
     }
 
     /// The configurations by rank.

@@ -18,6 +18,16 @@ use std::alloc::Global;
 use std::sync::Wait;
 use std::thread::Threads;
 
+/// The limits of the searches that `find_word_in` makes.
+#[derive(Clone, Copy, Debug)]
+pub struct Effort {
+    /// A search whose list has more configurations is given up.
+    pub most_kept: usize,
+    /// The bound of the first search is at least this. With 0 it is the least number of steps that a word may have. With
+    /// the whole bound no other search by the machine's own bound follows.
+    pub first_bound: u64,
+}
+
 // The least of the bounds from below on the initial configurations.
 fn least_bound<M: Machine>(machine: &M, tables: &M::Tables, initials: &[M::Configuration]) -> u64
     requires own { M.owns machine.now tables.now }
@@ -74,28 +84,29 @@ fn none_or_unsolvable<M: Machine, G: Gate, R: Threads + Wait + Sync>(
 }
 
 /// The answer of `find_word`, in tables that the caller goes on with. It searches by the machine's own bound on the
-/// steps that are left, within bounds that grow from the least of the initial configurations on, each so far that about
-/// as many more are looked at, or where few are little past one by steps that grow. Only where no word is found so, a
-/// dive looks, among what these searches left out, for a configuration that tells that the bound was met, and where it
-/// finds none, a search by the open nodes tells whether it was. All go by the same tables. None where it is given up,
-/// once one of the searches has kept more than `most_kept` configurations; never where that is the greatest number.
+/// steps that are left, within bounds that grow from the least of the initial configurations on, or from
+/// `effort.first_bound`, each so far that about as many more are looked at, or where few are little past one by steps
+/// that grow. Only where no word is found so, a dive looks, among what these searches left out, for a configuration that
+/// tells that the bound was met, and where it finds none, a search by the open nodes tells whether it was. All go by the
+/// same tables. None where it is given up, once one of the searches has kept more than `effort.most_kept`
+/// configurations; never where that is the greatest number.
 pub fn find_word_in<M: Machine, G: Gate, R: Threads + Wait + Sync>(
     rt: &R,
     alloc: Global,
     machine: &M,
     tables: &mut M::Tables,
     bounds: Bounds,
-    most_kept: usize,
+    effort: Effort,
     gate: &G,
 ) -> Result<Option<Found>, SearchFault>
     requires own { M.owns machine.now tables.old }
     ensures owned { OnOk result (M.owns machine.now tables.new) }
     ensures answer { IfOk result (λ o. IfSome o (IsAnswer (M.words machine.now) bounds.nodes)) }
-    ensures given_up { IfOk result (λ o. IfNone o (most_kept < 2 ^ 64 - 1)) }
+    ensures given_up { IfOk result (λ o. IfNone o (effort.most_kept < 2 ^ 64 - 1)) }
     ensures no_thread { IfErr result (λ e. e ≡ NoThread → 1 < bounds.workers) }
 {
     let starts = machine.initials(tables)?;
-    let mut growth = Growth::from(least_bound(machine, tables, &starts));
+    let mut growth = Growth::from(least_bound(machine, tables, &starts), effort.first_bound);
     let mut kept = Closed::new(alloc, bounds.workers as usize)?;
     while growth.least <= bounds.nodes {
         let within = bounds.within(growth.nodes.min(bounds.nodes));
@@ -103,7 +114,7 @@ pub fn find_word_in<M: Machine, G: Gate, R: Threads + Wait + Sync>(
             bounds: within,
             measure: Measure::LowerBound,
             none_within: false,
-            most_kept,
+            most_kept: effort.most_kept,
         };
         let outcome = search(rt, alloc, machine, tables, &starts, &mut kept, limits, gate)?;
         match outcome {
@@ -122,7 +133,7 @@ pub fn find_word_in<M: Machine, G: Gate, R: Threads + Wait + Sync>(
         &mut kept,
         growth.least,
         bounds,
-        most_kept,
+        effort.most_kept,
         gate,
     )
 }
@@ -139,7 +150,11 @@ pub fn find_word_deepening<M: Machine, G: Gate, R: Threads + Wait + Sync>(
     ensures no_thread { IfErr result (λ e. e ≡ NoThread → 1 < bounds.workers) }
 {
     let mut tables = machine.new_tables()?;
-    match find_word_in(rt, alloc, machine, &mut tables, bounds, usize::MAX, gate)? {
+    let effort = Effort {
+        most_kept: usize::MAX,
+        first_bound: 0,
+    };
+    match find_word_in(rt, alloc, machine, &mut tables, bounds, effort, gate)? {
         Some(found) => Ok(found),
         // It is never given up, since no list holds more.
         None => unreachable!(),

@@ -16,13 +16,13 @@ pub struct Growth {
 }
 
 impl Growth {
-    /// The first search goes as far as a word must.
-    pub fn from(least: u64) -> Growth
+    /// The bound of the first search: the least number of steps that a word may have, or `first` where that is more.
+    pub fn from(least: u64, first: u64) -> Growth
         ensures { result.least ≡ least }
     {
         Growth {
             least,
-            nodes: least,
+            nodes: least.max(first),
             step: 0,
         }
     }

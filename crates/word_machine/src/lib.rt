@@ -19,7 +19,7 @@ mod word;
 
 pub use bounds::Bounds;
 pub use closed::{Measured, Origin, Successor};
-pub use deepen::{find_word_deepening, find_word_in};
+pub use deepen::{Effort, find_word_deepening, find_word_in};
 pub use found::{Found, SearchFault};
 pub use htn_level::{Gate, NoGate};
 pub use machine::Machine;

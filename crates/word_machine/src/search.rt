@@ -84,7 +84,7 @@ pub fn search<M: Machine, G: Gate, R: Threads + Wait + Sync>(
     let bounds = limits.bounds;
     let measure = limits.measure;
     let bound = bounds.nodes;
-    closed.restart();
+    closed.restart()?;
     offer_initials(rt, alloc, machine, tables, closed, initials, measure, bound)?;
     let mut low = 0;
     for level in 0..bound {

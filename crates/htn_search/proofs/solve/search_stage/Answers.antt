@@ -33,9 +33,9 @@ returns-clause-tables g c =
 
 pub returns-clause-given_up : goal.returns-clause-given_up
 returns-clause-given_up g c =
-    let limit = c.most_kept-kept.result in
+    let limit = c.effort_of-effort.result.most_kept in
     IfOk-weaker c.search_by.result (λ o. IfNone o (limit < 2 ^ 64 - 1)) (λ o. IfNone o (c.args.stage.kept < 2 ^ 64 - 1))
-    (λ o h. IfNone-weaker o (less c.is_cut.result limit c.args.stage.kept c.most_kept-kept.ensures.cut c.most_kept-kept.ensures.whole) h)
+    (λ o h. IfNone-weaker o (less c.is_cut.result limit c.args.stage.kept c.effort_of-effort.ensures.cut c.effort_of-effort.ensures.whole) h)
     c.search_by.ensures.given_up
 
 pub returns-clause-no_thread : goal.returns-clause-no_thread
