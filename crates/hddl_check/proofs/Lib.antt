@@ -4,3 +4,4 @@ pub mod Typing
 pub mod SchemaLists
 pub mod TextParts
 pub mod Whole
+pub mod Repeats

@@ -23,7 +23,8 @@ pub(crate) fn check_names(
     Ok(first_of(repeated, limit))
 }
 
-/// A fault of the names of compound tasks and actions.
+/// A fault of the names of compound tasks and actions. In the text an action may stand before a task, so of a name that
+/// stands three times the second may be that of an action.
 pub(crate) fn check_task_names(
     context: &Context<'_, '_>,
     domain: &DomainText,
@@ -34,7 +35,9 @@ pub(crate) fn check_task_names(
     let tasks = task_names(alloc, domain.tasks.as_slice(), &[])?;
     let actions = task_names(alloc, &[], domain.actions.as_slice())?;
     let names = task_names(alloc, domain.tasks.as_slice(), domain.actions.as_slice())?;
-    let repeated = check_different(context, &names)?;
+    let twice_an_action = check_different(context, &actions)?;
+    let twice = check_different(context, &names)?;
+    let repeated = first_of(twice_an_action, twice);
     let task_limit = check_limit(context, MOST_DECLARATIONS, &tasks);
     let action_limit = check_limit(context, MOST_DECLARATIONS, &actions);
     Ok(first_of(repeated, first_of(task_limit, action_limit)))

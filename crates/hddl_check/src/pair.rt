@@ -86,9 +86,10 @@ fn answer_of(
 
 /// The task of a domain and a problem that fit together.
 ///
-/// Of several faults it is the one that comes first in the texts, the domain before the problem; what a schema with too
-/// many parameters uses, the body of a `forall` whose variables have a fault, and the order of a network with too many
-/// subtasks aren't looked at, nor the types of objects where one of these types isn't declared.
+/// Of several faults it is the one that comes first in the texts, the domain before the problem, with two exceptions.
+/// Where a type of a constant or an object isn't declared, or there are more than 65,536 of them, clashes of constants
+/// and objects aren't looked for. And where parameters stand after the precondition, a variable that is a parameter and
+/// stands twice among `forall`s inside one another is named at the parameter.
 pub fn check(alloc: Global, domain: &DomainText, problem: &ProblemText) -> Result<Task, CheckFault>
     ensures fits { IfOk result (λ _. IsWellTypedPair domain.now problem.now) }
     ensures task { IfOk result (IsTaskOf domain.now problem.now) }

@@ -30,7 +30,7 @@ fn check_parameters(
     Ok(first_of(repeated, first_of(limit, types)))
 }
 
-/// A fault of a method, but for its network's order. What it uses isn't looked at where it has too many parameters.
+/// A fault of a method, but for its network's order.
 fn check_method(
     context: &Context<'_, '_>,
     method: &MethodText,
@@ -40,9 +40,6 @@ fn check_method(
     let groups = method.parameters.as_slice();
     let mut scope = Scope::of(context.alloc, groups)?;
     let own = check_parameters(context, groups, &scope)?;
-    if check_count(context, MOST_PARAMETERS, &scope).is_some() {
-        return Ok(own);
-    }
     let network = &method.network;
     let conditions = check_conditions(context, &mut scope, method.precondition.as_slice())?;
     let constraints = check_constraints(context, &scope, network.constraints.as_slice())?;
@@ -52,7 +49,7 @@ fn check_method(
     Ok(first_of(own, first_of(conditions, used)))
 }
 
-/// A fault of an action. What it uses isn't looked at where it has too many parameters.
+/// A fault of an action.
 fn check_action(
     context: &Context<'_, '_>,
     action: &ActionText,
@@ -62,15 +59,12 @@ fn check_action(
     let groups = action.parameters.as_slice();
     let mut scope = Scope::of(context.alloc, groups)?;
     let own = check_parameters(context, groups, &scope)?;
-    if check_count(context, MOST_PARAMETERS, &scope).is_some() {
-        return Ok(own);
-    }
     let conditions = check_conditions(context, &mut scope, action.precondition.as_slice())?;
     let effects = check_effects(context, &scope, action.effect.as_slice())?;
     Ok(first_of(own, first_of(conditions, effects)))
 }
 
-/// A fault of the initial network, but for its order. What it uses isn't looked at where it has too many parameters.
+/// A fault of the initial network, but for its order.
 pub(crate) fn check_initial(
     context: &Context<'_, '_>,
     problem: &ProblemText,
@@ -81,9 +75,6 @@ pub(crate) fn check_initial(
     let network = &problem.htn.network;
     let scope = Scope::of(context.alloc, groups)?;
     let own = check_parameters(context, groups, &scope)?;
-    if check_count(context, MOST_PARAMETERS, &scope).is_some() {
-        return Ok(own);
-    }
     let constraints = check_constraints(context, &scope, network.constraints.as_slice())?;
     let subtasks = check_tasks_used(context, &scope, network.subtasks.as_slice())?;
     Ok(first_of(own, first_of(constraints, subtasks)))

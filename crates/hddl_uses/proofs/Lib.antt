@@ -7,3 +7,4 @@ pub mod Searching
 pub mod Placing
 pub mod Using
 pub mod Counting
+pub mod Circling

@@ -13,8 +13,7 @@ use hddl_scope::{Scope, first_of};
 use hddl_tree::Condition;
 use std::alloc::AllocError;
 
-/// A fault of a condition. The body of a `forall` whose variables have a fault isn't looked at. The variables in force
-/// afterwards are those before.
+/// A fault of a condition. The variables in force afterwards are those before.
 fn check_condition<'a>(
     context: &Context<'_, '_>,
     scope: &mut Scope<'a>,
@@ -29,10 +28,6 @@ fn check_condition<'a>(
         Condition::Forall(groups, body) => {
             let around = scope.len();
             let own = enter(context, scope, groups.as_slice())?;
-            if own.is_some() {
-                scope.truncate(around);
-                return Ok(own);
-            }
             let mut found = None;
             for part in body.as_slice() {
                 match check_condition(context, scope, part) {
@@ -44,7 +39,7 @@ fn check_condition<'a>(
                 }
             }
             scope.truncate(around);
-            Ok(found)
+            Ok(first_of(own, found))
         }
     }
 }

@@ -4,6 +4,7 @@
 mod arguments;
 mod conditions;
 mod context;
+mod cycles;
 mod declared;
 mod labels;
 mod mentions;

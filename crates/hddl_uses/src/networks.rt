@@ -11,13 +11,14 @@ ghost use Rattle.hddl_scope.specs.Findings.{AnyOf, Faulted, Finds};
 ghost use Rattle.hddl_uses.specs.Labels.{IsNumbering, IsUnknownLabel, Circles, names_of};
 
 use crate::context::Context;
+use crate::cycles::is_cyclic;
 use crate::labels::{label_numbers, labels_in, pairs_in};
 use crate::mentions::check_different;
 use hddl_meaning::CheckFault;
 use hddl_names::fold;
 use hddl_scope::{MOST_SUBTASKS, Numbers, first_of};
 use hddl_tree::{Name, NetworkText, OrderingText};
-use htn_order::{OrderFault, close, close_chain};
+use htn_order::close_chain;
 use std::alloc::{AllocError, Global};
 
 /// A name that no subtask has.
@@ -50,18 +51,6 @@ fn check_labels(
         found = first_of(found, first_of(before, after));
     }
     Ok(found)
-}
-
-/// Whether the pairs have a cycle.
-fn is_cyclic(alloc: Global, size: usize, pairs: &[(usize, usize)]) -> Result<bool, AllocError>
-    requires { AreBelow size pairs.now }
-    ensures { IfOk result (λ cyclic. IsTrue cyclic ↔ Circles pairs.now) }
-{
-    match close(alloc, size, pairs) {
-        Ok(_) => Ok(false),
-        Err(OrderFault::Cycle(_)) => Ok(true),
-        Err(OrderFault::OutOfMemory) => Err(AllocError),
-    }
 }
 
 /// Whether the pairs have a cycle, together with the sequence of the list.
@@ -135,7 +124,7 @@ fn check_subtasks(context: &Context<'_, '_>, network: &NetworkText) -> Option<Ch
     }
 }
 
-/// A fault of a network's names or order. The order isn't looked at where there are too many subtasks.
+/// A fault of a network's names or order.
 pub fn check_network(
     context: &Context<'_, '_>,
     place: usize,
@@ -146,10 +135,6 @@ pub fn check_network(
     let labels = labels_in(context.alloc, network.subtasks.as_slice())?;
     let repeated = check_different(context, &labels)?;
     let limit = check_subtasks(context, network);
-    let named = first_of(repeated, limit);
-    if limit.is_some() {
-        return Ok(named);
-    }
     let order = check_order(context, place, network)?;
-    Ok(first_of(named, order))
+    Ok(first_of(repeated, first_of(limit, order)))
 }

@@ -4,20 +4,20 @@ use std::alloc::Global;
 use std::test::Fail;
 
 /// The fault of two texts, or none where one isn't read or they fit together.
-fn fault(alloc: Global, domain: &str, problem: &str) -> Option<CheckFault> {
+pub(crate) fn fault(alloc: Global, domain: &str, problem: &str) -> Option<CheckFault> {
     let domain = read_domain(alloc, domain.as_bytes()).ok()?;
     let problem = read_problem(alloc, problem.as_bytes()).ok()?;
     check(alloc, &domain, &problem).err()
 }
 
-fn in_domain(place: usize) -> At {
+pub(crate) fn in_domain(place: usize) -> At {
     At {
         source: Source::Domain,
         place,
     }
 }
 
-fn in_problem(place: usize) -> At {
+pub(crate) fn in_problem(place: usize) -> At {
     At {
         source: Source::Problem,
         place,

@@ -6,6 +6,8 @@ mod checks;
 #[cfg(test)]
 mod command_lines;
 #[cfg(test)]
+mod first_faults;
+#[cfg(test)]
 mod forests;
 #[cfg(test)]
 mod names;

@@ -14,18 +14,6 @@ use Rattle.hddl_scope.proofs.ScopeLists.{parameter_mentions}
 use Rattle.hddl_check.proofs.SchemaLists.{limit_in, action_inner, to_action, from_action}
 use Rattle.hddl_check.proofs.schemas.check_action.Goals as goal
 
-pub returns-then-is_some : goal.returns-then-is_some
-returns-then-is_some c =
-    let P = Fails c.args.context.now in
-    let gs : List VariableGroup = c.args.action.now.parameters in
-    let own : List Part = parameter_parts gs in
-    let inner : List Part = inner_parts (schema_of_action c.args.action.now) in
-    let found = Finds-list P (ap (λ (g : List VariableGroup). parameter_parts g) c.as_slice-groups.ensures) c.in_ok-own.ensures in
-    let limit : Part = Limited most_parameters (mentions_of (typed_variables gs)) in
-    let mentions = ap variable_mentions (c.in_ok-scope.ensures ∙ ap parameters_of c.as_slice-groups.ensures) ∙ parameter_mentions gs in
-    let past = subst (λ (ms : List Mention). Finds (P (Limited most_parameters ms)) c.check_count.result) mentions c.check_count.ensures in
-    Finds-enough P own (own ++ inner) (λ x at. in_left x own inner at) (some_among P limit own (limit_in gs) (sym c.is_some.ensures ∙ c.if-is_some.true) past found) found
-
 pub returns : goal.returns
 returns c =
     let P = Fails c.args.context.now in

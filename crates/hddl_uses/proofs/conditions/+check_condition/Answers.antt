@@ -8,9 +8,9 @@ use Rattle.hddl_uses.specs.Contexts.{Fails, AnyFails}
 use Rattle.hddl_scope.specs.Findings.{Finds}
 use Rattle.hddl_uses.specs.Parts.{Part, Atom, quantifier_parts}
 use Rattle.hddl_uses.specs.Conditions.{condition_parts}
-use Rattle.hddl_scope.proofs.Finding.{Finds-next, Finds-append, Finds-list, Finds-nil, Finds-single, Finds-within, none_from, after_none, Finds-enough}
+use Rattle.hddl_scope.proofs.Finding.{Finds-next, Finds-append, Finds-list, Finds-nil, Finds-single, Finds-within}
 use Rattle.hddl_scope.proofs.InForce.{take_whole}
-use Rattle.hddl_uses.proofs.Folding.{literal_parts, equality_parts, own_parts, body_parts, own_of_forall, to_forall, from_forall}
+use Rattle.hddl_uses.proofs.Folding.{literal_parts, equality_parts, own_parts, body_parts, to_forall, from_forall}
 use Rattle.hddl_uses.proofs.conditions.+check_condition.Goals as goal
 
 pub loop-part-init : goal.loop-part-init
@@ -45,17 +45,6 @@ returns-in-Equality-clause-found t c =
     IfOk-weaker c.check_equality.result _ _ (λ found h. Finds-list P (sym (ap (condition_parts scope) c.in-Equality.is ∙ equality_parts scope equality)) h)
     c.check_equality.ensures
 
-pub returns-then-is_some-clause-found : goal.returns-then-is_some-clause-found
-returns-then-is_some-clause-found t c =
-    let P = Fails c.args.context.now in
-    let scope = c.args.scope.now in
-    let groups = c.in-Forall.groups in
-    let body = c.in-Forall.body in
-    let own : List Part = own_parts scope groups body in
-    Finds-list P (sym (ap (condition_parts scope) c.in-Forall.is))
-    (Finds-enough P own (condition_parts scope (Forall groups body)) (own_of_forall scope groups body) (sym c.is_some.ensures ∙ c.if-is_some.true)
-    (Finds-list P (ap (λ g. quantifier_parts (record { around = scope; own = g })) c.as_slice.ensures) c.in_ok-own-in-Forall.ensures.found))
-
 pub returns-after-loop-part : goal.returns-after-loop-part
 returns-after-loop-part t c =
     let P = Fails c.args.context.now in
@@ -74,6 +63,6 @@ returns-after-loop-part t c =
           (Finds-append P own rest
           (Finds-list P (ap (λ g. quantifier_parts (record { around = scope; own = g })) c.as_slice.ensures) c.in_ok-own-in-Forall.ensures.found)
           (Finds-list P (λ i. flat_map (condition_parts (within i)) (all i)) c.loop-part.invariant.found)
-          (after_none c.in_ok-own-in-Forall.own c.loop-part.found (none_from c.in_ok-own-in-Forall.own (sym c.is_some.ensures ∙ c.if-is_some.false)))));
+          c.first_of.ensures));
       kept = c.truncate-in-Forall.ensures ∙ (λ i. take (c.len-around.ensures i) ((c.loop-part.invariant.kept ∙ within) i)) ∙ take_whole scope (quantified_of groups);
     }
