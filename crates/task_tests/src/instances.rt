@@ -34,7 +34,8 @@ fn literals_text(alloc: Global, literals: &[Literal]) -> Result<String, Fail> {
     Ok(text)
 }
 
-fn child_text(alloc: Global, child: &Child) -> Result<String, Fail> {
+/// The node as it stands in the lines of instances.
+pub fn child_text(alloc: Global, child: &Child) -> Result<String, Fail> {
     match child {
         Child::Precondition(literals) => {
             let text = literals_text(alloc, literals.as_slice())?;
@@ -180,7 +181,8 @@ fn initial_networks_have_instances(rt: HostRuntime) -> Result<(), Fail> {
     Ok(())
 }
 
-fn atoms_text(alloc: Global, state: &State) -> Result<String, Fail> {
+/// The atoms of a state, in their order.
+pub fn atoms_text(alloc: Global, state: &State) -> Result<String, Fail> {
     let mut text = String::new(alloc);
     for atom in state.atoms() {
         let atom = format!(in alloc; " {}{:?}", atom.predicate(), atom.arguments())?;

@@ -2,6 +2,8 @@
 #![tactic(auto)]
 
 #[cfg(test)]
+mod configurations;
+#[cfg(test)]
 mod instances;
 #[cfg(test)]
 mod many;
@@ -19,6 +21,8 @@ mod questions;
 mod reach;
 #[cfg(test)]
 mod searches;
+#[cfg(test)]
+mod states;
 #[cfg(test)]
 mod steps;
 #[cfg(test)]

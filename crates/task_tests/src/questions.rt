@@ -1,6 +1,7 @@
 //! Questions about the task of two texts. One function owns the task and lends it to what answers: what owns a task is
 //! dear to prove.
 
+use crate::configurations::{choices_text, configurations_text};
 use crate::instances::{
     distinct_initials_text, distinct_text, ground_action_text, initials_text, instances_text,
 };
@@ -33,6 +34,10 @@ pub enum Question<'a> {
     Reach(u64),
     /// A line for each configuration along a word.
     Walk(&'a [u64]),
+    /// The state, the open nodes and their order of each configuration along a word.
+    Configurations(&'a [u64]),
+    /// The choices at the end of a word, and then those that are not dead.
+    Choices(&'a [u64]),
     /// How many configurations along a word differ.
     Different(&'a [u64]),
     /// What a rank chooses at the start.
@@ -70,6 +75,8 @@ fn answer<R: Threads + Wait + Sync>(
         Question::DistinctInitials => distinct_initials_text(alloc, task),
         Question::Reach(limit) => reach_text(alloc, task, limit),
         Question::Walk(word) => walk(alloc, task, word),
+        Question::Configurations(word) => configurations_text(alloc, task, word),
+        Question::Choices(word) => choices_text(alloc, task, word),
         Question::Different(word) => different_text(alloc, task, word),
         Question::ChosenByRank(rank) => listed_text(alloc, task, rank),
         Question::ChosenByNumber(number) => numbered_text(alloc, task, number),

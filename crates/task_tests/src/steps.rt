@@ -47,8 +47,8 @@ fn line(alloc: Global, task: &Task, config: &Config) -> Result<String, Fail> {
     Ok(format!(in alloc; "{} {all:?} {live:?}{done}\n", config.open_len())?)
 }
 
-// The configurations along a word from the first initial network on, up to a number that is none of the choices.
-fn configurations(alloc: Global, task: &Task, word: &[u64]) -> Result<Vec<Config>, AllocError> {
+/// The configurations along a word from the first initial network on, up to a number that is none of the choices.
+pub fn configurations(alloc: Global, task: &Task, word: &[u64]) -> Result<Vec<Config>, AllocError> {
     let mut passed = Vec::new(alloc);
     let mut here = started(alloc, task, 0)?;
     for number in word {
