@@ -39,6 +39,7 @@ impl NeedsTable {
         requires found { All (IsFound prospects.now self.now networks.now) found.old.items }
         ensures { OnOk result (All (IsFound prospects.now self.now networks.now) found.new.items) }
     {
+        // A network past 32 bits has no number, and nothing is found of it.
         let Ok(number) = u32::try_from(number) else {
             return Ok(());
         };

@@ -197,6 +197,7 @@ impl NeedsTable {
         ensures followed { OnOk result (AreFollowed prospects.now networks.now self.old self.new) }
         ensures count { OnOk result (length self.new.needs.items ≡ number + 1) }
     {
+        // This never fails in a search: the table of networks gives no number past 32 bits.
         let Ok(id) = u32::try_from(number) else {
             return Err(AllocError);
         };

@@ -105,6 +105,8 @@ impl WantTable {
         ensures within { IfOk result (λ id. id < length self.new.wants.items) }
         ensures same { IfOk result (λ id. want_at self.new.wants.items id ≡ want) }
     {
+        // At most 2^32 literals have ids. Past them a search answers `OutOfMemory` although no memory was refused.
+        // An entry of the map alone takes 12 bytes or more: so many literals take more than 50 GB.
         let Ok(id) = u32::try_from(self.wants.len()) else {
             return Err(AllocError);
         };

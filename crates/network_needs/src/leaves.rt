@@ -75,6 +75,8 @@ impl Leaves {
     /// The number of a literal, which it may get only now.
     fn number(&mut self, literal: Literal) -> Result<u32, AllocError> {
         let (place, _) = self.literals.insert_full(literal)?;
+        // This never fails: an `IndexSet` takes at most 9 * 2^28 values, and answers want of memory past them
+        // although none was refused. So many literals take more than 25 GB.
         u32::try_from(place).map_err(|_| AllocError)
     }
 
@@ -110,6 +112,7 @@ impl Leaves {
         child: &Child,
     ) -> Result<u32, AllocError> {
         let (place, is_new) = self.leaves.insert_full(child.clone()?)?;
+        // As for literals: the set takes no more than 9 * 2^28 nodes.
         let Ok(number) = u32::try_from(place) else {
             return Err(AllocError);
         };

@@ -77,6 +77,8 @@ impl ChildTable {
         if is_new {
             self.bounds.push(bound)?;
         }
+        // This never fails: an `IndexSet` takes at most 9 * 2^28 values, and answers want of memory past them
+        // although none was refused. So many nodes take more than 25 GB.
         let Ok(id) = u32::try_from(place) else {
             return Err(AllocError);
         };

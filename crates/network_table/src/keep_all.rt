@@ -24,7 +24,8 @@ pub(crate) struct Measure {
     pub(crate) bound: u64,
 }
 
-/// Places as numbers, if words of 32 bits hold them.
+/// Places as numbers, if words of 32 bits hold them. At most 2^32 networks have numbers, as where they are
+/// kept one by one: past them a search answers `OutOfMemory` although no memory was refused.
 fn numbers_of(alloc: Global, places: &[usize]) -> Result<Vec<u32>, AllocError>
     ensures { IfOk result (λ v. v.items ≡ places.now) }
 {

@@ -31,7 +31,8 @@ pub struct NetworkTable {
     pub(crate) expansions: Vec<Option<Expansion>>,
 }
 
-/// A place, if a word of 32 bits holds it.
+/// A place, if a word of 32 bits holds it. One past them is no number of a network: what would keep that one
+/// answers an error.
 fn number_at(place: Option<usize>) -> Option<u32>
     ensures some { IfSome result (λ n. place ≡ Some n) }
     ensures none { IfNone result ((n : ℕ) → n < 2 ^ 32 → place ≡ Some n → ⊥) }
@@ -226,6 +227,8 @@ impl NetworkTable {
         ensures sound { OnOk result ((live : Live) → IsSound live self.old → IsSound live self.new) }
     {
         let (place, is_new) = self.networks.insert(entry)?;
+        // At most 2^32 networks have numbers. Past them a search answers `OutOfMemory` although no memory was
+        // refused. Three lists alone hold more than 16 bytes for each: so many networks take more than 64 GB.
         let Ok(number) = u32::try_from(place) else {
             return Err(AllocError);
         };

@@ -105,6 +105,8 @@ impl AtomTable {
         if let Some(number) = self.number_of(atom) {
             return Ok(number);
         }
+        // At most 2^32 atoms would have numbers, and an `IndexSet` takes no more than 9 * 2^28. Past these a search
+        // answers `OutOfMemory` although no memory was refused. So many atoms take more than 25 GB.
         let Ok(number) = u32::try_from(self.atoms.len()) else {
             return Err(AllocError);
         };

@@ -62,7 +62,8 @@ impl StateTable {
         ensures unchanged { OnErr result (self.new ≡ self.old) }
     {
         if self.states.len() > u32::MAX as usize {
-            // Every number is given.
+            // Every number is given. In a search this never comes: an `IndexSet` takes at most 9 * 2^28 values, and
+            // answers want of memory past them although none was refused. So many states take more than 25 GB.
             return self.number_of(&state).ok_or(AllocError);
         }
         let (place, _) = self.states.insert_full(state)?;

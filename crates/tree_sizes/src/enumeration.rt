@@ -204,6 +204,7 @@ pub fn enumerate(alloc: Global, task: &Task, limit: u64) -> Result<Enumeration, 
         }
         let listed = distinct_live_methods_of(alloc, task, goal)?;
         let cost = cost_of(&listed);
+        // A task past 2^32 is not listed, as one past the limit. So many tasks take more than 25 GB.
         let Ok(number) = u32::try_from(found.expanded) else {
             break;
         };

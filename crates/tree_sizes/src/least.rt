@@ -59,6 +59,8 @@ impl Search {
 
     /// Takes in an instance. A subtask that is not searched has the size 1.
     fn add(&mut self, alloc: Global, parts: &Parts) -> Result<(), AllocError> {
+        // At most 2^32 instances have places. Past them the answer is want of memory although none was refused: so
+        // many take more than 50 GB in this list alone. A search lists far fewer.
         let Ok(place) = u32::try_from(self.pending.len()) else {
             return Err(AllocError);
         };

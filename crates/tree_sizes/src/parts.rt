@@ -62,6 +62,8 @@ pub(crate) fn number_for(
     ensures number { IfOk result (λ n. number_of tasks.new.keys goal.now ≡ Some n) }
 {
     let (place, _) = tasks.insert_full(goal.clone()?)?;
+    // This never fails: an `IndexSet` takes at most 9 * 2^28 values, and answers want of memory past them although
+    // none was refused. So many tasks take more than 25 GB; a search lists far fewer.
     let Ok(number) = u32::try_from(place) else {
         return Err(AllocError);
     };
