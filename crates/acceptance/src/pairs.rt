@@ -49,6 +49,10 @@ pub const TRIP: &str =
 pub const TRIP_SWAPPED: &str =
     "==>\n1 drive t1 b c\n0 drive t1 a b\nroot 2\n2 go t1 c -> m-step 0 3\n3 go t1 c -> m-step 1 4\n4 go t1 c -> m-stay\n<==\n";
 
+/// The plan of `ROAD` with the children of one line in the other order.
+pub const TRIP_CHILDREN_TURNED: &str =
+    "==>\n0 drive t1 a b\n1 drive t1 b c\nroot 2\n2 go t1 c -> m-step 3 0\n3 go t1 c -> m-step 1 4\n4 go t1 c -> m-stay\n<==\n";
+
 /// Two unordered tasks: the method of one needs what the other makes.
 pub const LATE: Pair = Pair {
     domain: "(define (domain d) (:predicates (p)) (:task a :parameters () :precondition () :effect ())

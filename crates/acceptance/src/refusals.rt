@@ -1,7 +1,7 @@
-//! Texts that are refused: the domain's before the problem's, and both before the pair.
+//! Texts that are refused: the domain's before the problem's, and both before the pair; and runs that are refused memory.
 
-use crate::pairs::{LATE, NEED, ONE_OF_TWO, Pair};
-use htn_run::{Bounds, NoGate, RunFault, Sink};
+use crate::pairs::{LATE, NEED, ONE_OF_TWO, Pair, ROAD, TRIP_CHILDREN_TURNED};
+use htn_run::{Bounds, NoGate, RunFault, Sink, Verdict, run_verify};
 use std::alloc::Global;
 use std::process::Abort;
 use std::sync::Wait;
@@ -80,4 +80,24 @@ fn a_run_succeeds_after_a_refusal(rt: HostRuntime) -> Result<(), Fail> {
         two,
         "==>\n0 touch o1\nroot 0\n<==\n",
     )
+}
+
+// To be run with each allocation refused in turn. The output has its room before.
+#[test]
+fn a_verdict_is_told_after_a_refusal(rt: HostRuntime) -> Result<(), Fail> {
+    let alloc = rt.alloc();
+    let Ok(room) = Vec::with_capacity(alloc, 100) else {
+        return Ok(());
+    };
+    let mut out = Sink::new(room);
+    let domain = ROAD.domain.as_bytes();
+    let problem = ROAD.problem.as_bytes();
+    let plan = TRIP_CHILDREN_TURNED.as_bytes();
+    let mut verdict = run_verify(alloc, domain, problem, plan, &mut out);
+    if verdict == Err(RunFault::OutOfMemory) {
+        verdict = run_verify(alloc, domain, problem, plan, &mut out);
+    }
+    assert!(rt; verdict == Ok(Verdict::Valid));
+    assert!(rt; out.into_inner().as_slice() == b"valid\n".as_slice());
+    Ok(())
 }

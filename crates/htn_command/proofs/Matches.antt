@@ -21,7 +21,10 @@ use Rattle.clap.proofs.WalkLemmas.{first_value-rows, one_text-rows}
 use Rattle.word_machine.specs.Bounds.{AreInRange}
 use Rattle.word_machine.specs.declared.bounds.Bounds.{Bounds}
 use Rattle.htn_command.specs.CommandLine.{HelpIsDue, IsNumber, VersionIsDue, faults, htnplan, read_by}
+use Rattle.htn_command.specs.Help.{IsOfWords, IsPossible, RefusesWords}
 use Rattle.htn_command.specs.Request.{AskNothing, IsGiven, IsOf}
+use Rattle.htn_command.specs.declared.refusal.Refusal.{Refusal}
+use Rattle.htn_command.specs.declared.refusal.Refusal.TheVariants as refusal
 use Rattle.htn_command.specs.declared.request.Request.{Request}
 use Rattle.htn_command.specs.declared.request.Request.TheVariants.{Plan, Verify}
 use Rattle.htn_command.proofs.Building.{line_is_free, line_is_simple}
@@ -191,3 +194,19 @@ help_is_due app words e is kinds help = among_faults app words e DisplayHelp is 
 pub version_is_due : (app : App) (words : List Text) (e : Error) → app ≡ htnplan
     → (is_simple_and_free app ≡ true → HasKind (fault_of app words) e) → kind_of e ≡ DisplayVersion → VersionIsDue words
 version_is_due app words e is kinds version = among_faults app words e DisplayVersion is kinds version (λ bad. cc)
+
+-- the kind of an error is one of those that the words may have, but for want of memory
+pub kind_is_possible : (app : App) (words : List Text) (e : Error) → app ≡ htnplan
+    → (is_simple_and_free app ≡ true → HasKind (fault_of app words) e) → kind_of e ≢ OutOfMemory → IsPossible words (kind_of e)
+unfolding faults
+kind_is_possible app words e is kinds enough = elim (kinds (ap is_simple_and_free is ∙ line_is_free)) [
+  | inl memory ↦ absurd (enough memory)
+  | inr among ↦ inr (subst (λ (a : App). IsAmong (kind_of e) (fault_of a words)) is among)
+]
+
+-- words that are refused as such are the reason
+pub words_are_the_reason : (r : Refusal) → RefusesWords r → IsOfWords r
+words_are_the_reason (refusal.Help error) h = tt
+words_are_the_reason (refusal.Version error) h = tt
+words_are_the_reason (refusal.Words error) h = tt
+words_are_the_reason refusal.OutOfMemory h = h

@@ -1,10 +1,13 @@
 -- Words that ask for help, or for the version.
-use Rattle.std.specs.Prelude.{◌≡◌, ◌||◌, ℕ, Bool, true, List, codes, map, nat_eq, ⊤, String, string_bytes}
+use Rattle.std.specs.Prelude.{◌≡◌, ◌||◌, ◌⊎◌, ℕ, Bool, true, List, [], codes, map, nat_eq, ⊤, String, string_bytes}
 use Rattle.std.specs.Cmp.Lexicographic.{pointwise}
 use Rattle.std.specs.List.{list_any, starts_with}
-use Rattle.htn_command.specs.CommandLine.{HelpIsDue, VersionIsDue}
+use Rattle.clap.specs.Kinds.{IsAmong}
+use Rattle.clap.specs.declared.error.kind.ErrorKind.{ErrorKind}
+use Rattle.clap.specs.declared.error.kind.ErrorKind.TheVariants.{DisplayHelp, DisplayVersion}
+use Rattle.htn_command.specs.CommandLine.{HelpIsDue, VersionIsDue, faults}
 use Rattle.htn_command.specs.declared.refusal.Refusal.{Refusal}
-use Rattle.htn_command.specs.declared.refusal.Refusal.TheVariants.{Help, Version, OutOfMemory}
+use Rattle.htn_command.specs.declared.refusal.Refusal.TheVariants.{Help, Version, Words, OutOfMemory}
 
 -- `help` itself, or a word that begins with `--help` or `-h`
 abbrev pub is_help_word : List ℕ → Bool
@@ -30,6 +33,19 @@ HelpIsAsked words = HelpIsDue (map string_bytes words) × (asks_for_help words �
 abbrev pub VersionIsAsked : {Z : Type 0} → List (String Z) → Type 0
 VersionIsAsked words = VersionIsDue (map string_bytes words) × (asks_for_version words ≡ true)
 
+-- an error of this kind shows help that a word asks for, or the version that one asks for
+abbrev pub IsAskedText : {Z : Type 0} → List (String Z) → ErrorKind → Type 0
+IsAskedText words kind =
+    ((kind ≡ DisplayHelp) × (asks_for_help words ≡ true)) ⊎ ((kind ≡ DisplayVersion) × (asks_for_version words ≡ true))
+
+-- this kind is among the faults of the words, or they have no fault
+abbrev pub IsPossible : List (List ℕ) → ErrorKind → Type 0
+IsPossible words kind = (faults words ≡ []) ⊎ IsAmong kind (faults words)
+
+-- the words may have a fault that is neither help nor the version that one of them asks for
+abbrev pub AreMistaken : {Z : Type 0} → List (String Z) → Type 0
+AreMistaken words = (kind : ErrorKind) × IsPossible (map string_bytes words) kind × (IsAskedText words kind → ⊥)
+
 -- a refusal that the words are the reason of
 abbrev pub IsOfWords : Refusal → Type 0
 IsOfWords OutOfMemory = ⊥
@@ -44,3 +60,8 @@ ShowsHelp _ = ⊥
 abbrev pub ShowsVersion : Refusal → Type 0
 ShowsVersion (Version error) = ⊤
 ShowsVersion _ = ⊥
+
+-- a refusal of the words themselves
+abbrev pub RefusesWords : Refusal → Type 0
+RefusesWords (Words error) = ⊤
+RefusesWords _ = ⊥

@@ -58,6 +58,7 @@ impl Refusal {
         ensures asked { spec.ShowsHelp result → spec.asks_for_help words.now ≡ true }
         ensures version { spec.ShowsVersion result → kind_of error ≡ ErrorKind.DisplayVersion }
         ensures wanted { spec.ShowsVersion result → spec.asks_for_version words.now ≡ true }
+        ensures mistaken { spec.RefusesWords result → spec.IsAskedText words.now (kind_of error) → ⊥ }
     {
         if error.kind() == ErrorKind::OutOfMemory {
             return Refusal::OutOfMemory;

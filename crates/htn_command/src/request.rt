@@ -3,7 +3,7 @@ ghost use Rattle.std.specs.Prelude.{◌≡◌, ◌≢◌, false, Some, IfOk, IfE
 ghost use Rattle.clap.specs.Words.{app_of, found_of, kind_of, rows_of, rule_of, subcommand_rows_of};
 ghost use Rattle.clap.specs.declared.builder.command.Command.TheViews.{out-Command as fields_of};
 ghost use Rattle.htn_command.specs.CommandLine as line;
-ghost use Rattle.htn_command.specs.Help.{HelpIsAsked, IsOfWords, ShowsHelp, ShowsVersion, VersionIsAsked};
+ghost use Rattle.htn_command.specs.Help.{AreMistaken, HelpIsAsked, IsOfWords, IsPossible, RefusesWords, ShowsHelp, ShowsVersion, VersionIsAsked};
 ghost use Rattle.htn_command.specs.Request.{AskNothing, IsAskedBy, IsOf, IsOfNothing};
 
 use crate::refusal::Refusal;
@@ -65,12 +65,13 @@ After `invalid:` stands the first of these that holds:
 Status: 0 valid, 1 invalid, 2 command line, 3 a text is refused, 4 memory, 5 files or output.";
 
 /// Reads the words, of which the first is the program's name. Words that are refused ask for nothing. Help and the
-/// version are shown only where a word asks for them.
+/// version are shown only where a word asks for them, and words whose one fault is that are not refused.
 pub fn parse<'a>(alloc: Global, words: &'a [String]) -> Result<Request<'a>, Refusal>
     ensures asked { IfOk result (IsAskedBy (map string_bytes words.now)) }
     ensures refused { IfErr result (λ refusal. IsOfWords refusal → AskNothing (map string_bytes words.now)) }
     ensures help { IfErr result (λ refusal. ShowsHelp refusal → HelpIsAsked words.now) }
     ensures version { IfErr result (λ refusal. ShowsVersion refusal → VersionIsAsked words.now) }
+    ensures mistaken { IfErr result (λ refusal. RefusesWords refusal → AreMistaken words.now) }
 {
     match read(alloc, words) {
         Ok(request) => Ok(request),
@@ -84,6 +85,7 @@ fn read<'a>(alloc: Global, words: &'a [String]) -> Result<Request<'a>, Error>
     ensures refused { IfErr result (λ e. kind_of e ≢ ErrorKind.OutOfMemory → AskNothing (map string_bytes words.now)) }
     ensures help { IfErr result (λ e. kind_of e ≡ ErrorKind.DisplayHelp → line.HelpIsDue (map string_bytes words.now)) }
     ensures version { IfErr result (λ e. kind_of e ≡ ErrorKind.DisplayVersion → line.VersionIsDue (map string_bytes words.now)) }
+    ensures kind { IfErr result (λ e. kind_of e ≢ ErrorKind.OutOfMemory → IsPossible (map string_bytes words.now) (kind_of e)) }
 {
     let command = command(alloc)?;
     let matches = command.try_get_matches_from(words)?;

@@ -1,7 +1,7 @@
-use Rattle.std.proofs.Common.{rules, sym, subst}
+use Rattle.std.proofs.Common.{rules, inl, sym, subst}
 use Rattle.std.proofs.lemmas.Result.{err_from_is_err_and}
 use Rattle.htn_command.specs.Request.{IsOf}
-use Rattle.htn_command.proofs.Matches.{faulty_ask_nothing, help_is_due, parse_is_sound, parse_reads, version_is_due}
+use Rattle.htn_command.proofs.Matches.{faulty_ask_nothing, help_is_due, kind_is_possible, parse_is_sound, parse_reads, version_is_due}
 use Rattle.htn_command.proofs.request.read.Goals as goal
 
 pub returns-in_err-matches-clause-refused : goal.returns-in_err-matches-clause-refused
@@ -19,6 +19,11 @@ returns-in_err-matches-clause-version c =
     let p = err_from_is_err_and c.from_residual-in_err-matches.result c.from_residual-in_err-matches.ensures.1 in
     rw (p.1, p.2) (version_is_due _ _ c.in_err-matches.field-0.0 c.in_ok-command.ensures c.in_err-matches.ensures.kinds)
 
+pub returns-in_err-matches-clause-kind : goal.returns-in_err-matches-clause-kind
+returns-in_err-matches-clause-kind c =
+    let p = err_from_is_err_and c.from_residual-in_err-matches.result c.from_residual-in_err-matches.ensures.1 in
+    rw (p.1, p.2) (kind_is_possible _ _ c.in_err-matches.field-0.0 c.in_ok-command.ensures c.in_err-matches.ensures.kinds)
+
 pub returns-in-Some-clause-asked : goal.returns-in-Some-clause-asked
 returns-in-Some-clause-asked c = record {
   sound = parse_is_sound _ _ c.in_ok-command.ensures c.in_ok-matches.ensures.kinds;
@@ -29,3 +34,6 @@ pub returns-clause-refused : goal.returns-clause-refused
 returns-clause-refused c enough request asked =
     let found = parse_reads _ _ _ c.in_ok-command.ensures c.in_ok-matches.ensures.matches in
     c.in-None.ensures.none (search rules) request (subst (λ found. IsOf found request) found asked.given)
+
+pub returns-clause-kind : goal.returns-clause-kind
+returns-clause-kind c enough = inl (parse_is_sound _ _ c.in_ok-command.ensures c.in_ok-matches.ensures.kinds)
