@@ -1,5 +1,5 @@
 -- Which names of files were read.
-use Rattle.std.proofs.Common.{◌≡◌, ◌∙◌, ℕ, List, [], ◌++◌, Option, Some, None, append_assoc, ap, sym}
+use Rattle.std.proofs.Common.{◌∙◌, ℕ, List, [], ◌++◌, Option, Some, None, append_assoc, ap, sym}
 use Rattle.std.proofs.lemmas.List.{append-nil}
 use Rattle.htn_run.specs.Files.{Notes, NotesBeginning}
 
