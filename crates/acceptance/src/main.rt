@@ -8,6 +8,8 @@ use std::io::Write;
 use std::{fs, io};
 
 #[cfg(test)]
+mod faults;
+#[cfg(test)]
 mod gates;
 #[cfg(test)]
 mod pairs;

@@ -71,6 +71,8 @@ fn faults_have_a_line_and_a_status(rt: HostRuntime) -> Result<(), Fail> {
         assert_eq!(rt; fault.tell(&mut err), status);
         let told = text_of(alloc, err.into_inner().as_slice())?;
         assert_eq!(rt; told.as_str(), line);
+        let text = format!(in alloc; "{fault}\n")?;
+        assert_eq!(rt; text.as_str(), line);
     }
     Ok(())
 }

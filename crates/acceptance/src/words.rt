@@ -18,9 +18,12 @@ struct Shelf {
 }
 
 impl Source for Shelf {
+    ghost use Rattle.std.specs.Prelude.{None};
     ghost use Rattle.htn_run.specs.Files.{Untold};
 
     ghost files = { λ _ _. Untold };
+
+    ghost reads = { λ _. None };
 
     fn read(&mut self, alloc: Global, name: &str) -> Result<Vec<u8>, ReadFault> {
         if self.asked.push_str(name).is_err() {

@@ -3,6 +3,8 @@ mod Saying
 mod OneAnswer
 mod Exists
 mod Stopping
+mod FileReads
+mod Telling
 mod Decided
 mod DecidedLines
 mod DecidedRoom

@@ -1,12 +1,16 @@
 -- How the run of a command line ends, over what its words ask for and what the files have.
-use Rattle.std.specs.Prelude.{◌⊎◌, ℕ, List, Option, String, map, string_bytes}
+use Rattle.std.specs.Prelude.{◌⊎◌, ℕ, List, [], Option, String, codes, map, string_bytes}
 use Rattle.std.specs.Io.KnownBytes.{Appends}
 use Rattle.plan_text.specs.Out.{TakesBeginning}
 use Rattle.htn_command.specs.Help.{HelpIsAsked, VersionIsAsked}
 use Rattle.htn_command.specs.Request.{AskNothing, IsAskedBy}
 use Rattle.htn_command.specs.declared.request.Request.{Request}
-use Rattle.htn_run.specs.Files.{File}
+use Rattle.htn_run.specs.Files.{File, Notes, NotesBeginning}
+use Rattle.htn_run.specs.Laws.{IsOfTexts}
+use Rattle.htn_run.specs.Lines.{line_of_fault, unread_line}
 use Rattle.htn_run.specs.Requests as request
+use Rattle.htn_run.specs.declared.outcome.RunFault.{RunFault}
+use Rattle.htn_run.specs.declared.stop.Text.{Text}
 
 -- what holds of a request that the words ask for
 abbrev pub Asked : {Z : Type 0} → List (String Z) → (Request → Type 0) → Type 0
@@ -40,3 +44,26 @@ LacksFile words files = Asked words (request.LacksFile files)
 abbrev pub IsCutShort : {Z : Type 0} → List (String Z) → (List ℕ → File) → Option (List ℕ) → Option (List ℕ) → Type 0
 IsCutShort words files old new =
     Asked words (request.IsCutShort files old new) ⊎ (TextIsAsked words × ((text : List ℕ) × TakesBeginning old new text))
+
+-- the names of the request's files were read in their order, as far as they were, and no other
+abbrev pub ReadsInOrder : {Z : Type 0} → List (String Z) → Option (List (List ℕ)) → Option (List (List ℕ)) → Type 0
+ReadsInOrder words old new = Notes old new [] ⊎ Asked words (λ r. NotesBeginning old new (request.names_of r))
+
+-- ## The line on the error output, of which `Gets` says that the output got it
+
+-- that of a fault which the texts of the request have
+abbrev pub TellsFault : {Z : Type 0} → List (String Z) → (List ℕ → File) → (List ℕ → Type 0) → Type 0
+TellsFault words files Gets =
+    Asked words (λ r. (fault : RunFault) × IsOfTexts fault × request.Refuses files r fault × Gets (line_of_fault fault))
+
+-- that of a want of memory, or of a thread where the request has more than one worker
+abbrev pub TellsWant : {Z : Type 0} → List (String Z) → (List ℕ → Type 0) → Type 0
+TellsWant words Gets = Gets (codes "OutOfMemory\n") ⊎ (Asked words request.NeedsThreads × Gets (codes "NoThread\n"))
+
+-- that of a file of the request which can't be read
+abbrev pub TellsFile : {Z : Type 0} → List (String Z) → (List ℕ → File) → (List ℕ → Type 0) → Type 0
+TellsFile words files Gets = Asked words (λ r. (text : Text) × request.LacksFileOf files r text × Gets (unread_line text))
+
+-- that of the output
+abbrev pub TellsOutput : (List ℕ → Type 0) → Type 0
+TellsOutput Gets = Gets (codes "output: cannot be written\n")

@@ -1,5 +1,5 @@
--- What a source of files tells of a name, and what a read of it may give.
-use Rattle.std.specs.Prelude.{◌≡◌, ℕ, List, ⊤}
+-- What a source of files tells of a name, what a read of it may give, and which names were read.
+use Rattle.std.specs.Prelude.{◌≡◌, ℕ, List, ◌++◌, Option, Some, None, ⊤}
 
 -- what a source tells of a name
 pub data File : Type 0 where
@@ -21,3 +21,16 @@ abbrev pub MayFail : File → Type 0
 MayFail (Bytes told) = ⊥
 MayFail Missing = ⊤
 MayFail Untold = ⊤
+
+-- the names that were read, where they are told, grow by these
+abbrev pub Notes : Option (List (List ℕ)) → Option (List (List ℕ)) → List (List ℕ) → Type 0
+Notes None new names = ⊤
+Notes (Some old) None names = ⊥
+Notes (Some old) (Some new) names = new ≡ old ++ names
+
+-- they grow by a beginning of these
+pub record NotesBeginning (old new : Option (List (List ℕ))) (names : List (List ℕ)) : Type 0 where
+  pub front : List (List ℕ)
+  pub back : List (List ℕ)
+  pub whole : names ≡ front ++ back
+  pub noted : Notes old new front

@@ -4,6 +4,7 @@ pub mod Files
 pub mod Headline
 pub mod Judgement
 pub mod Laws
+pub mod Lines
 pub mod Process
 pub mod Requests
 pub mod Stops

@@ -1,5 +1,5 @@
 -- What is answered to a request over the files that it names, and why it isn't.
-use Rattle.std.specs.Prelude.{◌≡◌, ℕ, ◌⊎◌, List, Option}
+use Rattle.std.specs.Prelude.{◌≡◌, ℕ, ◌<◌, ◌⊎◌, List, [], ◌∷◌, Option}
 use Rattle.std.specs.Io.KnownBytes.{Appends}
 use Rattle.htn_command.specs.declared.request.Request.{Request}
 use Rattle.htn_command.specs.declared.request.Request.TheVariants.{Plan, Verify}
@@ -8,10 +8,22 @@ use Rattle.htn_run.specs.declared.outcome.Outcome.TheVariants.{Found}
 use Rattle.htn_run.specs.declared.outcome.RunFault.{RunFault}
 use Rattle.htn_run.specs.declared.reply.Reply.{Reply}
 use Rattle.htn_run.specs.declared.reply.Reply.TheVariants.{Planned, Verified}
+use Rattle.htn_run.specs.declared.stop.Text.{Text}
+use Rattle.htn_run.specs.declared.stop.Text.TheVariants as text
 use Rattle.htn_run.specs.Files.{File, MayFail, MayGive}
 use Rattle.htn_run.specs.Headline as plans
 use Rattle.htn_run.specs.Judgement as verdicts
 use Rattle.htn_run.specs.Laws.{IsOfTexts}
+
+-- the names of the files of a request, in the order of its words
+abbrev pub names_of : Request → List (List ℕ)
+names_of (Plan domain problem bounds) = domain.now ∷ problem.now ∷ []
+names_of (Verify domain problem plan) = domain.now ∷ problem.now ∷ plan.now ∷ []
+
+-- a request that may be refused a thread: one for a plan, with more than one worker
+abbrev pub NeedsThreads : Request → Type 0
+NeedsThreads (Plan domain problem bounds) = 1 < bounds.workers
+NeedsThreads (Verify domain problem plan) = ⊥
 
 -- what holds of the texts in the files of a domain and a problem
 abbrev pub OfTexts : (List ℕ → File) → List ℕ → List ℕ → (List ℕ → List ℕ → Type 0) → Type 0
@@ -45,14 +57,26 @@ abbrev pub HasFault : (List ℕ → File) → Request → Type 0
 HasFault files request = (fault : RunFault) × IsOfTexts fault × Refuses files request fault
 
 -- the first of two files can't be read, or the second after the first was
-abbrev pub LacksText : (List ℕ → File) → List ℕ → List ℕ → Type 0
-LacksText files domain problem = MayFail (files domain) ⊎ ((d : List ℕ) × MayGive (files domain) d × MayFail (files problem))
+abbrev pub LacksOne : (List ℕ → File) → List ℕ → List ℕ → Type 0
+LacksOne files domain problem = MayFail (files domain) ⊎ ((d : List ℕ) × MayGive (files domain) d × MayFail (files problem))
 
 -- a file of the request can't be read, after those before it were
 abbrev pub LacksFile : (List ℕ → File) → Request → Type 0
-LacksFile files (Plan domain problem bounds) = LacksText files domain.now problem.now
+LacksFile files (Plan domain problem bounds) = LacksOne files domain.now problem.now
 LacksFile files (Verify domain problem plan) =
-    LacksText files domain.now problem.now ⊎ OfTexts files domain.now problem.now (λ d p. MayFail (files plan.now))
+    LacksOne files domain.now problem.now ⊎ OfTexts files domain.now problem.now (λ d p. MayFail (files plan.now))
+
+-- The domain's file can't be read, or the problem's after it was; what lacks of a plan's file is given.
+abbrev pub LacksText : (List ℕ → File) → List ℕ → List ℕ → Type 0 → Text → Type 0
+LacksText files domain problem LacksPlan text.Domain = MayFail (files domain)
+LacksText files domain problem LacksPlan text.Problem = (d : List ℕ) × MayGive (files domain) d × MayFail (files problem)
+LacksText files domain problem LacksPlan text.Plan = LacksPlan
+
+-- the file of this text of the request can't be read, after those before it were
+abbrev pub LacksFileOf : (List ℕ → File) → Request → Text → Type 0
+LacksFileOf files (Plan domain problem bounds) text = LacksText files domain.now problem.now ⊥ text
+LacksFileOf files (Verify domain problem plan) text =
+    LacksText files domain.now problem.now (OfTexts files domain.now problem.now (λ d p. MayFail (files plan.now))) text
 
 -- the text that answers the request was added to the output
 abbrev pub AddsAnswer : (List ℕ → File) → Option (List ℕ) → Option (List ℕ) → Reply → Request → Type 0

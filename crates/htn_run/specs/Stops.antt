@@ -3,11 +3,12 @@ use Rattle.std.specs.Prelude.{◌≡◌, ℕ, Bool, true, List, Option}
 use Rattle.htn_command.specs.declared.request.Request.{Request}
 use Rattle.plan_text.specs.Out.{TakesBeginning}
 use Rattle.htn_run.specs.Files.{File}
-use Rattle.htn_run.specs.Requests.{IsCutShort, LacksFile, Refuses}
+use Rattle.htn_run.specs.Requests.{IsCutShort, LacksFileOf, Refuses}
 use Rattle.htn_run.specs.declared.outcome.RunFault.{RunFault}
 use Rattle.htn_run.specs.declared.outcome.RunFault.TheVariants.{Output, OutOfMemory, NoThread}
 use Rattle.htn_run.specs.declared.stop.Stop.{Stop}
 use Rattle.htn_run.specs.declared.stop.Stop.TheVariants.{Unreadable, Run}
+use Rattle.htn_run.specs.declared.stop.Text.{Text}
 
 -- the status of a run that ended in a fault: 5 for the output, 4 for want, 3 for a text
 abbrev pub status_of_fault : RunFault → ℕ
@@ -21,9 +22,9 @@ abbrev pub status_of : Stop → ℕ
 status_of (Unreadable text) = 5
 status_of (Run fault) = status_of_fault fault
 
--- why files were not read: one that can't be read lacks, or memory was refused
-abbrev pub IsUnread : Type 0 → Stop → Type 0
-IsUnread Lacks (Unreadable text) = Lacks
+-- why files were not read: that of a text can't be, or memory was refused
+abbrev pub IsUnread : (Text → Type 0) → Stop → Type 0
+IsUnread Lacks (Unreadable text) = Lacks text
 IsUnread Lacks (Run fault) = fault ≡ OutOfMemory
 
 -- the output failed after a beginning of some text, or memory was refused and it is as it was
@@ -39,5 +40,5 @@ StopsByFault contents has_failed files request old new fault = Refuses files req
 
 -- how the run of a request stops, and what it leaves
 abbrev pub Stops : {O : Type 0} → (O → Option (List ℕ)) → (O → Bool) → (List ℕ → File) → Request → O → O → Stop → Type 0
-Stops contents has_failed files request old new (Unreadable text) = LacksFile files request × (new ≡ old)
+Stops contents has_failed files request old new (Unreadable text) = LacksFileOf files request text × (new ≡ old)
 Stops contents has_failed files request old new (Run fault) = StopsByFault contents has_failed files request old new fault

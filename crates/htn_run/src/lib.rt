@@ -1,9 +1,9 @@
 //! `htnplan` as a library: from the bytes of a domain and a problem, and of a plan to be verified, or from the words of
-//! a
-//! command line, to the bytes of the answer.
+//! a command line, to the bytes of the answer.
 #![tactic(auto)]
 
 mod answer;
+mod fault_line;
 mod judge;
 mod laws;
 mod line;
@@ -17,6 +17,7 @@ mod texts;
 mod verdict;
 mod words;
 
+pub use fault_line::write_fault;
 pub use htn_plan::{Out, Sink, Verdict};
 pub use htn_search::{Bounds, Gate, NoGate};
 pub use judge::run_verify;

@@ -1,13 +1,12 @@
 //! What stands around a run in a process: its words before, and the flush of its output after.
-ghost use Rattle.std.specs.Prelude.{◌≡◌, ◌≢◌, ◌≤◌, ◌⊎◌, IfErr};
+ghost use Rattle.std.specs.Prelude.{◌≡◌, ◌≢◌, ◌≤◌, ◌⊎◌, IfErr, codes};
+ghost use Rattle.htn_run.specs.Lines.{GetsLine};
 
-use crate::line::Line;
-use htn_plan::{Out, Sink};
+use htn_plan::{Out, Sink, WriteFault, put_all};
 use std::alloc::{AllocError, Global};
+use std::env;
 use std::env::Env;
-use std::fmt::Write as _;
 use std::io::{ErrorKind, Write};
-use std::{env, fmt};
 use thiserror::Error;
 
 /// Why a process runs nothing, or doesn't end as its run did.
@@ -37,18 +36,31 @@ impl From<AllocError> for ProcessFault {
 
 impl ProcessFault {
     ghost use Rattle.std.specs.Prelude.{◌≡◌};
-    ghost use Rattle.htn_run.specs.Process.{status_of};
+    ghost use Rattle.plan_text.specs.Out.{Writes};
+    ghost use Rattle.htn_run.specs.Lines.{GetsLine};
+    ghost use Rattle.htn_run.specs.Process.{line_of, status_of};
 
     /// Writes the line on the standard error, and answers the status: 2 for words that are no text, 4 for want of
     /// memory, and 5 for the output. A write that fails there changes nothing.
     pub fn tell<E: Out>(&self, err: &mut E) -> u8
-        ensures { result ≡ status_of self.now }
+        ensures status { result ≡ status_of self.now }
+        ensures line { GetsLine (E.contents err.old) (E.contents err.new) (E.has_failed err.new) (line_of self.now) }
     {
-        let _refused: fmt::Result = writeln!(Line::new(err), "{self}");
+        let _refused: Result<(), WriteFault> = self.write_line(err);
         match self {
             ProcessFault::NotText => 2,
             ProcessFault::OutOfMemory => 4,
             ProcessFault::Output => 5,
+        }
+    }
+
+    fn write_line<O: Out>(&self, out: &mut O) -> Result<(), WriteFault>
+        ensures { Writes (O.contents out.old) (O.contents out.new) (O.has_failed out.old) (O.has_failed out.new) result (line_of self.now) }
+    {
+        match self {
+            ProcessFault::NotText => put_all(out, b"error: an argument is not UTF-8\n"),
+            ProcessFault::OutOfMemory => put_all(out, b"OutOfMemory\n"),
+            ProcessFault::Output => put_all(out, b"output: cannot be written\n"),
         }
     }
 }
@@ -71,6 +83,7 @@ pub fn flush<W: Write + Drop, E: Out>(status: u8, out: Sink<W>, err: &mut E) -> 
     ensures kept { result ≡ status ⊎ (result ≡ 5) }
     ensures told { 2 ≤ status → result ≡ status }
     ensures quiet { result ≡ status → err.new ≡ err.old }
+    ensures line { result ≢ status → GetsLine (E.contents err.old) (E.contents err.new) (E.has_failed err.new) (codes "output: cannot be written\n") }
 {
     let mut writer = out.into_inner();
     if writer.flush().is_err() && status <= 1 {

@@ -19,30 +19,37 @@ pub enum ReadFault {
 
 /// Files by their names.
 pub trait Source {
-    ghost use Rattle.std.specs.Prelude.{◌≡◌, ℕ, List, IfOk, IfErr};
-    ghost use Rattle.htn_run.specs.Files.{File, MayFail, MayGive};
+    ghost use Rattle.std.specs.Prelude.{◌≡◌, ℕ, List, [], ◌∷◌, Option, IfOk, IfErr};
+    ghost use Rattle.htn_run.specs.Files.{File, MayFail, MayGive, Notes};
     ghost use Rattle.htn_run.specs.declared.source.ReadFault.TheVariants.{Unreadable};
 
     /// What it has under each name, where it tells that.
     ghost files: { Self → List ℕ → File };
 
+    /// The names that were read so far, in order, where it tells them.
+    ghost reads: { Self → Option (List (List ℕ)) };
+
     /// The first 16,777,217 bytes of a file, or all if it has fewer. A read changes no file.
     fn read(&mut self, alloc: Global, name: &str) -> Result<Vec<u8>, ReadFault>
         ensures bytes { IfOk result (λ bytes. MayGive (files self.old name.now) bytes.items) }
         ensures unreadable { IfErr result (λ fault. fault ≡ Unreadable → MayFail (files self.old name.now)) }
-        ensures kept { (other : List ℕ) → files self.new other ≡ files self.old other };
+        ensures kept { (other : List ℕ) → files self.new other ≡ files self.old other }
+        ensures noted { Notes (reads self.old) (reads self.new) (name.now ∷ []) };
 }
 
-/// The files of the system. What they hold is not told: no contract can say it.
+/// The files of the system. What they hold, and which were read, is not told: no contract can say it.
 #[derive(Drop)]
 pub struct Disk<'a, F: Files> {
     pub files: &'a F,
 }
 
 impl<'a, F: Files> Source for Disk<'a, F> {
+    ghost use Rattle.std.specs.Prelude.{None};
     ghost use Rattle.htn_run.specs.Files.{Untold};
 
     ghost files = { λ _ _. Untold };
+
+    ghost reads = { λ _. None };
 
     fn read(&mut self, alloc: Global, name: &str) -> Result<Vec<u8>, ReadFault> {
         let Ok(file) = fs::open(self.files, name) else {

@@ -1,16 +1,22 @@
 //! How the run of a command line ends without an answer.
 
-use crate::line::Line;
+use crate::fault_line::write_fault;
 use crate::outcome::RunFault;
-use htn_plan::Out;
-use std::fmt;
-use std::fmt::Write;
+use htn_plan::{Out, WriteFault, put_all};
+
+/// One of the texts of a request.
+#[derive(Debug, Clone, Copy)]
+pub(crate) enum Text {
+    Domain,
+    Problem,
+    Plan,
+}
 
 /// Why there is no answer.
 #[derive(Debug, Clone, Copy)]
 pub(crate) enum Stop {
     /// The file of this text can't be read.
-    Unreadable(&'static str),
+    Unreadable(Text),
     /// The run has a fault.
     Run(RunFault),
 }
@@ -28,18 +34,28 @@ impl From<RunFault> for Stop {
 
 impl Stop {
     ghost use Rattle.std.specs.Prelude.{◌≡◌};
+    ghost use Rattle.plan_text.specs.Out.{Writes};
+    ghost use Rattle.htn_run.specs.Lines.{GetsLine, line_of, unread_line};
     ghost use Rattle.htn_run.specs.Stops.{status_of};
 
     /// Writes the line on the standard error, and answers the status. A write that fails there changes nothing.
     pub(crate) fn tell<E: Out>(&self, err: &mut E) -> u8
-        ensures { result ≡ status_of self.now }
+        ensures status { result ≡ status_of self.now }
+        ensures line { GetsLine (E.contents err.old) (E.contents err.new) (E.has_failed err.new) (line_of self.now) }
     {
-        let mut line = Line::new(err);
-        let _refused: fmt::Result = match self {
-            Stop::Unreadable(text) => writeln!(line, "{text}: cannot be read"),
-            Stop::Run(fault) => writeln!(line, "{fault}"),
-        };
+        let _refused: Result<(), WriteFault> = self.write_line(err);
         self.status()
+    }
+
+    fn write_line<O: Out>(&self, out: &mut O) -> Result<(), WriteFault>
+        ensures { Writes (O.contents out.old) (O.contents out.new) (O.has_failed out.old) (O.has_failed out.new) result (line_of self.now) }
+    {
+        match self {
+            Stop::Unreadable(Text::Domain) => put_all(out, b"domain: cannot be read\n"),
+            Stop::Unreadable(Text::Problem) => put_all(out, b"problem: cannot be read\n"),
+            Stop::Unreadable(Text::Plan) => put_all(out, b"plan: cannot be read\n"),
+            Stop::Run(fault) => write_fault(out, *fault),
+        }
     }
 
     fn status(&self) -> u8

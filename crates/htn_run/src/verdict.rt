@@ -7,7 +7,7 @@ use htn_plan::{Out, Verdict, WriteFault, put_all};
 use itoa::Buffer;
 
 /// Writes an id in decimal.
-fn put_id<O: Out>(out: &mut O, id: u64) -> Result<(), WriteFault>
+pub(crate) fn put_id<O: Out>(out: &mut O, id: u64) -> Result<(), WriteFault>
     ensures { Writes (O.contents out.old) (O.contents out.new) (O.has_failed out.old) (O.has_failed out.new) result (decimal id) }
 {
     let mut buffer = Buffer::new();

@@ -1,9 +1,11 @@
 //! The run of a command line.
-ghost use Rattle.std.specs.Prelude.{◌≡◌, ◌≤◌, ◌⊎◌, ℕ, List, true, IfOk, IfErr, OnOk};
+ghost use Rattle.std.specs.Prelude.{◌≡◌, ◌≤◌, ◌⊎◌, ℕ, List, [], ◌∷◌, true, IfOk, IfErr, OnOk};
 ghost use Rattle.std.specs.Io.KnownBytes.{Appends};
-ghost use Rattle.htn_run.specs.Ends.{HasFault, IsCutShort, LacksFile, NothingIsAsked, PrintsAnswer, PrintsText};
-ghost use Rattle.htn_run.specs.Files.{MayFail, MayGive};
-ghost use Rattle.htn_run.specs.Requests.{AddsAnswer, LacksText};
+ghost use Rattle.htn_command.specs.Help.{AreMistaken};
+ghost use Rattle.htn_run.specs.Ends.{HasFault, IsCutShort, LacksFile, NothingIsAsked, PrintsAnswer, PrintsText, ReadsInOrder, TellsFault, TellsFile, TellsOutput, TellsWant};
+ghost use Rattle.htn_run.specs.Files.{MayFail, MayGive, Notes, NotesBeginning};
+ghost use Rattle.htn_run.specs.Lines.{GetsLine};
+ghost use Rattle.htn_run.specs.Requests.{AddsAnswer, LacksText, names_of};
 ghost use Rattle.htn_run.specs.Stops.{CutsShort, IsUnread, Stops};
 
 use crate::judge::run_verify;
@@ -12,7 +14,7 @@ use crate::outcome::RunFault;
 use crate::reply::Reply;
 use crate::run::run_plan;
 use crate::source::{ReadFault, Source};
-use crate::stop::Stop;
+use crate::stop::{Stop, Text};
 use clap::Error;
 use htn_command::{Refusal, Request, parse};
 use htn_plan::{Out, put_all};
@@ -34,7 +36,8 @@ use std::thread::Threads;
 /// | 5 | a file can't be read, or the output can't be written | one line |
 ///
 /// The files are read in the order of the words. Nothing is written to `out` before the answer is known. A write to
-/// `err` that fails changes no status. What the files hold is tied to the answer as far as the source tells it.
+/// `err` that fails changes no status. What the files hold is tied to the answer as far as the source tells it. No
+/// clause says what the texts of `clap` are.
 pub fn run_words<S: Source, O: Out, E: Out, R: Threads + Wait + Sync>(
     rt: &R,
     alloc: Global,
@@ -50,10 +53,16 @@ pub fn run_words<S: Source, O: Out, E: Out, R: Threads + Wait + Sync>(
     ensures works { result ≤ 1 → O.has_failed out.new ≡ O.has_failed out.old }
     ensures quiet { result ≤ 1 → err.new ≡ err.old }
     ensures refused { result ≡ 2 → NothingIsAsked words.now }
+    ensures mistaken { result ≡ 2 → AreMistaken words.now }
     ensures faulty { result ≡ 3 → HasFault words.now (S.files files.old) }
     ensures kept { 2 ≤ result → result ≤ 4 → out.new ≡ out.old }
     ensures failed { result ≡ 5 → (LacksFile words.now (S.files files.old) × (out.new ≡ out.old))
         ⊎ (IsCutShort words.now (S.files files.old) (O.contents out.old) (O.contents out.new) × (O.has_failed out.new ≡ true)) }
+    ensures reads { ReadsInOrder words.now (S.reads files.old) (S.reads files.new) }
+    ensures fault_line { result ≡ 3 → TellsFault words.now (S.files files.old) (GetsLine (E.contents err.old) (E.contents err.new) (E.has_failed err.new)) }
+    ensures want_line { result ≡ 4 → TellsWant words.now (GetsLine (E.contents err.old) (E.contents err.new) (E.has_failed err.new)) }
+    ensures file_line { result ≡ 5 → (TellsFile words.now (S.files files.old) (GetsLine (E.contents err.old) (E.contents err.new) (E.has_failed err.new)) × (out.new ≡ out.old))
+        ⊎ (TellsOutput (GetsLine (E.contents err.old) (E.contents err.new) (E.has_failed err.new)) × (O.has_failed out.new ≡ true)) }
 {
     match parse(alloc, words) {
         Ok(request) => match run_request(rt, alloc, request, files, out) {
@@ -98,6 +107,7 @@ fn run_request<S: Source, O: Out, R: Threads + Wait + Sync>(
     ensures answered { IfOk result (λ reply. AddsAnswer (S.files files.old) (O.contents out.old) (O.contents out.new) reply request.entry) }
     ensures works { OnOk result (O.has_failed out.new ≡ O.has_failed out.old) }
     ensures stopped { IfErr result (Stops O.contents O.has_failed (S.files files.old) request.entry out.old out.new) }
+    ensures reads { NotesBeginning (S.reads files.old) (S.reads files.new) (names_of request.entry) }
 {
     match request {
         Request::Plan {
@@ -126,6 +136,7 @@ fn plan_files<S: Source, O: Out, R: Threads + Wait + Sync>(
     ensures answered { IfOk result (λ reply. AddsAnswer (S.files files.old) (O.contents out.old) (O.contents out.new) reply (Request.Plan domain.entry problem.entry bounds)) }
     ensures works { OnOk result (O.has_failed out.new ≡ O.has_failed out.old) }
     ensures stopped { IfErr result (Stops O.contents O.has_failed (S.files files.old) (Request.Plan domain.entry problem.entry bounds) out.old out.new) }
+    ensures reads { NotesBeginning (S.reads files.old) (S.reads files.new) (names_of (Request.Plan domain.entry problem.entry bounds)) }
 {
     let (domain, problem) = read_texts(alloc, files, domain, problem)?;
     let outcome = run_plan(
@@ -152,9 +163,10 @@ fn verify_files<S: Source, O: Out>(
     ensures answered { IfOk result (λ reply. AddsAnswer (S.files files.old) (O.contents out.old) (O.contents out.new) reply (Request.Verify domain.entry problem.entry plan.entry)) }
     ensures works { OnOk result (O.has_failed out.new ≡ O.has_failed out.old) }
     ensures stopped { IfErr result (Stops O.contents O.has_failed (S.files files.old) (Request.Verify domain.entry problem.entry plan.entry) out.old out.new) }
+    ensures reads { NotesBeginning (S.reads files.old) (S.reads files.new) (names_of (Request.Verify domain.entry problem.entry plan.entry)) }
 {
     let (domain, problem) = read_texts(alloc, files, domain, problem)?;
-    let plan = read_file(alloc, files, "plan", plan)?;
+    let plan = read_file(alloc, files, Text::Plan, plan)?;
     let verdict = run_verify(
         alloc,
         domain.as_slice(),
@@ -173,11 +185,13 @@ fn read_texts<S: Source>(
     problem: &str,
 ) -> Result<(Vec<u8>, Vec<u8>), Stop>
     ensures bytes { IfOk result (λ texts. MayGive (S.files files.old domain.now) texts.0.items × MayGive (S.files files.old problem.now) texts.1.items) }
-    ensures unread { IfErr result (IsUnread (LacksText (S.files files.old) domain.now problem.now)) }
+    ensures unread { IfErr result (IsUnread (LacksText (S.files files.old) domain.now problem.now ⊥)) }
     ensures kept { (other : List ℕ) → S.files files.new other ≡ S.files files.old other }
+    ensures all { OnOk result (Notes (S.reads files.old) (S.reads files.new) (domain.now ∷ problem.now ∷ [])) }
+    ensures reads { NotesBeginning (S.reads files.old) (S.reads files.new) (domain.now ∷ problem.now ∷ []) }
 {
-    let domain = read_file(alloc, files, "domain", domain)?;
-    let problem = read_file(alloc, files, "problem", problem)?;
+    let domain = read_file(alloc, files, Text::Domain, domain)?;
+    let problem = read_file(alloc, files, Text::Problem, problem)?;
     Ok((domain, problem))
 }
 
@@ -185,12 +199,13 @@ fn read_texts<S: Source>(
 fn read_file<S: Source>(
     alloc: Global,
     files: &mut S,
-    text: &'static str,
+    text: Text,
     name: &str,
 ) -> Result<Vec<u8>, Stop>
     ensures bytes { IfOk result (λ bytes. MayGive (S.files files.old name.now) bytes.items) }
-    ensures unread { IfErr result (IsUnread (MayFail (S.files files.old name.now))) }
+    ensures unread { IfErr result (IsUnread (λ file. (file ≡ text) × MayFail (S.files files.old name.now))) }
     ensures kept { (other : List ℕ) → S.files files.new other ≡ S.files files.old other }
+    ensures noted { Notes (S.reads files.old) (S.reads files.new) (name.now ∷ []) }
 {
     match files.read(alloc, name) {
         Ok(bytes) => Ok(bytes),

@@ -1,7 +1,8 @@
-use Rattle.std.proofs.Common.{subst}
+use Rattle.std.proofs.Common.{[], ◌∷◌, subst}
 use Rattle.std.proofs.lemmas.Result.{err_from_is_err_and}
 use Rattle.htn_command.specs.declared.request.Request.TheVariants.{Verify}
 use Rattle.htn_run.specs.Files.{MayGive}
+use Rattle.htn_run.proofs.FileReads.{notes_all, notes_before, notes_more}
 use Rattle.htn_run.proofs.Stopping.{given, stops_by}
 use Rattle.htn_run.proofs.words.verify_files.Goals as goal
 
@@ -26,3 +27,19 @@ returns-clause-answered g c =
     let f = given _ _ _ c.as_slice-3.ensures.value read in
     let h = c.in_ok-verdict.ensures.verdict in
     (h.0, (_, _, d, q, (_, f, h.1)), h.2)
+
+pub returns-in_err-domain-clause-reads : goal.returns-in_err-domain-clause-reads
+returns-in_err-domain-clause-reads g c =
+    notes_before _ _ (c.args.domain.now ∷ c.args.problem.now ∷ []) (c.args.plan.now ∷ []) c.in_err-domain.ensures.reads
+
+pub returns-in_err-plan-clause-reads : goal.returns-in_err-plan-clause-reads
+returns-in_err-plan-clause-reads g c =
+    notes_all _ _ _ (notes_more _ _ _ (c.args.domain.now ∷ c.args.problem.now ∷ []) (c.args.plan.now ∷ []) c.in_ok-domain.ensures.all c.in_err-plan.ensures.noted)
+
+pub returns-in_err-verdict-clause-reads : goal.returns-in_err-verdict-clause-reads
+returns-in_err-verdict-clause-reads g c =
+    notes_all _ _ _ (notes_more _ _ _ (c.args.domain.now ∷ c.args.problem.now ∷ []) (c.args.plan.now ∷ []) c.in_ok-domain.ensures.all c.in_ok-plan.ensures.noted)
+
+pub returns-clause-reads : goal.returns-clause-reads
+returns-clause-reads g c =
+    notes_all _ _ _ (notes_more _ _ _ (c.args.domain.now ∷ c.args.problem.now ∷ []) (c.args.plan.now ∷ []) c.in_ok-domain.ensures.all c.in_ok-plan.ensures.noted)
