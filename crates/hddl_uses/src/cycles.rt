@@ -5,7 +5,7 @@
 //! closure of the pairs tells; so no promise rests on what was found, but that of speed.
 //!
 //! The ranks are by Kahn's algorithm (Topological sorting of large networks, 1962).
-ghost use Rattle.std.specs.Prelude.{◌↔◌, ◌<◌, IfOk, IsTrue, get_or};
+ghost use Rattle.std.specs.Prelude.{◌↔◌, ◌<◌, Contains, IfOk, IfSome, IsTrue, get_or};
 ghost use Rattle.htn_order.specs.Closure.{AreBelow, IsAcyclic};
 ghost use Rattle.hddl_uses.specs.Labels.{Circles};
 
@@ -155,25 +155,34 @@ fn far_back(pairs: &[(usize, usize)], back: &[Option<usize>]) -> usize {
     at
 }
 
+/// The position one step back from another, by the pair that its way back names.
+fn one_back(pairs: &[(usize, usize)], back: &[Option<usize>], at: usize) -> Option<usize>
+    ensures { IfSome result (λ before. Contains pairs.now (before, at)) }
+{
+    let k = back.get(at).copied().flatten()?;
+    if k >= pairs.len() {
+        return None;
+    }
+    let (before, after) = pairs[k];
+    if after != at {
+        return None;
+    }
+    Some(before)
+}
+
 /// Whether the ways back from a position come back to it.
 fn comes_back(pairs: &[(usize, usize)], back: &[Option<usize>], start: usize) -> bool
     ensures { IsTrue result → Circles pairs.now }
 {
     let mut at = start;
-    for _ in 0..back.len() {
-        let Some(k) = back.get(at).copied().flatten() else {
+    'back: for _ in 0..back.len() {
+        let Some(before) = one_back(pairs, back, at) else {
             return false;
         };
-        let Some(pair) = pairs.get(k) else {
-            return false;
-        };
-        if pair.1 != at {
-            return false;
-        }
-        at = pair.0;
-        if at == start {
+        if before == start {
             return true;
         }
+        at = before;
     }
     false
 }
