@@ -1,4 +1,5 @@
-//! Texts that are refused: the domain's before the problem's, and both before the pair; and runs that are refused memory.
+//! Texts that are refused, the domain's before the problem's and both before the pair; and runs that are refused
+//! memory.
 
 use crate::pairs::{LATE, NEED, ONE_OF_TWO, Pair, ROAD, TRIP_CHILDREN_TURNED};
 use htn_run::{Bounds, NoGate, RunFault, Sink, Verdict, run_verify};

@@ -41,7 +41,8 @@ const CALLS: &str = "Examples:
 Status: 0 yes (a plan, valid), 1 no (none, unsolvable, invalid), 2 command line, 3 a text is refused,
 4 memory or threads, 5 files or output.";
 
-const NODES: &str = "Nodes of a plan, at most: tasks, actions, precondition steps; after `none` try more";
+const NODES: &str =
+    "Nodes of a plan, at most: tasks, actions, precondition steps; after `none` try more";
 
 const PLAN_CALL: &str = "Example:
   htnplan plan domain.hddl problem.hddl --nodes 200 > plan.txt
