@@ -10,11 +10,17 @@ use Rattle.hddl_scope.proofs.Finding.{Finds-either, Finds-same}
 
 -- two of one text in a list stand in a longer one too
 repeat_after : (first second : List Mention) (place : ℕ) → IsRepeat second place → IsRepeat (first ++ second) place
-repeat_after first second place (before, a, middle, b, after, is, same, at) =
-    (first ++ before, a, middle, b, after,
-    ap (λ l. first ++ l) is ∙ sym (append_assoc first (before ++ a ∷ middle) (b ∷ after))
-    ∙ ap (λ l. l ++ b ∷ after) (sym (append_assoc first before (a ∷ middle))),
-    same, at)
+repeat_after first second place (before, a, middle, b, after, is, same, at) = (
+  first ++ before,
+  a,
+  middle,
+  b,
+  after,
+  ap (λ l. first ++ l) is ∙ sym (append_assoc first (before ++ a ∷ middle) (b ∷ after))
+      ∙ ap (λ l. l ++ b ∷ after) (sym (append_assoc first before (a ∷ middle))),
+  same,
+  at,
+)
 
 -- a repeat in the end of a list or in the whole of it is one in the whole
 pub either_repeat : (text : Source) (first second : List Mention) {a b found : Option CheckFault}
