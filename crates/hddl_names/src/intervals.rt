@@ -100,7 +100,7 @@ fn walked(alloc: Global, parents: &Rows, children: &Rows) -> Result<Walk, AllocE
     Ok(walk)
 }
 
-/// The interval of a number, that of no places where none is kept.
+/// The interval of a number, or the empty one where the table has none.
 fn interval_of(intervals: &[Interval], number: usize) -> Interval
     ensures { result ≡ interval_at intervals.now number }
 {
@@ -148,7 +148,7 @@ fn stand_at_places(intervals: &[Interval], order: &[usize]) -> bool
     true
 }
 
-/// The top of a number's line, the number itself where none is kept.
+/// The top of a number's line, or the number itself where the table has none.
 pub(crate) fn top_of(tops: &[usize], number: usize) -> usize
     ensures { result ≡ top_at tops.now number }
 {
@@ -179,7 +179,7 @@ fn have_tops(intervals: &[Interval], tops: &[usize], parents: &Rows) -> bool
     true
 }
 
-/// What tells along lines which number leads to which.
+/// The intervals and tops that decide along lines whether one number leads to another.
 #[derive(Drop)]
 pub(crate) struct Lines {
     /// Of each number.

@@ -37,7 +37,7 @@ impl NumberSet {
         self.words.get(k).copied().unwrap_or(0)
     }
 
-    /// Makes the set have at least so many words. It keeps its numbers.
+    /// Grows the set to at least this number of words; its numbers stay.
     fn widen(&mut self, count: usize) -> Result<(), AllocError>
         ensures len { OnOk result (count ≤ length self.new) }
         ensures same { (k : ℕ) → get_or self.new k 0 ≡ get_or self.old k 0 }

@@ -95,7 +95,7 @@ fn likely_ranks(alloc: Global, rows: &Rows, back: &Rows) -> Result<Vec<usize>, A
     ranks.iter().map(|rank| rank.unwrap_or(0)).collect(alloc)
 }
 
-/// The rank of a number, 0 where none is kept.
+/// The rank of a number, or 0 where the table has none.
 pub(crate) fn rank_of(ranks: &[usize], number: usize) -> usize
     ensures { result ≡ get_or ranks.now number 0 }
 {

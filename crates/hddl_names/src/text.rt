@@ -8,7 +8,7 @@ use smallvec::SmallVec;
 use std::alloc::{AllocError, Global};
 use std::marker::Model;
 
-/// A text that is kept. Most are short, and need no allocation.
+/// An owned text. Most are short, and need no allocation.
 pub type Kept = SmallVec<u8, 16>;
 
 /// Where the bytes of a text in lower case are.

@@ -73,7 +73,7 @@ impl Numbers {
         }
     }
 
-    /// No texts, with room for so many.
+    /// No texts, with room for this number.
     pub fn with_capacity(alloc: Global, capacity: usize) -> Result<Numbers, AllocError>
         ensures { IfOk result (λ numbers. numbers ≡ []) }
     {

@@ -14,7 +14,7 @@ const DRAW: usize = 0;
 
 const LEAST: usize = 1;
 
-/// Gives out the numbers of the pieces of a level, each once, and keeps the least place that was reported.
+/// Hands out the numbers of the pieces of a level, each once, and holds the least place that was reported.
 ///
 /// Threads share a desk by reference, each with a pass of its own. Every call on it is one atomic operation on one
 /// word: there is no lock, no retry and no wait, no memory is taken, and no call fails.

@@ -15,7 +15,7 @@ use std::alloc::Global;
 use std::sync::Wait;
 use std::thread::Threads;
 
-/// What became of a level.
+/// The outcome of an expansion.
 #[derive(Drop)]
 pub enum ExpandedLevel<S, F> {
     /// No configuration has a done successor, and these are all successors, in order.
@@ -44,8 +44,8 @@ fn pieces_of(len: u64, size: u64) -> u64
     len.div_ceil(size)
 }
 
-/// Expands a level by this many workers, who draw pieces of so many ranks. The answer is that of one worker who goes
-/// through the level in order. A gate sees each piece that is drawn by its number in the whole level.
+/// Expands a level by `workers` workers, who draw pieces of `piece` ranks. The answer is that of one worker who expands
+/// the level in order. A gate sees each piece that is drawn by its number in the whole level.
 pub fn expand_level<W: Expand, G: Gate, R: Threads + Wait + Sync>(
     rt: &R,
     alloc: Global,

@@ -1,4 +1,4 @@
-//! One level of a search, expanded by several workers: the answer is that of one worker who goes through it in order.
+//! One level of a search, expanded by several workers: the answer is that of one worker who expands it in order.
 #![tactic(auto)]
 
 mod chain;

@@ -5,7 +5,7 @@ ghost use Rattle.htn_level.specs.Level.{IsExpanded};
 use crate::work::Expand;
 use std::alloc::{AllocError, Global};
 
-/// What became of a range of ranks.
+/// The outcome of the expansion of a range of ranks.
 #[derive(Drop)]
 pub enum Expanded<S, F> {
     /// No configuration has a done successor, and these are all successors, in order.
@@ -14,7 +14,7 @@ pub enum Expanded<S, F> {
     Done { rank: usize, finish: F },
 }
 
-/// Goes through the ranks from `first` on and below `last` in order, up to the first with a done successor.
+/// Expands the ranks from `first` up to `last` in order, and stops at the first with a done successor.
 pub fn expand_in_order<W: Expand>(
     alloc: Global,
     work: &W,

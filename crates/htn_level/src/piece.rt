@@ -1,4 +1,4 @@
-//! What became of one piece of a level.
+//! The outcome of one piece of a level.
 ghost use Rattle.std.specs.Prelude.{◌<◌};
 
 use crate::order::Expanded;
@@ -20,7 +20,7 @@ pub enum Outcome<S, F> {
     Skipped(Skip),
 }
 
-/// The number of a piece, and what became of it.
+/// The number of a piece, and its outcome.
 #[derive(Drop)]
 pub struct Piece<S, F> {
     pub number: u64,

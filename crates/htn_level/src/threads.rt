@@ -85,7 +85,7 @@ fn start_all<'s, 'a: 's, E, W: Expand + 's, G: Gate + 's>(
     })
 }
 
-// Takes in what one worker brings home. True if it was refused memory, or there is none to take it in.
+// Adds the result of one worker to the others. True if memory was refused to the worker, or for this.
 fn take_in<W: Expand, G: Gate>(
     job: Job<W, G>,
     home: &mut Vec<Worked<W::Successor, W::Finish>>,
@@ -102,7 +102,7 @@ fn take_in<W: Expand, G: Gate>(
     home.push(worked).is_err()
 }
 
-// Waits for each thread, and takes in what it brings home. True if one was refused memory.
+// Waits for each thread, and adds its result to the others. True if memory was refused.
 fn join_all<'a, W: Expand, G: Gate, R: Threads>(
     rt: &R,
     job: Job<'a, W, G>,

@@ -3,10 +3,10 @@ ghost use Rattle.std.specs.Prelude.{◌≡◌, ℕ, List, ◌++◌, IfOk, IfSome
 
 use std::alloc::AllocError;
 
-/// How the configurations of a level are expanded. Each is named by its rank, its place among all that the search
-/// has kept.
+/// How the configurations of a level are expanded. Each is named by its rank, its place in the closed list of the
+/// search.
 pub trait Expand: Sync {
-    /// What is kept of a successor.
+    /// A successor, in the form in which a worker hands it on.
     type Successor: Send + Drop;
     /// How a configuration leads to a done successor.
     type Finish: Send + Drop;
@@ -21,7 +21,7 @@ pub trait Expand: Sync {
     ghost finishes: { Self → ℕ → Self.Finish → Type 0 };
 
     /// How the configuration at this rank leads to a done successor, if it has one. If it has none, its successors are
-    /// added to those that are there. Where memory is refused, those that were there still stand there, at the front.
+    /// appended. Where memory is refused, the list still begins with what it had.
     fn expand(
         &self,
         rank: usize,
@@ -33,8 +33,8 @@ pub trait Expand: Sync {
         ensures refused { OnErr result ((more : List Self.Successor) × (successors.new.items ≡ successors.old.items ++ more)) };
 }
 
-/// Each piece that a worker takes goes through the gate once, by its number in the level, before the look at the least
-/// place and before its expansion.
+/// A gate is called once for each piece that a worker draws, with its number in the level, before the worker looks at
+/// the least place reported and before it expands the piece.
 pub trait Gate: Sync {
     fn at(&self, piece: u64);
 }

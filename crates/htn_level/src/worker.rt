@@ -15,7 +15,7 @@ pub struct Level<'a, W: Expand> {
     pub work: &'a W,
     pub first: usize,
     pub last: usize,
-    /// How many ranks a piece has. The last piece may have fewer.
+    /// The length of a piece in ranks; the last piece may be shorter.
     pub piece: usize,
     /// How many pieces of the whole level come before these. A gate sees the numbers that follow.
     pub pieces_before: u64,
@@ -29,7 +29,7 @@ pub struct Job<'a, W: Expand, G: Gate> {
     pub desk: &'a Desk,
 }
 
-/// What a worker who met no refusal brings home.
+/// The result of a worker that met no refusal of memory.
 #[derive(Drop)]
 pub struct Worked<S, F> {
     pub pass: Pass,
@@ -53,7 +53,7 @@ fn bounds_of<W: Expand>(level: Level<W>, number: u64) -> (usize, usize)
     (first, first + (level.last - first).min(level.piece))
 }
 
-// The number of a piece in the whole level. (No level has so many pieces that the sum is cut off.)
+// The number of a piece in the whole level. (The sum saturates only past the longest level that memory can hold.)
 fn number_in_level<W: Expand>(level: Level<W>, number: u64) -> u64
     ensures { level.entry.pieces_before + number < 2 ^ 64 → result ≡ level.entry.pieces_before + number }
 {

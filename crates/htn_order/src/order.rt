@@ -19,7 +19,7 @@ use std::alloc::{AllocError, Global};
 use std::hash::{Hash, Hasher};
 use std::marker::Model;
 
-/// How an order is kept: a total order in the sequence of the list by its size alone.
+/// How an order is stored: one in which each position precedes the next, by its size alone.
 #[derive(Drop)]
 enum Form {
     Chain(usize),

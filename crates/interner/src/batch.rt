@@ -8,8 +8,7 @@ use std::alloc::{AllocError, Global};
 use std::hash::Hash;
 use std::marker::Model;
 
-/// Values in the order in which they were added, each put to those of the shard that it falls to: so that shards can
-/// take them side by side.
+/// Values in the order in which they were added, sorted by their shards, so that shards can add them side by side.
 #[derive(Drop)]
 pub struct Batch<T: Eq + Hash> {
     by_shard: Vec<Vec<T>>,
@@ -39,7 +38,7 @@ fn new_lists<T: Drop>(alloc: Global, count: usize) -> Result<Vec<Vec<T>>, AllocE
     Ok(lists)
 }
 
-// Adds a value to those of a shard, and notes where it stands.
+// Adds a value to those of a shard, and lists its place.
 fn push_at<T: Drop>(
     by_shard: &mut [Vec<T>],
     routes: &mut Vec<Spot>,
@@ -63,7 +62,7 @@ fn push_at<T: Drop>(
 }
 
 impl<T: Eq + Hash + Drop> Batch<T> {
-    /// It has no value.
+    /// An empty batch.
     pub fn new(alloc: Global) -> Result<Batch<T>, AllocError>
         ensures { IfOk result (λ b. b ≡ []) }
     {
@@ -74,7 +73,7 @@ impl<T: Eq + Hash + Drop> Batch<T> {
         })
     }
 
-    /// How many values it has.
+    /// The number of values.
     pub fn len(&self) -> usize
         ensures { result ≡ length self.now }
     {

@@ -10,13 +10,13 @@ use std::alloc::{AllocError, Global};
 use std::hash::Hash;
 use std::mem::swap;
 
-/// The values that fall to one shard, with their numbers, and those of a batch that it is about to take.
+/// The values of one shard with their numbers, and those of a batch that are to be added.
 #[derive(Drop)]
 pub(crate) struct Bin<T: Eq + Hash> {
     pub(crate) values: IndexSet<T>,
     /// By the place among the values, the number of a value.
     pub(crate) numbers: Vec<usize>,
-    /// How many values it had before the last batch.
+    /// The number of its values before the last batch.
     pub(crate) known: usize,
     pub(crate) pending: Vec<T>,
     /// By the place in the last batch, the place of a value among those that it has.
@@ -25,7 +25,7 @@ pub(crate) struct Bin<T: Eq + Hash> {
 }
 
 impl<T: Eq + Hash + Drop> Bin<T> {
-    /// It has no value.
+    /// An empty shard.
     pub(crate) fn new(alloc: Global) -> Bin<T>
         ensures values { result.values.keys ≡ [] }
         ensures numbers { result.numbers.items ≡ [] }
@@ -40,7 +40,7 @@ impl<T: Eq + Hash + Drop> Bin<T> {
         }
     }
 
-    /// Where a value stands, which gets this number if it is new, and whether it is.
+    /// The place of a value, which gets this number if it is new, and whether it was.
     pub(crate) fn add(&mut self, value: T, number: usize) -> Result<(usize, bool), AllocError>
         ensures keys { OnOk result (self.new.values.keys ≡ insert_key T.eq self.old.values.keys value) }
         ensures numbers { IfOk result (λ r. self.new.numbers.items
@@ -59,7 +59,7 @@ impl<T: Eq + Hash + Drop> Bin<T> {
         Ok((index, is_new))
     }
 
-    // Takes the values, one after another, and notes where they stand.
+    // Adds the values in order, and lists their places.
     fn take_each(&mut self, pending: Vec<T>) -> Result<(), AllocError>
         ensures numbers { self.new.numbers.items ≡ self.old.numbers.items }
         ensures grown { HasGrown self.old.values.keys self.new.values.keys }
@@ -76,7 +76,7 @@ impl<T: Eq + Hash + Drop> Bin<T> {
         Ok(())
     }
 
-    /// Takes what is pending, and notes where memory was refused.
+    /// Adds the pending values; a refusal of memory is remembered.
     pub(crate) fn take_pending(&mut self)
         ensures { TakesPending T.eq self.old.pending.items self.old self.new }
     {
@@ -87,7 +87,7 @@ impl<T: Eq + Hash + Drop> Bin<T> {
         self.known = known;
     }
 
-    /// Gives back what it took of the last batch.
+    /// Removes what it added of the last batch.
     pub(crate) fn give_back(&mut self)
         ensures values { self.new.values.keys ≡ take self.old.known self.old.values.keys }
         ensures numbers { self.new.numbers.items ≡ take self.old.known self.old.numbers.items }

@@ -16,12 +16,12 @@ use std::hash::Hash;
 use std::marker::Model;
 use std::thread::Threads;
 
-/// An interner: values by their numbers, which are those of the order in which they came, equal ones once. They are
-/// moved in and stand in shards, so that several workers add a batch, each to its own shards.
+/// An interner: each value has a number, by the order in which values were added, and equal values have the same.
+/// Values are moved in, into shards by hash, so that several workers add a batch side by side, each to its own shards.
 #[derive(Drop)]
 pub struct Interner<T: Eq + Hash> {
     bins: Vec<Bin<T>>,
-    /// By number, where a value stands.
+    /// The place of each value, by its number.
     spots: Vec<Spot>,
 }
 
@@ -39,7 +39,7 @@ impl<T: Eq + Hash> Model for Interner<T> {
 }
 
 impl<T: Eq + Hash + Drop + Send + Sync> Interner<T> {
-    /// It has no value.
+    /// An empty interner.
     pub fn new(alloc: Global) -> Result<Interner<T>, AllocError>
         ensures { IfOk result (λ s. s ≡ []) }
     {
@@ -50,7 +50,7 @@ impl<T: Eq + Hash + Drop + Send + Sync> Interner<T> {
         })
     }
 
-    /// How many values have numbers.
+    /// The number of values.
     pub fn len(&self) -> usize
         ensures { result ≡ length self.now }
     {
@@ -79,7 +79,7 @@ impl<T: Eq + Hash + Drop + Send + Sync> Interner<T> {
         }
     }
 
-    /// The number of a value, and whether it gets that only now.
+    /// The number of a value, which is added if it is new, and whether it was.
     pub fn intern(&mut self, value: T) -> Result<(usize, bool), AllocError>
         ensures values { OnOk result (self.new ≡ insert_key T.eq self.old value) }
         ensures number { IfOk result (λ r. IsNumberOf T.eq self.new value r.0) }
@@ -92,7 +92,7 @@ impl<T: Eq + Hash + Drop + Send + Sync> Interner<T> {
         add(bins, &mut self.spots, shard, value)
     }
 
-    /// The numbers of the values of a batch, which they may get only now, found in at most so many threads.
+    /// The numbers of the values of a batch; new ones are added in order, by at most `threads` threads.
     pub fn intern_all<R: Threads + Sync>(
         &mut self,
         rt: &R,

@@ -1,7 +1,7 @@
 //! A number for each value, equal values the same.
 //!
-//! An [`Interner`] keeps values in the order in which they were added, none of them twice. They are moved in, and stand
-//! in shards by hash, so that several workers add a [`Batch`] side by side, each to its own shards.
+//! An [`Interner`] has values in the order in which they were added, none of them twice. They are moved in, into shards
+//! by hash, so that several workers add a [`Batch`] side by side, each to its own shards.
 #![tactic(auto)]
 
 mod batch;

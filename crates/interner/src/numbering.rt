@@ -16,7 +16,7 @@ use std::hash::Hash;
 use std::mem::swap;
 use std::thread::Threads;
 
-/// Bins that have no value.
+/// Empty bins.
 pub(crate) fn new_bins<T: Eq + Hash + Drop>(
     alloc: Global,
     count: usize,
@@ -77,7 +77,7 @@ fn hand_out<T: Eq + Hash + Drop>(bins: &mut [Bin<T>], by_shard: &mut [Vec<T>])
     }
 }
 
-// Each bin takes what is pending, side by side in at most so many threads.
+// Each bin adds its pending values, side by side in at most `threads` threads.
 fn take_all<T: Eq + Hash + Drop + Send + Sync, R: Threads + Sync>(
     rt: &R,
     bins: &mut [Bin<T>],
@@ -206,8 +206,8 @@ fn look_up<T: Eq + Hash>(
     Ok(())
 }
 
-/// Adds a batch to the values of bins, and notes their numbers. Where memory is refused, what was there stands there
-/// still, at the front.
+/// Adds a batch to the values of bins, and lists their numbers. Where memory is refused, the numbered values still
+/// begin with those that were there.
 pub(crate) fn add_batch<T: Eq + Hash + Drop + Send + Sync, R: Threads + Sync>(
     rt: &R,
     bins: &mut [Bin<T>],
@@ -239,7 +239,7 @@ pub(crate) fn add_batch<T: Eq + Hash + Drop + Send + Sync, R: Threads + Sync>(
     look_up(bins, routes, numbers)
 }
 
-/// Each bin gives back what it took of the last batch.
+/// Each bin removes what it added of the last batch.
 pub(crate) fn give_back<T: Eq + Hash + Drop>(bins: &mut [Bin<T>])
     ensures len { length bins.new ≡ length bins.old }
     ensures keys { (k : ℕ) (d : Bin T) → k < length bins.old → (get_or bins.new k d).values.keys

@@ -1,4 +1,4 @@
-//! Outputs that tell which bytes they took.
+//! Outputs whose contracts say which bytes they took.
 
 use std::io::Write;
 

@@ -28,7 +28,7 @@ fn is_marker(line: Piece<'_>, marker: &[u8]) -> bool
     }
 }
 
-/// Skips the lines up to the start marker, and tells whether it is there.
+/// Skips the lines up to the start marker, and answers whether it is there.
 fn skip_start(lines: &mut Lines<'_>) -> bool
     ensures { MatchBool result (after_start lines.old ≡ Some lines.new) (after_start lines.old ≡ None) }
 {

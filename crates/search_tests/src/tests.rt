@@ -179,9 +179,9 @@ fn expect_calls_of_one<R: Threads + Wait + Sync + Abort>(
     Ok(())
 }
 
-// What is stuck leads nowhere: so there is one level, whose one piece goes through the gate once, however far the bound.
-// One task at the value 0 leads to the same tally where it is doubled, and to none and the value 1 where it is carried
-// out, which is not wanted: so there are two levels, each with one piece.
+// What is stuck leads nowhere: so there is one level, whose one piece goes through the gate once, however far the
+// bound. One task at the value 0 leads to the same tally where it is doubled, and to none and the value 1 where it is
+// carried out, which is not wanted: so there are two levels, each with one piece.
 #[test]
 fn each_piece_passes_the_gate_once(rt: HostRuntime) -> Result<(), Fail> {
     let alloc: Global = rt.alloc();
@@ -196,8 +196,8 @@ fn each_piece_passes_the_gate_once(rt: HostRuntime) -> Result<(), Fail> {
     expect_calls_of_one(&rt, &machine, 10_000, "unsolvable", 2)
 }
 
-// A search whose first bound is the whole one goes through each level once: from two tasks at the value 0 the word has 4
-// steps, and 3 are known to be left at least. With a bound that grows, the first levels are searched twice.
+// A search whose first bound is the whole one goes through each level once: from two tasks at the value 0 the word has
+// 4 steps, and 3 are known to be left at least. With a bound that grows, the first levels are searched twice.
 #[test]
 fn one_search_within_the_whole_bound(rt: HostRuntime) -> Result<(), Fail> {
     let alloc: Global = rt.alloc();

@@ -42,7 +42,7 @@ fn new_shards<T: Eq + Hash + Copy>(alloc: Global, count: usize) -> Result<Vec<Sh
     Ok(shards)
 }
 
-// Each shard lets all go.
+// Each shard is emptied.
 fn clear_all<T: Eq + Hash + Copy>(shards: &mut [Shard<T>])
     ensures len { length shards.new ≡ length shards.old }
     ensures none { All (λ s. s.values.keys ≡ []) shards.new }
@@ -52,7 +52,7 @@ fn clear_all<T: Eq + Hash + Copy>(shards: &mut [Shard<T>])
     }
 }
 
-// Each shard makes room for so many more values.
+// Each shard makes room for this number of further values.
 fn reserve_all<T: Eq + Hash + Copy>(shards: &mut [Shard<T>], more: usize) -> Result<(), AllocError>
     ensures len { length shards.new ≡ length shards.old }
     ensures same { (k : ℕ) (d : Shard T) → (get_or shards.new k d).values.keys ≡ (get_or shards.old k d).values.keys }
@@ -63,7 +63,7 @@ fn reserve_all<T: Eq + Hash + Copy>(shards: &mut [Shard<T>], more: usize) -> Res
     Ok(())
 }
 
-// Each shard takes its own of a batch, side by side in at most so many threads.
+// Each shard adds its own values of a batch, side by side in at most `threads` threads.
 fn take_batch<T: Eq + Hash + Copy + Send + Sync, R: Threads + Sync>(
     rt: &R,
     shards: &mut [Shard<T>],
@@ -154,8 +154,8 @@ fn push_new<T: Eq + Hash + Copy>(
     Ok(())
 }
 
-// Adds a batch to the values and the shards, and notes which were new. Where memory is refused, what was there stands
-// there still, at the front.
+// Adds a batch to the values and the shards, and marks the new ones. Where memory is refused, the set still begins with
+// what it had.
 fn add_batch<T: Eq + Hash + Copy + Send + Sync, R: Threads + Sync>(
     rt: &R,
     values: &mut Vec<T>,
@@ -181,7 +181,7 @@ fn add_batch<T: Eq + Hash + Copy + Send + Sync, R: Threads + Sync>(
     push_new(values, shards, batch, is_new)
 }
 
-// Each shard gives back what it took of the last batch.
+// Each shard removes what it added of the last batch.
 fn give_back<T: Eq + Hash + Copy>(shards: &mut [Shard<T>])
     ensures len { length shards.new ≡ length shards.old }
     ensures each { (k : ℕ) (d : Shard T) → k < length shards.old
@@ -193,7 +193,7 @@ fn give_back<T: Eq + Hash + Copy>(shards: &mut [Shard<T>])
 }
 
 impl<T: Eq + Hash + Copy + Drop + Send + Sync> ShardedSet<T> {
-    /// It has no value. So many workers may add to it at once.
+    /// An empty set, to which this number of workers can add at once.
     pub fn new(alloc: Global, workers: usize) -> Result<ShardedSet<T>, AllocError>
         requires { 0 < workers }
         ensures { IfOk result (λ s. s ≡ []) }
@@ -220,7 +220,7 @@ impl<T: Eq + Hash + Copy + Drop + Send + Sync> ShardedSet<T> {
         self.shards[shard].contains(value)
     }
 
-    /// Lets all go but the room.
+    /// Empties the set; its room stays allocated.
     pub fn clear(&mut self)
         ensures { self.new ≡ [] }
     {
@@ -228,7 +228,7 @@ impl<T: Eq + Hash + Copy + Drop + Send + Sync> ShardedSet<T> {
         clear_all(self.shards.as_mut_slice());
     }
 
-    /// Makes room for so many more values.
+    /// Makes room for this number of further values.
     pub fn reserve(&mut self, more: usize) -> Result<(), AllocError>
         ensures { self.new ≡ self.old }
     {
@@ -237,7 +237,7 @@ impl<T: Eq + Hash + Copy + Drop + Send + Sync> ShardedSet<T> {
         reserve_all(self.shards.as_mut_slice(), share)
     }
 
-    /// Adds a value, unless it is there, and tells whether it is new.
+    /// Adds a value, unless it is there; the answer is whether it is new.
     pub fn insert(&mut self, value: T) -> Result<bool, AllocError>
         ensures ok { OnOk result (self.new ≡ insert_key T.eq self.old value) }
         ensures new { IfOk result (λ is_new. is_new ≡ not (list_any (T.eq value) self.old)) }
@@ -250,8 +250,8 @@ impl<T: Eq + Hash + Copy + Drop + Send + Sync> ShardedSet<T> {
         Ok(is_new)
     }
 
-    /// Adds each of a batch that is not there, one after another, in at most so many threads, and tells by the place in
-    /// the batch which were new.
+    /// Adds those of a batch that are not there, with the outcome of adding them in order, in at most `threads`
+    /// threads. The answer marks by the place in the batch those that were new.
     pub fn insert_all<R: Threads + Sync>(
         &mut self,
         rt: &R,

@@ -8,7 +8,7 @@ use indexmap::IndexSet;
 use std::alloc::{AllocError, Global};
 use std::hash::{FoldHasher, Hash, Hasher};
 
-/// The shard that a value falls to, of so many, by its hash.
+/// The number of the shard, of `count`, that a value belongs to by its hash.
 pub fn shard_of<T: Hash>(value: &T, count: usize) -> usize
     requires { 0 < count }
     ensures value { result ≡ home (T.hash_input value.now) count }
@@ -22,11 +22,11 @@ pub fn shard_of<T: Hash>(value: &T, count: usize) -> usize
     (hasher.finish() >> 32) as usize % count
 }
 
-/// The values of one shard, and which of the last batch it took.
+/// The values of one shard, and which of the last batch it added.
 #[derive(Drop)]
 pub(crate) struct Shard<T: Eq + Hash> {
     pub(crate) values: IndexSet<T>,
-    /// How many it had before the last batch.
+    /// The number of its values before the last batch.
     known: usize,
     /// By the place in the last batch, whether it was its own and new.
     is_new: Vec<bool>,
@@ -34,7 +34,7 @@ pub(crate) struct Shard<T: Eq + Hash> {
 }
 
 impl<T: Eq + Hash + Copy> Shard<T> {
-    /// It has no value.
+    /// An empty shard.
     pub(crate) fn new(alloc: Global) -> Shard<T>
         ensures { result.values.keys ≡ [] }
     {
@@ -54,7 +54,7 @@ impl<T: Eq + Hash + Copy> Shard<T> {
         self.is_new[place]
     }
 
-    /// Adds a value, unless it is there, and tells whether it is new.
+    /// Adds a value, unless it is there; the answer is whether it is new.
     pub(crate) fn insert(&mut self, value: T) -> Result<bool, AllocError>
         ensures keys { OnOk result (self.new.values.keys ≡ insert_key T.eq self.old.values.keys value) }
         ensures new { IfOk result (λ is_new. is_new ≡ not (list_any (T.eq value) self.old.values.keys)) }
@@ -65,7 +65,7 @@ impl<T: Eq + Hash + Copy> Shard<T> {
         Ok(is_new)
     }
 
-    /// Adds a value if it is the shard's own, and tells whether it is and was new.
+    /// Adds a value if it is the shard's own and new; the answer is whether it was.
     fn take(&mut self, value: T, is_own: bool) -> Result<bool, AllocError>
         ensures keys { OnOk result (self.new.values.keys ≡ (if is_own then insert_key T.eq self.old.values.keys value else self.old.values.keys)) }
         ensures new { IfOk result (λ is_new. is_new ≡ (if is_own then not (list_any (T.eq value) self.old.values.keys) else false)) }
@@ -78,7 +78,7 @@ impl<T: Eq + Hash + Copy> Shard<T> {
         self.insert(value)
     }
 
-    /// Takes those of a batch that are its own and that it has not, one after another.
+    /// Adds those values of a batch that are its own and new, in order.
     fn take_own(&mut self, number: usize, count: usize, batch: &[T]) -> Result<(), AllocError>
         requires { 0 < count }
         ensures grown { (more : List T) × (self.new.values.keys ≡ self.old.values.keys ++ more) }
@@ -93,7 +93,7 @@ impl<T: Eq + Hash + Copy> Shard<T> {
         Ok(())
     }
 
-    /// Takes those of a batch that are its own and that it has not, and notes where memory was refused.
+    /// Adds those values of a batch that are its own and new; a refusal of memory is remembered.
     pub(crate) fn take_batch(&mut self, number: usize, count: usize, batch: &[T])
         requires { 0 < count }
         ensures known { self.new.known ≡ length self.old.values.keys }
@@ -112,14 +112,14 @@ impl<T: Eq + Hash + Copy> Shard<T> {
         self.is_refused
     }
 
-    /// Gives back what it took of the last batch.
+    /// Removes what it added of the last batch.
     pub(crate) fn give_back(&mut self)
         ensures { self.new.values.keys ≡ take self.old.known self.old.values.keys }
     {
         self.values.truncate(self.known);
     }
 
-    /// Lets all go but the room.
+    /// Empties the shard; its room stays allocated.
     pub(crate) fn clear(&mut self)
         ensures { self.new.values.keys ≡ [] }
     {

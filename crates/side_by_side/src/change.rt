@@ -6,8 +6,9 @@ ghost use Rattle.side_by_side.specs.Parts.{IsChanged, IsReady};
 
 use std::thread::{Threads, join_mut};
 
-/// Calls `f(i, &mut s[i])` at each place, in at most so many threads. With one, all calls are made here. Else this thread
-/// only starts the others and waits for them, as in `map_indices`. The stack grows with `threads`.
+/// Calls `f(i, &mut s[i])` at each place, in at most `threads` threads. With one, all calls are made in the caller's
+/// thread. Else that thread only starts the others and waits for them, as in `map_indices`. The stack grows with
+/// `threads`.
 pub fn for_each_mut<R: Threads + Sync, T: Send, F: Fn(usize, &mut T) + Sync>(
     rt: &R,
     s: &mut [T],
@@ -44,8 +45,8 @@ fn in_turn<T, F: Fn(usize, &mut T)>(f: &F, first: usize, s: &mut [T])
     }
 }
 
-// The same in threads, so many places in each. (The slice is the last parameter since the borrow checker does not cover
-// a closure that reads a captured `&` after it lends a captured `&mut`.)
+// The same in threads, each with `size` places. (The slice is the last parameter since the borrow checker does not
+// cover a closure that reads a captured `&` after it lends a captured `&mut`.)
 #[cycle(parts)]
 fn in_parts<R: Threads + Sync, T: Send, F: Fn(usize, &mut T) + Sync>(
     rt: &R,
@@ -66,8 +67,8 @@ fn in_parts<R: Threads + Sync, T: Send, F: Fn(usize, &mut T) + Sync>(
     part_and_rest(rt, f, size, first, part, first + count, rest);
 }
 
-// A part in a thread of its own, and the rest in others. (Apart from `in_parts`, so that what the closures require is
-// what this function is given.)
+// A part in a thread of its own, and the rest in others. (It stands apart from `in_parts`, so that the premises of its
+// closures are those of the function.)
 #[cycle(parts)]
 fn part_and_rest<R: Threads + Sync, T: Send, F: Fn(usize, &mut T) + Sync>(
     rt: &R,

@@ -6,10 +6,11 @@ ghost use Rattle.std.specs.Thread.{IsSend, IsSync};
 use std::alloc::{AllocError, Global};
 use std::thread::{Threads, join};
 
-/// Calls `f(0)` to `f(count - 1)`, each in a thread of its own where one can be made, and gives the results in order. A
-/// single call is made here. Else this thread only starts the others and waits for them: a system may put a new thread
-/// behind the one that starts it, and so a caller that worked too might hold up what it started. Where memory for the
-/// results is refused, all calls are made all the same, and the results are let go. The stack grows with `count`.
+/// The results of `f(0)` to `f(count - 1)`, in order, each call made in a thread of its own where one can be started. A
+/// single call is made in the caller's thread. Else that thread only starts the others and waits for them: a system may
+/// put a new thread behind the one that starts it, so a caller that worked too might delay what it started. Where
+/// memory for the results is refused, all calls are made all the same, and the results dropped. The stack grows with
+/// `count`.
 pub fn map_indices<R: Threads + Sync, X: Send + Drop, F: Fn(usize) -> X + Sync>(
     rt: &R,
     alloc: Global,

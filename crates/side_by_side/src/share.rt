@@ -1,7 +1,7 @@
 //! How many workers share some work.
 ghost use Rattle.std.specs.Prelude.{◌≡◌, ◌<◌, ◌≤◌, ◌/◌, max, min};
 
-/// As many of some workers as have so many each at least, and one at least.
+/// How many of the workers share some work, if each is to have at least a given number of items; at least one.
 pub fn workers_for(count: usize, least: usize, workers: usize) -> usize
     requires least { 0 < least }
     requires workers { 0 < workers }

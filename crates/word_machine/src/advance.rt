@@ -23,11 +23,11 @@ use std::alloc::Global;
 use std::sync::Wait;
 use std::thread::Threads;
 
-// A block has about so many ranks.
+// The number of ranks that a block has, about.
 const BLOCK: usize = 32_768;
 
-// How many ranks a block has where it is not the last of its level: those of as many whole pieces as `BLOCK` ranks have
-// room for, and of one at least.
+// The length of a block that is not the last of its level: as many whole pieces as fit into `BLOCK` ranks, but one at
+// least.
 fn block_len(piece: usize) -> usize
     requires { 0 < piece }
     ensures whole { piece ≤ 32768 → result ≡ 32768 / piece * piece }
@@ -47,9 +47,9 @@ pub struct FirstDone {
     pub number: u64,
 }
 
-/// Expands the ranks from `from` on and below `to` of the level that begins at `low`, and offers what they reach to the
-/// closed list; there is room for so many steps more. Where one has a done successor, it tells the first such rank and
-/// the least number that leads to one; and the list begins as before.
+/// Expands the ranks from `from` up to `to`, of the level that begins at `low`, and offers their successors to the
+/// closed list; `room` is how many steps may still follow a successor. Where a rank has a done successor, the answer is
+/// the first such rank with the least number that leads to one, and the list still begins with what it had.
 pub fn advance_block<M: Machine, G: Gate, R: Threads + Wait + Sync>(
     rt: &R,
     alloc: Global,
@@ -98,8 +98,8 @@ pub fn advance_block<M: Machine, G: Gate, R: Threads + Wait + Sync>(
     }
 }
 
-/// Expands the ranks from `low` on, which are those of a level, and offers what they reach to the closed list; there is
-/// room for so many steps more. Where one has a done successor, it ends with the block of the first such rank.
+/// Expands the level that begins at rank `low`, block by block, and offers the successors to the closed list; `room` is
+/// how many steps may still follow a successor. It stops at the block of the first rank with a done successor.
 pub fn advance<M: Machine, G: Gate, R: Threads + Wait + Sync>(
     rt: &R,
     alloc: Global,

@@ -1,4 +1,5 @@
-//! The closed list: all configurations that a search kept, each with where it came from.
+//! The closed list (duplicate detection): all configurations that a search has generated and not pruned, each with its
+//! parent.
 ghost use Rattle.std.specs.Prelude.{◌≡◌, ℕ, ◌+◌, ◌-◌, ◌^◌, ◌<◌, ◌≤◌, ◌++◌, ◌∷◌, Some, false, true, All, length, slice_get, [], if◌then◌else◌, IfOk, IfSome, OnOk, OnErr, vec_capacity};
 ghost use Rattle.std.specs.List.{list_any};
 ghost use Rattle.indexmap.specs.IndexSet.{contains};
@@ -22,21 +23,21 @@ pub enum Origin {
     Step { parent: usize, number: u64 },
 }
 
-/// A configuration that a search came to, and from where.
+/// A configuration that a search reached, with its parent.
 #[derive(Drop)]
 pub struct Successor<C> {
     pub origin: Origin,
     pub configuration: C,
 }
 
-/// A successor, with how many steps are left of it at least, by the measure of the search.
+/// A successor, with a bound from below on the steps that are left from it, by the measure of the search.
 #[derive(Drop)]
 pub struct Measured<C> {
     pub successor: Successor<C>,
     pub left: u64,
 }
 
-/// An origin with no tag, as the list keeps it: an initial one has `NO_RANK` for its parent's.
+/// An origin in the form in which the list stores it, with no tag: an initial configuration has the parent `NO_RANK`.
 #[derive(Clone, Copy, Debug)]
 pub struct Link {
     parent: usize,
@@ -45,7 +46,7 @@ pub struct Link {
 
 const NO_RANK: usize = usize::MAX;
 
-// How far each is past the bound is counted for those that are less past it than this.
+// Pruned configurations are counted by their distance past the bound where it is below this.
 const NEAR: u64 = 64;
 
 impl Link {
@@ -84,7 +85,7 @@ pub struct Fitting<C> {
 }
 
 impl<C: Drop> Fitting<C> {
-    /// None, with room for so many.
+    /// None, with room for `room` configurations.
     pub fn with_capacity(alloc: Global, count: usize) -> Result<Fitting<C>, AllocError>
         ensures { IfOk result (λ fits. (fits.links.items ≡ []) × (fits.configurations.items ≡ [])) }
     {
@@ -106,11 +107,11 @@ impl<C: Drop> Fitting<C> {
     }
 }
 
-/// Of several workers each keeps so many at least.
+/// The merge is shared among workers only where each has at least this many successors.
 pub const FEW: usize = 1_000;
 
-// Up to so many places, a list gets sixteen times the room that it needed before a restart: the room costs little, and
-// to grow into it took a quarter of the time in which it was filled.
+// Up to this number of places, a restart reserves sixteen times the room that the list had filled: the room costs
+// little, and growing into it took a quarter of the time in which the list was filled.
 const FEW_KEPT: usize = 32_768;
 
 // Adds a link if it is that of a new one; there is room for it.
@@ -137,16 +138,16 @@ fn push_links(links: &mut Vec<Link>, more: &[Link], is_new: &[bool])
     }
 }
 
-/// The configurations that were kept, in the order in which they were found, none of them twice. The position of one is
-/// its rank.
+/// The configurations in the order in which they were found, none of them twice. The position of one is its rank.
 #[derive(Drop)]
 pub struct Closed<C: Eq + Hash> {
     configurations: ShardedSet<C>,
     links: Vec<Link>,
     was_cut: bool,
-    // By how much the least that was cut off was past the bound.
+    // The least distance past the bound of a pruned configuration.
     least_past: u64,
-    // For speed alone: by how much all of them were, and from where some were reached. The list's value goes without.
+    // For speed alone, and no part of the list's model: the distances of all pruned configurations, and the parents of
+    // some of them.
     overshoots: Overshoots,
     edge: Edge,
 }
@@ -165,7 +166,7 @@ impl<C: Eq + Hash> Model for Closed<C> {
 impl<C: Eq + Hash + Copy + Drop + Send + Sync> Closed<C> {
     ghost use Rattle.word_machine.specs.Contents.{cut_more, fitting, offer, offer_all, origin_of, IsForest, IsOriginWithin};
 
-    /// An empty list, for so many workers.
+    /// An empty list, for this number of workers.
     pub fn new(alloc: Global, workers: usize) -> Result<Self, AllocError>
         requires { 0 < workers }
         ensures { IfOk result (λ list. list ≡ record { keys = []; origins = []; cut = record { any = false; past = 2 ^ 64 - 1 } }) }
@@ -180,8 +181,8 @@ impl<C: Eq + Hash + Copy + Drop + Send + Sync> Closed<C> {
         })
     }
 
-    /// Lets all go, and makes room for twice as many, and for sixteen times as many while these are few. All is let go
-    /// also where so much room is refused.
+    /// Empties the list, and makes room for twice what it had, or for sixteen times while that is little. It is empty
+    /// also where the room is refused.
     pub fn restart(&mut self) -> Result<(), AllocError>
         ensures { self.new ≡ record { keys = []; origins = []; cut = record { any = false; past = 2 ^ 64 - 1 } } }
     {
@@ -216,14 +217,14 @@ impl<C: Eq + Hash + Copy + Drop + Send + Sync> Closed<C> {
         self.links[rank].origin()
     }
 
-    /// Whether a configuration past the bound was ever cut off.
+    /// Whether a configuration past the bound was pruned since the last restart.
     pub fn was_cut(&self) -> bool
         ensures { result ≡ self.now.cut.any }
     {
         self.was_cut
     }
 
-    /// By how much the least that was cut off was past the bound.
+    /// The least distance past the bound of a pruned configuration.
     pub fn least_past(&self) -> u64
         ensures { result ≡ self.now.cut.past }
     {
@@ -237,8 +238,8 @@ impl<C: Eq + Hash + Copy + Drop + Send + Sync> Closed<C> {
         self.configurations.contains(configuration)
     }
 
-    /// Whether to leave out another one, past the room by so much, tells nothing more: some was left out that was no
-    /// further past it.
+    /// Whether pruning a configuration at this distance past the room changes nothing: one that is no further past it
+    /// was pruned before.
     pub fn has_cut_within(&self, past: u64) -> bool
         ensures any { result ≡ true → self.now.cut.any ≡ true }
         ensures past { result ≡ true → self.now.cut.past ≤ past }
@@ -246,8 +247,8 @@ impl<C: Eq + Hash + Copy + Drop + Send + Sync> Closed<C> {
         self.was_cut && self.least_past <= past
     }
 
-    /// Counts one that is passed over, past the room by so much, with those that were left out, and notes from where it
-    /// came: for speed alone. It isn't looked for, so one that is in the list may be counted too.
+    /// Counts a pruned configuration without looking it up, so one that is in the list may be counted too. The counts
+    /// and parents serve speed alone.
     pub fn count_passed_over(&mut self, origin: Origin, past: u64)
         ensures { self.new ≡ self.old }
     {
@@ -257,9 +258,9 @@ impl<C: Eq + Hash + Copy + Drop + Send + Sync> Closed<C> {
         }
     }
 
-    /// The most steps that may be left of a successor, where there is room for so many, if it is to be counted by the
-    /// merge: one that is more is as far past the room as `has_cut_within` asks, and too far to be counted. None where
-    /// none is passed over.
+    /// The horizon of an expansion: a successor with more steps left than this can be dropped by the worker that
+    /// reached it, since it is past what `has_cut_within` asks for and too far past the bound to be counted. None where
+    /// no successor may be dropped.
     pub fn most_left(&self, room: u64) -> Option<u64>
         ensures any { IfSome result (λ most. self.now.cut.any ≡ true) }
         ensures past { IfSome result (λ most. (left : ℕ) → most < left → (room < left) × (self.now.cut.past ≤ left - room)) }
@@ -270,18 +271,18 @@ impl<C: Eq + Hash + Copy + Drop + Send + Sync> Closed<C> {
         room.checked_add(self.least_past.max(NEAR) - 1)
     }
 
-    /// Ranks from which configurations were reached that were cut off little past the bound: the last of them.
+    /// Parents of configurations that were pruned little past the bound: the last ones.
     pub fn edge(&self) -> &[usize] {
         self.edge.ranks()
     }
 
-    /// How far past the bound a search lets in as many of those that were cut off as were kept; None if fewer than
-    /// these were less than 64 past it.
+    /// The increase of the bound that admits as many pruned configurations as the list has; None if fewer than that
+    /// were pruned less than 64 past the bound.
     pub fn reach(&self) -> Option<u64> {
         self.overshoots.reach(self.links.len() as u64)
     }
 
-    /// Keeps those of a batch that are new, one after another, by so many workers at most. There is room for each.
+    /// Adds those of a batch that are new, in order, by at most `workers` workers. Each is within the bound.
     pub fn keep_all<R: Threads + Sync>(
         &mut self,
         rt: &R,
@@ -304,7 +305,7 @@ impl<C: Eq + Hash + Copy + Drop + Send + Sync> Closed<C> {
         Ok(())
     }
 
-    /// Keeps a successor for which there is room, if it is new.
+    /// Adds a successor within the bound, if it is new.
     pub fn keep_one(&mut self, successor: Successor<C>) -> Result<(), AllocError>
         requires { IsOriginWithin (length self.old.keys) successor.origin }
         ensures ok { OnOk result (self.new ≡ offer C.eq self.old successor 0 0) }
@@ -319,7 +320,7 @@ impl<C: Eq + Hash + Copy + Drop + Send + Sync> Closed<C> {
         Ok(())
     }
 
-    /// Offers a configuration to the list, which keeps it if it is new and there is room for what is left of it.
+    /// Adds a configuration if it is new and within the bound; one past the bound is pruned, and the list notes that.
     pub fn keep<R: Threads + Sync>(
         &mut self,
         rt: &R,
@@ -348,7 +349,7 @@ impl<C: Eq + Hash + Copy + Drop + Send + Sync> Closed<C> {
         self.keep_all(rt, alloc, &one, 1)
     }
 
-    /// Leaves out a configuration that came from there, if it is not in the list. It is past the room by so much.
+    /// Prunes a configuration that is not in the list; `past` is its distance past the room.
     pub fn leave_out(&mut self, configuration: &C, origin: Origin, past: u64)
         ensures there { list_any (C.eq configuration.now) self.old.keys ≡ true → self.new ≡ self.old }
         ensures cut { list_any (C.eq configuration.now) self.old.keys ≡ false
@@ -359,7 +360,7 @@ impl<C: Eq + Hash + Copy + Drop + Send + Sync> Closed<C> {
         }
     }
 
-    /// Leaves out one that came from there and is not in the list, and is past the room by so much.
+    /// Prunes a configuration of which it is known that it is not in the list; `past` is its distance past the room.
     pub fn cut_off(&mut self, origin: Origin, past: u64)
         ensures { self.new ≡ record { keys = self.old.keys; origins = self.old.origins; cut = cut_more self.old.cut past } }
     {

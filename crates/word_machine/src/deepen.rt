@@ -1,4 +1,5 @@
-//! The search with growing bounds.
+//! The search with growing bounds: breadth-first iterative-deepening A* (R. Zhou and E. Hansen, Breadth-first heuristic
+//! search, Artificial Intelligence 170, 2006), whose bound grows as in R. Korf's IDA* (1985).
 ghost use Rattle.std.specs.Prelude.{◌≡◌, ◌-◌, ◌^◌, ◌<◌, ◌≤◌, All, map, IfOk, IfErr, IfSome, IfNone, OnOk};
 ghost use Rattle.word_machine.specs.Answer.{IsAnswer, NoneFinishes};
 ghost use Rattle.word_machine.specs.Dive.{AreAllBelow};
@@ -21,10 +22,10 @@ use std::thread::Threads;
 /// The limits of the searches that `find_word_in` makes.
 #[derive(Clone, Copy, Debug)]
 pub struct Effort {
-    /// A search whose list has more configurations is given up.
+    /// A search whose closed list has more configurations is given up.
     pub most_kept: usize,
-    /// The bound of the first search is at least this. With 0 it is the least number of steps that a word may have. With
-    /// the whole bound no other search by the machine's own bound follows.
+    /// The bound of the first search is at least this. With 0 it is the least number of steps that a word may have.
+    /// With the whole bound no other search by the machine's own bound follows.
     pub first_bound: u64,
 }
 
@@ -41,10 +42,10 @@ fn least_bound<M: Machine>(machine: &M, tables: &M::Tables, initials: &[M::Confi
     least
 }
 
-// The answer where no word finishes within the bound, nor in fewer steps than `least`. A dive looks, among what the
-// last search left out, for a configuration that tells that the bound was met. Where it finds none, a search by the
-// open nodes tells whether the bound was met, and ends where it is. Both go on with the tables: what becomes of most
-// networks stands there already.
+// The answer where no word finishes within the bound, nor in fewer steps than `least`: `none` if some configuration
+// can't finish within the bound by its open nodes alone (the bound is met), and `unsolvable` else. A dive among what
+// the last search pruned looks for such a configuration; where it finds none, a search by the open nodes decides. Both
+// use the tables of the searches before, in which most networks are numbered and expanded.
 fn none_or_unsolvable<M: Machine, G: Gate, R: Threads + Wait + Sync>(
     rt: &R,
     alloc: Global,
@@ -83,13 +84,12 @@ fn none_or_unsolvable<M: Machine, G: Gate, R: Threads + Wait + Sync>(
     Ok(outcome.found())
 }
 
-/// The answer of `find_word`, in tables that the caller goes on with. It searches by the machine's own bound on the
-/// steps that are left, within bounds that grow from the least of the initial configurations on, or from
-/// `effort.first_bound`, each so far that about as many more are looked at, or where few are little past one by steps
-/// that grow. Only where no word is found so, a dive looks, among what these searches left out, for a configuration that
-/// tells that the bound was met, and where it finds none, a search by the open nodes tells whether it was. All go by the
-/// same tables. None where it is given up, once one of the searches has kept more than `effort.most_kept`
-/// configurations; never where that is the greatest number.
+/// The answer of `find_word`, over the caller's tables, which hold all that was numbered afterwards. The searches use
+/// the machine's own bound from below, within bounds that grow from that of the initial configurations, or from
+/// `effort.first_bound`: each next bound admits about as many more configurations, or, where few were pruned near the
+/// bound, grows by increasing steps. Only where these find no word, `none` and `unsolvable` are told apart by the open
+/// nodes. None where it is given up, once the closed list of a search has more than `effort.most_kept` configurations;
+/// never where that is the greatest number.
 pub fn find_word_in<M: Machine, G: Gate, R: Threads + Wait + Sync>(
     rt: &R,
     alloc: Global,
@@ -156,7 +156,7 @@ pub fn find_word_deepening<M: Machine, G: Gate, R: Threads + Wait + Sync>(
     };
     match find_word_in(rt, alloc, machine, &mut tables, bounds, effort, gate)? {
         Some(found) => Ok(found),
-        // It is never given up, since no list holds more.
+        // No list is longer than the greatest number, so the search is never given up.
         None => unreachable!(),
     }
 }

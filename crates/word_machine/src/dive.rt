@@ -1,4 +1,5 @@
-//! A dive for a configuration that tells that the bound is met.
+//! A dive for a configuration by which the bound is met: no finishing word through it is within the bound by its open
+//! nodes. It decides `none` without a search of all that the bound admits.
 ghost use Rattle.std.specs.Prelude.{◌≡◌, ◌≤◌, ◌-◌, ◌^◌, ℕ, [], true, All, Some, IfOk, IfSome, OnOk, map, min, slice_get};
 ghost use Rattle.indexmap.specs.IndexSet.{insert_key};
 ghost use Rattle.word_machine.specs.Dive.{AreAllBelow, IsReached, IsVisited, extent};
@@ -14,15 +15,15 @@ use std::alloc::{AllocError, Global};
 use std::collections::BinaryHeap;
 use std::hash::Hash;
 
-// Where a dive finds what it looks for at all, some hundreds of configurations mostly do. Once it has kept so many, and
-// half as many as the search before it, it gives up.
+// A dive that succeeds mostly needs some hundreds of configurations. It gives up once it has this number, and half as
+// many as the search before it.
 const LEAST_KEPT: usize = 1_000;
 
-// The configurations that a dive came to, none of them twice, and which of them it has not expanded.
+// The configurations that a dive reached, none of them twice, and those that are not expanded yet.
 #[derive(Drop)]
 struct Frontier<C: Eq + Hash> {
     kept: IndexSet<C>,
-    // Each with its extent, by its place among those that were kept.
+    // The open list: each configuration by its place among those reached, with its extent.
     open: BinaryHeap<(u64, usize)>,
 }
 
@@ -36,7 +37,7 @@ impl<C: Eq + Hash + Copy> Frontier<C> {
         }
     }
 
-    // Keeps a configuration of this extent, unless it is there.
+    // Adds a configuration of this extent, unless it is there.
     fn keep(&mut self, configuration: C, extent: u64) -> Result<(), AllocError>
         ensures { OnOk result (self.new.kept.keys ≡ insert_key C.eq self.old.kept.keys configuration) }
     {
@@ -47,7 +48,7 @@ impl<C: Eq + Hash + Copy> Frontier<C> {
         Ok(())
     }
 
-    // Takes the next one to be expanded: of the greatest extent, and of those the one that was kept last.
+    // Takes the next one to be expanded: one of the greatest extent, the newest first.
     fn pop(&mut self) -> Option<C>
         ensures kept { self.new.kept.keys ≡ self.old.kept.keys }
         ensures next { IfSome result (λ c. (place : ℕ) × (slice_get self.old.kept.keys place ≡ Some c)) }
@@ -57,7 +58,8 @@ impl<C: Eq + Hash + Copy> Frontier<C> {
     }
 }
 
-// The steps to a configuration at least, where no word begins with fewer than `least` left, and its open nodes.
+// The extent of a configuration: a bound from below on the steps that lead to it (no finishing word has fewer than
+// `least`, and the bound on what is left falls by at most one with each step), and its open nodes.
 fn extent<M: Machine>(machine: &M, tables: &M::Tables, least: u64, at: M::Configuration) -> u64
     requires own { M.owns machine.now tables.now }
     requires owned { IsOwned (M.meaning machine.now tables.now) (M.belongs machine.now) at }
@@ -69,7 +71,7 @@ fn extent<M: Machine>(machine: &M, tables: &M::Tables, least: u64, at: M::Config
     steps.saturating_add(machine.open_len(tables, at))
 }
 
-// Keeps a configuration from which a dive starts.
+// Adds a configuration from which a dive starts.
 fn keep_start<M: Machine>(
     machine: &M,
     tables: &M::Tables,
@@ -90,7 +92,7 @@ fn keep_start<M: Machine>(
     frontier.keep(at, extent)
 }
 
-// Keeps the initial configurations, and those from which a search reached some that it left out.
+// Adds the initial configurations, and the parents of configurations that a search pruned.
 fn keep_starts<M: Machine>(
     machine: &M,
     tables: &M::Tables,
@@ -124,7 +126,7 @@ fn keep_starts<M: Machine>(
     Ok(())
 }
 
-// Numbers successors, and keeps those that a search left out.
+// Numbers successors, and adds those that are not in the closed list of the search before.
 fn keep_all<M: Machine>(
     machine: &M,
     tables: &mut M::Tables,
@@ -161,8 +163,8 @@ fn keep_all<M: Machine>(
     Ok(())
 }
 
-// Keeps the successors of a configuration that a search left out. If one of them is done they are not listed, and none
-// is kept.
+// Adds the successors of a configuration that are not in the closed list of the search before. If one of them is done
+// they are not listed, and none is added.
 fn expand<M: Machine>(
     alloc: Global,
     machine: &M,
@@ -195,9 +197,8 @@ fn expand<M: Machine>(
     }
 }
 
-/// Looks for a configuration that no word reaches with its steps and its open nodes within the bound, and tells whether
-/// there was one. It starts where a search left configurations out, each of which has, with the steps of any word that
-/// reaches it, at least `least` steps left; it goes by the greatest extent first, and may give up.
+/// Whether a configuration was found that no word reaches with its steps and its open nodes within the bound. The dive
+/// starts at the parents of configurations that a search pruned, expands the greatest extent first, and may give up.
 pub fn dive<M: Machine>(
     alloc: Global,
     machine: &M,

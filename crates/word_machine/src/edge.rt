@@ -1,14 +1,14 @@
-//! From where configurations were reached that a search left out.
+//! The parents of configurations that a search pruned.
 
 use crate::closed::Origin;
 
-// So many are held.
+// The number of parents that are stored.
 const MOST: usize = 64;
 
-// No rank at all.
+// Stands for no rank.
 const NONE: usize = usize::MAX;
 
-/// Ranks from which configurations were reached that were left out: the last ones that were added.
+/// A ring of the parents that were added last.
 #[derive(Clone, Copy, Debug)]
 pub struct Edge {
     ranks: [usize; MOST],
@@ -23,12 +23,12 @@ impl Edge {
         }
     }
 
-    /// Adds the rank of an origin, if it is not the one that was added last. The one that was added first makes room.
+    /// Adds the rank of an origin, unless it was added last, in place of the oldest.
     pub fn add(&mut self, origin: Origin) {
         let Origin::Step { parent, .. } = origin else {
             return;
         };
-        // For the prover alone: it is below that anyway.
+        // For the prover alone: the position is below the length.
         let last = self.last % MOST;
         if self.ranks[last] != parent {
             let next = (last + 1) % MOST;
@@ -37,7 +37,7 @@ impl Edge {
         }
     }
 
-    /// The ranks, in no order. Where fewer were added, the others are none.
+    /// The ranks, in no order; the places that were not filled yet stand for no rank.
     pub fn ranks(&self) -> &[usize] {
         &self.ranks
     }

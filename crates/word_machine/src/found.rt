@@ -20,23 +20,23 @@ pub enum Found {
     Unsolvable,
 }
 
-/// What became of a search within a bound, by some measure of the steps that are left.
+/// How a search within a bound ended, by some measure of the steps that are left.
 #[derive(Drop)]
 pub enum Outcome {
     /// The finishing word that is shortest and then least.
     Finished(Vec<u64>),
-    /// No word finishes within the bound, nor in fewer steps than `least`; something past the bound was left out.
-    /// `wide` is for speed alone: a search to this bound is to let in as many of those as were kept; None where fewer
-    /// were little past it.
+    /// No word finishes within the bound, nor in fewer steps than `least`; some configuration past the bound was
+    /// pruned. `wide` is for speed alone: the bound that admits as many of the pruned configurations as this search
+    /// had; None where fewer were near the bound.
     Past { least: u64, wide: Option<u64> },
-    /// No word finishes, and nothing was left out.
+    /// No word finishes, and nothing was pruned.
     Exhausted,
-    /// It was given up.
+    /// The search was given up.
     GivenUp,
 }
 
 impl Outcome {
-    /// No word finishes in fewer steps than these, and something was left out.
+    /// No word finishes in fewer steps than these, and some configuration was pruned.
     pub fn past(steps: u64) -> Outcome
         ensures { result ≡ Past steps None }
     {
@@ -46,7 +46,7 @@ impl Outcome {
         }
     }
 
-    /// The answer, where the measure is the number of open nodes; None if it was given up.
+    /// The answer, where the measure is the number of open nodes; None if the search was given up.
     pub fn found(self) -> Option<Found>
         ensures { result ≡ found_of self }
     {
@@ -59,7 +59,7 @@ impl Outcome {
     }
 }
 
-/// Why a search has no answer. It can be made again.
+/// Why a search has no answer. The same call can be made again.
 #[derive(Clone, Copy, PartialEq, Eq, Debug, Error)]
 pub enum SearchFault {
     /// Memory was refused.

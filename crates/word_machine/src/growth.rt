@@ -1,7 +1,7 @@
 //! How the bounds of searches grow.
 ghost use Rattle.std.specs.Prelude.{◌≡◌, ◌+◌, ◌-◌, ◌^◌, ◌<◌, ◌≤◌, max};
 
-// The longest step: a bound that goes further lets in nearly all, and so it may let in all.
+// The longest step of a bound: past it nearly all configurations are admitted, so the next bound may admit all.
 const LONGEST_STEP: u64 = 15;
 
 /// The bound of the next search.
@@ -9,7 +9,7 @@ const LONGEST_STEP: u64 = 15;
 pub struct Growth {
     /// No word finishes in fewer steps.
     pub least: u64,
-    /// How far the next search goes.
+    /// The bound of the next search.
     pub nodes: u64,
     step: u64,
     pub ghost rising: { least ≤ nodes },
@@ -27,9 +27,9 @@ impl Growth {
         }
     }
 
-    /// After a search within this bound, where no word finishes in fewer steps than `past`: the next one goes as far as
-    /// it lets in as many as were kept (`wide`), if so many were left out little past the bound, and else so many steps
-    /// on.
+    /// Sets the next bound after a search within this one, where no word finishes in fewer steps than `past`: the bound
+    /// that admits about as many more configurations (`wide`), where as many were pruned near this one, and else a
+    /// bound further on by increasing steps.
     pub fn after(self, bound: u64, past: u64, wide: Option<u64>) -> Growth
         requires { bound < 2 ^ 64 - 1 }
         ensures { result.least ≡ max past (bound + 1) }
@@ -44,8 +44,8 @@ impl Growth {
     }
 }
 
-// How many steps on the next bound is to be, the next time that few are left out little past one: none at first, then
-// about four times as many each time, and in the end as many as there may be.
+// The step of the bound, the next time that few configurations were pruned near it: nothing at first, then about four
+// times as much each time, and past `LONGEST_STEP` the greatest number.
 fn next_step(wide: Option<u64>, step: u64) -> u64 {
     match wide {
         Some(_) => 0,

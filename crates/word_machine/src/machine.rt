@@ -14,15 +14,15 @@ use std::hash::Hash;
 use std::thread::Threads;
 
 /// A machine whose steps are numbered. A word is the number of an initial configuration, and then one number for each
-/// step. A search numbers the configurations too, in tables that grow, and goes by these numbers.
+/// step. A search numbers the configurations too, in tables that grow, and works on these numbers.
 pub trait Machine: Sync {
     /// A configuration, by its numbers in the tables.
     type Configuration: Copy + Eq + Hash + Send + Sync;
 
-    /// A configuration that a worker reached: by its numbers where the tables have them, and else written out.
+    /// A configuration that a worker reached: by its numbers where the tables have them, else in full.
     type Reached: Drop + Send;
 
-    /// What a search has numbered, and what it keeps about it.
+    /// What a search has numbered, and what it knows of each number.
     type Tables: Drop + Send + Sync;
 
     // What a configuration stands for.
@@ -58,7 +58,7 @@ pub trait Machine: Sync {
         ensures known { IfOk result (λ initials. All (meaning self.now tables.new).knows initials.items) }
         ensures initials { IfOk result (λ initials. map (meaning self.now tables.new).point initials.items ≡ (words self.now).initials) };
 
-    /// Puts into the tables what the steps at this configuration need.
+    /// Prepares the tables for the steps at this configuration.
     fn prepare(&self, tables: &mut Self::Tables, at: Self::Configuration) -> Result<(), AllocError>
         requires own { owns self.now tables.old }
         requires known { (meaning self.now tables.old).knows at }
@@ -68,7 +68,7 @@ pub trait Machine: Sync {
         ensures ready { OnOk result (is_ready self.now tables.new at) }
         ensures kept { OnOk result ((c : Self.Configuration) → is_ready self.now tables.old c → is_ready self.now tables.new c) };
 
-    /// Puts into the tables what the steps at these configurations need, by so many workers.
+    /// Prepares the tables for the steps at these configurations, by at most `workers` workers.
     fn prepare_all<R: Threads + Sync>(
         &self,
         rt: &R,
@@ -76,7 +76,7 @@ pub trait Machine: Sync {
         at: &[Self::Configuration],
         workers: usize,
     ) -> Result<(), AllocError>
-        // what the bound of R says, which a body that meets this contract is not told otherwise
+        // The bound on R, which the body could not use otherwise.
         requires threads { IsSync R.row }
         requires workers { 0 < workers }
         requires own { owns self.now tables.old }
@@ -86,10 +86,10 @@ pub trait Machine: Sync {
         ensures grown { OnOk result (IsGrown (meaning self.now tables.old) (meaning self.now tables.new)) }
         ensures ready { OnOk result (All (is_ready self.now tables.new) at.now) };
 
-    /// Adds the successors by the numbers that are not dead, ascending, each with this rank for its parent's and with
-    /// how many steps are left of it at least by the horizon's measure; it may leave out what is beyond the horizon. If
-    /// one is done, it returns the least number that leads to a done one. Where memory is refused, those that were
-    /// there still stand there, at the front.
+    /// Appends the successors by the numbers that are not dead, in ascending order, each with this rank as its parent
+    /// and its steps left by the horizon's measure; one beyond the horizon may be missing. If a successor is done, the
+    /// answer is the least number that leads to a done one. Where memory is refused, the list still begins with what it
+    /// had.
     fn expand(
         &self,
         tables: &Self::Tables,

@@ -1,4 +1,4 @@
-//! What bounds the steps that are left of a configuration.
+//! Bounds from below on the steps that are left from a configuration.
 ghost use Rattle.std.specs.Prelude.{◌≡◌};
 ghost use Rattle.word_machine.specs.Answer.{measure_of};
 ghost use Rattle.word_machine.specs.Ranks.{IsOwned};
@@ -6,7 +6,7 @@ ghost use Rattle.word_machine.specs.Ranks.{IsOwned};
 use crate::bounds::Bounds;
 use crate::machine::Machine;
 
-/// What a search takes as the steps that are left at least.
+/// The bound from below that a search uses.
 #[derive(Clone, Copy, Debug)]
 pub enum Measure {
     /// The number of open nodes.
@@ -15,21 +15,21 @@ pub enum Measure {
     LowerBound,
 }
 
-/// Which successors a search wants: what has more steps left than these, by the measure, tells it nothing more. None
-/// where it wants all.
+/// Which successors a search needs: those with at most this many steps left by the measure, or all where there is no
+/// limit.
 #[derive(Clone, Copy, Debug)]
 pub struct Horizon {
     pub measure: Measure,
     pub most_left: Option<u64>,
 }
 
-/// How far a search goes, by which measure of what is left, and whether it is known that no word finishes within.
+/// The bound of a search, the measure that it uses, and whether it is known that no word finishes within the bound.
 #[derive(Clone, Copy, Debug)]
 pub struct Limits {
     pub bounds: Bounds,
     pub measure: Measure,
     pub none_within: bool,
-    /// Once it has kept more configurations, it is given up.
+    /// The search is given up once its closed list has more configurations.
     pub most_kept: usize,
 }
 

@@ -15,8 +15,8 @@ use side_by_side::workers_for;
 use std::alloc::{AllocError, Global};
 use std::thread::Threads;
 
-/// Offers the initial configurations to the closed list, each with its number. There is room for so many steps, by this
-/// measure.
+/// Offers the initial configurations to the closed list, each with its number; one with more than `room` steps left by
+/// this measure is pruned.
 pub fn offer_initials<M: Machine, R: Threads + Sync>(
     rt: &R,
     alloc: Global,
@@ -43,8 +43,8 @@ pub fn offer_initials<M: Machine, R: Threads + Sync>(
     Ok(())
 }
 
-// Leaves out one that a worker reached and that is past the room, unless it is in the list: so it is offered, whatever
-// is put aside for the list. (The measure is named for the contract alone.)
+// Prunes a configuration past the room, unless it is in the list; what is set aside for the list doesn't matter, since
+// all of that is within the room. (The measure is a parameter for the contract alone.)
 fn pass_by<M: Machine>(
     machine: &M,
     tables: &M::Tables,
@@ -77,8 +77,8 @@ fn pass_by<M: Machine>(
     closed.leave_out(&found, origin, past);
 }
 
-// Puts one that a worker reached aside, to be kept with the others, if there is room for it; and else leaves it out.
-// (The measure is named for the contract alone.)
+// Sets a successor aside, to be added with the others of its batch, if it is within the room; else prunes it. (The
+// measure is a parameter for the contract alone.)
 fn put_aside<M: Machine>(
     machine: &M,
     tables: &mut M::Tables,
@@ -126,7 +126,7 @@ fn put_aside<M: Machine>(
     Ok(())
 }
 
-// Offers one that a worker reached to the list. (The measure is named for the contract alone.)
+// Offers a successor to the list. (The measure is a parameter for the contract alone.)
 fn offer_one<M: Machine>(
     machine: &M,
     tables: &mut M::Tables,
@@ -170,8 +170,8 @@ fn offer_one<M: Machine>(
     Ok(())
 }
 
-// The merge of one worker, and of few successors: each is kept at once, and nothing is put aside. (The measure is named
-// for the contract alone.)
+// The merge of one worker, and of few successors: each is added at once. (The measure is a parameter for the contract
+// alone.)
 fn merge_alone<M: Machine>(
     machine: &M,
     tables: &mut M::Tables,
@@ -199,8 +199,8 @@ fn merge_alone<M: Machine>(
     Ok(())
 }
 
-// The merge of several workers: what fits is put aside, and kept together. (The measure is named for the contract
-// alone.)
+// The merge of several workers: what is within the room is set aside, and added together. (The measure is a parameter
+// for the contract alone.)
 fn merge_shared<M: Machine, R: Threads + Sync>(
     rt: &R,
     alloc: Global,
@@ -233,10 +233,10 @@ fn merge_shared<M: Machine, R: Threads + Sync>(
     closed.keep_all(rt, alloc, &fits, workers)
 }
 
-/// Offers what workers reached to the closed list, in their order. There is room for so many steps more, by this
-/// measure. What is past it gets no number: where the tables have none for it, it is not in the list. Once some was
-/// left out, what is no nearer is passed over, and looked for nowhere. (The measure is named for the contract alone:
-/// each has beside it how many steps are left by it.)
+/// Offers the successors that workers reached to the closed list, in their order; those with more than `room` steps
+/// left are pruned. A pruned one gets no number: where the tables have none for it, it is not in the list. Once one was
+/// pruned, those that are no nearer to the room are not looked up any more. (The measure is a parameter for the
+/// contract alone: each successor comes with its steps left.)
 pub fn merge<M: Machine, R: Threads + Sync>(
     rt: &R,
     alloc: Global,

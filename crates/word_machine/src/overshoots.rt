@@ -1,10 +1,9 @@
-//! How far past a bound those were that a search left out.
+//! A histogram: how far past the bound the pruned configurations of a search are.
 ghost use Rattle.std.specs.Prelude.{◌≡◌, ℕ, ◌+◌, ◌-◌, ◌^◌, ◌<◌, ◌≤◌, IfNone, IfSome, min, take, slice_index, slice_set};
 ghost use Rattle.std.specs.List.{sum};
 ghost use Rattle.word_machine.specs.Contents.{slot_of};
 
-/// How many were left out, by how far past the bound they were: 1, 2 and so on, and at the end all that were 64 or
-/// more.
+/// Counts by distance past the bound: 1, 2 and so on, and in the last place all distances from 64 on.
 #[derive(Clone, Copy, Debug)]
 pub struct Overshoots {
     pub counts: [u32; 64],
@@ -17,7 +16,7 @@ impl Overshoots {
         Overshoots { counts: [0; 64] }
     }
 
-    /// Counts one more, past the bound by so much.
+    /// Counts one more at this distance past the bound.
     pub fn add(&mut self, past: u64)
         ensures { self.new.counts ≡ slice_set self.old.counts (slot_of past) (min (slice_index self.old.counts (slot_of past) + 1) (2 ^ 32 - 1)) }
     {
@@ -25,7 +24,7 @@ impl Overshoots {
         self.counts[slot] = self.counts[slot].saturating_add(1);
     }
 
-    /// How far past the bound at least so many were; None if fewer were less than 64 past it.
+    /// The least distance within which `wanted` were counted; None if fewer were less than 64 past the bound.
     pub fn reach(&self, wanted: u64) -> Option<u64>
         ensures enough { IfSome result (λ d. wanted ≤ sum (take d self.now.counts)) }
         ensures least { IfSome result (λ r. (d : ℕ) → d < r → sum (take d self.now.counts) < wanted) }

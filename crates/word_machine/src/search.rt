@@ -50,11 +50,10 @@ fn word_of_one(alloc: Global, number: u64) -> Result<Vec<u64>, AllocError>
     Ok(word)
 }
 
-/// The least finishing word within the bound, in a search that leaves out what this measure puts past it. Where none is
-/// known to finish within the bound, it ends with the level in which the first is left out; else, where some were left
-/// out, the closed list has all that come before these. It is given up before a level where it has kept more than the
-/// limit, and never where the limit is the greatest number. The closed list is cleared first: searches within growing
-/// bounds use its room again.
+/// The least finishing word within the bound: a breadth-first search that prunes by the measure what can't finish
+/// within the bound. Where it is known that no word finishes within it, the search ends with the level in which the
+/// first configuration is pruned. It is given up before a level at which the closed list is longer than the limit, and
+/// never where the limit is the greatest number. The closed list is emptied first, and its room used again.
 pub fn search<M: Machine, G: Gate, R: Threads + Wait + Sync>(
     rt: &R,
     alloc: Global,
@@ -112,7 +111,7 @@ pub fn search<M: Machine, G: Gate, R: Threads + Wait + Sync>(
     Ok(exhausted(closed, bound))
 }
 
-// The bound that is so far past another one.
+// A bound past another one by `reach`.
 fn bound_past(bound: u64, reach: Option<u64>) -> Option<u64> {
     match reach {
         Some(reach) => Some(bound.saturating_add(reach)),
@@ -137,7 +136,7 @@ fn exhausted<C: Eq + Hash + Copy + Drop + Send + Sync>(closed: &Closed<C>, bound
 }
 
 /// The least finishing word of at most `bounds.nodes` steps. The answer is the same for every number of workers, size
-/// of the pieces and gate, and however the workers take turns.
+/// of the pieces, gate and schedule of the threads.
 pub fn find_word<M: Machine, G: Gate, R: Threads + Wait + Sync>(
     rt: &R,
     alloc: Global,
@@ -169,7 +168,7 @@ pub fn find_word<M: Machine, G: Gate, R: Threads + Wait + Sync>(
     )?;
     match outcome.found() {
         Some(found) => Ok(found),
-        // It is never given up, since no list holds more.
+        // No list is longer than the greatest number, so the search is never given up.
         None => unreachable!(),
     }
 }
