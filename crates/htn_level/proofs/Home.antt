@@ -2,8 +2,8 @@
 use Rattle.std.proofs.Common.{◌≡◌, ℕ, zero, suc, ◌+◌, ◌-◌, ◌*◌, ◌/◌, ◌%◌, ◌<◌, ◌≤◌, List, [], ◌∷◌, length, get_or, map, flat_map, All, Any, Contains, refl, sym, ap, subst, arith, ⊎_elim, div-add-mod', mod-lt, div-lt_iff_lt-mul}
 use Rattle.std.proofs.lemmas.Bool.Decides.{nat_tests}
 use Rattle.std.proofs.lemmas.List.Elements.{All-contains, Contains-append_left, Contains-append_right, Contains-append_cases, Contains-get_or}
-use Rattle.htn_desk.specs.Desk.{once_below, HasEachBelow, IsLeast}
-use Rattle.htn_desk.proofs.Passes.{contains_of_times, times_of_contains}
+use Rattle.htn_level.specs.Desk.{once_below, HasEachBelow, IsLeast}
+use Rattle.htn_level.proofs.Passes.{contains_of_times, times_of_contains}
 use Rattle.htn_level.specs.declared.order.Expanded.TheVariants.{Whole, Done}
 use Rattle.htn_level.specs.declared.piece.Outcome.{Outcome}
 use Rattle.htn_level.specs.declared.piece.Outcome.TheVariants.{Ran, Skipped}

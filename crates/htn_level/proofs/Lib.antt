@@ -1,3 +1,5 @@
+pub mod Keeps
+pub mod Passes
 pub mod Ranks
 pub mod Pieces
 pub mod Home

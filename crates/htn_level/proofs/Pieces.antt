@@ -4,7 +4,7 @@ use mathlib.Core.List.{append-nil, map-append}
 use Rattle.std.proofs.lemmas.List.Elements.{All-push, All-head, All-rest, All-append, All-weaker, Contains-append_left, Contains-append_right}
 use Rattle.std.proofs.lemmas.List.Concat.{flat_map-append}
 use Rattle.std.specs.declared.thread.PromisedHandle.{PromisedHandle}
-use Rattle.htn_desk.specs.Desk.{PassState, all_drawn, all_reported, all_seen}
+use Rattle.htn_level.specs.Desk.{PassState, all_drawn, all_reported, all_seen}
 use Rattle.htn_level.specs.declared.piece.Outcome.{Outcome}
 use Rattle.htn_level.specs.declared.piece.Outcome.TheVariants.{Ran, Skipped}
 use Rattle.htn_level.specs.declared.piece.Piece.{Piece}

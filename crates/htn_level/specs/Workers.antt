@@ -1,7 +1,7 @@
 -- What workers bring home.
 use Rattle.std.specs.Prelude.{◌≡◌, ℕ, ◌+◌, ◌*◌, ◌<◌, ◌≤◌, min, true, Option, IfSome, IsSome, Vec, slice_index_or, List, [], ◌∷◌, ◌++◌, length, map, All, Contains, flat_map}
 use Rattle.std.specs.declared.alloc.Global.{Global}
-use Rattle.htn_desk.specs.Desk.{DeskState, PassState}
+use Rattle.htn_level.specs.Desk.{DeskState, PassState}
 use Rattle.htn_level.specs.declared.order.Expanded.TheVariants.{Whole, Done}
 use Rattle.htn_level.specs.declared.piece.Outcome.{Outcome}
 use Rattle.htn_level.specs.declared.piece.Outcome.TheVariants.{Ran, Skipped}

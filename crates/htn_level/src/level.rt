@@ -5,12 +5,12 @@ ghost use Rattle.htn_level.specs.Level.{IsExpandedLevel};
 ghost use Rattle.htn_level.specs.Workers.{CanExpandAll, HasPieces};
 
 use crate::chain::Chain;
+use crate::desk::Desk;
 use crate::fault::LevelFault;
 use crate::merge::{finish_at, part, put_together};
 use crate::threads::run;
 use crate::work::{Expand, Gate};
 use crate::worker::{Job, Level};
-use htn_desk::Desk;
 use std::alloc::Global;
 use std::sync::Wait;
 use std::thread::Threads;

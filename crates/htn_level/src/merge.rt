@@ -1,6 +1,6 @@
 //! The results of all workers are put together in the order of the pieces.
 ghost use Rattle.std.specs.Prelude.{◌≡◌, ℕ, ◌<◌, ◌≤◌, ◌*◌, ◌+◌, length, vec_len, All, Contains, IfOk, IfSome, IfNone, IsSome, Some, None, replicate, slice_set, map, flat_map, true};
-ghost use Rattle.htn_desk.specs.Desk.{all_drawn, all_reported, all_seen};
+ghost use Rattle.htn_level.specs.Desk.{all_drawn, all_reported, all_seen};
 ghost use Rattle.htn_level.specs.declared.order.Expanded.TheVariants.{Done};
 ghost use Rattle.htn_level.specs.declared.piece.Outcome.TheVariants.{Ran};
 ghost use Rattle.htn_level.specs.Joined.{joined};
@@ -8,11 +8,11 @@ ghost use Rattle.htn_level.specs.Level.{AreSuccessors};
 ghost use Rattle.htn_level.specs.Workers.{IsWorked, Brings, IsWhole, IsWholeOutcome, IsWholePiece, HoldsPieces, IsFullAt, HasEachPiece, places_of};
 
 use crate::chain::Chain;
+use crate::desk::Pass;
 use crate::order::Expanded;
 use crate::piece::{Outcome, Piece};
 use crate::work::{Expand, Gate};
 use crate::worker::{Job, Level, Worked};
-use htn_desk::Pass;
 use std::alloc::{AllocError, Global};
 
 /// Parts the passes from the results.

@@ -1,13 +1,13 @@
 //! The workers of one level, each in a thread of its own.
 ghost use Rattle.std.specs.Prelude.{◌≡◌, ◌<◌, ◌≤◌, ◌*◌, ◌+◌, ◌∷◌, ◌++◌, length, vec_len, vec_capacity, All, IfOk, IfSome, IfErr, false};
 ghost use Rattle.htn_level.specs.declared.fault.LevelFault.TheVariants.{NoThread};
-ghost use Rattle.htn_desk.specs.Desk.{new_pass};
+ghost use Rattle.htn_level.specs.Desk.{new_pass};
 ghost use Rattle.htn_level.specs.Workers.{CanExpandAll, HasPieces, IsWorked};
 
+use crate::desk::Pass;
 use crate::fault::LevelFault;
 use crate::work::{Expand, Gate};
 use crate::worker::{Job, Worked, work_off};
-use htn_desk::Pass;
 use std::alloc::{AllocError, Global};
 use std::sync::Wait;
 use std::thread;

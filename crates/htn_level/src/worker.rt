@@ -1,12 +1,12 @@
 //! A worker: it draws pieces from the desk until none is left.
 ghost use Rattle.std.specs.Prelude.{◌≡◌, ◌<◌, ◌≤◌, ◌*◌, ◌+◌, ◌^◌, ◌++◌, true, false, min, All, IfOk};
-ghost use Rattle.htn_desk.specs.Desk.{new_pass};
+ghost use Rattle.htn_level.specs.Desk.{new_pass};
 ghost use Rattle.htn_level.specs.Workers.{CanExpandAll, HasPieces, IsOutcome, TakesPiece, IsWorked, piece_first, piece_last};
 
+use crate::desk::{Desk, Pass};
 use crate::order::{Expanded, expand_in_order};
 use crate::piece::{Outcome, Piece, Skip};
 use crate::work::{Expand, Gate};
-use htn_desk::{Desk, Pass};
 use std::alloc::{AllocError, Global};
 
 /// A level, or a part of one: the ranks from `first` on and below `last`.

@@ -5,7 +5,7 @@ use Rattle.std.specs.Hash.{HashWrites}
 use Rattle.std.specs.Cmp.{IsEquivalence}
 use Rattle.std.proofs.lemmas.List.{get_or-map, get_or_push, length-map, length_push}
 use Rattle.indexmap.specs.IndexSet.{insert_key}
-use Rattle.sharded_set.specs.Shards.{home}
+use Rattle.workers.specs.Shards.{home}
 use Rattle.interner.specs.Bins.{keys_of, numbers_of}
 use Rattle.interner.specs.Interning.{IsInterner, IsNumberOf, values_at}
 use Rattle.interner.specs.declared.bin.Bin.{Bin}

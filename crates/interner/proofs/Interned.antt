@@ -4,7 +4,7 @@ use Rattle.std.specs.Hash.{HashWrites}
 use Rattle.std.specs.Cmp.{IsEquivalence}
 use Rattle.std.proofs.lemmas.Bool.{cases_lt}
 use Rattle.std.proofs.lemmas.List.{get_or-append_right, get_or-map, length-map}
-use Rattle.sharded_set.specs.Shards.{home}
+use Rattle.workers.specs.Shards.{home}
 use Rattle.interner.specs.Interning.{AreApart, AreNumbersOf, AreWithin, HasGrown, IsInterner, IsNumberOf, IsNumbering, IsSpread, number_by, values_at}
 use Rattle.interner.specs.declared.spot.Spot.{Spot}
 use Rattle.interner.specs.declared.spot.TheConstants.{SHARDS}

@@ -6,7 +6,7 @@ use Rattle.std.specs.List.{list_any}
 use Rattle.std.proofs.lemmas.Bool.{cases_eq, cases_lt}
 use Rattle.std.proofs.lemmas.List.{get_or-map, get_or_append_left, get_or_push, get_or_past, length-map, length_push, map-set, set-get_or}
 use Rattle.std.proofs.lemmas.List.Folds.{list_any_at}
-use Rattle.sharded_set.specs.Shards.{home}
+use Rattle.workers.specs.Shards.{home}
 use Rattle.interner.specs.Interning.{AreHome, AreWithin, HasGrown, IsSpread, values_at}
 use Rattle.interner.specs.declared.spot.Spot.{Spot}
 use Rattle.interner.specs.declared.spot.TheConstants.{SHARDS}

@@ -1,7 +1,7 @@
 -- Values by their numbers, equal ones once.
 use Rattle.std.specs.Prelude.{◌≡◌, ℕ, ◌<◌, ◌++◌, Bool, true, false, List, [], flat_map, map, Vec, get_or, length, take, drop}
 use Rattle.std.specs.Hash.{HashWrites}
-use Rattle.sharded_set.specs.Shards.{home}
+use Rattle.workers.specs.Shards.{home}
 use Rattle.interner.specs.declared.spot.Spot.{Spot}
 use Rattle.interner.specs.declared.spot.TheConstants.{SHARDS}
 

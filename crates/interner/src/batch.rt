@@ -3,10 +3,10 @@ ghost use Rattle.std.specs.Prelude.{◌≡◌, ◌<◌, ◌++◌, ◌∷◌, ℕ
 ghost use Rattle.interner.specs.Interning.{IsSpread, lists_of, values_at};
 
 use crate::spot::{SHARDS, Spot};
-use sharded_set::shard_of;
 use std::alloc::{AllocError, Global};
 use std::hash::Hash;
 use std::marker::Model;
+use workers::shard_of;
 
 /// Values in the order in which they were added, sorted by their shards, so that shards can add them side by side.
 #[derive(Drop)]

@@ -2,7 +2,7 @@
 ghost use Rattle.std.specs.Prelude.{◌≡◌, ◌<◌, ◌++◌, ◌∷◌, ℕ, [], true, false, List, All, Contains, IfNone, IfOk, IfSome, OnErr, OnOk, get_or, if◌then◌else◌, length, not};
 ghost use Rattle.std.specs.List.{list_any};
 ghost use Rattle.indexmap.specs.IndexSet.{insert_key};
-ghost use Rattle.sharded_set.specs.Shards.{home};
+ghost use Rattle.workers.specs.Shards.{home};
 ghost use Rattle.interner.specs.Interning.{AreApart, AreNumbersOf, HasGrown, IsInterner, IsNumberOf, IsSpread, lists_of, values_at};
 ghost use Rattle.interner.specs.Bins.{keys_of, numbers_of};
 
@@ -10,11 +10,11 @@ use crate::batch::Batch;
 use crate::bin::Bin;
 use crate::numbering::{add, add_batch, give_back, new_bins};
 use crate::spot::{SHARDS, Spot};
-use sharded_set::shard_of;
 use std::alloc::{AllocError, Global};
 use std::hash::Hash;
 use std::marker::Model;
 use std::thread::Threads;
+use workers::shard_of;
 
 /// An interner: each value has a number, by the order in which values were added, and equal values have the same.
 /// Values are moved in, into shards by hash, so that several workers add a batch side by side, each to its own shards.

@@ -2,7 +2,7 @@
 ghost use Rattle.std.specs.Prelude.{◌≡◌, ◌<◌, ◌≤◌, ◌≢◌, ◌++◌, ◌∷◌, ℕ, [], true, false, List, All, Contains, IfOk, OnErr, OnOk, get_or, if◌then◌else◌, length, map, not, set, take};
 ghost use Rattle.std.specs.List.{list_any};
 ghost use Rattle.indexmap.specs.IndexSet.{insert_key};
-ghost use Rattle.sharded_set.specs.Shards.{home};
+ghost use Rattle.workers.specs.Shards.{home};
 ghost use Rattle.interner.specs.Interning.{AreApart, AreNumbersOf, AreWithin, HasGrown, IsInterner, IsNumberOf, IsNumbering, IsSpread, lists_of, number_by, values_at};
 ghost use Rattle.interner.specs.Bins.{GetsNumbers, HasAdded, TakesPending, keys_of, numbers_of, taken_of};
 ghost use Rattle.interner.specs.declared.bin.Bin.{Bin};
@@ -10,11 +10,11 @@ ghost use Rattle.interner.specs.declared.spot.Spot.{Spot};
 
 use crate::bin::Bin;
 use crate::spot::{SHARDS, Spot};
-use side_by_side::for_each_mut;
 use std::alloc::{AllocError, Global};
 use std::hash::Hash;
 use std::mem::swap;
 use std::thread::Threads;
+use workers::for_each_mut;
 
 /// Empty bins.
 pub(crate) fn new_bins<T: Eq + Hash + Drop>(

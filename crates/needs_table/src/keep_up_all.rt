@@ -11,10 +11,10 @@ use crate::chained::Chained;
 use crate::prospects::Prospects;
 use crate::table::NeedsTable;
 use network_table::{Entry, NetworkTable};
-use side_by_side::map_indices;
 use state_table::{AtomTable, CompiledLiterals};
 use std::alloc::{AllocError, Global};
 use std::thread::Threads;
+use workers::map_indices;
 
 /// What the network of a number needs, which is no chain.
 #[derive(Drop)]

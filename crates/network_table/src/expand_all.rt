@@ -12,9 +12,9 @@ use crate::draft::{Job, Listed, starts_of};
 use crate::made::{Made, Noted};
 use crate::notes::Known;
 use crate::table::NetworkTable;
-use side_by_side::map_indices;
 use std::alloc::{AllocError, Global};
 use std::thread::Threads;
+use workers::map_indices;
 
 /// Notes the number of a draft's network where the draft is listed.
 fn note_at(noted: &mut Vec<Option<Known>>, at: usize, known: Known)

@@ -10,9 +10,9 @@ ghost use Rattle.network_table.specs.Drafts.{AreNumbersOf};
 use crate::network_set::Entry;
 use crate::table::{NetworkTable, sum_bounds};
 use interner::Batch;
-use side_by_side::{for_each_mut, workers_for};
 use std::alloc::{AllocError, Global};
 use std::thread::Threads;
+use workers::{for_each_mut, workers_for};
 
 /// Of several workers each numbers so many networks at least: to start one for fewer takes longer.
 const NETWORKS_A_WORKER: usize = 500;

@@ -1,5 +1,5 @@
-use side_by_side::{for_each_mut, map_indices, workers_for};
 use std::test::*;
+use workers::{for_each_mut, map_indices, workers_for};
 
 #[test]
 fn results_stand_in_the_order_of_their_calls(rt: HostRuntime) -> Result<(), Fail> {

@@ -1,7 +1,7 @@
 ghost use Rattle.std.specs.Prelude.{◌≡◌, false, true, replicate, IfOk};
-ghost use Rattle.htn_desk.specs.Desk.{new_pass};
+ghost use Rattle.htn_level.specs.Desk.{new_pass};
 
-use htn_desk::{Desk, Pass};
+use htn_level::{Desk, Pass};
 use std::alloc::{AllocError, Global};
 use std::test::*;
 use std::thread::{Threads, join};

@@ -1,6 +1,6 @@
 use interner::{Batch, Interner};
-use sharded_set::ShardedSet;
 use std::test::*;
+use workers::ShardedSet;
 
 #[test]
 fn a_value_is_added_once(rt: HostRuntime) -> Result<(), Fail> {

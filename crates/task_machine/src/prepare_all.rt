@@ -22,10 +22,10 @@ use htn_task::Task;
 use indexmap::IndexSet;
 use needs_table::Prospects;
 use network_table::{Job, NetworkTable};
-use side_by_side::{map_indices, workers_for};
 use std::alloc::{AllocError, Global};
 use std::thread::Threads;
 use tree_sizes::TreeSizes;
+use workers::{map_indices, workers_for};
 
 /// How many networks are expanded together at most: what is listed of them is kept until they are.
 const BLOCK: usize = 32_768;

@@ -4,7 +4,7 @@ use Rattle.std.specs.List.{list_any}
 use Rattle.std.proofs.lemmas.List.{append-nil}
 use Rattle.std.proofs.lemmas.List.Elements.{All-cons, All-head, All-nil, All-tail}
 use Rattle.indexmap.specs.IndexSet.{insert_all, insert_key}
-use Rattle.sharded_set.specs.Shards.{AreNew}
+use Rattle.workers.specs.Shards.{AreNew}
 use Rattle.word_machine.specs.declared.closed.Link.{Link}
 use Rattle.word_machine.specs.declared.closed.Origin.{Origin}
 use Rattle.word_machine.specs.declared.closed.Successor.{Successor}

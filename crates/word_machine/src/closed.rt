@@ -9,12 +9,11 @@ ghost use Rattle.word_machine.specs.declared.closed.Origin.TheVariants.{Step};
 
 use crate::edge::Edge;
 use crate::overshoots::Overshoots;
-use sharded_set::ShardedSet;
-use side_by_side::workers_for;
 use std::alloc::{AllocError, Global};
 use std::hash::Hash;
 use std::marker::Model;
 use std::thread::Threads;
+use workers::{ShardedSet, workers_for};
 
 /// Where a configuration came from: it is an initial one, or a number led to it from the configuration of another rank.
 #[derive(Clone, Copy, Debug)]

@@ -11,9 +11,9 @@ use crate::closed::{Closed, FEW, Fitting, Measured, Origin, Successor};
 use crate::machine::Machine;
 use crate::measure::{Measure, measured};
 use htn_level::Chain;
-use side_by_side::workers_for;
 use std::alloc::{AllocError, Global};
 use std::thread::Threads;
+use workers::workers_for;
 
 /// Offers the initial configurations to the closed list, each with its number; one with more than `room` steps left by
 /// this measure is pruned.

@@ -1,6 +1,6 @@
 use Rattle.std.proofs.Common.{◌≡◌, ℕ, ◌≤◌, true, Some, Option, IfSome, All, Contains, length, sym, ap, ◌∙◌, subst, arith}
 use Rattle.std.proofs.lemmas.Option.{MatchOption-at_some, MatchOption-at_none}
-use Rattle.htn_desk.specs.Desk.{PassState, new_pass, HasEachBelow, IsLeast, all_drawn, all_reported, all_seen}
+use Rattle.htn_level.specs.Desk.{PassState, new_pass, HasEachBelow, IsLeast, all_drawn, all_reported, all_seen}
 use Rattle.std.proofs.lemmas.List.{length-replicate}
 use Rattle.htn_level.proofs.Home.{done_level, whole_pieces, each_piece, any_of_all, numbers_below}
 use Rattle.htn_level.proofs.level.expand_level.Goals as goal

@@ -1,6 +1,6 @@
 use Rattle.std.proofs.Common.{◌≡◌, true, arith}
 use Rattle.std.specs.Vec.Iter.{into_iter_items}
-use Rattle.htn_desk.specs.Desk.{PassState}
+use Rattle.htn_level.specs.Desk.{PassState}
 use Rattle.htn_level.specs.Workers.{IsWorked}
 use Rattle.htn_level.proofs.Pieces.{brings_joined, all_pushed, all_rest}
 use Rattle.htn_level.proofs.merge.part.Goals as goal

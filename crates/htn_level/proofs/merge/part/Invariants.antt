@@ -1,6 +1,6 @@
 use Rattle.std.proofs.Common.{◌≡◌, ◌+◌, All, vec_len, true}
 use Rattle.std.specs.Vec.Iter.{into_iter_items, into_iter_len}
-use Rattle.htn_desk.specs.Desk.{all_drawn, all_reported, all_seen}
+use Rattle.htn_level.specs.Desk.{all_drawn, all_reported, all_seen}
 use Rattle.htn_level.specs.Workers.{IsWorked, Brings}
 use Rattle.htn_level.proofs.merge.part.Given as goal
 

@@ -1,5 +1,5 @@
 use Rattle.std.proofs.Common.{ap, ◌∙◌, sym, subst, Contains}
-use Rattle.htn_desk.specs.Desk.{PassState}
+use Rattle.htn_level.specs.Desk.{PassState}
 use Rattle.htn_level.proofs.Pieces.{stands_last}
 use Rattle.htn_level.proofs.worker.take_piece.Goals as goal
 

@@ -1,5 +1,5 @@
 use Rattle.std.proofs.Common.{sym, ap, ◌∙◌}
-use Rattle.htn_desk.specs.Desk.{PassState}
+use Rattle.htn_level.specs.Desk.{PassState}
 use Rattle.htn_level.proofs.Pieces.{left_falls, brings_more, seen_same}
 use Rattle.htn_level.proofs.worker.work_off.Goals as goal
 

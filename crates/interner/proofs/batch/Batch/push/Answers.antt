@@ -3,7 +3,7 @@ use Rattle.interner.specs.Interning.{IsSpread, lists_of, values_at}
 use Rattle.interner.specs.declared.spot.Spot.{Spot}
 use Rattle.interner.specs.declared.spot.TheConstants.{SHARDS}
 use Rattle.interner.proofs.Places.{last_spot, pushed, spread_more, values_more}
-use Rattle.sharded_set.proofs.Sharing.{written_back}
+use Rattle.workers.proofs.Sharing.{written_back}
 use Rattle.interner.proofs.batch.Batch.push.Goals as goal
 
 -- lists that stay do so with their spots

@@ -4,7 +4,7 @@ use Rattle.indexmap.specs.IndexSet.{insert_key}
 use Rattle.interner.specs.Bins.{HasInterned}
 use Rattle.interner.specs.Interning.{AreApart, IsNumberOf}
 use Rattle.interner.proofs.Taken.{apart_insert, interned_more, place_of}
-use Rattle.sharded_set.proofs.Taking.{grown_by}
+use Rattle.workers.proofs.Taking.{grown_by}
 use Rattle.interner.proofs.bin.Bin.take_each.Goals as goal
 
 pub loop-value-preserved : goal.loop-value-preserved

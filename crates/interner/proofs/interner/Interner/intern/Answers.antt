@@ -2,7 +2,7 @@ use Rattle.std.proofs.Common.{◌≡◌, ◌++◌, List, IfOk, length, take, dro
 use Rattle.interner.specs.Bins.{keys_of}
 use Rattle.interner.specs.Interning.{IsNumberOf, values_at}
 use Rattle.interner.specs.declared.bin.Bin.{Bin}
-use Rattle.sharded_set.proofs.Sharing.{written_back}
+use Rattle.workers.proofs.Sharing.{written_back}
 use Rattle.interner.proofs.interner.Interner.intern.Goals as goal
 
 pub returns-clause-number : goal.returns-clause-number

@@ -5,7 +5,7 @@ use Rattle.interner.specs.Interning.{AreApart, AreNumbersOf, IsInterner, lists_o
 use Rattle.interner.specs.declared.bin.Bin.{Bin}
 use Rattle.interner.proofs.Batched.{keys_back, numbers_back}
 use Rattle.interner.proofs.Numbered.{apart_values}
-use Rattle.sharded_set.proofs.Sharing.{written_back}
+use Rattle.workers.proofs.Sharing.{written_back}
 use Rattle.interner.proofs.interner.Interner.intern_all.Given as given
 use Rattle.interner.proofs.interner.Interner.intern_all.Goals as goal
 

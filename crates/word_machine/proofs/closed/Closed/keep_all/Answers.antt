@@ -1,7 +1,7 @@
 use Rattle.std.proofs.Common.{◌≡◌, ◌++◌, List, length, map, All, ap, sym, subst, ◌∙◌, arith, length-append}
 use Rattle.std.proofs.lemmas.List.{length-map, map-append}
 use Rattle.indexmap.specs.IndexSet.{insert_all}
-use Rattle.sharded_set.specs.Shards.{AreNew}
+use Rattle.workers.specs.Shards.{AreNew}
 use Rattle.word_machine.specs.declared.closed.Origin.{Origin}
 use Rattle.word_machine.specs.Contents.{Contents, IsForest, IsOriginWithin, fitting, offer_all, origin_of, picked}
 use Rattle.word_machine.proofs.Keeping.{as_many_more, forest_more, kept_all, picked-All}
