@@ -95,8 +95,8 @@ fn cut_mark(is_cut: bool) -> &'static [u8]
     if is_cut { CUT } else { b"" }
 }
 
-/// A byte as it is shown.
-fn shown(byte: u8) -> u8
+/// A byte as it is shown: a tab or a printable byte of ASCII as it is, every other byte as `?`.
+pub fn shown(byte: u8) -> u8
     ensures { result ≡ spec.shown byte }
 {
     if byte == b'\t' || (byte >= 32 && byte <= 126) {

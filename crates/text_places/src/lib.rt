@@ -8,7 +8,7 @@ mod position;
 #[cfg(test)]
 mod tests;
 
-pub use excerpt::Excerpt;
+pub use excerpt::{Excerpt, shown};
 pub use laws::{carets_stand_below, positions_differ};
 pub use lines::Lines;
 pub use position::Position;
