@@ -5,8 +5,6 @@ mod excerpt;
 mod laws;
 mod lines;
 mod position;
-#[cfg(test)]
-mod tests;
 
 pub use excerpt::{Excerpt, shown};
 pub use laws::{carets_stand_below, positions_differ};

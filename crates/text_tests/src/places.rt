@@ -1,8 +1,7 @@
 //! Tests of places and of shown lines.
 
-use crate::lines::Lines;
-use crate::position::Position;
 use std::alloc::AllocError;
+use text_places::{Lines, Position};
 
 #[test]
 fn positions_and_back(rt: HostRuntime) -> Result<(), AllocError> {
