@@ -1,5 +1,6 @@
-use Rattle.std.proofs.Common.{◌≡◌, ◌++◌, ap, ◌∙◌, sym, subst, All, None}
+use Rattle.std.proofs.Common.{◌≡◌, ◌∷◌, ◌++◌, [], ap, ◌∙◌, rules, sym, subst, All, None}
 use Rattle.std.proofs.lemmas.Option.{MatchOption-at_none}
+use Rattle.std.proofs.lemmas.List.Elements.{All-head}
 use Rattle.word_machine.specs.declared.closed.Measured.{Measured}
 use Rattle.word_machine.specs.declared.closed.Successor.{Successor}
 use Rattle.word_machine.specs.Machine.{IsLawful}
@@ -81,7 +82,7 @@ returns-in-None-clause-grown g c =
     c.in_ok-prepare_all.ensures.grown) c.keep_all.ensures.grown
 
 pub expand-requires-clause-ready : goal.expand-requires-clause-ready
-expand-requires-clause-ready g c = λ _ _.
+expand-requires-clause-ready g c =
     let ready = g.M.Machine.is_ready c.args.machine.now c.prepare_all.new.tables in
-    let one : c.push.new.self.items ≡ c.args.from ∷ [] = search rules in
+    let one : c.as_slice.result.now ≡ c.args.from ∷ [] = search rules in
     All-head ready c.args.from [] (subst (All ready) one c.in_ok-prepare_all.ensures.ready)
