@@ -12,6 +12,8 @@ mod faults;
 #[cfg(test)]
 mod gates;
 #[cfg(test)]
+mod library;
+#[cfg(test)]
 mod pairs;
 #[cfg(test)]
 mod process;
