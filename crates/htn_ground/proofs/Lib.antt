@@ -20,3 +20,4 @@ pub mod Fitting
 pub mod Gathered
 pub mod Unshown
 pub mod Covered
+pub mod AtNumber

@@ -1,5 +1,5 @@
 -- Instances with their numbers, method by method.
-use Rattle.std.proofs.Common.{◌≡◌, ◌+◌, ◌<◌, ◌∙◌, ◌++◌, ◌∷◌, ◌&&◌, ◌||◌, Bool, List, [], ap, append-nil, arith, cond, false, get_or, length, length-append, length-take-le, map, not, refl, Option, Some, append_assoc, subst, suc, sym, take, true, zero, ℕ}
+use Rattle.std.proofs.Common.{◌≡◌, ◌+◌, ◌<◌, ◌∙◌, ◌++◌, ◌∷◌, ◌&&◌, ◌||◌, Bool, List, [], ap, append-nil, arith, cond, drop, false, get_or, length, length-append, length-take-le, map, not, refl, None, Option, Some, append_assoc, subst, suc, sym, take, true, zero, ℕ}
 use Rattle.std.specs.List.{All, enumerate_from, flat_map, list_all, list_any}
 use Rattle.std.proofs.lemmas.List.{get_or-map, length-map, map-append, take_more}
 use Rattle.std.proofs.lemmas.List.Concat.{flat_map-append}
@@ -16,7 +16,7 @@ use Rattle.htn_model.specs.Instances.{child_of, ground_atom, ground_task, has_st
 use Rattle.htn_model.specs.Exhaustion.{is_dead, is_dead_child, is_dead_literal}
 use Rattle.htn_model.specs.Grounding.{is_changed, problem_of}
 use Rattle.htn_ground.specs.declared.fixed.FixedLiteral.{FixedLiteral}
-use Rattle.htn_ground.specs.Counted.{fitted}
+use Rattle.htn_ground.specs.Counted.{counted, fitted}
 use Rattle.htn_ground.specs.Fixed.{IsFixed, schema_of}
 use Rattle.htn_ground.specs.Methods.{instances_for, live_instances, numbered_instances}
 use Rattle.htn_ground.specs.Search.{AreLiteralsOf, fixed_holds, is_bound, is_ruled_out, live_from}
@@ -104,30 +104,44 @@ module _ (t : Task) (number : ℕ) (m : MethodSchema) where
       ∙ live-append t (numbered_instances t number m (take i xs)) (here (get_or xs i d) ∷ [])
 
   -- a dead one is passed over
-  pub dead_passed : (items : List (Option ℕ × List ℕ)) (xs : List (ℕ × List ℕ)) (i : ℕ) (p : Option ℕ × List ℕ) (start done : List (ℕ × Instance))
+  pub dead_passed : (items : List (Option ℕ × List ℕ)) (xs : List (ℕ × List ℕ)) (i : ℕ) (p : Option ℕ × List ℕ) (start done : List (Option ℕ × Instance))
       → i < length items → p ≡ get_or items i p → items ≡ map fitted xs → is_dead (problem_of t) (method_instance t number m p.1).network ≡ true
-      → done ≡ start ++ live_instances t (numbered_instances t number m (take i xs)) → done ≡ start ++ live_instances t (numbered_instances t number m (take (i + 1) xs))
+      → done ≡ start ++ map counted (live_instances t (numbered_instances t number m (take i xs)))
+      → done ≡ start ++ map counted (live_instances t (numbered_instances t number m (take (i + 1) xs)))
   dead_passed items xs i p start done below is are dead so_far =
       let d : ℕ × List ℕ = (0, []) in
       let next = next_fitted items xs i p d below is are in
       let one : live_instances t (here (get_or xs i d) ∷ []) ≡ [] =
       ap (λ b. cond (not b) (here (get_or xs i d) ∷ []) []) (ap (λ (q : Option ℕ × List ℕ). is_dead (problem_of t) (method_instance t number m q.1).network) (sym next.1) ∙ dead) in
-      so_far ∙ ap (λ l. start ++ l) (sym (append-nil _) ∙ ap (λ l. live_instances t (numbered_instances t number m (take i xs)) ++ l) (sym one) ∙ sym (live_next xs i d next.0))
+      so_far ∙ ap (λ l. start ++ map counted l) (sym (append-nil _) ∙ ap (λ l. live_instances t (numbered_instances t number m (take i xs)) ++ l) (sym one) ∙ sym (live_next xs i d next.0))
 
   -- one that is not is kept, with its number
-  pub live_kept : (items : List (Option ℕ × List ℕ)) (xs : List (ℕ × List ℕ)) (i : ℕ) (p : Option ℕ × List ℕ) (rank : ℕ) (start done new : List (ℕ × Instance))
-      → i < length items → p ≡ get_or items i p → items ≡ map fitted xs → is_dead (problem_of t) (method_instance t number m p.1).network ≡ false → Some rank ≡ p.0
-      → done ≡ start ++ live_instances t (numbered_instances t number m (take i xs)) → new ≡ done ++ (rank, method_instance t number m p.1) ∷ []
-      → new ≡ start ++ live_instances t (numbered_instances t number m (take (i + 1) xs))
-  live_kept items xs i p rank start done new below is are live fits so_far pushed =
+  pub live_kept : (items : List (Option ℕ × List ℕ)) (xs : List (ℕ × List ℕ)) (i : ℕ) (p : Option ℕ × List ℕ) (start done new : List (Option ℕ × Instance))
+      → i < length items → p ≡ get_or items i p → items ≡ map fitted xs → is_dead (problem_of t) (method_instance t number m p.1).network ≡ false
+      → done ≡ start ++ map counted (live_instances t (numbered_instances t number m (take i xs))) → new ≡ done ++ (p.0, method_instance t number m p.1) ∷ []
+      → new ≡ start ++ map counted (live_instances t (numbered_instances t number m (take (i + 1) xs)))
+  live_kept items xs i p start done new below is are live so_far pushed =
       let d : ℕ × List ℕ = (0, []) in
       let next = next_fitted items xs i p d below is are in
-      let ranked : rank ≡ (get_or xs i d).0 = fitting_some rank (get_or xs i d).0 (fits ∙ ap (λ (q : Option ℕ × List ℕ). q.0) next.1) in
-      let same : (rank, method_instance t number m p.1) ≡ here (get_or xs i d) = (λ k. (ranked k, method_instance t number m (next.1 k).1)) in
+      let before = live_instances t (numbered_instances t number m (take i xs)) in
+      let same : (p.0, method_instance t number m p.1) ≡ counted (here (get_or xs i d)) = (λ k. ((next.1 k).0, method_instance t number m (next.1 k).1)) in
       let one : live_instances t (here (get_or xs i d) ∷ []) ≡ here (get_or xs i d) ∷ [] =
       ap (λ b. cond (not b) (here (get_or xs i d) ∷ []) []) (ap (λ (q : Option ℕ × List ℕ). is_dead (problem_of t) (method_instance t number m q.1).network) (sym next.1) ∙ live) in
       pushed ∙ (λ k. so_far k ++ same k ∷ []) ∙ append_assoc start _ _
-      ∙ ap (λ l. start ++ l) (ap (λ l. live_instances t (numbered_instances t number m (take i xs)) ++ l) (sym one) ∙ sym (live_next xs i d next.0))
+      ∙ ap (λ l. start ++ l) (sym (map-append counted before (here (get_or xs i d) ∷ []))
+      ∙ ap (map counted) (ap (λ l. before ++ l) (sym one) ∙ sym (live_next xs i d next.0)))
+
+-- what is known of all numbers, where each of them fits
+pub all_known : (found live : List (ℕ × Instance)) → map (λ (p : ℕ × Instance). (Some p.0, p.1)) found ≡ map counted live → found ≡ live
+all_known [] [] e = refl
+all_known [] (q ∷ live) e = absurd cc
+all_known (p ∷ found) [] e = absurd cc
+all_known (p ∷ found) (q ∷ live) e =
+    let d : Option ℕ × Instance = (None, p.1) in
+    let first : (Some p.0, p.1) ≡ counted q = ap (λ (l : List (Option ℕ × Instance)). get_or l 0 d) e in
+    let rest = all_known found live (ap (λ (l : List (Option ℕ × Instance)). drop 1 l) e) in
+    let number : p.0 ≡ q.0 = fitting_some p.0 q.0 (ap (λ (x : Option ℕ × Instance). x.0) first) in
+    (λ k. (number k, (first k).1) ∷ rest k)
 
 -- ## What a fixed literal rules out is dead
 
@@ -223,26 +237,27 @@ method_at t methods i m are typed below is =
 
 -- the live instances of one method more
 pub live_step : (t : Task) (g : GroundTask) (methods : List MethodSchema) (i : ℕ) (m : MethodSchema) (number first next : ℕ) (literals : List FixedLiteral)
-    (found new : List (ℕ × Instance)) (values : List (ℕ × List ℕ)) → i < length methods → m ≡ get_or methods i m → number ≡ i → All (IsFixed t m.precondition) literals
-    → found ≡ live_instances t (enumerate_from 0 (flat_map (λ p. instances_of_method t g p.0 p.1) (enumerate_from 0 (take i methods))))
+    (found new : List (Option ℕ × Instance)) (values : List (ℕ × List ℕ)) → i < length methods → m ≡ get_or methods i m → number ≡ i → All (IsFixed t m.precondition) literals
+    → found ≡ map counted (live_instances t (enumerate_from 0 (flat_map (λ p. instances_of_method t g p.0 p.1) (enumerate_from 0 (take i methods)))))
     → first ≡ length (flat_map (λ p. instances_of_method t g p.0 p.1) (enumerate_from 0 (take i methods)))
     → values ≡ live_from t.initial_atoms literals first (instances_for t g m)
-    → new ≡ found ++ live_instances t (numbered_instances t number m values)
+    → new ≡ found ++ map counted (live_instances t (numbered_instances t number m values))
     → next ≡ first + length (instances_for t g m)
-    → (new ≡ live_instances t (enumerate_from 0 (flat_map (λ p. instances_of_method t g p.0 p.1) (enumerate_from 0 (take (i + 1) methods)))))
+    → (new ≡ map counted (live_instances t (enumerate_from 0 (flat_map (λ p. instances_of_method t g p.0 p.1) (enumerate_from 0 (take (i + 1) methods))))))
     × (next ≡ length (flat_map (λ p. instances_of_method t g p.0 p.1) (enumerate_from 0 (take (i + 1) methods))))
-live_step t g methods i m number first next literals found new values below is named fixed so_far long made pushed counted =
+live_step t g methods i m number first next literals found new values below is named fixed so_far long made pushed summed =
     let piece : ℕ × MethodSchema → List Instance = λ (p : ℕ × MethodSchema). instances_of_method t g p.0 p.1 in
     let before = flat_map piece (enumerate_from 0 (take i methods)) in
     let whole : flat_map piece (enumerate_from 0 (take (i + 1) methods)) ≡ before ++ piece (i, m) = method_more piece methods i m below is in
     let size : length (before ++ piece (i, m)) ≡ length before + length (instances_for t g m) =
     length-append before (piece (i, m)) ∙ ap (λ n. length before + n) (length-map (instances_for t g m) (method_instance t i m)) in (
       pushed
-          ∙ (λ k. so_far k ++ live_instances t (numbered_instances t number m (made k)))
-          ∙ ap (λ l. live_instances t (enumerate_from 0 before) ++ l) (live_same t number m literals (ruled_out_dead t number m literals fixed) first (instances_for t g m))
-          ∙ ap (λ n. live_instances t (enumerate_from 0 before) ++ live_instances t (enumerate_from first (map (method_instance t n m) (instances_for t g m)))) named
-          ∙ sym (live_more t before (piece (i, m)) first long)
-          ∙ ap (λ l. live_instances t (enumerate_from 0 l)) (sym whole),
+          ∙ (λ k. so_far k ++ map counted (live_instances t (numbered_instances t number m (made k))))
+          ∙ ap (λ l. map counted (live_instances t (enumerate_from 0 before)) ++ map counted l)
+          (live_same t number m literals (ruled_out_dead t number m literals fixed) first (instances_for t g m)
+          ∙ ap (λ n. live_instances t (enumerate_from first (map (method_instance t n m) (instances_for t g m)))) named)
+          ∙ sym (map-append counted (live_instances t (enumerate_from 0 before)) (live_instances t (enumerate_from first (piece (i, m)))))
+          ∙ ap (map counted) (sym (live_more t before (piece (i, m)) first long) ∙ ap (λ l. live_instances t (enumerate_from 0 l)) (sym whole)),
       let total : length (flat_map piece (enumerate_from 0 (take (i + 1) methods))) ≡ length (before ++ piece (i, m)) = ap length whole in
-          counted ∙ ap (λ n. n + length (instances_for t g m)) long ∙ sym size ∙ sym total,
+          summed ∙ ap (λ n. n + length (instances_for t g m)) long ∙ sym size ∙ sym total,
     )

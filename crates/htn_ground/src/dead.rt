@@ -1,80 +1,29 @@
-//! What stays false for ever: literals that are false at first and whose predicate no effect names.
-ghost use Rattle.std.specs.Prelude.{◌≡◌, IfOk, nat_eq};
-ghost use Rattle.std.specs.List.{All, list_any};
+//! Dead instances, whose precondition step has a literal that no action can make true, and the static literals of
+//! preconditions.
+ghost use Rattle.std.specs.Prelude.{◌≡◌, IfOk};
+ghost use Rattle.std.specs.List.{All};
 ghost use Rattle.htn_model.specs.Exhaustion as model;
-ghost use Rattle.htn_model.specs.Grounding.{is_changed, problem_of};
-ghost use Rattle.htn_state.specs.Views.{literal_of, literals_of};
+ghost use Rattle.htn_model.specs.Grounding.{problem_of};
 ghost use Rattle.htn_ground.specs.Fixed.{IsFixed, schema_of};
 ghost use Rattle.htn_ground.specs.Views.{child_view};
 
 use crate::child::Child;
 use crate::fixed::FixedLiteral;
 use crate::instance::Instance;
-use htn_state::Literal;
 use htn_task::{AtomSchema, Formula, FormulaList, Task};
 use std::alloc::{AllocError, Global};
 
-/// Whether an atom has a predicate.
-fn names_predicate(atoms: &[AtomSchema], predicate: u16) -> bool
-    ensures { result ≡ list_any (λ e. nat_eq e.predicate predicate) atoms.now }
-{
-    for atom in atoms {
-        if atom.predicate() == predicate {
-            return true;
-        }
-    }
-    false
-}
-
-/// Whether an effect of an action names a predicate.
-fn is_changed(task: &Task, predicate: u16) -> bool
-    ensures { result ≡ is_changed task.now predicate }
-{
-    for action in task.actions() {
-        if names_predicate(action.deletes(), predicate)
-            || names_predicate(action.adds(), predicate)
-        {
-            return true;
-        }
-    }
-    false
-}
-
-/// Whether a literal is false at first and stays so.
-fn is_dead_literal(task: &Task, literal: &Literal) -> bool
-    ensures { result ≡ model.is_dead_literal (problem_of task.now) (literal_of literal.now) }
-{
-    let initial = task.initial_atoms();
-    match literal {
-        Literal::Positive(atom) | Literal::Negative(atom) => {
-            !is_changed(task, atom.predicate()) && !initial.literal_holds(literal)
-        }
-        Literal::Same(_, _) | Literal::Different(_, _) => !initial.literal_holds(literal),
-    }
-}
-
-fn has_dead_literal(task: &Task, literals: &[Literal]) -> bool
-    ensures { result ≡ list_any (model.is_dead_literal (problem_of task.now)) (literals_of literals.now) }
-{
-    for literal in literals {
-        if is_dead_literal(task, literal) {
-            return true;
-        }
-    }
-    false
-}
-
+/// Whether a node is a precondition step with a dead literal.
 fn is_dead_child(task: &Task, child: &Child) -> bool
     ensures { result ≡ model.is_dead_child (problem_of task.now) (child_view child.now) }
 {
     match child {
-        Child::Precondition(literals) => has_dead_literal(task, literals.as_slice()),
+        Child::Precondition(literals) => task.has_dead_literal(literals.as_slice()),
         Child::Action(_) | Child::Task(_) => false,
     }
 }
 
-/// Whether an instance can never be carried out: its precondition step has a literal that stays
-/// false.
+/// Whether an instance can never be carried out, as its precondition step has a dead literal.
 pub(crate) fn is_dead(task: &Task, instance: &Instance) -> bool
     ensures { result ≡ model.is_dead (problem_of task.now) instance.now.network }
 {
@@ -86,7 +35,7 @@ pub(crate) fn is_dead(task: &Task, instance: &Instance) -> bool
     false
 }
 
-/// A literal of a schema, with its terms.
+/// A literal over the terms of a schema.
 fn fixed_literal(
     alloc: Global,
     is_positive: bool,
@@ -102,7 +51,7 @@ fn fixed_literal(
     })
 }
 
-/// The literals of a precondition whose predicates no effect names.
+/// The static literals of a precondition.
 pub(crate) fn fixed_literals(
     alloc: Global,
     task: &Task,
@@ -113,7 +62,7 @@ pub(crate) fn fixed_literals(
     let mut literals = Vec::new(alloc);
     for formula in precondition.as_slice() {
         if let Formula::Literal(is_positive, atom) = formula {
-            if !is_changed(task, atom.predicate()) {
+            if !task.is_fluent(atom.predicate()) {
                 literals.push(fixed_literal(alloc, *is_positive, atom)?)?;
             }
         }

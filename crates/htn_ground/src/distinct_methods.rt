@@ -100,7 +100,7 @@ fn instances_in(alloc: Global, found: IndexSet<ByNetwork>) -> Result<Vec<Instanc
 
 /// The instances of a ground task's methods that are not dead, in the order of all, without each whose
 /// network an earlier one has: no plan is better for such a one. None is counted. An error means that
-/// memory was refused.
+/// memory was refused, or that the task has more than 65,536 methods, as no checked text has.
 pub fn distinct_live_methods_of(
     alloc: Global,
     task: &Task,

@@ -1,5 +1,5 @@
 //! The values of a schema's instances.
-ghost use Rattle.std.specs.Prelude.{◌&&◌, ◌≡◌, ◌+◌, Bool, IfOk, IfSome, IsTrue, List, length, map, nat_eq, true, ℕ};
+ghost use Rattle.std.specs.Prelude.{◌&&◌, ◌≡◌, ◌+◌, Bool, IfNone, IfOk, IfSome, IsTrue, List, length, map, nat_eq, slice_get, true, ℕ};
 ghost use Rattle.std.specs.List.{All, filter, list_all, list_any};
 ghost use Rattle.std.specs.List.Sorted.{IsStrictlySortedBy};
 ghost use Rattle.std.specs.Ordering.{nat_cmp};
@@ -17,6 +17,7 @@ ghost use Rattle.htn_ground.specs.Search as search;
 ghost use Rattle.htn_ground.specs.Search.{AreBound, AreLiteralsOf, live_from};
 ghost use Rattle.htn_ground.specs.Shown.{Ignores};
 
+use crate::at_number::assignment_at;
 use crate::conditions::{Conditions, Place};
 use crate::distinct::distinct_assignments;
 use crate::fixed::FixedLiteral;
@@ -361,6 +362,27 @@ pub(crate) fn live_values(
         first,
     )?;
     Ok(found)
+}
+
+/// The values of the instance of a number, in lexicographic order; none where the number is past them,
+/// and then it is that among what comes after them.
+pub(crate) fn values_at(
+    alloc: Global,
+    task: &Task,
+    conditions: &Conditions,
+    number: &mut u64,
+) -> Result<Option<ObjectList>, AllocError>
+    requires { AreBound conditions.now }
+    ensures found { IfOk result (λ o. o ≡ slice_get (model.instances task.now conditions.now) number.old) }
+    ensures past { IfOk result (λ o. IfNone o (number.old ≡ length (model.instances task.now conditions.now) + number.new)) }
+{
+    if !constants_hold(task, conditions) {
+        return Ok(None);
+    }
+    let lists = narrow_all(alloc, task, conditions)?;
+    let relations = relations_between(alloc, conditions.equalities())?;
+    let values = assignment_at(alloc, &lists, &relations, number)?;
+    Ok(values)
 }
 
 /// Values of a schema's instances, in lexicographic order: of those with one network at least the first,

@@ -1,6 +1,7 @@
 //! The instances of a planning task's schemas, in their order and with their numbers.
 #![tactic(auto)]
 
+mod at_number;
 mod by_network;
 mod candidates;
 mod child;
@@ -21,6 +22,7 @@ mod relation;
 mod search;
 mod shown;
 
+pub use at_number::{initial_at, instance_at};
 pub use child::{Child, ChildList};
 pub use conditions::{Conditions, Place, initial_conditions, method_conditions};
 pub use distinct_methods::{
@@ -31,7 +33,8 @@ pub use instance::Instance;
 pub use instances::is_instance;
 pub use literals::goal_literals;
 pub use methods::{
-    action_of, initial_instance, initials, live_methods_of, method_instance, methods_of,
+    action_of, counted_live_methods_of, initial_instance, initials, live_methods_of,
+    method_instance, methods_of,
 };
 pub use object_list::ObjectList;
 pub use shown::{is_hidden, shown_parameters};

@@ -4,7 +4,7 @@ ghost use Rattle.std.specs.List.{All, enumerate_from};
 ghost use Rattle.htn_model.specs.Instances as model;
 ghost use Rattle.htn_model.specs.Task.{IsMethodSchema};
 ghost use Rattle.htn_ground.specs.Fixed.{IsFixed};
-ghost use Rattle.htn_ground.specs.Counted.{fitted, fitting};
+ghost use Rattle.htn_ground.specs.Counted.{counted, fitted, fitting};
 ghost use Rattle.htn_ground.specs.Methods.{fits_task, instances_for, live_instances, numbered_instances};
 ghost use Rattle.htn_ground.specs.Search.{AreBound, AreLiteralsOf, live_from};
 
@@ -23,8 +23,9 @@ use htn_state::{Action, Atom, State};
 use htn_task::{ActionSchema, AtomSchema, FormulaList, MethodSchema, Task, TaskSchema};
 use std::alloc::{AllocError, Global};
 
-/// The number of what stands at a place of a list. Where it doesn't fit, so long a list could not be
-/// held either.
+/// The number of what stands at a place of a list. A task that is checked from texts has at most 65,535
+/// methods, so there each has one. The type of a `Task` doesn't keep that: where the place of a method is past
+/// 16 bits, the answer is want of memory although none was refused.
 pub(crate) fn number_at(place: usize) -> Result<u16, AllocError>
     ensures { IfOk result (λ n. n ≡ place) }
 {
@@ -142,7 +143,8 @@ fn push_instances(
 
 /// All instances of a ground task's methods: by the methods' declaration, and then by the values of
 /// their parameters in the order of the objects. An instance's number is its place in the list.
-/// An action has none.
+/// An action has none. An error means that memory was refused, or that the task has more than 65,536
+/// methods, as no checked text has.
 pub fn methods_of(
     alloc: Global,
     task: &Task,
@@ -159,41 +161,39 @@ pub fn methods_of(
     Ok(found)
 }
 
-/// Appends those instances of a method at numbered values that are not dead, with their numbers. An
-/// error is memory that was refused, or the number of such an instance that does not fit.
+/// Appends those instances of a method at numbered values that are not dead, with their numbers, so far
+/// as these fit.
 fn push_live_instances(
     alloc: Global,
     task: &Task,
     number: u16,
     method: &MethodSchema,
     values: Vec<(Option<u64>, ObjectList)>,
-    found: &mut Vec<(u64, Instance)>,
+    found: &mut Vec<(Option<u64>, Instance)>,
 ) -> Result<(), AllocError>
-    ensures { OnOk result ((xs : List (ℕ × List ℕ)) → values.items ≡ map fitted xs → found.new.items ≡ found.old.items ++ live_instances task.now (numbered_instances task.now number method.now xs)) }
+    ensures { OnOk result ((xs : List (ℕ × List ℕ)) → values.items ≡ map fitted xs
+        → found.new.items ≡ found.old.items ++ map counted (live_instances task.now (numbered_instances task.now number method.now xs))) }
 {
     for (rank, choice) in &values {
         let instance = method_instance(alloc, task, number, method, choice.clone()?)?;
         if is_dead(task, &instance) {
             continue;
         }
-        let Some(known) = *rank else {
-            return Err(AllocError);
-        };
-        found.push((known, instance))?;
+        found.push((*rank, instance))?;
     }
     Ok(())
 }
 
-/// The instances of a ground task's methods that are not dead, each with its number among all of
-/// them. An instance is dead if its precondition step has a literal that is false at first and whose
-/// predicate no effect names, or a false equality. An error means that memory was refused, or that the
-/// number of an instance that is not dead does not fit; those of dead ones need not.
-pub fn live_methods_of(
+/// The instances of a ground task's methods that are not dead, each with its number among all of them
+/// where that fits 64 bits. An instance is dead if its precondition step has a literal that is false at
+/// first and whose predicate no effect names, or a false equality. An error means that memory was refused,
+/// or that the task has more than 65,536 methods, as no checked text has.
+pub fn counted_live_methods_of(
     alloc: Global,
     task: &Task,
     goal: &GroundTask,
-) -> Result<Vec<(u64, Instance)>, AllocError>
-    ensures { IfOk result (λ v. v.items ≡ live_instances task.now (enumerate_from 0 (model.methods_of task.now goal.now))) }
+) -> Result<Vec<(Option<u64>, Instance)>, AllocError>
+    ensures { IfOk result (λ v. v.items ≡ map counted (live_instances task.now (enumerate_from 0 (model.methods_of task.now goal.now)))) }
 {
     let mut found = Vec::new(alloc);
     let mut first = Some(0);
@@ -203,6 +203,28 @@ pub fn live_methods_of(
         let (values, next) = values_for(alloc, task, goal, method, &literals, first)?;
         push_live_instances(alloc, task, number, method, values, &mut found)?;
         first = next;
+    }
+    Ok(found)
+}
+
+/// The instances of a ground task's methods that are not dead, each with its number among all of them.
+/// Each of these numbers has to fit. An error means that memory was refused, that the number of an instance
+/// that is not dead is past 64 bits (those of dead ones may be as great as they like), or that the task has
+/// more than 65,536 methods, as no checked text has.
+pub fn live_methods_of(
+    alloc: Global,
+    task: &Task,
+    goal: &GroundTask,
+) -> Result<Vec<(u64, Instance)>, AllocError>
+    ensures { IfOk result (λ v. v.items ≡ live_instances task.now (enumerate_from 0 (model.methods_of task.now goal.now))) }
+{
+    let live = counted_live_methods_of(alloc, task, goal)?;
+    let mut found = Vec::new(alloc);
+    for (number, instance) in live {
+        let Some(known) = number else {
+            return Err(AllocError);
+        };
+        found.push((known, instance))?;
     }
     Ok(found)
 }

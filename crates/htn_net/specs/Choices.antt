@@ -1,14 +1,13 @@
 -- What the program's choices are to the model.
-use Rattle.std.specs.Prelude.{◌≡◌, ℕ, List, Some, false, length, map, slice_get}
-use Rattle.std.specs.List.{range_with_len}
+use Rattle.std.specs.Prelude.{◌≡◌, ℕ, List, Some, false, map, slice_get}
 use Rattle.std.specs.Arc.{arc_value}
-use Rattle.htn_model.specs.Choice.{first_free_compound, child_of}
+use Rattle.htn_model.specs.Choice.{child_of}
 use Rattle.htn_model.specs.Grounding.{problem_of}
 use Rattle.htn_model.specs.Instance.{Instance}
 use Rattle.htn_model.specs.Instances.{methods_of}
 use Rattle.htn_model.specs.Machine as model
 use Rattle.htn_model.specs.Machine.{Config, no_network, choose}
-use Rattle.htn_model.specs.Problem.{GroundTask, Network, Problem, is_before, is_compound, task}
+use Rattle.htn_model.specs.Problem.{GroundTask, Network, Problem, is_compound, task}
 use Rattle.htn_model.specs.State.{State}
 use Rattle.htn_model.specs.Task.{Task}
 use Rattle.htn_net.specs.declared.choice.Change.{Change}

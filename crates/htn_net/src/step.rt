@@ -1,10 +1,8 @@
 //! The steps of a configuration.
-ghost use Rattle.std.specs.Prelude.{◌≡◌, ℕ, IfOk, IfSome, None, Some, slice_get};
+ghost use Rattle.std.specs.Prelude.{◌≡◌, ℕ, IfOk, IfSome, None, Some};
 ghost use Rattle.std.specs.Option.{option_map};
 ghost use Rattle.htn_model.specs.Choice.{first_free_compound};
 ghost use Rattle.htn_model.specs.Grounding.{problem_of};
-ghost use Rattle.htn_model.specs.Instance as instance;
-ghost use Rattle.htn_model.specs.Instances as model;
 ghost use Rattle.htn_model.specs.Machine as machine;
 ghost use Rattle.htn_model.specs.Problem.{is_before};
 ghost use Rattle.htn_net.specs.Choices.{IsChoice, IsNumberOf, chosen_of};
@@ -13,43 +11,9 @@ ghost use Rattle.htn_net.specs.Listed.{choose_listed, number_at};
 use crate::choice::{Change, Choice};
 use crate::config::Config;
 use crate::perform::perform;
-use htn_ground::{GroundTask, Instance, distinct_live_methods_of, live_methods_of, methods_of};
+use htn_ground::{distinct_live_methods_of, instance_at};
 use htn_task::Task;
 use std::alloc::{AllocError, Global};
-
-/// The place of a number among numbered instances.
-fn place_of(instances: &[(u64, Instance)], number: u64) -> Option<usize>
-    ensures { IfSome result (λ place. (i : instance.Instance) × (slice_get instances.now place ≡ Some (number, i))) }
-{
-    for (place, (other, _)) in instances.iter().enumerate() {
-        if *other == number {
-            return Some(place);
-        }
-    }
-    None
-}
-
-/// The instance of a ground task that has this number.
-fn instance_of(
-    alloc: Global,
-    task: &Task,
-    goal: &GroundTask,
-    number: u64,
-) -> Result<Option<Instance>, AllocError>
-    ensures { IfOk result (λ o. o ≡ slice_get (model.methods_of task.now goal.now) number) }
-{
-    // Instances that are not dead are found faster, and are all that a search takes.
-    let mut live = live_methods_of(alloc, task, goal)?;
-    if let Some(place) = place_of(&live, number) {
-        return Ok(Some(live.swap_remove(place).1));
-    }
-    let mut instances = methods_of(alloc, task, goal)?;
-    let place = number as usize;
-    if place >= instances.len() {
-        return Ok(None);
-    }
-    Ok(Some(instances.swap_remove(place)))
-}
 
 /// What a number chooses where no compound task is free: the position of an open node, and what becomes
 /// of it.
@@ -74,7 +38,7 @@ fn choose_free(
 
 impl Config {
     /// What a number chooses: the position of an open node, and what becomes of it; none where it is not
-    /// one that the configuration allows.
+    /// one that the configuration allows. No other instance is made, so their numbers need not fit 64 bits.
     pub fn choose(
         &self,
         alloc: Global,
@@ -87,7 +51,7 @@ impl Config {
         let Some((position, goal)) = self.first_free_task() else {
             return choose_free(alloc, task, self, number);
         };
-        let Some(instance) = instance_of(alloc, task, goal, number)? else {
+        let Some(instance) = instance_at(alloc, task, goal, number)? else {
             return Ok(None);
         };
         Ok(Some((position, Change::Decomposed(instance))))

@@ -23,7 +23,7 @@ pub(crate) enum Item<'a> {
     Compound(&'a GroundTask, &'a Instance, usize),
 }
 
-/// The children of a node, of which so many were taken.
+/// The children of a node, and how many of them were visited.
 #[derive(Drop)]
 pub(crate) struct Frame<'a> {
     children: &'a [Node],
@@ -41,7 +41,7 @@ fn place_of(alloc: Global, frames: &[Frame<'_>]) -> Result<Vec<usize>, AllocErro
     Ok(place)
 }
 
-/// Notes a node that was taken, and goes on with its children.
+/// Adds a node that was visited, and continues with its children.
 fn visit<'a>(
     alloc: Global,
     node: &'a Node,

@@ -1,4 +1,5 @@
-//! The line that tells a fault. It is the text of the fault's `Display`, of which a derived one has no clause.
+//! The line for each fault on the error output. It is the text of the fault's `Display`, which has no contract where it
+//! is derived.
 ghost use Rattle.plan_text.specs.Out.{Writes};
 ghost use Rattle.htn_run.specs.Lines.{at_line, check_line, fault_line, line_of_fault, place_text, plan_line, text_line};
 

@@ -78,7 +78,7 @@ pub fn words_of<V: Env>(alloc: Global, env: &V) -> Result<Vec<String>, ProcessFa
 }
 
 /// Flushes the output after a run with this status, and answers the status of the program. An answer that can't be
-/// flushed is status 5, with the line on the standard error. After any other run nothing is told a second time.
+/// flushed is status 5, with the line on the standard error. After any other run nothing more is written.
 pub fn flush<W: Write + Drop, E: Out>(status: u8, out: Sink<W>, err: &mut E) -> u8
     ensures kept { result ≡ status ⊎ (result ≡ 5) }
     ensures told { 2 ≤ status → result ≡ status }

@@ -23,10 +23,10 @@ pub trait Source {
     ghost use Rattle.htn_run.specs.Files.{File, MayFail, MayGive, Notes};
     ghost use Rattle.htn_run.specs.declared.source.ReadFault.TheVariants.{Unreadable};
 
-    /// What it has under each name, where it tells that.
+    /// What it has under each name, as far as the source's contract says.
     ghost files: { Self → List ℕ → File };
 
-    /// The names that were read so far, in order, where it tells them.
+    /// The names that were read so far, in order, or None where the source's contract does not say.
     ghost reads: { Self → Option (List (List ℕ)) };
 
     /// The first 16,777,217 bytes of a file, or all if it has fewer. A read changes no file.
@@ -37,7 +37,7 @@ pub trait Source {
         ensures noted { Notes (reads self.old) (reads self.new) (name.now ∷ []) };
 }
 
-/// The files of the system. What they hold, and which were read, is not told: no contract can say it.
+/// The files of the system. No contract can say what they hold, or which were read.
 #[derive(Drop)]
 pub struct Disk<'a, F: Files> {
     pub files: &'a F,

@@ -1,4 +1,4 @@
-//! The line that tells a verdict.
+//! The line for each verdict.
 ghost use Rattle.std.specs.Fmt.{decimal};
 ghost use Rattle.plan_text.specs.Out.{Writes};
 ghost use Rattle.htn_run.specs.Judgement.{fault_text, line_text, verdict_text};

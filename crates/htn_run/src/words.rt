@@ -36,8 +36,8 @@ use std::thread::Threads;
 /// | 5 | a file can't be read, or the output can't be written | one line |
 ///
 /// The files are read in the order of the words. Nothing is written to `out` before the answer is known. A write to
-/// `err` that fails changes no status. What the files hold is tied to the answer as far as the source tells it. No
-/// clause says what the texts of `clap` are.
+/// `err` that fails changes no status. The answer is tied to what the files hold as far as the source's contract says.
+/// No clause says what the texts of `clap` are.
 pub fn run_words<S: Source, O: Out, E: Out, R: Threads + Wait + Sync>(
     rt: &R,
     alloc: Global,

@@ -1,3 +1,4 @@
 pub mod Found
 pub mod Numbering
 pub mod Bodies
+pub mod Flags

@@ -1,6 +1,8 @@
 //! Checked planning tasks: what a domain and a problem declare, by numbers.
 #![tactic(auto)]
 
+mod dead;
+mod fluents;
 mod formula;
 mod name;
 mod numbers;

@@ -2,10 +2,13 @@
 ghost use Rattle.std.specs.Prelude.{◌≡◌, IfOk, MatchOption};
 ghost use Rattle.std.specs.List.Sorted.{IsStrictlySortedBy};
 ghost use Rattle.std.specs.Ordering.{nat_cmp};
+ghost use Rattle.htn_model.specs.Grounding.{is_changed};
 ghost use Rattle.htn_model.specs.Instances.{action_at};
 ghost use Rattle.htn_model.specs.Task.{IsWellTyped, is_compound, method_names, objects_of, predicate_names, predicate_types, task_names, task_types, type_names};
+ghost use Rattle.htn_task.specs.Fluents.{AreFluents};
 ghost use Rattle.htn_task.specs.Numbers.{number_of};
 
+use crate::fluents::fluents_of;
 use crate::formula::FormulaList;
 use crate::name::Name;
 use crate::schema::{ActionSchema, InitialSchema, MethodSchema};
@@ -137,11 +140,13 @@ impl Model for TaskParts {
 pub struct Task {
     parts: TaskParts,
     numbers: TaskNumbers,
+    fluents: Vec<bool>,
 }
 
 impl Model for Task {
     ghost use Rattle.htn_model.specs.Task as model;
     ghost use Rattle.htn_model.specs.TaskCode.{task_code};
+    ghost use Rattle.htn_task.specs.Fluents.{AreFluents};
     ghost use Rattle.htn_task.specs.TaskNumbers.{AreNumbersIn};
 
     ghost Value = { model.Task };
@@ -150,7 +155,7 @@ impl Model for Task {
 
     ghost view = { λ t. t.parts };
 
-    ghost invariant = { λ t. model.IsWellTyped t.parts × AreNumbersIn t.parts t.numbers };
+    ghost invariant = { λ t. model.IsWellTyped t.parts × AreNumbersIn t.parts t.numbers × AreFluents t.parts t.fluents.items };
 }
 
 impl Task {
@@ -160,7 +165,12 @@ impl Task {
         ensures { IfOk result (λ t. t ≡ parts) }
     {
         let numbers = TaskNumbers::of(alloc, &parts)?;
-        Ok(Task { parts, numbers })
+        let fluents = fluents_of(alloc, &parts)?;
+        Ok(Task {
+            parts,
+            numbers,
+            fluents,
+        })
     }
 
     /// The objects' names, by first declaration.
@@ -251,6 +261,23 @@ impl Task {
             Some(declared) => declared.types(),
             None => &[],
         }
+    }
+
+    /// Whether an effect of some action names the predicate, so that its atoms may change. Takes constant time.
+    pub fn is_fluent(&self, predicate: u16) -> bool
+        ensures { result ≡ is_changed self.now predicate }
+    {
+        self.fluents
+            .get(predicate as usize)
+            .copied()
+            .unwrap_or(false)
+    }
+
+    /// Whether each predicate is fluent, by number. The list ends with the last fluent predicate.
+    pub fn fluents(&self) -> &[bool]
+        ensures { AreFluents self.now result.now }
+    {
+        self.fluents.as_slice()
     }
 
     /// Whether a number is that of a compound task.

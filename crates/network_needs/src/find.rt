@@ -112,7 +112,7 @@ fn set_all(marks: &mut [u64]) -> bool {
 impl Search {
     /// The nodes of all instances have numbers.
     fn new(alloc: Global, task: &Task, found: &Enumeration) -> Result<Search, AllocError> {
-        let mut leaves = Leaves::new(alloc, task)?;
+        let mut leaves = Leaves::new(alloc);
         let mut nodes = Vec::new(alloc);
         for listed in found.instances() {
             let mut numbers = Vec::new(alloc);

@@ -232,35 +232,4 @@ impl NetworkTable {
         self.remember(job.network, expansion);
         Ok(())
     }
-
-    /// Finds what becomes of a network, unless that is known, where these are the instances that
-    /// are listed for its first free compound task, if there is one.
-    pub fn expand(
-        &mut self,
-        alloc: Global,
-        number: u32,
-        instances: &[Network],
-    ) -> Result<(), AllocError>
-        requires whole { IsWhole self.old }
-        requires known { Knows self.old number }
-        requires within { All (IsWithin (children self.old)) instances.now }
-        ensures whole { OnOk result (IsWhole self.new) }
-        ensures grown { OnOk result (IsGrown self.old self.new) }
-        ensures ready { OnOk result (IsSome (expansion_at self.new number)) }
-        ensures sound { OnOk result ((live : Live) → AreInstances live self.old number instances.now
-            → IsSound live self.old → IsSound live self.new) }
-        // nothing else is found
-        ensures others { OnOk result ((n : ℕ) → (n ≡ number → ⊥)
-            → expansion_at self.new n ≡ expansion_at self.old n) }
-        // no node gets a number
-        ensures children { OnOk result (self.new.children ≡ self.old.children) }
-    {
-        self.expand_job(
-            alloc,
-            Job {
-                network: number,
-                instances,
-            },
-        )
-    }
 }

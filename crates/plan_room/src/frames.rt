@@ -52,7 +52,7 @@ pub(crate) struct Frame<'a> {
     best: Option<usize>,
     /// A gap before which none of all can have finished.
     least: usize,
-    /// How far the next one is tried, if that is kept.
+    /// How far the next one was tried, if that was stored.
     work: Option<Box<Work>>,
 }
 
@@ -292,7 +292,7 @@ fn network_of<'n>(networks: &'n CowSlice<'_, Instance>, number: usize) -> &'n In
     &networks[number]
 }
 
-/// The work that is kept of a network, if any is.
+/// The stored work on a network, if there is some.
 fn kept_work(work: &mut Option<Box<Work>>) -> Option<Work>
     ensures work { result ≡ unboxed work.old }
     ensures none { work.new ≡ None }
@@ -303,7 +303,7 @@ fn kept_work(work: &mut Option<Box<Work>>) -> Option<Work>
     }
 }
 
-/// Work to be kept, unless it is begun anew as fast: that among few children, each of which has its place.
+/// Work that is worth storing: all but that among few children that all have their places, which is redone as fast.
 fn work_to_keep(alloc: Global, work: Option<Work>) -> Result<Option<Box<Work>>, AllocError>
     ensures { IfOk result (λ kept. MatchOption (unboxed kept) ⊤ (λ w. work ≡ Some w)) }
 {

@@ -265,7 +265,7 @@ fn best_exchange(
     best
 }
 
-/// Exchanges children until none is out of order, or for so many rounds: min-conflicts (Minton et al.,
+/// Exchanges children until none is out of order, or for a limited number of rounds: min-conflicts (Minton et al.,
 /// 1992) with a tabu list (Glover, 1989). A linear congruential generator chooses where to begin.
 fn improve(alloc: Global, seats: &[Seat], spans: &mut [Span]) -> Result<(), AllocError> {
     let size = spans.len();

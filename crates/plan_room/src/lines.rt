@@ -37,7 +37,7 @@ pub trait PlanLines {
     fn roots(&self) -> &[usize]
         ensures { result.now ≡ (lines self.now).roots };
 
-    /// The instances of a decomposition line that may fit: a list that is kept, or one that is made at each call.
+    /// The instances of a decomposition line that may fit: a stored list, or one that is made at each call.
     fn instances(&self, line: usize) -> Result<CowSlice<'_, Instance>, AllocError>
         requires { IsDecompositionLine (lines self.now) line }
         ensures { IfOk result (λ v. AreCandidates (lines self.now) (IsNetworkOf (lines self.now) line) ((lines self.now).children line) (networks_of (cow_slice_items v))) };

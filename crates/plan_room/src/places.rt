@@ -79,7 +79,7 @@ impl<'a> Places<'a> {
         self.first.get(&TaskKey { task }).copied()
     }
 
-    /// Notes the place of a task, and tells the one that was noted before.
+    /// Stores the place of a task; the answer is the one that was stored before.
     pub(crate) fn note(
         &mut self,
         task: &'a GroundTask,

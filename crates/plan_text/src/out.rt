@@ -7,7 +7,7 @@ pub trait Out {
     ghost use Rattle.std.specs.Prelude.{◌≡◌, ◌≤◌, ◌<◌, ℕ, Bool, true, false, List, Option, length, take, IfSome, IfNone};
     ghost use Rattle.std.specs.Io.KnownBytes.{Keeps, Appends};
 
-    /// The bytes that it took so far, where it tells them.
+    /// The bytes that it took so far, or None where the output's contract does not say.
     ghost contents: { Self → Option (List ℕ) };
 
     /// Whether it has failed. It then takes no more bytes.

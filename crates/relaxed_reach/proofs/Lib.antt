@@ -3,4 +3,3 @@ pub mod Factual
 pub mod Lasting
 pub mod Examples
 pub mod Checked
-pub mod Marks

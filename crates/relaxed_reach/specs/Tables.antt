@@ -8,13 +8,13 @@ use Rattle.relaxed_reach.specs.Reach.{Reach}
 use Rattle.relaxed_reach.specs.declared.facts.FactSets.{FactSets}
 use Rattle.relaxed_reach.specs.declared.reach.RelaxedReach.{RelaxedReach}
 
--- the atoms of a predicate are told apart
-abbrev pub is_told : FactSets → ℕ → Bool
-is_told f predicate = get_or f.told.items predicate false
+-- whether a predicate is one of those whose atoms the facts list
+abbrev pub is_fluent : FactSets → ℕ → Bool
+is_fluent f predicate = get_or f.fluents.items predicate false
 
--- the facts by two sets of atoms; of a predicate that isn't told all may be true, and none has to be
+-- the facts by two sets of atoms; each atom of a static predicate may be true, and none has to be
 abbrev pub facts_of : FactSets → Facts
-facts_of f = record { may_hold = λ a. not (is_told f a.predicate) || contains f.possible a; lasting = f.lasting }
+facts_of f = record { may_hold = λ a. not (is_fluent f a.predicate) || contains f.possible a; lasting = f.lasting }
 
 -- whether a node is known: each step is, and the actions and tasks of the sets
 abbrev pub knows : RelaxedReach → Child → Bool

@@ -1,4 +1,4 @@
-//! Whether what is reached is right.
+//! The checks that what was found is right.
 ghost use Rattle.std.specs.Prelude.{◌≡◌, true, false, Some, All, IfOk, IsTrue};
 ghost use Rattle.htn_model.specs.Instances.{initials};
 ghost use Rattle.htn_model.specs.Literal as model;
@@ -18,7 +18,7 @@ use htn_task::Task;
 use std::alloc::{AllocError, Global};
 use tree_sizes::Enumeration;
 
-/// Whether the instances of a task are listed.
+/// Whether the instances of a compound task are listed.
 fn is_expanded(found: &Enumeration, goal: &GroundTask) -> bool
     ensures { IsTrue result → IsExpanded found.now goal.now }
 {
@@ -28,7 +28,7 @@ fn is_expanded(found: &Enumeration, goal: &GroundTask) -> bool
     }
 }
 
-/// Whether the instances of each of some tasks are listed.
+/// Whether the instances of all of the compound tasks are listed.
 pub(crate) fn are_expanded(found: &Enumeration, goals: &[GroundTask]) -> bool
     ensures { IsTrue result → All (IsExpanded found.now) goals.now }
 {
@@ -41,7 +41,7 @@ pub(crate) fn are_expanded(found: &Enumeration, goals: &[GroundTask]) -> bool
 }
 
 impl RelaxedReach {
-    /// Whether an instance of the initial network has a barred node, or all its nodes are known.
+    /// Whether an initial network has a barred node, or all its nodes are known.
     fn is_start_known(&self, instance: &Instance) -> bool
         ensures { IsTrue result → IsStartKnown self.now instance.now }
     {
@@ -49,7 +49,7 @@ impl RelaxedReach {
         self.has_barred(children) || self.are_known(children)
     }
 
-    /// Whether that is so of each initial network.
+    /// Whether each initial network has a barred node, or all its nodes are known.
     pub(crate) fn are_starts_known(&self, alloc: Global, task: &Task) -> Result<bool, AllocError>
         ensures { IfOk result (λ b. IsTrue b → All (IsStartKnown self.now) (distinct (initials task.now))) }
     {
@@ -62,7 +62,7 @@ impl RelaxedReach {
         Ok(true)
     }
 
-    /// Whether the effects of an action are among the facts, if it has an instance.
+    /// Whether the facts allow the effects of an action. One that no objects satisfy has none.
     fn has_effects_of(&self, action: &Option<Action>) -> bool
         ensures { IsTrue result → (a : model.Action) → action.now ≡ Some a → has_effects (facts_of self.now.facts) a ≡ true }
     {
@@ -72,7 +72,7 @@ impl RelaxedReach {
         }
     }
 
-    /// Whether an action needs a literal that never holds, if it has an instance.
+    /// Whether the facts rule out an action's precondition. One that no objects satisfy is never carried out.
     fn is_impossible(&self, action: &Option<Action>) -> bool
         ensures { IsTrue result → (a : model.Action) → action.now ≡ Some a
             → are_possible (facts_of self.now.facts) a.precondition ≡ false }
@@ -83,7 +83,7 @@ impl RelaxedReach {
         }
     }
 
-    /// Whether the effects of an action are among the facts, unless it never ends.
+    /// Whether an action is blocked, or the facts allow its effects.
     fn are_effects_right(
         &self,
         alloc: Global,
@@ -106,7 +106,7 @@ impl RelaxedReach {
         }
     }
 
-    /// Whether that is so of each of some actions.
+    /// Whether each of the actions is blocked, or the facts allow its effects.
     pub(crate) fn are_all_effects_right(
         &self,
         alloc: Global,
@@ -126,7 +126,7 @@ impl RelaxedReach {
         Ok(true)
     }
 
-    /// Whether an action needs a literal that never holds.
+    /// Whether an action is rightly blocked: the facts rule out its precondition.
     fn is_blocked_right(
         &self,
         alloc: Global,
@@ -146,7 +146,7 @@ impl RelaxedReach {
         }
     }
 
-    /// Whether each of some actions does.
+    /// Whether all of the actions are rightly blocked.
     pub(crate) fn are_blocked_right(
         &self,
         alloc: Global,
@@ -166,7 +166,8 @@ impl RelaxedReach {
         Ok(true)
     }
 
-    /// Whether the nodes of an instance are such as its task says.
+    /// Whether an instance bears out what is marked of its task: all its nodes are known if the task is, and one of them
+    /// is blocked if the task is.
     fn passes(&self, goal: &GroundTask, children: &[Child]) -> bool
         ensures { result ≡ passes (reach_of self.now) goal.now (children_of children.now) }
     {
@@ -174,7 +175,7 @@ impl RelaxedReach {
             && (!self.tasks.blocked.contains(goal) || self.has_blocked(children))
     }
 
-    /// Whether that is so of each instance that was listed.
+    /// Whether each listed instance bears out what is marked of its task.
     pub(crate) fn are_instances_right(&self, found: &Enumeration) -> bool
         ensures { IsTrue result → AreInstancesRight self.now found.now }
     {

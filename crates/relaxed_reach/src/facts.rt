@@ -1,24 +1,24 @@
-//! Which atoms may become true, and which may become false.
+//! The facts of relaxed reachability: which atoms may become true, and which may become false.
 ghost use Rattle.std.specs.Prelude.{◌≡◌, ◌||◌};
 ghost use Rattle.std.specs.List.{list_all};
 ghost use Rattle.htn_model.specs.State.{contains};
 ghost use Rattle.htn_state.specs.Views.{literal_of, literals_of};
 ghost use Rattle.relaxed_reach.specs.Facts.{are_possible, has_effects, is_possible, is_within, may_fail};
-ghost use Rattle.relaxed_reach.specs.Tables.{facts_of, is_told};
+ghost use Rattle.relaxed_reach.specs.Tables.{facts_of, is_fluent};
 
 use htn_state::{Action, Atom, Literal, State};
 
-/// The atoms that may become true, and those that are true from the start on and never become false.
+/// The fluent atoms that may become true, and those that are true in each reachable state.
 #[derive(Drop)]
 pub(crate) struct FactSets {
-    /// By predicate, whether its atoms are told apart. Nothing is said of the others: a static literal that never holds
-    /// makes the instance of its step dead, or its action barred, and that is known without these sets.
-    pub(crate) told: Vec<bool>,
+    /// Whether each predicate is fluent. A static atom counts as one that may hold: a static precondition that is false
+    /// makes the instance of its step dead, or its action barred, without these sets.
+    pub(crate) fluents: Vec<bool>,
     pub(crate) possible: State,
     pub(crate) lasting: State,
 }
 
-/// Whether a state has each of some atoms.
+/// Whether all of the atoms are true in a state.
 fn has_all(state: &State, atoms: &[Atom]) -> bool
     ensures { result ≡ list_all (contains state.now) atoms.now }
 {
@@ -31,21 +31,23 @@ fn has_all(state: &State, atoms: &[Atom]) -> bool
 }
 
 impl FactSets {
-    /// Whether the atoms of a predicate are told apart.
-    fn is_told(&self, predicate: u16) -> bool
-        ensures { result ≡ is_told self.now predicate }
+    fn is_fluent(&self, predicate: u16) -> bool
+        ensures { result ≡ is_fluent self.now predicate }
     {
-        self.told.get(predicate as usize).copied().unwrap_or(false)
+        self.fluents
+            .get(predicate as usize)
+            .copied()
+            .unwrap_or(false)
     }
 
     /// Whether an atom may become true.
     fn may_hold(&self, atom: &Atom) -> bool
         ensures { result ≡ (facts_of self.now).may_hold atom.now }
     {
-        !self.is_told(atom.predicate()) || self.possible.contains(atom)
+        !self.is_fluent(atom.predicate()) || self.possible.contains(atom)
     }
 
-    /// Whether each of some atoms may.
+    /// Whether all of the atoms may become true, each on its own.
     fn may_all_hold(&self, atoms: &[Atom]) -> bool
         ensures { result ≡ list_all (facts_of self.now).may_hold atoms.now }
     {
@@ -69,7 +71,7 @@ impl FactSets {
         }
     }
 
-    /// Whether each of some literals may become true.
+    /// Whether all of the literals may become true, each on its own.
     pub(crate) fn are_possible(&self, literals: &[Literal]) -> bool
         ensures { result ≡ are_possible (facts_of self.now) (literals_of literals.now) }
     {
@@ -81,14 +83,14 @@ impl FactSets {
         true
     }
 
-    /// Whether a state is made of these facts.
+    /// Whether the facts allow a state: each of its atoms may be true, and it has all that never become false.
     pub(crate) fn is_within(&self, state: &State) -> bool
         ensures { result ≡ is_within (facts_of self.now) state.now }
     {
         self.may_all_hold(state.atoms()) && has_all(state, self.lasting.atoms())
     }
 
-    /// Whether an action may delete each of some atoms: it may become false, or the action adds it again.
+    /// Whether the facts allow an action to delete the atoms: each may become false, or the action adds it again.
     fn may_delete_all(&self, action: &Action, atoms: &[Atom]) -> bool
         ensures { result
             ≡ list_all (λ x. may_fail (facts_of self.now) x || contains action.now.adds x) atoms.now }
@@ -101,7 +103,7 @@ impl FactSets {
         true
     }
 
-    /// Whether the effects of an action are among these facts.
+    /// Whether the facts allow all effects of an action.
     pub(crate) fn has_effects(&self, action: &Action) -> bool
         ensures { result ≡ has_effects (facts_of self.now) action.now }
     {

@@ -1,9 +1,9 @@
-//! Which actions may be carried out, and what becomes possible by them: a worklist with a count of what each action
-//! still lacks, as Hoffmann and Nebel compute relaxed plans (The FF planning system, 2001), but for false atoms as well
-//! as for true ones. Nothing is promised of it: whoever uses it checks it.
+//! Which actions are reachable in the delete relaxation, and which literals their effects make reachable: a worklist
+//! with a count of the preconditions that each action still lacks, as Hoffmann and Nebel compute relaxed plans (The FF
+//! planning system, 2001), but for negative literals as well as for positive ones. The result has no contract, since
+//! [`RelaxedReach::of`] checks it.
 
 use crate::facts::FactSets;
-use crate::fluents::fluent_predicates;
 use crate::reach::Marks;
 use htn_ground::{Child, GroundTask, action_of, distinct_initials};
 use htn_state::{Action, Atom, Literal, State};
@@ -13,31 +13,29 @@ use std::alloc::{AllocError, Global};
 use std::mem;
 use tree_sizes::Enumeration;
 
-/// An action that was met.
+/// A ground action of the worklist.
 #[derive(Drop)]
 struct Met {
-    /// How many of its literals aren't possible so far.
+    /// The number of its preconditions that are not yet reachable.
     missing: u32,
-    /// The literals that become possible by it.
+    /// Its effects, by the numbers of literals.
     effects: Vec<u32>,
 }
 
-/// Actions and literals by number, and what is possible so far.
+/// The worklist: ground actions and literals by number, and which literals are reachable so far.
 #[derive(Drop)]
 pub(crate) struct Actions {
-    /// By predicate, whether some effect names it.
-    fluents: Vec<bool>,
     goals: IndexSet<GroundTask>,
     met: Vec<Met>,
     literals: IndexSet<Literal>,
     possible: Vec<bool>,
-    /// By literal, the actions that lack it.
+    /// For each literal, the actions that have it as a precondition and were added before it became reachable.
     uses: Vec<Vec<u32>>,
-    /// Actions that lack nothing, whose effects aren't possible yet.
+    /// Reachable actions whose effects have not been added yet.
     ready: Vec<u32>,
 }
 
-/// The atoms that another state doesn't have.
+/// The atoms of a state that are not among the atoms of another one.
 fn lasting(alloc: Global, initial: &[Atom], failing: &State) -> Result<State, AllocError> {
     let mut atoms = Vec::new(alloc);
     for atom in initial {
@@ -48,11 +46,30 @@ fn lasting(alloc: Global, initial: &[Atom], failing: &State) -> Result<State, Al
     State::of(alloc, &atoms)
 }
 
+/// Whether the atom of a literal is static. Static literals are taken as reachable here: an instance or an action with
+/// one that is false is dead or barred already.
+fn is_static(task: &Task, literal: &Literal) -> bool {
+    match literal {
+        Literal::Positive(atom) | Literal::Negative(atom) => !task.is_fluent(atom.predicate()),
+        Literal::Same(_, _) | Literal::Different(_, _) => false,
+    }
+}
+
+/// The fluent atoms of the initial state.
+fn initial_fluents(alloc: Global, task: &Task) -> Result<Vec<Atom>, AllocError> {
+    let mut atoms = Vec::new(alloc);
+    for atom in task.initial_atoms().atoms() {
+        if task.is_fluent(atom.predicate()) {
+            atoms.push(atom.clone()?)?;
+        }
+    }
+    Ok(atoms)
+}
+
 impl Actions {
-    /// None was met.
-    fn new(alloc: Global, fluents: Vec<bool>) -> Actions {
+    /// An empty worklist.
+    fn new(alloc: Global) -> Actions {
         Actions {
-            fluents,
             goals: IndexSet::new(alloc),
             met: Vec::new(alloc),
             literals: IndexSet::new(alloc),
@@ -62,28 +79,12 @@ impl Actions {
         }
     }
 
-    /// Whether an atom is one that may change.
-    fn is_fluent(&self, atom: &Atom) -> bool {
-        self.fluents
-            .get(atom.predicate() as usize)
-            .copied()
-            .unwrap_or(false)
-    }
-
-    /// Whether a literal speaks of an atom that never changes. Nothing is told of it here.
-    fn is_static(&self, literal: &Literal) -> bool {
-        match literal {
-            Literal::Positive(atom) | Literal::Negative(atom) => !self.is_fluent(atom),
-            Literal::Same(_, _) | Literal::Different(_, _) => false,
-        }
-    }
-
-    /// Whether the literal of a number is possible so far.
+    /// Whether the literal of a number is reachable so far.
     fn is_reached(&self, number: usize) -> bool {
         self.possible.get(number).copied().unwrap_or(false)
     }
 
-    /// The number of a literal, which it may get only now. It is possible if it holds at first.
+    /// The number of a literal, which is added if it has none yet. It is reachable if it holds in the initial state.
     fn number(&mut self, alloc: Global, task: &Task, literal: Literal) -> Result<u32, AllocError> {
         let holds = task.initial_atoms().literal_holds(&literal);
         let (place, is_new) = self.literals.insert_full(literal)?;
@@ -94,7 +95,7 @@ impl Actions {
         u32::try_from(place).map_err(|_| AllocError)
     }
 
-    /// How many of the literals that an action needs aren't possible; it is noted at each of them.
+    /// Counts the preconditions of an action that are not yet reachable, and adds the action to the uses of each.
     fn missing_of(
         &mut self,
         alloc: Global,
@@ -104,7 +105,7 @@ impl Actions {
     ) -> Result<u32, AllocError> {
         let mut missing = 0u32;
         for literal in literals {
-            if self.is_static(literal) {
+            if is_static(task, literal) {
                 continue;
             }
             let number = self.number(alloc, task, literal.clone()?)? as usize;
@@ -119,7 +120,7 @@ impl Actions {
         Ok(missing)
     }
 
-    /// The literals that become possible by an action.
+    /// The numbers of an action's effects. An atom that is deleted and added is true afterwards.
     fn effects_of(
         &mut self,
         alloc: Global,
@@ -140,7 +141,7 @@ impl Actions {
         Ok(effects)
     }
 
-    /// What an action lacks, and what becomes possible by it. One without an instance lacks what never comes.
+    /// The entry of an action. One that no objects satisfy lacks a literal for ever.
     fn met_by(
         &mut self,
         alloc: Global,
@@ -160,7 +161,7 @@ impl Actions {
         }
     }
 
-    /// Takes in an action that wasn't met before.
+    /// Adds the entry of an action that is new to the worklist.
     fn take_in(
         &mut self,
         alloc: Global,
@@ -183,7 +184,7 @@ impl Actions {
         Ok(())
     }
 
-    /// Takes in the actions among some nodes.
+    /// Adds the actions among the nodes of a network.
     fn meet(
         &mut self,
         alloc: Global,
@@ -206,7 +207,7 @@ impl Actions {
         Ok(())
     }
 
-    /// An action lacks one literal less.
+    /// Counts one precondition of an action as reachable.
     fn supply(&mut self, action: u32) -> Result<(), AllocError> {
         let Some(met) = self.met.get_mut(action as usize) else {
             return Ok(());
@@ -219,7 +220,7 @@ impl Actions {
         Ok(())
     }
 
-    /// A literal is possible.
+    /// Makes a literal reachable, if it is not so already.
     fn reach(&mut self, alloc: Global, literal: u32) -> Result<(), AllocError> {
         let Some(possible) = self.possible.get_mut(literal as usize) else {
             return Ok(());
@@ -238,7 +239,7 @@ impl Actions {
         Ok(())
     }
 
-    /// All that is possible is so. No action is ready twice.
+    /// Works through the list until no literal becomes reachable. Each action enters it at most once.
     fn run(&mut self, alloc: Global) -> Result<(), AllocError> {
         for _ in 0..self.goals.len() {
             let Some(action) = self.ready.pop() else {
@@ -255,7 +256,7 @@ impl Actions {
         Ok(())
     }
 
-    /// Whether an action lacks nothing.
+    /// Whether an action is reachable.
     pub(crate) fn is_possible(&self, goal: &GroundTask) -> bool {
         match self.goals.get_index_of(goal) {
             Some(number) => match self.met.get(number) {
@@ -266,20 +267,9 @@ impl Actions {
         }
     }
 
-    /// The fluent atoms that are true at first.
-    fn first_atoms(&self, alloc: Global, task: &Task) -> Result<Vec<Atom>, AllocError> {
-        let mut atoms = Vec::new(alloc);
-        for atom in task.initial_atoms().atoms() {
-            if self.is_fluent(atom) {
-                atoms.push(atom.clone()?)?;
-            }
-        }
-        Ok(atoms)
-    }
-
-    /// The atoms that may become true, and those that are true and stay so.
+    /// The fluent atoms that may become true, and those that are true at first and never become false.
     pub(crate) fn facts(&self, alloc: Global, task: &Task) -> Result<FactSets, AllocError> {
-        let first = self.first_atoms(alloc, task)?;
+        let first = initial_fluents(alloc, task)?;
         let mut rising = Vec::from_clones(alloc, first.as_slice())?;
         let mut failing = Vec::new(alloc);
         for (number, literal) in self.literals.as_slice().iter().enumerate() {
@@ -294,13 +284,13 @@ impl Actions {
         }
         let failing = State::of(alloc, &failing)?;
         Ok(FactSets {
-            told: Vec::from_clones(alloc, self.fluents.as_slice())?,
+            fluents: Vec::from_slice(alloc, task.fluents())?,
             possible: State::of(alloc, &rising)?,
             lasting: lasting(alloc, first.as_slice(), &failing)?,
         })
     }
 
-    /// The actions, and those that lack something.
+    /// All actions of the worklist, and those that are unreachable.
     pub(crate) fn marks(&self, alloc: Global) -> Result<Marks, AllocError> {
         let mut marks = Marks::none(alloc);
         for goal in self.goals.as_slice() {
@@ -313,14 +303,13 @@ impl Actions {
     }
 }
 
-/// The actions of the initial networks and of enumerated instances, and what is possible by them.
+/// The actions of the initial networks and of the listed instances, with the literals that they make reachable.
 pub(crate) fn find_actions(
     alloc: Global,
     task: &Task,
     found: &Enumeration,
 ) -> Result<Actions, AllocError> {
-    let fluents = fluent_predicates(alloc, task)?;
-    let mut actions = Actions::new(alloc, fluents);
+    let mut actions = Actions::new(alloc);
     for initial in &distinct_initials(alloc, task)? {
         actions.meet(alloc, task, found, initial.children().as_slice())?;
     }

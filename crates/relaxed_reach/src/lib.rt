@@ -1,11 +1,11 @@
-//! Relaxed reachability: what may become true, and what never ends by that.
+//! Relaxed reachability: which literals may become true in the delete relaxation, and which nodes never end by that.
 //!
-//! Each fact is on its own: an action whose literals all may be true makes its effects possible, and what becomes false
-//! may still be true. An action or a step that needs what is never so is never carried out, and a compound task each of
-//! whose instances has such a node never ends ([`reach_stays`]). What a search keeps in mind is one invariant of its
-//! own configurations; then their nodes alone tell whether they may end ([`reached_stays`]). [`RelaxedReach`] is what
-//! is reached from the initial state of a task by the nodes of its enumerated instances. How it is found is not proved:
-//! it is checked. It tells fluent atoms apart alone ([`fluent_predicates`]).
+//! Each fact is on its own: an action whose preconditions may all be true makes its effects possible, and an atom that
+//! becomes false may still be true. An action or a precondition step with an impossible literal is never carried out,
+//! and a compound task each of whose instances has such a node never ends ([`reach_stays`]). In a reachable
+//! configuration its nodes alone decide whether it may end ([`reached_stays`]). [`RelaxedReach`] is what is reached from
+//! the initial state of a task by the nodes of its listed instances. How it is found is not proved: it is checked. Only
+//! fluent atoms are listed.
 #![tactic(auto)]
 
 mod check;

@@ -148,10 +148,6 @@ impl Machine for Counter {
         Ok(initials)
     }
 
-    fn prepare(&self, _tables: &mut Tallies, _at: Numbered) -> Result<(), AllocError> {
-        Ok(())
-    }
-
     fn prepare_all<R: Threads + Sync>(
         &self,
         _rt: &R,

@@ -106,12 +106,6 @@ impl<'a> Machine for TaskMachine<'a> {
         Ok(initials)
     }
 
-    fn prepare(&self, tables: &mut Tables, at: Configuration) -> Result<(), AllocError> {
-        tables.prepare(self.alloc, self.task, &self.sizes, at.network)?;
-        tables.prepare_needs(self.alloc, &self.prospects)?;
-        Ok(())
-    }
-
     fn prepare_all<R: Threads + Sync>(
         &self,
         rt: &R,

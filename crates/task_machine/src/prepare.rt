@@ -16,7 +16,6 @@ ghost use Rattle.task_machine.specs.Tables.{AreExpanded, AreLater, AreTables, Is
 use crate::configuration::Configuration;
 use crate::instances::{configurations_of, instances_of, number_networks};
 use crate::listing::{Listing, sources_of};
-use crate::performer::prepare_performers;
 use crate::slots::{is_taken, put};
 use crate::tables::Tables;
 use htn_ground::distinct_initials;
@@ -100,65 +99,6 @@ impl Tables {
         let networks = number_networks(alloc, &mut self.networks, sizes, &found)?;
         let sources = sources_of(alloc, &found)?;
         put(&mut self.instances, node, Listing { networks, sources })?;
-        Ok(())
-    }
-
-    /// Finds what becomes of the network of a number, of which that is not known.
-    fn expand(
-        &mut self,
-        alloc: Global,
-        task: &Task,
-        sizes: &TreeSizes,
-        network: u32,
-    ) -> Result<(), AllocError>
-        requires own { AreTables task.now self.old }
-        requires sized { HasSizes sizes.now self.old.networks }
-        requires known { Knows self.old.networks network }
-        ensures expanded { OnOk result (AreExpanded task.now self.new (network ∷ [])) }
-        ensures sized { OnOk result (HasSizes sizes.now self.new.networks) }
-        ensures later { OnOk result (AreLater self.old self.new) }
-        ensures needs { OnOk result (self.new.needs ≡ self.old.needs) }
-        ensures ready { OnOk result (IsSome (expansion_at self.new.networks network)) }
-    {
-        let Some(node) = first_task(&self.networks, network) else {
-            self.networks.expand(alloc, network, &[])?;
-            return Ok(());
-        };
-        self.prepare_instances(alloc, task, sizes, node)?;
-        let instances = listed(&self.instances, node);
-        self.networks.expand(alloc, network, instances)?;
-        Ok(())
-    }
-
-    /// Sees that it is known what becomes of the network of a number, and what the nodes do that go.
-    pub(crate) fn prepare(
-        &mut self,
-        alloc: Global,
-        task: &Task,
-        sizes: &TreeSizes,
-        network: u32,
-    ) -> Result<(), AllocError>
-        requires own { AreTables task.now self.old }
-        requires sized { HasSizes sizes.now self.old.networks }
-        requires known { Knows self.old.networks network }
-        ensures owned { OnOk result (AreTables task.now self.new) }
-        ensures sized { OnOk result (HasSizes sizes.now self.new.networks) }
-        ensures later { OnOk result (AreLater self.old self.new) }
-        ensures needs { OnOk result (self.new.needs ≡ self.old.needs) }
-        ensures ready { OnOk result (IsSome (expansion_at self.new.networks network)) }
-    {
-        if self.networks.expansion(network).is_some() {
-            return Ok(());
-        }
-        self.expand(alloc, task, sizes, network)?;
-        prepare_performers(
-            alloc,
-            task,
-            &mut self.atoms,
-            &self.networks,
-            &mut self.performers,
-            network,
-        )?;
         Ok(())
     }
 

@@ -1,4 +1,4 @@
-//! Tests of words, texts, names, checks, plan texts, forests and command lines.
+//! Tests of words, texts, places, names, checks, plan texts, forests and command lines.
 #![tactic(auto)]
 
 #[cfg(test)]
@@ -11,6 +11,8 @@ mod first_faults;
 mod forests;
 #[cfg(test)]
 mod names;
+#[cfg(test)]
+mod places;
 #[cfg(test)]
 mod plan_texts;
 #[cfg(test)]

@@ -1,72 +1,23 @@
 //! Actions that are never carried out.
-ghost use Rattle.std.specs.Prelude.{◌≡◌, [], IfOk, IsTrue, OnOk, true, nat_eq};
-ghost use Rattle.std.specs.List.{list_any};
-ghost use Rattle.htn_model.specs.Exhaustion as model;
-ghost use Rattle.htn_model.specs.Grounding.{is_changed, problem_of};
-ghost use Rattle.htn_state.specs.Views.{literal_of, literals_of};
+ghost use Rattle.std.specs.Prelude.{◌≡◌, [], IfOk, IsTrue, OnOk, true};
+ghost use Rattle.htn_model.specs.Grounding.{problem_of};
 ghost use Rattle.htn_ground.specs.Views.{children_of};
 ghost use Rattle.tree_sizes.specs.Measure.{is_barred_by};
 ghost use Rattle.htn_model.specs.Task as tasks;
 ghost use Rattle.tree_sizes.specs.Numbers.{AreBarred, AreGround, HasBarred, IsGrown, is_among};
 
 use htn_ground::{Child, GroundTask, action_of};
-use htn_state::{Action, Literal};
-use htn_task::{AtomSchema, Task};
+use htn_state::Action;
+use htn_task::Task;
 use indexmap::{IndexMap, IndexSet};
 use std::alloc::{AllocError, Global};
-
-/// Whether an atom has a predicate.
-fn names_predicate(atoms: &[AtomSchema], predicate: u16) -> bool
-    ensures { result ≡ list_any (λ e. nat_eq e.predicate predicate) atoms.now }
-{
-    atoms.iter().any(|atom| atom.predicate() == predicate)
-}
-
-/// Whether an effect of an action names a predicate.
-fn is_changed(task: &Task, predicate: u16) -> bool
-    ensures { result ≡ is_changed task.now predicate }
-{
-    for action in task.actions() {
-        if names_predicate(action.deletes(), predicate)
-            || names_predicate(action.adds(), predicate)
-        {
-            return true;
-        }
-    }
-    false
-}
-
-/// Whether a literal is false at first and stays so.
-fn is_dead_literal(task: &Task, literal: &Literal) -> bool
-    ensures { result ≡ model.is_dead_literal (problem_of task.now) (literal_of literal.now) }
-{
-    let initial = task.initial_atoms();
-    match literal {
-        Literal::Positive(atom) | Literal::Negative(atom) => {
-            !is_changed(task, atom.predicate()) && !initial.literal_holds(literal)
-        }
-        Literal::Same(_, _) | Literal::Different(_, _) => !initial.literal_holds(literal),
-    }
-}
-
-/// Whether one of some literals is false at first and stays so.
-fn has_dead_literal(task: &Task, literals: &[Literal]) -> bool
-    ensures { result ≡ list_any (model.is_dead_literal (problem_of task.now)) (literals_of literals.now) }
-{
-    for literal in literals {
-        if is_dead_literal(task, literal) {
-            return true;
-        }
-    }
-    false
-}
 
 /// Whether an action is never carried out: it has no instance, or one that needs a literal that stays false.
 fn is_barred(task: &Task, action: &Option<Action>) -> bool
     ensures { result ≡ is_barred_by (problem_of task.now) action.now }
 {
     match action {
-        Some(action) => has_dead_literal(task, action.precondition.as_slice()),
+        Some(action) => task.has_dead_literal(action.precondition.as_slice()),
         None => true,
     }
 }

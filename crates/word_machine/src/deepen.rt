@@ -70,7 +70,7 @@ fn none_or_unsolvable<M: Machine, G: Gate, R: Threads + Wait + Sync>(
     ensures no_thread { IfErr result (λ e. e ≡ NoThread → 1 < bounds.workers) }
 {
     let bound = bounds.nodes;
-    if dive(alloc, machine, tables, initials, closed, least, bound)? {
+    if dive(rt, alloc, machine, tables, initials, closed, least, bound)? {
         return Ok(Some(Found::None));
     }
     let initials = machine.initials(tables)?;

@@ -14,6 +14,7 @@ use indexmap::IndexSet;
 use std::alloc::{AllocError, Global};
 use std::collections::BinaryHeap;
 use std::hash::Hash;
+use std::thread::Threads;
 
 // A dive that succeeds mostly needs some hundreds of configurations. It gives up once it has this number, and half as
 // many as the search before it.
@@ -165,7 +166,8 @@ fn keep_all<M: Machine>(
 
 // Adds the successors of a configuration that are not in the closed list of the search before. If one of them is done
 // they are not listed, and none is added.
-fn expand<M: Machine>(
+fn expand<M: Machine, R: Threads + Sync>(
+    rt: &R,
     alloc: Global,
     machine: &M,
     tables: &mut M::Tables,
@@ -185,7 +187,9 @@ fn expand<M: Machine>(
         (IsVisited (M.words machine.now) (M.belongs machine.now) (M.meaning machine.now tables.new))
         frontier.new.kept.keys) }
 {
-    machine.prepare(tables, from)?;
+    let mut at = Vec::new(alloc);
+    at.push(from)?;
+    machine.prepare_all(rt, tables, at.as_slice(), 1)?;
     let horizon = Horizon {
         measure: Measure::LowerBound,
         most_left: None,
@@ -199,7 +203,8 @@ fn expand<M: Machine>(
 
 /// Whether a configuration was found that no word reaches with its steps and its open nodes within the bound. The dive
 /// starts at the parents of configurations that a search pruned, expands the greatest extent first, and may give up.
-pub fn dive<M: Machine>(
+pub fn dive<M: Machine, R: Threads + Sync>(
+    rt: &R,
     alloc: Global,
     machine: &M,
     tables: &mut M::Tables,
@@ -229,7 +234,16 @@ pub fn dive<M: Machine>(
         if frontier.kept.len() >= most_kept {
             return Ok(false);
         }
-        expand(alloc, machine, tables, &mut frontier, closed, from, least)?;
+        expand(
+            rt,
+            alloc,
+            machine,
+            tables,
+            &mut frontier,
+            closed,
+            from,
+            least,
+        )?;
     }
     Ok(false)
 }

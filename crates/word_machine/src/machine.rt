@@ -58,16 +58,6 @@ pub trait Machine: Sync {
         ensures known { IfOk result (λ initials. All (meaning self.now tables.new).knows initials.items) }
         ensures initials { IfOk result (λ initials. map (meaning self.now tables.new).point initials.items ≡ (words self.now).initials) };
 
-    /// Prepares the tables for the steps at this configuration.
-    fn prepare(&self, tables: &mut Self::Tables, at: Self::Configuration) -> Result<(), AllocError>
-        requires own { owns self.now tables.old }
-        requires known { (meaning self.now tables.old).knows at }
-        requires belongs { belongs self.now ((meaning self.now tables.old).point at) }
-        ensures owned { OnOk result (owns self.now tables.new) }
-        ensures grown { OnOk result (IsGrown (meaning self.now tables.old) (meaning self.now tables.new)) }
-        ensures ready { OnOk result (is_ready self.now tables.new at) }
-        ensures kept { OnOk result ((c : Self.Configuration) → is_ready self.now tables.old c → is_ready self.now tables.new c) };
-
     /// Prepares the tables for the steps at these configurations, by at most `workers` workers.
     fn prepare_all<R: Threads + Sync>(
         &self,

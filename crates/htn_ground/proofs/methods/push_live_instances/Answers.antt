@@ -25,7 +25,7 @@ loop-rank-preserved c =
     let p = c.loop-rank-item.result in
     let made : c.in_ok-instance.instance ≡ method_instance t number m p.1 = c.in_ok-instance.ensures ∙ ap (method_instance t number m) c.in_ok-clone.ensures.cases in
     λ xs are.
-    live_kept t number m c.deref-rank-items.result.now xs c.loop-rank.rank-index p c.in-Some.known c.args.found.now.items c.loop-rank.found.items c.push.new.self.items
+    live_kept t number m c.deref-rank-items.result.now xs c.loop-rank.rank-index p c.args.found.now.items c.loop-rank.found.items c.push.new.self.items
     c.loop-rank-test.true c.loop-rank-item.is are
-    (sym (c.if-is_dead.ensures ∙ ap (λ (i : Instance). is_dead (problem_of t) i.network) made)) (sym c.in-Some.is) (c.loop-rank.invariant xs are)
-    (c.in_ok-push.ensures.items ∙ ap (λ (i : Instance). c.loop-rank.found.items ++ (c.in-Some.known, i) ∷ []) made)
+    (sym (c.if-is_dead.ensures ∙ ap (λ (i : Instance). is_dead (problem_of t) i.network) made)) (c.loop-rank.invariant xs are)
+    (c.in_ok-push.ensures.items ∙ ap (λ (i : Instance). c.loop-rank.found.items ++ (p.0, i) ∷ []) made)

@@ -1,5 +1,6 @@
-use Rattle.std.proofs.Common.{◌≡◌, ◌++◌, ap, ◌∙◌, sym, subst, All, None}
+use Rattle.std.proofs.Common.{◌≡◌, ◌∷◌, ◌++◌, [], ap, ◌∙◌, rules, sym, subst, All, None}
 use Rattle.std.proofs.lemmas.Option.{MatchOption-at_none}
+use Rattle.std.proofs.lemmas.List.Elements.{All-head}
 use Rattle.word_machine.specs.declared.closed.Measured.{Measured}
 use Rattle.word_machine.specs.declared.closed.Successor.{Successor}
 use Rattle.word_machine.specs.Machine.{IsLawful}
@@ -25,12 +26,12 @@ no_end = record { measure = LowerBound; most_left = None }
 pub keep_all-requires-clause-kept : goal.keep_all-requires-clause-kept
 keep_all-requires-clause-kept g c = λ _ _.
     let machine = c.args.machine.now in
-    all_visited_still (g.M.Machine.words machine) (g.M.Machine.belongs machine) (g.M.Machine.meaning machine c.args.tables.now) (g.M.Machine.meaning machine c.prepare.new.tables)
-    c.in_ok-prepare.ensures.grown c.args.frontier.now.kept.keys c.requires.kept
+    all_visited_still (g.M.Machine.words machine) (g.M.Machine.belongs machine) (g.M.Machine.meaning machine c.args.tables.now) (g.M.Machine.meaning machine c.prepare_all.new.tables)
+    c.in_ok-prepare_all.ensures.grown c.args.frontier.now.kept.keys c.requires.kept
 
 pub keep_all-requires-clause-allowed : goal.keep_all-requires-clause-allowed
 keep_all-requires-clause-allowed g c = λ _ _.
-    let new = g.M.Machine.meaning c.args.machine.now c.prepare.new.tables in
+    let new = g.M.Machine.meaning c.args.machine.now c.prepare_all.new.tables in
     let listed = MatchOption-at_none _ _ c.in-None.is c.in_ok-expand.ensures.whole in
     let all : c.expand.new.successors.items ≡ listed.0 = listed.1 ∙ ap (λ l. l ++ listed.0) c.new-successors.ensures.items in
     subst (All (λ (s : Measured g.row.M-Reached.Denot). new.allows s.successor.configuration)) (sym all)
@@ -42,10 +43,10 @@ keep_all-requires-clause-belongs g c = λ _ _.
     let machine = c.args.machine.now in
     let m = g.M.Machine.words machine in
     let belongs = g.M.Machine.belongs machine in
-    let new = g.M.Machine.meaning machine c.prepare.new.tables in
+    let new = g.M.Machine.meaning machine c.prepare_all.new.tables in
     let listed = MatchOption-at_none _ _ c.in-None.is c.in_ok-expand.ensures.whole in
     let all : c.expand.new.successors.items ≡ listed.0 = listed.1 ∙ ap (λ l. l ++ listed.0) c.new-successors.ensures.items in
-    let from = visited_still m belongs (g.M.Machine.meaning machine c.args.tables.now) new c.in_ok-prepare.ensures.grown c.args.from c.requires.from in
+    let from = visited_still m belongs (g.M.Machine.meaning machine c.args.tables.now) new c.in_ok-prepare_all.ensures.grown c.args.from c.requires.from in
     subst (All (λ (s : Measured g.row.M-Reached.Denot). belongs (new.point_of s.successor.configuration))) (sym all)
     (all_of_map (λ (s : Measured g.row.M-Reached.Denot). s.successor)
     (λ (s : Successor g.row.M-Reached.Denot). belongs (new.point_of s.configuration)) listed.0
@@ -57,25 +58,31 @@ keep_all-requires-clause-reached g c = λ _ _.
     let machine = c.args.machine.now in
     let m = g.M.Machine.words machine in
     let belongs = g.M.Machine.belongs machine in
-    let new = g.M.Machine.meaning machine c.prepare.new.tables in
+    let new = g.M.Machine.meaning machine c.prepare_all.new.tables in
     let listed = MatchOption-at_none _ _ c.in-None.is c.in_ok-expand.ensures.whole in
     let all : c.expand.new.successors.items ≡ listed.0 = listed.1 ∙ ap (λ l. l ++ listed.0) c.new-successors.ensures.items in
-    let from = visited_still m belongs (g.M.Machine.meaning machine c.args.tables.now) new c.in_ok-prepare.ensures.grown c.args.from c.requires.from in
+    let from = visited_still m belongs (g.M.Machine.meaning machine c.args.tables.now) new c.in_ok-prepare_all.ensures.grown c.args.from c.requires.from in
     subst (All (λ (s : Measured g.row.M-Reached.Denot). IsReached m (new.point_of s.successor.configuration))) (sym all)
     (all_of_map (λ (s : Measured g.row.M-Reached.Denot). s.successor)
     (λ (s : Successor g.row.M-Reached.Denot). IsReached m (new.point_of s.configuration)) listed.0
     (successors_reached m belongs (laws g machine) new (IsBeyond m (g.M.Machine.estimate machine) no_end) 0 c.args.from
     (successors_of listed.0) from listed.2).1)
 
-pub returns-in-Some-clause-kept : goal.returns-in-Some-clause-kept
-returns-in-Some-clause-kept g c =
+pub returns-clause-kept : goal.returns-clause-kept
+returns-clause-kept g c =
     let machine = c.args.machine.now in
-    all_visited_still (g.M.Machine.words machine) (g.M.Machine.belongs machine) (g.M.Machine.meaning machine c.args.tables.now) (g.M.Machine.meaning machine c.prepare.new.tables)
-    c.in_ok-prepare.ensures.grown c.args.frontier.now.kept.keys c.requires.kept
+    all_visited_still (g.M.Machine.words machine) (g.M.Machine.belongs machine) (g.M.Machine.meaning machine c.args.tables.now) (g.M.Machine.meaning machine c.prepare_all.new.tables)
+    c.in_ok-prepare_all.ensures.grown c.args.frontier.now.kept.keys c.requires.kept
 
 pub returns-in-None-clause-grown : goal.returns-in-None-clause-grown
 returns-in-None-clause-grown g c =
     let machine = c.args.machine.now in
     on_ok_weaker c.keep_all.result
-    (grown_more (g.M.Machine.meaning machine c.args.tables.now) (g.M.Machine.meaning machine c.prepare.new.tables) (g.M.Machine.meaning machine c.keep_all.new.tables)
-    c.in_ok-prepare.ensures.grown) c.keep_all.ensures.grown
+    (grown_more (g.M.Machine.meaning machine c.args.tables.now) (g.M.Machine.meaning machine c.prepare_all.new.tables) (g.M.Machine.meaning machine c.keep_all.new.tables)
+    c.in_ok-prepare_all.ensures.grown) c.keep_all.ensures.grown
+
+pub expand-requires-clause-ready : goal.expand-requires-clause-ready
+expand-requires-clause-ready g c =
+    let ready = g.M.Machine.is_ready c.args.machine.now c.prepare_all.new.tables in
+    let one : c.as_slice.result.now ≡ c.args.from ∷ [] = search rules in
+    All-head ready c.args.from [] (subst (All ready) one c.in_ok-prepare_all.ensures.ready)

@@ -1,0 +1,4 @@
+pub mod Ink
+pub mod Parts
+pub mod Written
+pub mod Tame

@@ -1,0 +1,103 @@
+-- Diagnostics, and reports of many, as they are written.
+use Rattle.std.specs.Prelude.{ℕ, zero, suc, ◌+◌, ◌-◌, ◌==◌, Bool, false, nat_lt, if◌then◌else◌, List, [], ◌∷◌, ◌++◌, length, take, min, map, count_by, codes}
+use Rattle.std.specs.List.{flat_map}
+use Rattle.std.specs.Fmt.{decimal}
+use Rattle.diagnostics.specs.declared.diagnostic.Where.{Where}
+use Rattle.diagnostics.specs.declared.diagnostic.Where.TheVariants.{Text, Place}
+use Rattle.diagnostics.specs.declared.diagnostic.Spot.{Spot}
+use Rattle.diagnostics.specs.declared.diagnostic.Severity.{Severity}
+use Rattle.diagnostics.specs.declared.diagnostic.Severity.TheVariants as severity
+use Rattle.diagnostics.specs.declared.diagnostic.Diagnostic.{Diagnostic}
+use Rattle.diagnostics.specs.declared.diagnostic.Group.{Group}
+use Rattle.diagnostics.specs.declared.diagnostic.Part.{Part}
+use Rattle.std.specs.declared.alloc.Global.{Global}
+use Rattle.std.specs.declared.vec.Vec.{Vec}
+use Rattle.diagnostics.specs.declared.ink.Style.{Style}
+use Rattle.diagnostics.specs.declared.ink.Style.TheVariants as style
+use Rattle.diagnostics.specs.Ink.{Ink, written, opened, closed, said, named, ended, styled}
+use Rattle.diagnostics.specs.Parts.{message_inks, place_inks, snippet_inks, remark_inks, note_inks}
+
+-- the name of a text, or a place
+abbrev pub where_inks : Where → List Ink
+where_inks (Text source) = named source.now.name.now
+where_inks (Place spot) = place_inks spot
+
+-- the word for a severity
+abbrev pub severity_word : Severity → List ℕ
+severity_word severity.Error = codes "error: "
+severity_word severity.Warning = codes "warning: "
+
+-- the style of a severity
+abbrev pub severity_style : Severity → Style
+severity_style severity.Error = style.Error
+severity_style severity.Warning = style.Warning
+
+-- the code in brackets
+abbrev pub code_inks : List ℕ → List Ink
+code_inks code = opened style.Dim ++ said (codes " [") ++ said code ++ said (codes "]") ++ closed
+
+-- `FILE:LINE:COLUMN: error: `
+abbrev pub start_inks : Diagnostic → List Ink
+start_inks d = opened style.Bold ++ where_inks d.about ++ said (codes ": ") ++ closed ++ styled (severity_style d.severity) (severity_word d.severity)
+
+-- `FILE:LINE:COLUMN: error: MESSAGE [Code]`
+abbrev pub head_inks : Diagnostic → List Ink
+head_inks d = start_inks d ++ opened style.Bold ++ message_inks d.message.items ++ closed ++ code_inks d.code.now ++ ended
+
+-- the line of the place, if there is a place
+abbrev pub shown_inks : Diagnostic → List Ink
+shown_inks d = elim d.about [ Text source ↦ [] | Place spot ↦ snippet_inks spot (severity_style d.severity) d.label.items ]
+
+-- a place after a comma
+abbrev pub comma_inks : Spot → List Ink
+comma_inks spot = said (codes ", ") ++ place_inks spot
+
+-- how many places are left, if any
+abbrev pub rest_inks : ℕ → List Ink
+rest_inks zero = []
+rest_inks (suc n) = said (codes ", ") ++ said (decimal (suc n)) ++ said (codes " more")
+
+-- the further places, of which four are written
+abbrev pub also_inks : List Spot → List Ink
+also_inks [] = []
+also_inks (spot ∷ spots) =
+    styled style.Rule (codes "      = ") ++ styled style.Note (codes "also at ") ++ place_inks spot
+    ++ flat_map comma_inks (take 3 spots) ++ rest_inks (length spots - 3) ++ ended
+
+-- a diagnostic, and the further places of which the same is said, with an empty line after them
+abbrev pub group_inks : Group → List Ink
+group_inks g =
+    let d = g.first.now in
+    head_inks d ++ shown_inks d ++ flat_map remark_inks d.remarks.items ++ flat_map note_inks d.notes.items ++ also_inks g.also.items ++ ended
+
+-- ---- reports
+
+-- how many groups of a list are written, where at most so many are, and 0 is all
+abbrev pub shown_count : ℕ → ℕ → ℕ
+shown_count zero len = len
+shown_count (suc n) len = min (suc n) len
+
+-- how many are left, if any
+abbrev pub cut_inks : ℕ → List Ink
+cut_inks zero = []
+cut_inks (suc n) = said (codes "and ") ++ said (decimal (suc n)) ++ said (codes " more: --limit 0 shows all") ++ ended
+
+-- a line that is handed in
+abbrev pub summary_inks : Vec Part Global → List Ink
+summary_inks line = message_inks line.items ++ ended
+
+-- `no errors`, `1 error`, `2 errors`
+abbrev pub count_inks : Style → ℕ → List ℕ → List Ink
+count_inks s zero word = said (codes "no ") ++ said word ++ said (codes "s")
+count_inks s (suc zero) word = opened s ++ said (codes "1 ") ++ said word ++ closed
+count_inks s (suc (suc n)) word = opened s ++ said (decimal (suc (suc n))) ++ said (codes " ") ++ said word ++ said (codes "s") ++ closed
+
+-- the last line
+abbrev pub counts_inks : ℕ → ℕ → List Ink
+counts_inks errors warnings = count_inks style.Error errors (codes "error") ++ said (codes ", ") ++ count_inks style.Warning warnings (codes "warning") ++ ended
+
+-- a report of groups: those that are shown, how many are left, the lines that are handed in, and the counts
+abbrev pub groups_inks : List Group → List (Vec Part Global) → ℕ → ℕ → ℕ → List Ink
+groups_inks groups summary limit errors warnings =
+    let count = shown_count limit (length groups) in
+    flat_map group_inks (take count groups) ++ cut_inks (length groups - count) ++ flat_map summary_inks summary ++ counts_inks errors warnings

@@ -1,0 +1,3 @@
+pub mod Feeds
+pub mod Ends
+pub mod Parts

@@ -1,0 +1,16 @@
+//! Laws of places and of shown lines.
+
+ghost use Rattle.std.specs.Prelude.{◌≡◌, ℕ, ◌≤◌, ◌<◌, List, length};
+ghost use Rattle.text_places.specs.Places.{position};
+ghost use Rattle.text_places.specs.Shown.{excerpt, StandsBelow};
+
+/// Two places of a text have two positions. So the place at a place's position is that place.
+pub fn positions_differ()
+    ensures { (text : List ℕ) (place other : ℕ) → place ≤ length text → other ≤ length text → position text place ≡ position text other → place ≡ other }
+{}
+
+/// Below a row stand a tab below each tab and a blank below each other byte, up to the place; and the row goes on with
+/// the bytes from the place on.
+pub fn carets_stand_below()
+    ensures { (text : List ℕ) (place : ℕ) → place ≤ length text → StandsBelow text place (excerpt text place) }
+{}
