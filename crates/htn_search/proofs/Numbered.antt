@@ -1,7 +1,7 @@
 -- The numbers of instances and of ranks.
-use Rattle.std.proofs.Common.{◌≡◌, ℕ, zero, suc, ◌+◌, Bool, true, false, true≢false, not, cond, List, [], ◌∷◌, filter, get_or, slice_get, All, Some, inl, inr, refl, sym, ap, ◌∙◌, subst, arith, option_and_then, unwrap_or}
+use Rattle.std.proofs.Common.{◌≡◌, ℕ, zero, suc, ◌+◌, Bool, true, false, true≢false, not, cond, List, [], ◌∷◌, filter, get_or, map, slice_get, All, Option, Some, inl, inr, refl, sym, ap, ◌∙◌, subst, arith, option_and_then, option_map, unwrap_or}
 use Rattle.std.specs.List.{enumerate_from}
-use Rattle.std.proofs.lemmas.Option.{none-some, same_Some, slice_get_within, get_or_from_slice_get}
+use Rattle.std.proofs.lemmas.Option.{none-some, same_Some, slice_get-map, slice_get_within, get_or_from_slice_get}
 use Rattle.htn_model.specs.Choice.{child_of}
 use Rattle.htn_model.specs.Equality.{instance_eq-decides}
 use Rattle.htn_model.specs.Exhaustion.{is_dead}
@@ -15,6 +15,9 @@ use Rattle.htn_model.proofs.Steps.{chosen}
 use Rattle.word_machine.specs.Machine.{IsStep}
 use Rattle.htn_answer.specs.Fewer.{numbers_from}
 use Rattle.htn_answer.specs.Machine.{machine_of}
+use Rattle.htn_answer.proofs.Words.{slice_get-map_back}
+use Rattle.htn_ground.specs.Counted.{counted}
+use Rattle.htn_ground.proofs.Fitting.{fitting_some}
 use Rattle.htn_net.specs.Choices.{IsChosen, IsNumberOf, chosen_of, network_of}
 use Rattle.htn_net.specs.declared.choice.Change.{Change}
 use Rattle.htn_net.specs.declared.choice.Change.TheVariants.{Decomposed}
@@ -53,24 +56,27 @@ met xs n x at none =
     let is : get_or xs n x ≡ x = get_or_from_slice_get xs n x x at in
     true≢false (sym ((instance_eq-decides (get_or xs n x) x).1 is) ∙ none n x inside)
 
-module _ (t : Task) (g : GroundTask) (live : List (ℕ × Instance)) (all : live ≡ live_methods t g) where
-  -- instances that are not dead are listed with their numbers
-  pub live_number : (k : ℕ) (p : ℕ × Instance) → slice_get live k ≡ Some p → slice_get (methods_of t g) p.0 ≡ Some p.1
-  live_number k p at =
-      let found = numbered_at (λ (x : ℕ × Instance). not (is_dead (problem_of t) x.1.network)) 0 (methods_of t g) k p (ap (λ l. slice_get l k) (sym all) ∙ at) in
-      let same = found.1 in
-      let number : found.0 ≡ p.0 = omega arith in
-      ap (slice_get (methods_of t g)) (sym number) ∙ found.2
+module _ (t : Task) (g : GroundTask) (live : List (Option ℕ × Instance)) (all : live ≡ map counted (live_methods t g)) where
+  -- instances that are not dead are listed with their numbers, so far as these fit
+  pub live_number : (k : ℕ) (p : Option ℕ × Instance) → slice_get live k ≡ Some p → (n : ℕ) → p.0 ≡ Some n → slice_get (methods_of t g) n ≡ Some p.1
+  live_number k p at n fits =
+      let q = slice_get-map_back counted (live_methods t g) k p (ap (λ l. slice_get l k) (sym all) ∙ at) in
+      let found = numbered_at (λ (x : ℕ × Instance). not (is_dead (problem_of t) x.1.network)) 0 (methods_of t g) k q.0 q.1 in
+      let same : n ≡ q.0.0 = fitting_some n q.0.0 (sym (ap (λ (x : Option ℕ × Instance). x.0) q.2 ∙ fits)) in
+      let stands = found.1 in
+      let number : found.0 ≡ n = omega arith in
+      ap (slice_get (methods_of t g)) (sym number) ∙ found.2 ∙ ap (λ (x : Option ℕ × Instance). Some x.1) q.2
 
   -- and all of them are
   pub live_met : (i : Instance) (n : ℕ) → slice_get (methods_of t g) n ≡ Some i → is_dead (problem_of t) i.network ≡ false
-      → All (λ (p : ℕ × Instance). instance_eq p.1 i ≡ false) live → ⊥
+      → All (λ (p : Option ℕ × Instance). instance_eq p.1 i ≡ false) live → ⊥
   live_met i n at alive none =
       let f = kept (λ (x : Instance). not (is_dead (problem_of t) x.network)) 0 (methods_of t g) n i at (ap not alive) in
       let k = at-In (live_methods t g) f.0 f.1 in
-      let stands : slice_get live k.0 ≡ Some f.0 = ap (λ l. slice_get l k.0) all ∙ k.1 in
-      let is : (get_or live k.0 f.0).1 ≡ i = ap (λ (p : ℕ × Instance). p.1) (get_or_from_slice_get live k.0 f.0 f.0 stands) ∙ f.2 in
-      true≢false (sym ((instance_eq-decides (get_or live k.0 f.0).1 i).1 is) ∙ none k.0 f.0 (slice_get_within live k.0 f.0 stands))
+      let p : Option ℕ × Instance = counted f.0 in
+      let stands : slice_get live k.0 ≡ Some p = ap (λ l. slice_get l k.0) all ∙ slice_get-map counted (live_methods t g) k.0 ∙ ap (option_map counted) k.1 in
+      let is : (get_or live k.0 p).1 ≡ i = ap (λ (x : Option ℕ × Instance). x.1) (get_or_from_slice_get live k.0 p p stands) ∙ f.2 in
+      true≢false (sym ((instance_eq-decides (get_or live k.0 p).1 i).1 is) ∙ none k.0 p (slice_get_within live k.0 p stands))
 
 -- ## The number of a rank
 

@@ -1,16 +1,11 @@
 -- The solution that a walk along a finishing word has recorded.
-use Rattle.std.proofs.Common.{◌≡◌, ℕ, List, [], ◌∷◌, length, get_or, ◌<◌, Some, slice_get, sym, ap, ap₂, ◌∙◌, subst}
+use Rattle.std.proofs.Common.{◌≡◌, ℕ, List, [], ◌∷◌, length, Some, slice_get, sym, ap, ap₂, ◌∙◌, subst}
 use Rattle.std.proofs.lemmas.List.{append-nil}
-use Rattle.std.proofs.lemmas.Option.{same_Some, slice_get_within, get_or_from_slice_get}
-use Rattle.htn_model.specs.Grounding.{problem_of}
-use Rattle.htn_model.specs.Instance.{Instance}
-use Rattle.htn_model.specs.Instances.{initials}
+use Rattle.std.proofs.lemmas.Option.{same_Some}
 use Rattle.htn_model.specs.Problem.{Network, Problem, IsGrounded}
-use Rattle.htn_model.specs.Task.{Task}
-use Rattle.htn_answer.proofs.Words.{slice_get-map_back}
 use Rattle.htn_model.specs.Tree.{Place, Solution, IsSolution, nodes_of}
 use Rattle.htn_model.specs.Code.{IsCode}
-use Rattle.htn_model.specs.Machine.{Config, start, FinishesFrom, Finishes}
+use Rattle.htn_model.specs.Machine.{Config, start, Finishes}
 use Rattle.htn_model.proofs.Regrown.{rebuild}
 use Rattle.htn_model.proofs.Rebuild.{route}
 use Rattle.htn_model.proofs.OneToOne.{one_to_one, rebuilds, rebuilt_solution}
@@ -42,26 +37,4 @@ solved numbering problem grounded number numbers h network is first roots f r c 
       code = subst (λ r. IsCode problem r (number ∷ numbers)) (sym whole) own.1;
       only = λ other solves code.
           (one_to_one problem grounded).one_solution other (rebuilt_solution problem h.0 number numbers) (number ∷ numbers) solves own.0 code own.1 ∙ sym whole;
-    }
-
--- the instance of a finishing word's first number
-pub record IsBegun (t : Task) (number : ℕ) (numbers : List ℕ) (instance : Instance) : Type 0 where
-  pub within : number < length (initials t)
-  pub stands : get_or (initials t) number instance ≡ instance
-  pub network : slice_get (problem_of t).initials number ≡ Some instance.network
-  pub finishes : FinishesFrom (problem_of t) numbers (start (problem_of t) instance.network)
-
--- a finishing word begins at the instance of its first number
-pub begun : (t : Task) (number : ℕ) (numbers : List ℕ) (instances : List Instance) (instance : Instance) → Finishes (problem_of t) (number ∷ numbers)
-    → instances ≡ initials t → instance ≡ get_or instances number instance → IsBegun t number numbers instance
-begun t number numbers instances instance h all at =
-    let found = slice_get-map_back (λ i. i.network) (initials t) number h.0 h.1 in
-    let stands : get_or (initials t) number instance ≡ instance = sym (at ∙ ap (λ l. get_or l number instance) all) in
-    let same : instance ≡ found.0 = sym stands ∙ get_or_from_slice_get (initials t) number found.0 instance found.1 in
-    let network : h.0 ≡ instance.network = sym (ap (λ i. i.network) same ∙ found.2) in
-    record {
-      within = slice_get_within (initials t) number found.0 found.1;
-      stands = stands;
-      network = h.1 ∙ ap Some network;
-      finishes = subst (λ n. FinishesFrom (problem_of t) numbers (start (problem_of t) n)) network h.2;
     }

@@ -1,5 +1,5 @@
 //! The numbers of a word of ranks.
-ghost use Rattle.std.specs.Prelude.{◌≡◌, ◌++◌, ℕ, Contains, IfNone, IfOk, IfSome, IsSome, OnOk, Some, false, slice_get};
+ghost use Rattle.std.specs.Prelude.{◌≡◌, ◌++◌, ℕ, Contains, IfNone, IfOk, IfSome, IsSome, OnOk, Option, Some, false, slice_get};
 ghost use Rattle.std.specs.List.{All};
 ghost use Rattle.htn_model.specs.Exhaustion.{is_dead};
 ghost use Rattle.htn_model.specs.Grounding.{problem_of};
@@ -12,7 +12,9 @@ ghost use Rattle.htn_net.specs.Listed.{choose_listed, listing_machine, number_at
 ghost use Rattle.htn_search.specs.Told.{FinishesListed, told, told_word};
 ghost use Rattle.word_machine.specs.Machine.{IsFinishing, IsStep};
 
-use htn_ground::{Child, GroundTask, Instance, distinct_initials, initials, live_methods_of};
+use htn_ground::{
+    Child, GroundTask, Instance, counted_live_methods_of, distinct_initials, initials,
+};
 use htn_net::{Change, Config};
 use htn_task::Task;
 use std::alloc::{AllocError, Global};
@@ -32,9 +34,9 @@ fn is_same(a: &Instance, b: &Instance) -> bool
     has_same_source && has_same_network(a, b)
 }
 
-/// The place of an instance among numbered ones.
-fn place_among(numbered: &[(u64, Instance)], instance: &Instance) -> Option<usize>
-    ensures some { IfSome result (λ place. (number : ℕ) × (slice_get numbered.now place ≡ Some (number, instance.now))) }
+/// The place of an instance among those with their numbers, so far as these fit.
+fn place_among(numbered: &[(Option<u64>, Instance)], instance: &Instance) -> Option<usize>
+    ensures some { IfSome result (λ place. (number : Option ℕ) × (slice_get numbered.now place ≡ Some (number, instance.now))) }
     ensures none { IfNone result (All (λ p. instance_eq p.1 instance.now ≡ false) numbered.now) }
 {
     for (place, (_, other)) in numbered.iter().enumerate() {
@@ -46,7 +48,7 @@ fn place_among(numbered: &[(u64, Instance)], instance: &Instance) -> Option<usiz
 }
 
 /// The number of an instance that is not dead, among all of a ground task. The dead ones are skipped. An error
-/// means that memory was refused, or that the number of an instance that is not dead does not fit 64 bits.
+/// means that memory was refused, or that this number is past 64 bits; those of others may be so.
 fn instance_number(
     alloc: Global,
     task: &Task,
@@ -57,11 +59,14 @@ fn instance_number(
     requires alive { is_dead (problem_of task.now) instance.now.network ≡ false }
     ensures { IfOk result (λ number. slice_get (model.methods_of task.now goal.now) number ≡ Some instance.now) }
 {
-    let live = live_methods_of(alloc, task, goal)?;
+    let live = counted_live_methods_of(alloc, task, goal)?;
     let Some(place) = place_among(&live, instance) else {
         unreachable!()
     };
-    Ok(live[place].0)
+    let Some(number) = live[place].0 else {
+        return Err(AllocError);
+    };
+    Ok(number)
 }
 
 /// The place of an instance of the initial network among all of them.
@@ -152,8 +157,8 @@ fn push_numbers(
     Ok(())
 }
 
-/// The word of numbers of a word of ranks that finishes. A number that does not fit 64 bits is answered as want of
-/// memory.
+/// The word of numbers of a word of ranks that finishes. An error means that memory was refused, or that a number of
+/// the word itself is past 64 bits.
 pub(crate) fn word_of_ranks(
     alloc: Global,
     task: &Task,

@@ -11,13 +11,15 @@ ghost use Rattle.word_machine.specs.Machine.{IsFinishing};
 
 use crate::trail::grow_back;
 use crate::walk::{walk_along, walk_listed};
-use htn_ground::{distinct_initials, initials};
+use htn_ground::{distinct_initials, initial_at};
 use htn_task::Task;
 use htn_tree::Solution;
 use std::alloc::{AllocError, Global};
 use task_machine::Tables;
 
-/// The solution whose code is the word: its trees, and the order of its actions and steps.
+/// The solution whose code is the word: its trees, and the order of its actions and steps. An error means
+/// that memory was refused, or that a number chooses an instance of a method past the 65,536th, as none of
+/// a checked text is.
 pub fn rebuild(alloc: Global, task: &Task, word: &[u64]) -> Result<Solution, AllocError>
     requires { Finishes (problem_of task.now) word.now }
     ensures { IfOk result (λ s. IsSolutionOf (problem_of task.now) word.now (solution_of task.now s)) }
@@ -26,8 +28,9 @@ pub fn rebuild(alloc: Global, task: &Task, word: &[u64]) -> Result<Solution, All
     let Some((number, numbers)) = word.split_first() else {
         unreachable!()
     };
-    let mut instances = initials(alloc, task)?;
-    let initial = instances.swap_remove(*number as usize);
+    let Some(initial) = initial_at(alloc, task, *number)? else {
+        unreachable!()
+    };
     let walk = walk_along(alloc, task, &initial, numbers)?;
     let trees = grow_back(alloc, walk.trail)?;
     Ok(Solution {

@@ -12,7 +12,7 @@ ghost use Rattle.word_machine.specs.declared.found.SearchFault.TheVariants.{NoTh
 use crate::answer::Answer;
 use crate::numbers::word_of_ranks;
 use crate::solution::rebuild_listed;
-use htn_ground::{goal_literals, initials};
+use htn_ground::{goal_literals, initial_at};
 use htn_net::Config;
 use htn_task::Task;
 use std::alloc::{AllocError, Global};
@@ -146,9 +146,9 @@ fn find_ranks<G: Gate, R: Threads + Wait + Sync>(
 }
 
 /// The least finishing word of a task, by its steps and then by its numbers; or that no solution is
-/// within the bound, or none at all. `SearchFault::NoThread` never comes with one worker. For each task that the
-/// word decomposes the live instances are listed with their numbers: where one of these doesn't fit 64 bits, be it
-/// that of an instance which the word doesn't have, the answer is want of memory.
+/// within the bound, or none at all. `SearchFault::NoThread` never comes with one worker.
+/// `SearchFault::OutOfMemory` comes also where no memory was refused, but a number of the word itself is past 64 bits,
+/// a method past the 65,536th (as none of a checked text is), or a table of the search past 2^32 entries.
 pub fn find_word<G: Gate, R: Threads + Wait + Sync>(
     rt: &R,
     alloc: Global,
@@ -228,7 +228,8 @@ pub fn search<G: Gate, R: Threads + Wait + Sync>(
 }
 
 /// Whether a word finishes: the numbers lead from an initial network to no open nodes with the goal
-/// true.
+/// true. An error means that memory was refused, or that a number chooses an instance of a method past
+/// the 65,536th, as none of a checked text is.
 pub fn finishes(alloc: Global, task: &Task, word: &[u64]) -> Result<bool, AllocError>
     ensures { IfOk result (λ finishes. IsTrue finishes ↔ Finishes (problem_of task.now) word.now) }
 {
@@ -236,12 +237,10 @@ pub fn finishes(alloc: Global, task: &Task, word: &[u64]) -> Result<bool, AllocE
     let Some((initial, numbers)) = word.split_first() else {
         return Ok(false);
     };
-    let instances = initials(alloc, task)?;
-    let place = *initial as usize;
-    if place >= instances.len() {
+    let Some(instance) = initial_at(alloc, task, *initial)? else {
         return Ok(false);
-    }
-    let mut config = Config::start(alloc, task, &instances[place])?;
+    };
+    let mut config = Config::start(alloc, task, &instance)?;
     for number in numbers {
         let Some((position, change)) = config.choose(alloc, task, *number)? else {
             return Ok(false);

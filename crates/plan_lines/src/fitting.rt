@@ -19,7 +19,8 @@ use plan_run::EverTrue;
 use plan_text::Word;
 use std::alloc::{AllocError, Global};
 
-/// The number of a method at a place. Where it doesn't fit, so many could not be held either.
+/// The number of a method at a place. A task that is checked from texts has at most 65,535 methods. Past them, in a
+/// `Task` that is made otherwise, the answer is want of memory although none was refused.
 fn method_number(place: usize) -> Result<u16, AllocError>
     ensures { IfOk result (λ n. n ≡ place) }
 {

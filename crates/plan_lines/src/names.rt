@@ -42,7 +42,8 @@ impl<'t> Names<'t> {
     }
 }
 
-/// The number of an object. One that doesn't fit could not be held either.
+/// The number of an object. A task that is checked from texts has at most 65,535 objects. Past them, in a `Task` that
+/// is made otherwise, the answer is want of memory although none was refused.
 fn object_number(number: usize) -> Result<u16, AllocError>
     ensures { IfOk result (λ n. n ≡ number) }
 {
@@ -52,7 +53,8 @@ fn object_number(number: usize) -> Result<u16, AllocError>
     }
 }
 
-/// The number of a task or an action. One that doesn't fit could not be held either.
+/// The number of a task or an action. A task that is checked from texts has at most 65,535 of each. Where a number is
+/// past 32 bits, in a `Task` that is made otherwise, the answer is want of memory although none was refused.
 fn task_number(number: usize) -> Result<u32, AllocError>
     ensures { IfOk result (λ n. n ≡ number) }
 {

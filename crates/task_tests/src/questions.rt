@@ -9,7 +9,7 @@ use crate::pairs::{Pair, task_between};
 use crate::plans::answer_within;
 use crate::reach::reach_text;
 use crate::searches::{depth_text, finishes_text, least_word, plan_text, rebuilt_text, word_text};
-use crate::steps::{different_text, listed_text, numbered_text, walk};
+use crate::steps::{different_text, listed_text, live_numbers_text, numbered_text, walk};
 use htn_search::Bounds;
 use htn_task::Task;
 use std::alloc::Global;
@@ -44,6 +44,8 @@ pub enum Question<'a> {
     ChosenByRank(u64),
     /// What a number chooses at the start.
     ChosenByNumber(u64),
+    /// The numbers of the choices at the start that are not dead.
+    LiveNumbers,
     /// Whether a word finishes.
     Finishes(&'a [u64]),
     /// The plan of a word.
@@ -80,6 +82,7 @@ fn answer<R: Threads + Wait + Sync>(
         Question::Different(word) => different_text(alloc, task, word),
         Question::ChosenByRank(rank) => listed_text(alloc, task, rank),
         Question::ChosenByNumber(number) => numbered_text(alloc, task, number),
+        Question::LiveNumbers => live_numbers_text(alloc, task),
         Question::Finishes(word) => finishes_text(alloc, task, word),
         Question::WordPlan(word) => word_text(alloc, task, word),
         Question::Rebuilt(word) => rebuilt_text(alloc, task, word),

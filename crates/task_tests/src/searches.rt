@@ -6,7 +6,9 @@ use crate::pairs::{
 };
 use crate::plans::text_of;
 use crate::questions::{Question, answer_of};
-use htn_search::{Answer, Bounds, Found, NoGate, find_word, finishes, rebuild, search};
+use htn_search::{
+    Answer, Bounds, Found, NoGate, SearchFault, find_word, finishes, rebuild, search,
+};
 use htn_task::Task;
 use htn_tree::{Node, Solution};
 use std::alloc::{AllocError, Global};
@@ -95,10 +97,12 @@ pub fn least_word<R: Threads + Wait + Sync>(
     task: &Task,
     bounds: Bounds,
 ) -> Result<String, Fail> {
-    match find_word(rt, alloc, task, bounds, &NoGate)? {
-        Found::Word(word) => Ok(format!(in alloc; "{word:?}")?),
-        Found::None => Ok(String::from_str(alloc, "none")?),
-        Found::Unsolvable => Ok(String::from_str(alloc, "unsolvable")?),
+    match find_word(rt, alloc, task, bounds, &NoGate) {
+        Ok(Found::Word(word)) => Ok(format!(in alloc; "{word:?}")?),
+        Ok(Found::None) => Ok(String::from_str(alloc, "none")?),
+        Ok(Found::Unsolvable) => Ok(String::from_str(alloc, "unsolvable")?),
+        Err(SearchFault::OutOfMemory) => Ok(String::from_str(alloc, "out of memory")?),
+        Err(SearchFault::NoThread) => Ok(String::from_str(alloc, "no thread")?),
     }
 }
 

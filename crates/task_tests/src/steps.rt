@@ -193,6 +193,18 @@ pub fn numbered_text(alloc: Global, task: &Task, number: u64) -> Result<String, 
     chosen_text(alloc, config.choose(alloc, task, number)?)
 }
 
+/// The numbers of the choices at the start that are not dead, or that one of them can't be listed.
+pub fn live_numbers_text(alloc: Global, task: &Task) -> Result<String, Fail> {
+    let config = started(alloc, task, 0)?.ok_or("starts")?;
+    match config.live_choices(alloc, task) {
+        Ok(choices) => {
+            let live = numbers(alloc, &choices)?;
+            Ok(format!(in alloc; "{live:?}")?)
+        }
+        Err(AllocError) => Ok(String::from_str(alloc, "out of memory")?),
+    }
+}
+
 // Of ten instances three are not dead.
 #[test]
 fn ranks_choose_what_their_numbers_do(rt: HostRuntime) -> Result<(), Fail> {
