@@ -5,7 +5,7 @@ ghost use Rattle.htn_ground.specs.Views.{child_view};
 ghost use Rattle.htn_model.specs.Grounding.{problem_of};
 ghost use Rattle.htn_model.specs.Instances.{initials};
 ghost use Rattle.htn_model.specs.Machine.{start};
-ghost use Rattle.tree_sizes.specs.Enumerated.{IsEnumeration};
+ghost use Rattle.task_graph.specs.Graph.{IsGraph};
 ghost use Rattle.needs_table.specs.Prospects.{AreProspects, is_lost, is_unreached};
 
 use htn_ground::Child;
@@ -13,7 +13,7 @@ use htn_task::Task;
 use network_needs::Needs;
 use relaxed_reach::RelaxedReach;
 use std::alloc::{AllocError, Global};
-use tree_sizes::Enumeration;
+use task_graph::TaskGraph;
 
 /// What is known before a search of how nodes end: what they want and give, and what is reached at all, if that is
 /// known.
@@ -35,12 +35,12 @@ fn is_unreached(reach: &Option<RelaxedReach>, child: &Child) -> bool
 
 impl Prospects {
     /// By what was enumerated of a task.
-    pub fn of(alloc: Global, task: &Task, found: &Enumeration) -> Result<Prospects, AllocError>
-        ensures { IfOk result (λ p. IsEnumeration task.now found.now → AreProspects (problem_of task.now)
+    pub fn of(alloc: Global, task: &Task, graph: &TaskGraph) -> Result<Prospects, AllocError>
+        ensures { IfOk result (λ p. IsGraph task.now graph.now → AreProspects (problem_of task.now)
             (map (λ i. start (problem_of task.now) i.network) (distinct (initials task.now))) p) }
     {
-        let needs = Needs::of(alloc, task, found)?;
-        let reach = RelaxedReach::of(alloc, task, found)?;
+        let needs = Needs::of(alloc, task, graph)?;
+        let reach = RelaxedReach::of(alloc, task, graph)?;
         Ok(Prospects { needs, reach })
     }
 

@@ -1,28 +1,25 @@
 -- Rows that were checked are an outlook.
 use Rattle.std.proofs.Common.{◌≡◌, ℕ, ◌<◌, Bool, true, false, cond, List, [], ◌∷◌, length, get_or, slice_get, Option, Some, None, Contains, ◌⊎◌, inl, inr, refl, sym, ap, ap₂, ◌∙◌, subst, arith, option_and_then}
-use Rattle.std.specs.List.{position, position_or_len}
+use Rattle.std.specs.List.{list_any, position, position_or_len}
 use Rattle.std.proofs.lemmas.Bool.{cases_lt, lt-ltb, le-ltb}
-use Rattle.std.proofs.lemmas.List.Folds.{list_any_at}
+use Rattle.std.proofs.lemmas.List.Folds.{Any-from_list_any, list_any_at}
 use Rattle.std.proofs.lemmas.List.Sums.{passes_at_first}
 use Rattle.std.proofs.lemmas.Option.{none-some, same_Some, slice_get-get_or, slice_get_within, get_or_from_slice_get}
 use Rattle.htn_model.specs.Atom.{Atom}
-use Rattle.htn_model.specs.Equality.{child_eq-decides}
+use Rattle.htn_model.specs.Equality.{child_eq-decides, ground_task_eq-decides}
 use Rattle.htn_model.specs.Exhaustion.{is_dead}
 use Rattle.htn_model.specs.Grounding.{problem_of}
 use Rattle.htn_model.specs.Literal.{Literal, atom, Action}
-use Rattle.htn_model.specs.Problem.{Child, precondition, action, GroundTask, Network, child_eq}
+use Rattle.htn_model.specs.Problem.{Child, precondition, action, task, GroundTask, Network, child_eq, ground_task_eq}
 use Rattle.htn_model.specs.State.{contains}
 use Rattle.htn_model.specs.Task.{Task}
 use Rattle.htn_ground.specs.Views.{child_view}
-use Rattle.tree_sizes.specs.Enumerated.{HasParts, IsEnumeration}
-use Rattle.tree_sizes.specs.Numbers.{AreGround, HasBarred, is_among, number_of}
-use Rattle.tree_sizes.specs.declared.enumeration.Enumeration.{Enumeration}
-use Rattle.tree_sizes.proofs.Listed.{listed_of}
-use Rattle.tree_sizes.proofs.Measured.{among_barred}
-use Rattle.tree_sizes.proofs.Numbers.{number_at}
-use Rattle.network_needs.specs.Checked.{IsAllowed, IsChecked, IsLeafRight}
+use Rattle.task_graph.specs.Graph.{IsGraph, compound_of, is_known_barred, is_task_listed, network_of, nodes_of, task_at}
+use Rattle.task_graph.specs.declared.graph.TaskGraph.{TaskGraph}
+use Rattle.task_graph.proofs.Listed.{HasDecomposition, among_barred, covered, known_among, listed_id}
+use Rattle.network_needs.specs.Checked.{AreRowsRight, IsAllowed, IsChecked, IsLeafRight}
 use Rattle.network_needs.specs.Needs.{IsOutlook, IsWithin, has_blocked}
-use Rattle.network_needs.specs.Rows.{blocks, gives_by, leaf_row, literal_number, outlook_of, task_row, wants_by}
+use Rattle.network_needs.specs.Rows.{blocks, gives_by, leaf_row, literal_number, number_of, outlook_of, task_row, wants_by}
 use Rattle.network_needs.specs.declared.needs.Needs.{Needs}
 use Rattle.network_needs.specs.declared.rows.Row.{Row}
 use Rattle.network_needs.proofs.Lists.{contains_none}
@@ -55,14 +52,14 @@ found_at : {X : Type 0} (rows : List X) (o : Option ℕ) (r : X) → option_and_
 found_at rows None r is = absurd (none-some r is)
 found_at rows (Some k) r is = (k, refl, is)
 
-module _ (t : Task) (n : Needs) (e : Enumeration) (listed : IsEnumeration t e) (checked : IsChecked t n e) where
+module _ (t : Task) (n : Needs) (g : TaskGraph) (graph : IsGraph t g) (checked : IsChecked n g) where
   -- the row of a step or an action is right
   leaf_right : (x : Child) (r : Row) → leaf_row n x ≡ Some r → IsLeafRight t n x r
   leaf_right x r is =
       let at = found_at n.rows.leaf_rows.items (position (λ y. child_eq x (child_view y)) n.rows.leaves.keys) r is in
       let there = position_passes (λ y. child_eq x (child_view y)) n.rows.leaves.keys at.0 at.1 in
       let same : x ≡ child_view there.0 = (child_eq-decides x (child_view there.0)).0 there.2 in
-      subst (λ y. IsLeafRight t n y r) (sym same) (checked.leaves listed at.0 r at.2 there.0 there.1)
+      subst (λ y. IsLeafRight t n y r) (sym same) (checked.rows.leaves t graph at.0 r at.2 there.0 there.1)
 
   -- what a step wants is among its literals
   step_wants : (literals : List Literal) (l : Literal) → Contains (wants_by (leaf_row n (precondition literals))) l → Contains literals l
@@ -73,54 +70,57 @@ module _ (t : Task) (n : Needs) (e : Enumeration) (listed : IsEnumeration t e) (
       by (Some r) is at = leaf_right (precondition literals) r is l at
 
   -- what an action wants is among the literals of its precondition
-  action_wants : (g : GroundTask) (a : Action) (l : Literal) → (problem_of t).action_of g ≡ Some a → Contains (wants_by (leaf_row n (action g))) l → Contains a.precondition l
-  action_wants g a l there at = by (leaf_row n (action g)) refl at
+  action_wants : (h : GroundTask) (a : Action) (l : Literal) → (problem_of t).action_of h ≡ Some a → Contains (wants_by (leaf_row n (action h))) l → Contains a.precondition l
+  action_wants h a l there at = by (leaf_row n (action h)) refl at
     where
-      by : (o : Option Row) → leaf_row n (action g) ≡ o → Contains (wants_by o) l → Contains a.precondition l
+      by : (o : Option Row) → leaf_row n (action h) ≡ o → Contains (wants_by o) l → Contains a.precondition l
       by None is at = absurd (contains_none l at)
-      by (Some r) is at = (leaf_right (action g) r is a there).wants l at
+      by (Some r) is at = (leaf_right (action h) r is a there).wants l at
 
   -- it gives what it adds
-  adds : (g : GroundTask) (a : Action) (x : Atom) → (problem_of t).action_of g ≡ Some a → contains a.adds x ≡ true
-      → gives_by (leaf_row n (action g)) (literal_number n (atom true x)) ≡ true
-  adds g a x there has = by (leaf_row n (action g)) refl
+  adds : (h : GroundTask) (a : Action) (x : Atom) → (problem_of t).action_of h ≡ Some a → contains a.adds x ≡ true
+      → gives_by (leaf_row n (action h)) (literal_number n (atom true x)) ≡ true
+  adds h a x there has = by (leaf_row n (action h)) refl
     where
-      by : (o : Option Row) → leaf_row n (action g) ≡ o → gives_by o (literal_number n (atom true x)) ≡ true
+      by : (o : Option Row) → leaf_row n (action h) ≡ o → gives_by o (literal_number n (atom true x)) ≡ true
       by None is = refl
-      by (Some r) is = (leaf_right (action g) r is a there).adds x has
+      by (Some r) is = (leaf_right (action h) r is a there).adds x has
 
   -- and what it deletes
-  deletes : (g : GroundTask) (a : Action) (x : Atom) → (problem_of t).action_of g ≡ Some a → contains a.deletes x ≡ true
-      → gives_by (leaf_row n (action g)) (literal_number n (atom false x)) ≡ true
-  deletes g a x there has = by (leaf_row n (action g)) refl
+  deletes : (h : GroundTask) (a : Action) (x : Atom) → (problem_of t).action_of h ≡ Some a → contains a.deletes x ≡ true
+      → gives_by (leaf_row n (action h)) (literal_number n (atom false x)) ≡ true
+  deletes h a x there has = by (leaf_row n (action h)) refl
     where
-      by : (o : Option Row) → leaf_row n (action g) ≡ o → gives_by o (literal_number n (atom false x)) ≡ true
+      by : (o : Option Row) → leaf_row n (action h) ≡ o → gives_by o (literal_number n (atom false x)) ≡ true
       by None is = refl
-      by (Some r) is = (leaf_right (action g) r is a there).deletes x has
+      by (Some r) is = (leaf_right (action h) r is a there).deletes x has
 
-  -- a network that was covered is allowed
-  covered_allowed : (g : GroundTask) (k : ℕ) (network : Network) → slice_get e.tasks.keys k ≡ Some g
-      → HasParts e.tasks.keys e.instances.items k network ⊎ HasBarred e.actions.barred.keys network.children → IsAllowed n g network
-  covered_allowed g k network named (inl (j, p, at, are, of)) =
-      subst (IsAllowed n g) (ap₂ (λ xs o. record { children = xs; order = o }) of.0 of.1)
-      (checked.allowed j p g at (ap (slice_get e.tasks.keys) are.task ∙ named))
-  covered_allowed g k network named (inr (i, h, at, among)) =
-      inl (list_any_at (blocks n) network.children i (action h) (slice_get_within network.children i (action h) at)
-      (ap (blocks n) (get_or_from_slice_get network.children i (action h) (action h) at) ∙ ap (λ keys. is_among keys h) checked.barred ∙ among))
+  -- a network of a listed compound task is allowed
+  covered_allowed : (h : GroundTask) (id : ℕ) (network : Network) → slice_get (nodes_of g) id ≡ Some (task h)
+      → HasDecomposition g id network ⊎ (list_any (is_known_barred t (nodes_of g)) network.children ≡ true) → IsAllowed n h network
+  covered_allowed h id network node (inl (d, at, named, same)) =
+      subst (IsAllowed n h) same (checked.rows.allowed at.0 d h at.1 (ap (task_at g) named ∙ ap (option_and_then compound_of) node))
+  covered_allowed h id network node (inr any) =
+      let found = Any-from_list_any (is_known_barred t (nodes_of g)) network.children any in
+      let bars = known_among t g n.barred.keys found.1 graph.grounded checked.barred found.4 in
+      inl (list_any_at (blocks n) network.children found.0 found.1 found.2 (ap (blocks n) (found.3 ∙ bars.1) ∙ bars.2))
 
   -- each live instance of a task is allowed
-  instances : (g : GroundTask) (number : ℕ) (network : Network) → slice_get ((problem_of t).methods_of g) number ≡ Some network → is_dead (problem_of t) network ≡ false
-      → (has_blocked (outlook_of n) network ≡ true) ⊎ IsWithin (outlook_of n) g network
-  instances g number network at live = by (task_row n g) refl
+  instances : (h : GroundTask) (number : ℕ) (network : Network) → slice_get ((problem_of t).methods_of h) number ≡ Some network → is_dead (problem_of t) network ≡ false
+      → (has_blocked (outlook_of n) network ≡ true) ⊎ IsWithin (outlook_of n) h network
+  instances h number network at live = by (task_row n h) refl
     where
-      by : (o : Option Row) → task_row n g ≡ o → IsAllowed n g network
-      by None is = inr (without_row n g network is)
+      by : (o : Option Row) → task_row n h ≡ o → IsAllowed n h network
+      by None is = inr (without_row n h network is)
       by (Some r) is =
-          let place = found_at n.rows.task_rows.items (number_of n.tasks.keys g) r is in
-          let low : place.0 < e.expanded = (let inside = slice_get_within n.rows.task_rows.items place.0 r place.2 in let most = checked.expanded in omega (arith, inside, most)) in
-          let named : slice_get e.tasks.keys place.0 ≡ Some g = sym (ap (λ keys. slice_get keys place.0) checked.tasks) ∙ number_at n.tasks.keys g place.0 place.1 in
-          let found = listed_of network t g number at live in
-          subst (IsAllowed n g) (sym found.3) (covered_allowed g place.0 found.1.network named (listed.covered g place.0 low named found.0 found.1 found.2))
+          let place = found_at n.rows.task_rows.items (number_of n.tasks.keys h) r is in
+          let there = position_passes (ground_task_eq h) n.tasks.keys place.0 place.1 in
+          let same : h ≡ there.0 = (ground_task_eq-decides h there.0).0 there.2 in
+          let inside = slice_get_within n.tasks.keys place.0 there.0 there.1 in
+          let listed : is_task_listed g h ≡ true =
+          subst (λ k. is_task_listed g k ≡ true) (get_or_from_slice_get n.tasks.keys place.0 there.0 there.0 there.1 ∙ sym same) (checked.rows.tasks place.0 there.0 inside) in
+          let id = listed_id g h listed in
+          covered_allowed h id.0 network id.2 (covered t g h number network id.0 graph at live id.1 id.2)
 
   -- so the rows are an outlook
   pub checked_outlook : IsOutlook (problem_of t) (outlook_of n)
@@ -130,31 +130,14 @@ module _ (t : Task) (n : Needs) (e : Enumeration) (listed : IsEnumeration t e) (
     action_wants = action_wants;
     adds = adds;
     deletes = deletes;
-    action_ends = λ g blocked. among_barred t e.actions.barred.keys g listed.barred (sym (ap (λ keys. is_among keys g) checked.barred) ∙ blocked);
+    action_ends = λ h blocked. among_barred t g n.barred.keys h graph.grounded checked.barred blocked;
     instances = instances;
   }
 
--- an enumeration of which no task was expanded
-abbrev unexpanded : Needs → Enumeration → Enumeration
-unexpanded n e = record e { tasks = n.tasks; actions = record e.actions { barred = n.barred }; expanded = 0 }
-
--- without rows nothing is wanted, and anything may be given
-pub none_outlook : (t : Task) (n : Needs) (e : Enumeration) → AreGround t e.actions → n.tasks.keys ≡ [] → n.barred.keys ≡ [] → n.rows.task_rows.items ≡ [] → n.rows.leaf_rows.items ≡ []
-    → IsOutlook (problem_of t) (outlook_of n)
-none_outlook t n e ground no_tasks no_barred no_rows no_leaves = checked_outlook t n (unexpanded n e) listed checked
-  where
-    listed : IsEnumeration t (unexpanded n e)
-    listed = record {
-      barred = λ k d inside. (let long = ap length no_barred in absurd (omega (arith, inside, long)));
-      ground = ground;
-      covered = λ g k low at. absurd (omega (arith, low));
-    }
-
-    checked : IsChecked t n (unexpanded n e)
-    checked = record {
-      tasks = refl;
-      barred = refl;
-      expanded = (let long = ap length no_rows in omega (arith, long));
-      leaves = λ _ k r at x there. absurd (none-some r (sym (ap (λ rows. slice_get rows k) no_leaves) ∙ at));
-      allowed = λ j p g at named. absurd (none-some g (sym (ap (λ keys. slice_get keys p.task) no_tasks) ∙ named));
-    }
+-- no rows are right
+pub no_rows_right : (n : Needs) (g : TaskGraph) → n.tasks.keys ≡ [] → n.rows.leaf_rows.items ≡ [] → AreRowsRight n g
+no_rows_right n g no_tasks no_leaves = record {
+  tasks = λ k d inside. (let long = ap length no_tasks in absurd (omega (arith, inside, long)));
+  leaves = λ t graph k r at x there. absurd (none-some r (sym (ap (λ rows. slice_get rows k) no_leaves) ∙ at));
+  allowed = λ j d h at named. inr (without_row n h (network_of d) (ap (λ keys. option_and_then (slice_get n.rows.task_rows.items) (number_of keys h)) no_tasks));
+}

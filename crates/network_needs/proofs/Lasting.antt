@@ -14,7 +14,8 @@ use Rattle.htn_model.proofs.Sets.{contains-after}
 use Rattle.htn_model.proofs.Splices.{Inside, Outside, outside_once, places_of_splice, table_within, length_splice, origin_below, origin_above}
 use Rattle.htn_model.proofs.Steps.{Decomposes, Executes, chosen}
 use Rattle.htn_model.proofs.Regrown.{choice_within}
-use Rattle.tree_sizes.specs.Measure.{is_as_at_first, is_barred, is_barred_by}
+use Rattle.task_graph.specs.Barred.{is_barred, is_barred_by}
+use Rattle.tree_sizes.specs.Measure.{is_as_at_first}
 use Rattle.tree_sizes.proofs.Bounded.{live_choice}
 use Rattle.tree_sizes.proofs.Lasting.{agreed, alive_literals}
 use Rattle.network_needs.specs.Needs.{Outlook, IsNeededAt, IsOutlook, IsWithin, NeedsStay, may_give, is_ungiven, needed_at, needed, needed_goal, has_blocked, network_of, may_end}

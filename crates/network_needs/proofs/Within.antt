@@ -1,9 +1,8 @@
 -- What the checks of one row and one network tell.
 use Rattle.std.proofs.Common.{◌≡◌, ℕ, ◌+◌, ◌<◌, true, false, not, ◌||◌, List, [], ◌∷◌, All, Contains, length, get_or, Option, Some, None, slice_get, inl, inr, refl, sym, ap, ap₂, ◌∙◌, subst, arith, zero-add}
 use Rattle.std.specs.List.{list_any, range_with_len}
-use Rattle.std.specs.Cmp.Lexicographic.{pointwise}
 use Rattle.std.proofs.lemmas.Bool.{and_parts, cases_Bool, cases_lt}
-use Rattle.std.proofs.lemmas.Option.{same_Some, slice_get-get_or}
+use Rattle.std.proofs.lemmas.Option.{none-some, same_Some, slice_get-get_or}
 use Rattle.std.proofs.lemmas.List.{length-map, get_or-map}
 use Rattle.std.proofs.lemmas.List.Folds.{list_any_at}
 use Rattle.std.proofs.lemmas.List.FromFn.{get_or-range_with_len, length-range_with_len}
@@ -19,7 +18,9 @@ use Rattle.htn_state.specs.Views.{literal_of, literals_of}
 use Rattle.htn_state.specs.declared.literal.Literal.{Literal as Written}
 use Rattle.htn_ground.specs.Views.{child_view, children_of}
 use Rattle.htn_ground.specs.declared.child.Child.{Child as Node}
-use Rattle.tree_sizes.specs.declared.parts.Parts.{Parts}
+use Rattle.task_graph.specs.Graph.{network_of, task_at}
+use Rattle.task_graph.specs.declared.decomposition.Decomposition.{Decomposition}
+use Rattle.task_graph.specs.declared.graph.TaskGraph.{TaskGraph}
 use Rattle.network_needs.specs.Checked.{GivesWithin, IsActionRight, IsAllowed}
 use Rattle.network_needs.specs.Needs.{IsNeededAt, IsUngiven, IsWithin, is_ungiven, may_give}
 use Rattle.network_needs.specs.Rows.{blocked_by, gives_by, is_marked, literal_number, outlook_of, row_of, task_row, wants_by}
@@ -114,31 +115,29 @@ action_right n a r wants pre adds deletes wants_are pre_is adds_are deletes_are 
   deletes = λ x has. All-contains (λ y. is_marked r.gives.items (literal_number n (atom false y)) ≡ true) deletes x deleted (subst (λ ys. Contains ys x) (sym deletes_are) (contains_atom a.deletes x has));
 }
 
--- the network of an instance
-abbrev pub network_by : Parts → Network
-network_by p = record { children = p.children; order = p.order }
-
 -- those before a place are allowed
-abbrev pub AllowedBelow : Needs → List Parts → List GroundTask → ℕ → Type 0
-AllowedBelow n parts tasks i = (j : ℕ) (p : Parts) (g : GroundTask) → j < i → slice_get parts j ≡ Some p → slice_get tasks p.task ≡ Some g → IsAllowed n g (network_by p)
+abbrev pub AllowedBelow : Needs → TaskGraph → ℕ → Type 0
+AllowedBelow n g i = (j : ℕ) (d : Decomposition) (h : GroundTask) → j < i → slice_get g.decompositions.items j ≡ Some d → task_at g d.task.index ≡ Some h → IsAllowed n h (network_of d)
 
 -- one more of them
-pub allowed_more : (n : Needs) (parts : List Parts) (tasks : List GroundTask) (i : ℕ) (item : Parts) (goal : GroundTask) → i < length parts → item ≡ get_or parts i item
-    → slice_get tasks item.task ≡ Some goal → AllowedBelow n parts tasks i → IsAllowed n goal (network_by item) → AllowedBelow n parts tasks (i + 1)
-allowed_more n parts tasks i item goal low is named before here j p g less at at_goal = elim (cases_lt j i) [
-  | inl less ↦ before j p g less at at_goal
+pub allowed_more : (n : Needs) (g : TaskGraph) (i : ℕ) (item : Decomposition) (goal : GroundTask) → i < length g.decompositions.items → item ≡ get_or g.decompositions.items i item
+    → task_at g item.task.index ≡ Some goal → AllowedBelow n g i → IsAllowed n goal (network_of item) → AllowedBelow n g (i + 1)
+allowed_more n g i item goal low is named before here j d h less at at_goal = elim (cases_lt j i) [
+  | inl less ↦ before j d h less at at_goal
   | inr past ↦
       (let place : j ≡ i = omega arith in
-      let same : p ≡ item = same_Some p item (sym at ∙ ap (slice_get parts) place ∙ slice_get-get_or parts i item low ∙ ap Some (sym is)) in
-      let goal_is : g ≡ goal = same_Some g goal (sym at_goal ∙ ap (λ (q : Parts). slice_get tasks q.task) same ∙ named) in
-      subst (λ (q : Parts). IsAllowed n g (network_by q)) (sym same) (subst (λ (h : GroundTask). IsAllowed n h (network_by item)) (sym goal_is) here))
+      let same : d ≡ item = same_Some d item (sym at ∙ ap (slice_get g.decompositions.items) place ∙ slice_get-get_or g.decompositions.items i item low ∙ ap Some (sym is)) in
+      let goal_is : h ≡ goal = same_Some h goal (sym at_goal ∙ ap (λ (e : Decomposition). task_at g e.task.index) same ∙ named) in
+      subst (λ (e : Decomposition). IsAllowed n h (network_of e)) (sym same) (subst (λ (k : GroundTask). IsAllowed n k (network_of item)) (sym goal_is) here))
 ]
 
--- lists of ground tasks that are equal one by one are the same
-pub same_goals : (xs ys : List GroundTask) → pointwise ground_task_eq xs ys ≡ true → xs ≡ ys
-same_goals [] [] h = refl
-same_goals [] (y ∷ ys) h = absurd cc
-same_goals (x ∷ xs) [] h = absurd cc
-same_goals (x ∷ xs) (y ∷ ys) h =
-    let parts = and_parts (ground_task_eq x y) (pointwise ground_task_eq xs ys) h in
-    ap₂ ◌∷◌ ((ground_task_eq-decides x y).0 parts.0) (same_goals xs ys parts.1)
+-- one that is no compound task's is passed over
+pub allowed_skip : (n : Needs) (g : TaskGraph) (i : ℕ) (item : Decomposition) → i < length g.decompositions.items → item ≡ get_or g.decompositions.items i item → task_at g item.task.index ≡ None
+    → AllowedBelow n g i → AllowedBelow n g (i + 1)
+allowed_skip n g i item low is none before j d h less at at_goal = elim (cases_lt j i) [
+  | inl less ↦ before j d h less at at_goal
+  | inr past ↦
+      (let place : j ≡ i = omega arith in
+      let same : d ≡ item = same_Some d item (sym at ∙ ap (slice_get g.decompositions.items) place ∙ slice_get-get_or g.decompositions.items i item low ∙ ap Some (sym is)) in
+      absurd (none-some h (sym none ∙ ap (λ (e : Decomposition). task_at g e.task.index) (sym same) ∙ at_goal)))
+]

@@ -1,5 +1,5 @@
 -- What is checked of rows.
-use Rattle.std.specs.Prelude.{◌≡◌, ℕ, ◌≤◌, ◌⊎◌, ⊤, true, false, Contains, length, Option, Some, slice_get}
+use Rattle.std.specs.Prelude.{◌≡◌, ℕ, ◌⊎◌, ⊤, true, false, All, Contains, Option, Some, slice_get}
 use Rattle.htn_model.specs.Atom.{Atom}
 use Rattle.htn_model.specs.Grounding.{problem_of}
 use Rattle.htn_model.specs.Literal.{Literal, atom, Action}
@@ -9,9 +9,9 @@ use Rattle.htn_model.specs.Task.{Task}
 use Rattle.htn_state.specs.Views.{literals_of}
 use Rattle.htn_ground.specs.Views.{child_view}
 use Rattle.htn_ground.specs.declared.child.Child.{Child as Node}
-use Rattle.tree_sizes.specs.Enumerated.{IsEnumeration}
-use Rattle.tree_sizes.specs.declared.enumeration.Enumeration.{Enumeration}
-use Rattle.tree_sizes.specs.declared.parts.Parts.{Parts}
+use Rattle.task_graph.specs.Graph.{AreBarredActions, IsGraph, is_task_listed, network_of, task_at}
+use Rattle.task_graph.specs.declared.decomposition.Decomposition.{Decomposition}
+use Rattle.task_graph.specs.declared.graph.TaskGraph.{TaskGraph}
 use Rattle.network_needs.specs.Needs.{IsWithin, has_blocked}
 use Rattle.network_needs.specs.Rows.{gives_by, is_marked, literal_number, outlook_of, row_of}
 use Rattle.network_needs.specs.declared.needs.Needs.{Needs}
@@ -42,17 +42,18 @@ abbrev pub AreLeavesRight : Task → Needs → Type 0
 AreLeavesRight t n =
     (k : ℕ) (r : Row) → slice_get n.rows.leaf_rows.items k ≡ Some r → (x : Node) → slice_get n.rows.leaves.keys k ≡ Some x → IsLeafRight t n (child_view x) r
 
--- each task that has a row is within the instances that were listed for it
-abbrev pub AreAllowed : Needs → Enumeration → Type 0
-AreAllowed n e =
-    (j : ℕ) (p : Parts) (g : GroundTask) → slice_get e.instances.items j ≡ Some p → slice_get e.tasks.keys p.task ≡ Some g
-    → IsAllowed n g (record { children = p.children; order = p.order })
+-- each compound task that has a row is within its decompositions
+abbrev pub AreAllowed : Needs → TaskGraph → Type 0
+AreAllowed n g = (j : ℕ) (d : Decomposition) (h : GroundTask) → slice_get g.decompositions.items j ≡ Some d → task_at g d.task.index ≡ Some h → IsAllowed n h (network_of d)
 
--- all that is checked: the rows are of the tasks that were expanded, and right; those of actions by what these were
--- enumerated to be
-pub record IsChecked (t : Task) (n : Needs) (e : Enumeration) : Type 0 where
-  pub tasks : n.tasks.keys ≡ e.tasks.keys
-  pub barred : n.barred.keys ≡ e.actions.barred.keys
-  pub expanded : length n.rows.task_rows.items ≤ e.expanded
-  pub leaves : IsEnumeration t e → AreLeavesRight t n
-  pub allowed : AreAllowed n e
+-- all that is checked of rows: those of compound tasks are of listed ones, and all are right; those of actions by what
+-- these are ground to
+pub record AreRowsRight (n : Needs) (g : TaskGraph) : Type 0 where
+  pub tasks : All (λ h. is_task_listed g h ≡ true) n.tasks.keys
+  pub leaves : (t : Task) → IsGraph t g → AreLeavesRight t n
+  pub allowed : AreAllowed n g
+
+-- all that is known of what the needs say
+pub record IsChecked (n : Needs) (g : TaskGraph) : Type 0 where
+  pub rows : AreRowsRight n g
+  pub barred : AreBarredActions g n.barred.keys

@@ -8,7 +8,8 @@ use Rattle.htn_model.specs.Problem.{Child, precondition, action, task, GroundTas
 use Rattle.htn_model.specs.Choice.{child_of}
 use Rattle.htn_model.specs.Machine.{Config, IsDone}
 use Rattle.htn_model.specs.Exhaustion.{is_dead, live_step}
-use Rattle.tree_sizes.specs.Measure.{is_as_at_first, is_barred}
+use Rattle.task_graph.specs.Barred.{is_barred}
+use Rattle.tree_sizes.specs.Measure.{is_as_at_first}
 
 -- of each node: what has to hold at some time before it has ended, what may become true through it, and whether it
 -- never ends

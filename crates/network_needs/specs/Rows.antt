@@ -1,15 +1,22 @@
 -- What nodes want and give, by rows.
 use Rattle.std.specs.Prelude.{ℕ, ◌/◌, ◌%◌, Bool, true, false, List, [], get_or, Option, Some, None, slice_get, option_and_then}
-use Rattle.std.specs.List.{position}
+use Rattle.std.specs.List.{list_any, position}
 use Rattle.htn_model.specs.Literal.{Literal as ModelLiteral, literal_eq}
-use Rattle.htn_model.specs.Problem.{Child, precondition, action, task, GroundTask, child_eq}
+use Rattle.htn_model.specs.Problem.{Child, precondition, action, task, GroundTask, child_eq, ground_task_eq}
 use Rattle.htn_order.specs.BitRows.{is_set}
 use Rattle.htn_state.specs.Views.{literal_of, literals_of}
 use Rattle.htn_ground.specs.Views.{child_view}
-use Rattle.tree_sizes.specs.Numbers.{is_among, number_of}
 use Rattle.network_needs.specs.Needs.{Outlook}
 use Rattle.network_needs.specs.declared.needs.Needs.{Needs}
 use Rattle.network_needs.specs.declared.rows.Row.{Row}
+
+-- whether a ground task is one of these
+abbrev pub is_among : List GroundTask → GroundTask → Bool
+is_among tasks g = list_any (ground_task_eq g) tasks
+
+-- the place of a ground task among these
+abbrev pub number_of : List GroundTask → GroundTask → Option ℕ
+number_of tasks g = position (ground_task_eq g) tasks
 
 -- the row of a compound task, if it has one
 abbrev pub task_row : Needs → GroundTask → Option Row

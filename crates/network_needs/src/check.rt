@@ -1,12 +1,14 @@
 //! Whether rows are an outlook.
 ghost use Rattle.std.specs.Prelude.{◌≡◌, ◌<◌, ℕ, true, false, Some, All, Contains, IfOk, IsTrue, length};
 ghost use Rattle.std.specs.List.{list_any};
+ghost use Rattle.std.specs.Option.{option_map};
 ghost use Rattle.htn_model.specs.Literal as model;
 ghost use Rattle.htn_model.specs.Literal.{literal_eq};
 ghost use Rattle.htn_model.specs.State.{contains};
 ghost use Rattle.htn_ground.specs.Views.{child_view, children_of};
 ghost use Rattle.htn_state.specs.Views.{literal_of, literals_of};
-ghost use Rattle.tree_sizes.specs.Enumerated.{IsEnumeration};
+ghost use Rattle.htn_model.specs.Task as tasks;
+ghost use Rattle.task_graph.specs.Graph.{IsGraph};
 ghost use Rattle.network_needs.specs.Checked.{AreAllowed, AreLeavesRight, GivesWithin};
 ghost use Rattle.network_needs.specs.Checked.{IsActionRight, IsAllowed, IsLeafRight};
 ghost use Rattle.network_needs.specs.Needs.{IsNeededAt, is_ungiven, may_give};
@@ -15,12 +17,11 @@ ghost use Rattle.network_needs.specs.Rows.{is_marked, literal_number, outlook_of
 use crate::marks::{are_marked_too, is_marked};
 use crate::needs::Needs;
 use crate::rows::Row;
-use htn_ground::{Child, GroundTask, action_of};
+use htn_ground::{Child, GroundTask};
 use htn_order::Order;
 use htn_state::{Action, Atom, Literal};
-use htn_task::Task;
-use std::alloc::{AllocError, Global};
-use tree_sizes::{Enumeration, Parts};
+use std::alloc::AllocError;
+use task_graph::TaskGraph;
 
 /// Whether a literal is among others.
 fn is_among(literal: &Literal, others: &[Literal]) -> bool
@@ -165,16 +166,19 @@ impl Needs {
         self.give_within(children, row)
     }
 
-    /// Whether each task that has a row is within the instances that were listed for it.
-    pub(crate) fn are_allowed(&self, found: &Enumeration) -> bool
-        ensures { IsTrue result → AreAllowed self.now found.now }
+    /// Whether each compound task that has a row is within all its decompositions.
+    pub(crate) fn are_allowed(&self, graph: &TaskGraph) -> bool
+        ensures { IsTrue result → AreAllowed self.now graph.now }
     {
-        let tasks = found.tasks();
-        for parts in found.instances() {
-            let Some(goal) = tasks.get_index(parts.task() as usize) else {
+        for decomposition in graph.decompositions() {
+            let Some(goal) = graph.task(decomposition.task) else {
                 continue;
             };
-            if !self.is_allowed(goal, parts.children(), parts.order()) {
+            if !self.is_allowed(
+                goal,
+                decomposition.children.as_slice(),
+                &decomposition.order,
+            ) {
                 return false;
             }
         }
@@ -229,10 +233,10 @@ impl Needs {
         Ok(adds && deletes)
     }
 
-    /// Whether the row of an action is right, if it has an instance.
-    fn is_ground_right(&self, action: &Option<Action>, row: &Row) -> Result<bool, AllocError>
+    /// Whether the row of an action is right. Any is for one that no objects satisfy.
+    fn is_ground_right(&self, action: Option<&Action>, row: &Row) -> Result<bool, AllocError>
         ensures { IfOk result (λ b. IsTrue b
-            → (a : model.Action) → action.now ≡ Some a → IsActionRight self.now a row.now) }
+            → (a : model.Action) → option_map (λ x. x.now) action.entry ≡ Some a → IsActionRight self.now a row.now) }
     {
         match action {
             Some(action) => self.is_action_right(action, row),
@@ -240,49 +244,37 @@ impl Needs {
         }
     }
 
-    /// Whether the row of a step or an action is right, by what actions were enumerated to be.
-    fn is_leaf_right(
-        &self,
-        alloc: Global,
-        task: &Task,
-        found: &Enumeration,
-        leaf: &Child,
-        row: &Row,
-    ) -> Result<bool, AllocError>
-        ensures { IfOk result (λ b. IsTrue b → IsEnumeration task.now found.now
-            → IsLeafRight task.now self.now (child_view leaf.now) row.now) }
+    /// Whether the row of a step or an action is right, by what actions are ground to in the graph.
+    fn is_leaf_right(&self, graph: &TaskGraph, leaf: &Child, row: &Row) -> Result<bool, AllocError>
+        ensures { IfOk result (λ b. IsTrue b → (t : tasks.Task) → IsGraph t graph.now
+            → IsLeafRight t self.now (child_view leaf.now) row.now) }
     {
         match leaf {
             Child::Precondition(literals) => Ok(are_among(
                 row.wants.as_slice(),
                 literals.as_slice(),
             )),
-            Child::Action(goal) => match found.action(goal) {
-                Some(action) => self.is_ground_right(action, row),
-                None => {
-                    let action = action_of(alloc, task, goal)?;
-                    self.is_ground_right(&action, row)
+            Child::Action(_) => match graph.id_of(leaf) {
+                Some(id) => {
+                    let is_right = self.is_ground_right(graph.action(id), row)?;
+                    Ok(is_right)
                 }
+                None => Ok(false),
             },
             Child::Task(_) => Ok(true),
         }
     }
 
     /// Whether the rows of all steps and actions are right.
-    pub(crate) fn are_leaves_right(
-        &self,
-        alloc: Global,
-        task: &Task,
-        found: &Enumeration,
-    ) -> Result<bool, AllocError>
-        ensures { IfOk result (λ b. IsTrue b → IsEnumeration task.now found.now → AreLeavesRight task.now self.now) }
+    pub(crate) fn are_leaves_right(&self, graph: &TaskGraph) -> Result<bool, AllocError>
+        ensures { IfOk result (λ b. IsTrue b → (t : tasks.Task) → IsGraph t graph.now → AreLeavesRight t self.now) }
     {
         let leaves = self.rows.leaves.as_slice();
         for (number, row) in self.rows.leaf_rows.iter().enumerate() {
             let Some(leaf) = leaves.get(number) else {
                 return Ok(false);
             };
-            let is_right = self.is_leaf_right(alloc, task, found, leaf, row)?;
+            let is_right = self.is_leaf_right(graph, leaf, row)?;
             if !is_right {
                 return Ok(false);
             }

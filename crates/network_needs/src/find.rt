@@ -1,5 +1,5 @@
-//! Rows for the nodes of enumerated instances: what compound tasks give is the least that fits, and what they want the
-//! most. Nothing is promised of them: whoever uses them checks them.
+//! Rows for the nodes of decompositions: what compound tasks give is the least fixed point, and what they want the
+//! greatest. The rows have no contract, since [`Needs::of`] checks them.
 
 use crate::leaves::Leaves;
 use crate::marks::is_marked;
@@ -8,17 +8,18 @@ use htn_ground::{Child, GroundTask};
 use htn_order::Order;
 use htn_state::Literal;
 use htn_task::Task;
+use indexmap::IndexSet;
 use std::alloc::{AllocError, Global};
 use std::mem;
-use tree_sizes::{Enumeration, Parts};
+use task_graph::{Decomposition, TaskGraph};
 
-/// How many times the instances are gone through at most, to find what compound tasks give, and what they want.
+/// The most passes over the decompositions, to find what compound tasks give and what they want.
 const MOST_ROUNDS: usize = 1_000;
 
-/// How many marks the rows have at most together.
+/// The most marks that the rows have together.
 const MOST_MARKS: usize = 1 << 26;
 
-/// How many pairs of nodes the instances have at most together: whether a network needs a literal is asked of pairs.
+/// The most pairs of nodes that the decompositions have together: whether a network needs a literal is asked of pairs.
 const MOST_PAIRS: usize = 1 << 22;
 
 /// A node by its number among the compound tasks, or among the others.
@@ -32,27 +33,29 @@ enum Node {
 #[derive(Drop)]
 struct Search {
     leaves: Leaves,
-    /// By instance, its nodes.
+    /// By decomposition, the number of its task.
+    owners: Vec<u32>,
+    /// By decomposition, its nodes.
     nodes: Vec<Vec<Node>>,
-    /// By task, which literals it gives.
+    /// By task, the marks of the literals that it gives.
     gives: Vec<Vec<u64>>,
-    /// By task, the literals that it wants, once some tree of it is known.
+    /// By task, the literals that it wants, once some decomposition tree of it is known.
     wants: Vec<Option<Vec<u32>>>,
 }
 
 /// The number of a compound task; past all others if it has none.
-fn task_number(found: &Enumeration, goal: &GroundTask) -> u32 {
-    match found.tasks().get_index_of(goal) {
+fn task_number(tasks: &IndexSet<GroundTask>, goal: &GroundTask) -> u32 {
+    match tasks.get_index_of(goal) {
         Some(number) => u32::try_from(number).unwrap_or(u32::MAX),
         None => u32::MAX,
     }
 }
 
-/// How many pairs of nodes the instances have together.
-fn pairs_in(instances: &[Parts]) -> usize {
+/// The number of pairs of nodes that the decompositions have together.
+fn pairs_in(decompositions: &[Decomposition]) -> usize {
     let mut pairs = 0usize;
-    for parts in instances {
-        let nodes = parts.children().len();
+    for decomposition in decompositions {
+        let nodes = decomposition.nodes.len();
         pairs = pairs.saturating_add(nodes.saturating_mul(nodes));
     }
     pairs
@@ -110,29 +113,45 @@ fn set_all(marks: &mut [u64]) -> bool {
 }
 
 impl Search {
-    /// The nodes of all instances have numbers.
-    fn new(alloc: Global, task: &Task, found: &Enumeration) -> Result<Search, AllocError> {
+    /// The search over the nodes of all decompositions.
+    fn new(
+        alloc: Global,
+        task: &Task,
+        graph: &TaskGraph,
+        tasks: &IndexSet<GroundTask>,
+    ) -> Result<Search, AllocError> {
         let mut leaves = Leaves::new(alloc);
+        let mut owners = Vec::new(alloc);
         let mut nodes = Vec::new(alloc);
-        for listed in found.instances() {
+        for decomposition in graph.decompositions() {
             let mut numbers = Vec::new(alloc);
-            for child in listed.children() {
+            for child in decomposition.children.as_slice() {
                 let node = match child {
-                    Child::Task(goal) => Node::Task(task_number(found, goal)),
+                    Child::Task(goal) => Node::Task(task_number(tasks, goal)),
                     Child::Precondition(_) | Child::Action(_) => {
-                        Node::Leaf(leaves.meet(alloc, task, found, child)?)
+                        Node::Leaf(leaves.meet(alloc, task, graph, child)?)
                     }
                 };
                 numbers.push(node)?;
             }
             nodes.push(numbers)?;
+            owners.push(match graph.task(decomposition.task) {
+                Some(goal) => task_number(tasks, goal),
+                None => u32::MAX,
+            })?;
         }
         Ok(Search {
             leaves,
+            owners,
             nodes,
             gives: Vec::new(alloc),
             wants: Vec::new(alloc),
         })
+    }
+
+    /// The number of the task of a decomposition.
+    fn owner(&self, place: usize) -> u32 {
+        self.owners.get(place).copied().unwrap_or(u32::MAX)
     }
 
     /// Whether a node gives the literal of a number.
@@ -182,15 +201,15 @@ impl Search {
     }
 
     /// What compound tasks give: the least that fits, from nothing on.
-    fn find_gives(&mut self, alloc: Global, found: &Enumeration) -> Result<(), AllocError> {
+    fn find_gives(&mut self, alloc: Global, tasks: usize) -> Result<(), AllocError> {
         let literals = self.leaves.literals.len();
-        for _ in 0..found.expanded() {
+        for _ in 0..tasks {
             self.gives.push(marks_of(alloc, literals, &[])?)?;
         }
         for _ in 0..MOST_ROUNDS {
             let mut is_more = false;
-            for (instance, listed) in found.instances().iter().enumerate().rev() {
-                is_more |= self.join_instance(alloc, listed.task(), instance);
+            for place in (0..self.nodes.len()).rev() {
+                is_more |= self.join_instance(alloc, self.owner(place), place);
             }
             if !is_more {
                 break;
@@ -261,18 +280,23 @@ impl Search {
     }
 
     /// What compound tasks want: the most that fits, from all on.
-    fn find_wants(&mut self, alloc: Global, found: &Enumeration) -> Result<(), AllocError> {
-        for _ in 0..found.expanded() {
+    fn find_wants(
+        &mut self,
+        alloc: Global,
+        graph: &TaskGraph,
+        tasks: usize,
+    ) -> Result<(), AllocError> {
+        for _ in 0..tasks {
             self.wants.push(None)?;
         }
         for _ in 0..MOST_ROUNDS {
             let mut is_less = false;
-            for (instance, listed) in found.instances().iter().enumerate().rev() {
-                let Some(nodes) = self.nodes.get(instance) else {
+            for (place, decomposition) in graph.decompositions().iter().enumerate().rev() {
+                let Some(nodes) = self.nodes.get(place) else {
                     continue;
                 };
-                if let Some(needs) = self.needs(alloc, nodes, listed.order())? {
-                    is_less |= self.lower(alloc, listed.task(), needs)?;
+                if let Some(needs) = self.needs(alloc, nodes, &decomposition.order)? {
+                    is_less |= self.lower(alloc, self.owner(place), needs)?;
                 }
             }
             if !is_less {
@@ -283,10 +307,10 @@ impl Search {
     }
 
     /// Whether there are not too many marks, nor pairs of nodes.
-    fn fits(&self, found: &Enumeration) -> bool {
-        let rows = found.expanded().saturating_add(self.leaves.leaves.len());
+    fn fits(&self, graph: &TaskGraph, tasks: usize) -> bool {
+        let rows = tasks.saturating_add(self.leaves.leaves.len());
         rows.saturating_mul(self.leaves.literals.len()) <= MOST_MARKS
-            && pairs_in(found.instances()) <= MOST_PAIRS
+            && pairs_in(graph.decompositions()) <= MOST_PAIRS
     }
 
     /// The literals of some numbers.
@@ -338,9 +362,9 @@ impl Search {
     }
 
     /// The rows of all nodes.
-    fn rows(self, alloc: Global, expanded: usize) -> Result<Rows, AllocError> {
+    fn rows(self, alloc: Global, tasks: usize) -> Result<Rows, AllocError> {
         let mut task_rows = Vec::new(alloc);
-        for number in 0..expanded {
+        for number in 0..tasks {
             task_rows.push(self.task_row(alloc, number)?)?;
         }
         let mut leaf_rows = Vec::new(alloc);
@@ -357,17 +381,18 @@ impl Search {
     }
 }
 
-/// Rows for the nodes of enumerated instances; none at all where they would be too large.
+/// Rows for these compound tasks, and for the other nodes of decompositions; none at all where they would be too large.
 pub(crate) fn find_rows(
     alloc: Global,
     task: &Task,
-    found: &Enumeration,
+    graph: &TaskGraph,
+    tasks: &IndexSet<GroundTask>,
 ) -> Result<Rows, AllocError> {
-    let mut search = Search::new(alloc, task, found)?;
-    if !search.fits(found) {
+    let mut search = Search::new(alloc, task, graph, tasks)?;
+    if !search.fits(graph, tasks.len()) {
         return Ok(Rows::none(alloc));
     }
-    search.find_gives(alloc, found)?;
-    search.find_wants(alloc, found)?;
-    search.rows(alloc, found.expanded())
+    search.find_gives(alloc, tasks.len())?;
+    search.find_wants(alloc, graph, tasks.len())?;
+    search.rows(alloc, tasks.len())
 }

@@ -1,12 +1,12 @@
 //! The preconditions and effects of precondition steps and actions, by the numbers of literals. They have no contract,
 //! since [`Needs::of`] checks what it makes of them.
 
-use htn_ground::{Child, GroundTask, action_of};
+use htn_ground::Child;
 use htn_state::{Action, Atom, Literal};
 use htn_task::Task;
 use indexmap::IndexSet;
 use std::alloc::{AllocError, Global};
-use tree_sizes::Enumeration;
+use task_graph::TaskGraph;
 
 /// Precondition steps and actions by number, each with the numbers of the literals that it wants and gives: its fluent
 /// preconditions, and its effects.
@@ -78,7 +78,7 @@ impl Leaves {
         &mut self,
         alloc: Global,
         task: &Task,
-        found: &Enumeration,
+        graph: &TaskGraph,
         child: &Child,
     ) -> Result<u32, AllocError> {
         let (place, is_new) = self.leaves.insert_full(child.clone()?)?;
@@ -95,19 +95,12 @@ impl Leaves {
             Child::Precondition(literals) => {
                 wants = self.wanted(alloc, task, literals.as_slice())?;
             }
-            Child::Action(goal) => match found.action(goal) {
-                Some(Some(action)) => {
+            Child::Action(_) => {
+                if let Some(action) = graph.id_of(child).and_then(|id| graph.action(id)) {
                     wants = self.wanted(alloc, task, action.precondition.as_slice())?;
                     gives = self.given(alloc, action)?;
                 }
-                Some(None) => {}
-                None => {
-                    if let Some(action) = action_of(alloc, task, goal)? {
-                        wants = self.wanted(alloc, task, action.precondition.as_slice())?;
-                        gives = self.given(alloc, &action)?;
-                    }
-                }
-            },
+            }
             Child::Task(_) => {}
         }
         self.wants.push(wants)?;

@@ -1,73 +1,81 @@
 //! The needs of a task's networks.
-ghost use Rattle.std.specs.Prelude.{◌≡◌, IfOk, IsTrue};
+ghost use Rattle.std.specs.Prelude.{◌≡◌, All, IfOk, IsTrue, true};
 ghost use Rattle.htn_model.specs.Grounding.{problem_of};
-ghost use Rattle.tree_sizes.specs.Enumerated.{IsEnumeration};
-ghost use Rattle.network_needs.specs.Checked.{IsChecked};
+ghost use Rattle.task_graph.specs.Graph.{IsGraph, is_task_listed};
+ghost use Rattle.network_needs.specs.Checked.{AreRowsRight};
 ghost use Rattle.network_needs.specs.Needs.{IsOutlook};
 ghost use Rattle.network_needs.specs.Rows.{outlook_of};
 
 use crate::find::find_rows;
 use crate::needs::Needs;
 use crate::rows::Rows;
-use htn_ground::GroundTask;
+use htn_ground::{Child, GroundTask};
 use htn_task::Task;
 use indexmap::IndexSet;
 use std::alloc::{AllocError, Global};
-use tree_sizes::Enumeration;
+use task_graph::TaskGraph;
 
-/// A copy of a set.
-fn copy_of(
-    alloc: Global,
-    goals: &IndexSet<GroundTask>,
-) -> Result<IndexSet<GroundTask>, AllocError> {
-    let mut copy = IndexSet::new(alloc);
-    for goal in goals.as_slice() {
-        let _ = copy.insert(goal.clone()?)?;
+/// The compound tasks whose decompositions are listed.
+fn listed_tasks(alloc: Global, graph: &TaskGraph) -> Result<IndexSet<GroundTask>, AllocError> {
+    let mut tasks = IndexSet::new(alloc);
+    for node in graph.nodes().iter().take(graph.listed()) {
+        if let Child::Task(goal) = node {
+            let _ = tasks.insert(goal.clone()?)?;
+        }
     }
-    Ok(copy)
+    Ok(tasks)
 }
 
-/// Whether ground tasks are the same, one by one.
-fn are_same(goals: &[GroundTask], others: &[GroundTask]) -> bool
-    ensures { IsTrue result → goals.now ≡ others.now }
+/// Whether the decompositions of all of the compound tasks are listed.
+fn are_listed(graph: &TaskGraph, goals: &[GroundTask]) -> Result<bool, AllocError>
+    ensures { IfOk result (λ b. IsTrue b → All (λ h. is_task_listed graph.now h ≡ true) goals.now) }
 {
-    goals == others
+    for goal in goals {
+        let is_listed = graph.is_task_listed(goal)?;
+        if !is_listed {
+            return Ok(false);
+        }
+    }
+    Ok(true)
 }
 
 impl Needs {
-    /// Whether all that is known of nodes is right.
-    fn is_right(&self, alloc: Global, task: &Task, found: &Enumeration) -> Result<bool, AllocError>
-        ensures { IfOk result (λ b. IsTrue b → IsChecked task.now self.now found.now) }
+    /// Whether all rows are right.
+    fn are_rows_right(&self, graph: &TaskGraph) -> Result<bool, AllocError>
+        ensures { IfOk result (λ b. IsTrue b → AreRowsRight self.now graph.now) }
     {
-        if !are_same(self.tasks.as_slice(), found.tasks().as_slice()) {
+        let are_listed = are_listed(graph, self.tasks.as_slice())?;
+        if !are_listed {
             return Ok(false);
         }
-        if !are_same(self.barred.as_slice(), found.barred().as_slice()) {
+        if !self.are_allowed(graph) {
             return Ok(false);
         }
-        if self.rows.task_rows.len() > found.expanded() || !self.are_allowed(found) {
-            return Ok(false);
-        }
-        let are_leaves_right = self.are_leaves_right(alloc, task, found)?;
+        let are_leaves_right = self.are_leaves_right(graph)?;
         Ok(are_leaves_right)
     }
 
-    /// What the nodes of enumerated instances want and give. Where too much would be kept nothing is known of any node.
-    pub fn of(alloc: Global, task: &Task, found: &Enumeration) -> Result<Needs, AllocError>
-        ensures { IfOk result (λ n. IsEnumeration task.now found.now
-            → IsOutlook (problem_of task.now) (outlook_of n)) }
+    /// What the nodes of a graph want and give. Where too much would be kept nothing is known of any node, but for the
+    /// actions that are never carried out.
+    pub fn of(alloc: Global, task: &Task, graph: &TaskGraph) -> Result<Needs, AllocError>
+        ensures { IfOk result (λ n. IsGraph task.now graph.now → IsOutlook (problem_of task.now) (outlook_of n)) }
     {
+        let tasks = listed_tasks(alloc, graph)?;
+        let rows = find_rows(alloc, task, graph, &tasks)?;
+        let barred = graph.barred_actions(alloc)?;
         let needs = Needs {
-            tasks: copy_of(alloc, found.tasks())?,
-            barred: copy_of(alloc, found.barred())?,
-            rows: find_rows(alloc, task, found)?,
+            tasks,
+            barred,
+            rows,
         };
-        if needs.is_right(alloc, task, found)? {
+        let are_right = needs.are_rows_right(graph)?;
+        if are_right {
             return Ok(needs);
         }
+        let barred = graph.barred_actions(alloc)?;
         Ok(Needs {
             tasks: IndexSet::new(alloc),
-            barred: IndexSet::new(alloc),
+            barred,
             rows: Rows::none(alloc),
         })
     }

@@ -10,7 +10,8 @@ use Rattle.htn_model.specs.Machine.{Config, Choice, IsDone, result_of}
 use Rattle.htn_model.specs.Exhaustion.{LeadsLive, is_dead, live_step}
 use Rattle.htn_model.proofs.Steps.{Decomposes, Executes, chosen}
 use Rattle.htn_model.proofs.Regrown.{choice_within}
-use Rattle.tree_sizes.specs.Measure.{is_as_at_first, is_barred, is_barred_by}
+use Rattle.task_graph.specs.Barred.{is_barred, is_barred_by}
+use Rattle.tree_sizes.specs.Measure.{is_as_at_first}
 use Rattle.tree_sizes.proofs.Bounded.{live_choice, states_last}
 use Rattle.tree_sizes.proofs.Lasting.{agreed, alive_literals}
 use Rattle.relaxed_reach.specs.Facts.{is_within}

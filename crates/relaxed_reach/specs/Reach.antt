@@ -5,7 +5,8 @@ use Rattle.htn_model.specs.Literal.{Literal, Action}
 use Rattle.htn_model.specs.Problem.{Child, precondition, action, task, GroundTask, IsGrounded, Network, Problem}
 use Rattle.htn_model.specs.Machine.{Config, IsDone}
 use Rattle.htn_model.specs.Exhaustion.{LeadsLive, is_dead, live_step}
-use Rattle.tree_sizes.specs.Measure.{is_as_at_first, is_barred}
+use Rattle.task_graph.specs.Barred.{is_barred}
+use Rattle.tree_sizes.specs.Measure.{is_as_at_first}
 use Rattle.relaxed_reach.specs.Facts.{Facts, are_possible, has_effects, is_within}
 
 -- the facts that are reached; the nodes of which it is known that they lead nowhere else; those of them that never end

@@ -1,12 +1,16 @@
 -- What is reached, by sets of atoms and of ground tasks.
-use Rattle.std.specs.Prelude.{Bool, true, false, not, ◌||◌, get_or, ℕ}
+use Rattle.std.specs.Prelude.{Bool, List, true, false, not, ◌||◌, get_or, ℕ}
 use Rattle.htn_model.specs.State.{contains}
-use Rattle.htn_model.specs.Problem.{Child, precondition, action, task}
-use Rattle.tree_sizes.specs.Numbers.{is_among}
+use Rattle.std.specs.List.{list_any}
+use Rattle.htn_model.specs.Problem.{Child, precondition, action, task, GroundTask, ground_task_eq}
 use Rattle.relaxed_reach.specs.Facts.{Facts, are_possible}
 use Rattle.relaxed_reach.specs.Reach.{Reach}
 use Rattle.relaxed_reach.specs.declared.facts.FactSets.{FactSets}
 use Rattle.relaxed_reach.specs.declared.reach.RelaxedReach.{RelaxedReach}
+
+-- whether a ground task is one of these
+abbrev pub is_among : List GroundTask → GroundTask → Bool
+is_among tasks g = list_any (ground_task_eq g) tasks
 
 -- whether a predicate is one of those whose atoms the facts list
 abbrev pub is_fluent : FactSets → ℕ → Bool

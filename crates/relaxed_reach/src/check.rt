@@ -1,43 +1,36 @@
 //! The checks that what was found is right.
 ghost use Rattle.std.specs.Prelude.{◌≡◌, true, false, Some, All, IfOk, IsTrue};
+ghost use Rattle.std.specs.Option.{option_map};
 ghost use Rattle.htn_model.specs.Instances.{initials};
 ghost use Rattle.htn_model.specs.Literal as model;
+ghost use Rattle.htn_model.specs.Task as tasks;
 ghost use Rattle.htn_ground.specs.Distinct.{distinct};
 ghost use Rattle.htn_ground.specs.Views.{children_of};
-ghost use Rattle.tree_sizes.specs.Enumerated.{IsEnumeration};
+ghost use Rattle.task_graph.specs.Graph.{IsGraph, is_task_listed};
 ghost use Rattle.relaxed_reach.specs.Facts.{are_possible, has_effects};
 ghost use Rattle.relaxed_reach.specs.Checked.{AreEffectsRight, AreInstancesRight, IsBlockedRight};
-ghost use Rattle.relaxed_reach.specs.Checked.{IsExpanded, IsStartKnown};
+ghost use Rattle.relaxed_reach.specs.Checked.{IsStartKnown};
 ghost use Rattle.relaxed_reach.specs.Reach.{passes};
 ghost use Rattle.relaxed_reach.specs.Tables.{facts_of, reach_of};
 
 use crate::reach::RelaxedReach;
-use htn_ground::{Child, GroundTask, Instance, action_of, distinct_initials};
+use htn_ground::{Child, GroundTask, Instance, distinct_initials};
 use htn_state::Action;
 use htn_task::Task;
 use std::alloc::{AllocError, Global};
-use tree_sizes::Enumeration;
+use task_graph::TaskGraph;
 
-/// Whether the instances of a compound task are listed.
-fn is_expanded(found: &Enumeration, goal: &GroundTask) -> bool
-    ensures { IsTrue result → IsExpanded found.now goal.now }
-{
-    match found.tasks().get_index_of(goal) {
-        Some(number) => number < found.expanded(),
-        None => false,
-    }
-}
-
-/// Whether the instances of all of the compound tasks are listed.
-pub(crate) fn are_expanded(found: &Enumeration, goals: &[GroundTask]) -> bool
-    ensures { IsTrue result → All (IsExpanded found.now) goals.now }
+/// Whether the decompositions of all of the compound tasks are listed.
+pub(crate) fn are_listed(graph: &TaskGraph, goals: &[GroundTask]) -> Result<bool, AllocError>
+    ensures { IfOk result (λ b. IsTrue b → All (λ h. is_task_listed graph.now h ≡ true) goals.now) }
 {
     for goal in goals {
-        if !is_expanded(found, goal) {
-            return false;
+        let is_listed = graph.is_task_listed(goal)?;
+        if !is_listed {
+            return Ok(false);
         }
     }
-    true
+    Ok(true)
 }
 
 impl RelaxedReach {
@@ -63,8 +56,9 @@ impl RelaxedReach {
     }
 
     /// Whether the facts allow the effects of an action. One that no objects satisfy has none.
-    fn has_effects_of(&self, action: &Option<Action>) -> bool
-        ensures { IsTrue result → (a : model.Action) → action.now ≡ Some a → has_effects (facts_of self.now.facts) a ≡ true }
+    fn has_effects_of(&self, action: Option<&Action>) -> bool
+        ensures { IsTrue result → (a : model.Action) → option_map (λ x. x.now) action.entry ≡ Some a
+            → has_effects (facts_of self.now.facts) a ≡ true }
     {
         match action {
             Some(action) => self.facts.has_effects(action),
@@ -73,8 +67,8 @@ impl RelaxedReach {
     }
 
     /// Whether the facts rule out an action's precondition. One that no objects satisfy is never carried out.
-    fn is_impossible(&self, action: &Option<Action>) -> bool
-        ensures { IsTrue result → (a : model.Action) → action.now ≡ Some a
+    fn is_impossible(&self, action: Option<&Action>) -> bool
+        ensures { IsTrue result → (a : model.Action) → option_map (λ x. x.now) action.entry ≡ Some a
             → are_possible (facts_of self.now.facts) a.precondition ≡ false }
     {
         match action {
@@ -84,41 +78,31 @@ impl RelaxedReach {
     }
 
     /// Whether an action is blocked, or the facts allow its effects.
-    fn are_effects_right(
-        &self,
-        alloc: Global,
-        task: &Task,
-        found: &Enumeration,
-        goal: &GroundTask,
-    ) -> Result<bool, AllocError>
-        ensures { IfOk result (λ b. IsTrue b → IsEnumeration task.now found.now
-            → AreEffectsRight task.now self.now goal.now) }
+    fn are_effects_right(&self, graph: &TaskGraph, goal: &GroundTask) -> Result<bool, AllocError>
+        ensures { IfOk result (λ b. IsTrue b → (t : tasks.Task) → IsGraph t graph.now
+            → AreEffectsRight t self.now goal.now) }
     {
         if self.actions.blocked.contains(goal) {
             return Ok(true);
         }
-        match found.action(goal) {
-            Some(action) => Ok(self.has_effects_of(action)),
-            None => {
-                let action = action_of(alloc, task, goal)?;
-                Ok(self.has_effects_of(&action))
-            }
+        let found = graph.id_of_action(goal)?;
+        match found {
+            Some(id) => Ok(self.has_effects_of(graph.action(id))),
+            None => Ok(false),
         }
     }
 
     /// Whether each of the actions is blocked, or the facts allow its effects.
     pub(crate) fn are_all_effects_right(
         &self,
-        alloc: Global,
-        task: &Task,
-        found: &Enumeration,
+        graph: &TaskGraph,
         goals: &[GroundTask],
     ) -> Result<bool, AllocError>
-        ensures { IfOk result (λ b. IsTrue b → IsEnumeration task.now found.now
-            → All (AreEffectsRight task.now self.now) goals.now) }
+        ensures { IfOk result (λ b. IsTrue b → (t : tasks.Task) → IsGraph t graph.now
+            → All (AreEffectsRight t self.now) goals.now) }
     {
         for goal in goals {
-            let is_right = self.are_effects_right(alloc, task, found, goal)?;
+            let is_right = self.are_effects_right(graph, goal)?;
             if !is_right {
                 return Ok(false);
             }
@@ -127,38 +111,28 @@ impl RelaxedReach {
     }
 
     /// Whether an action is rightly blocked: the facts rule out its precondition.
-    fn is_blocked_right(
-        &self,
-        alloc: Global,
-        task: &Task,
-        found: &Enumeration,
-        goal: &GroundTask,
-    ) -> Result<bool, AllocError>
-        ensures { IfOk result (λ b. IsTrue b → IsEnumeration task.now found.now
-            → IsBlockedRight task.now self.now goal.now) }
+    fn is_blocked_right(&self, graph: &TaskGraph, goal: &GroundTask) -> Result<bool, AllocError>
+        ensures { IfOk result (λ b. IsTrue b → (t : tasks.Task) → IsGraph t graph.now
+            → IsBlockedRight t self.now goal.now) }
     {
-        match found.action(goal) {
-            Some(action) => Ok(self.is_impossible(action)),
-            None => {
-                let action = action_of(alloc, task, goal)?;
-                Ok(self.is_impossible(&action))
-            }
+        let found = graph.id_of_action(goal)?;
+        match found {
+            Some(id) => Ok(self.is_impossible(graph.action(id))),
+            None => Ok(false),
         }
     }
 
     /// Whether all of the actions are rightly blocked.
     pub(crate) fn are_blocked_right(
         &self,
-        alloc: Global,
-        task: &Task,
-        found: &Enumeration,
+        graph: &TaskGraph,
         goals: &[GroundTask],
     ) -> Result<bool, AllocError>
-        ensures { IfOk result (λ b. IsTrue b → IsEnumeration task.now found.now
-            → All (IsBlockedRight task.now self.now) goals.now) }
+        ensures { IfOk result (λ b. IsTrue b → (t : tasks.Task) → IsGraph t graph.now
+            → All (IsBlockedRight t self.now) goals.now) }
     {
         for goal in goals {
-            let is_right = self.is_blocked_right(alloc, task, found, goal)?;
+            let is_right = self.is_blocked_right(graph, goal)?;
             if !is_right {
                 return Ok(false);
             }
@@ -175,16 +149,15 @@ impl RelaxedReach {
             && (!self.tasks.blocked.contains(goal) || self.has_blocked(children))
     }
 
-    /// Whether each listed instance bears out what is marked of its task.
-    pub(crate) fn are_instances_right(&self, found: &Enumeration) -> bool
-        ensures { IsTrue result → AreInstancesRight self.now found.now }
+    /// Whether each decomposition bears out what is marked of its task.
+    pub(crate) fn are_instances_right(&self, graph: &TaskGraph) -> bool
+        ensures { IsTrue result → AreInstancesRight self.now graph.now }
     {
-        let tasks = found.tasks();
-        for parts in found.instances() {
-            let Some(goal) = tasks.get_index(parts.task() as usize) else {
+        for decomposition in graph.decompositions() {
+            let Some(goal) = graph.task(decomposition.task) else {
                 continue;
             };
-            if !self.passes(goal, parts.children()) {
+            if !self.passes(goal, decomposition.children.as_slice()) {
                 return false;
             }
         }

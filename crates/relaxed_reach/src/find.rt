@@ -5,13 +5,13 @@
 
 use crate::facts::FactSets;
 use crate::reach::Marks;
-use htn_ground::{Child, GroundTask, action_of, distinct_initials};
+use htn_ground::{Child, GroundTask, distinct_initials};
 use htn_state::{Action, Atom, Literal, State};
 use htn_task::Task;
 use indexmap::IndexSet;
 use std::alloc::{AllocError, Global};
 use std::mem;
-use tree_sizes::Enumeration;
+use task_graph::TaskGraph;
 
 /// A ground action of the worklist.
 #[derive(Drop)]
@@ -147,7 +147,7 @@ impl Actions {
         alloc: Global,
         task: &Task,
         number: u32,
-        action: &Option<Action>,
+        action: Option<&Action>,
     ) -> Result<Met, AllocError> {
         match action {
             Some(action) => Ok(Met {
@@ -166,17 +166,15 @@ impl Actions {
         &mut self,
         alloc: Global,
         task: &Task,
-        found: &Enumeration,
+        graph: &TaskGraph,
         number: u32,
-        goal: &GroundTask,
+        node: &Child,
     ) -> Result<(), AllocError> {
-        let met = match found.action(goal) {
-            Some(action) => self.met_by(alloc, task, number, action)?,
-            None => {
-                let action = action_of(alloc, task, goal)?;
-                self.met_by(alloc, task, number, &action)?
-            }
+        let action = match graph.id_of(node) {
+            Some(id) => graph.action(id),
+            None => None,
         };
+        let met = self.met_by(alloc, task, number, action)?;
         if met.missing == 0 {
             self.ready.push(number)?;
         }
@@ -189,7 +187,7 @@ impl Actions {
         &mut self,
         alloc: Global,
         task: &Task,
-        found: &Enumeration,
+        graph: &TaskGraph,
         children: &[Child],
     ) -> Result<(), AllocError> {
         for child in children {
@@ -201,7 +199,7 @@ impl Actions {
                 let Ok(number) = u32::try_from(place) else {
                     return Err(AllocError);
                 };
-                self.take_in(alloc, task, found, number, goal)?;
+                self.take_in(alloc, task, graph, number, child)?;
             }
         }
         Ok(())
@@ -303,18 +301,18 @@ impl Actions {
     }
 }
 
-/// The actions of the initial networks and of the listed instances, with the literals that they make reachable.
+/// The actions of the initial networks and of the decompositions, with the literals that they make reachable.
 pub(crate) fn find_actions(
     alloc: Global,
     task: &Task,
-    found: &Enumeration,
+    graph: &TaskGraph,
 ) -> Result<Actions, AllocError> {
     let mut actions = Actions::new(alloc);
     for initial in &distinct_initials(alloc, task)? {
-        actions.meet(alloc, task, found, initial.children().as_slice())?;
+        actions.meet(alloc, task, graph, initial.children().as_slice())?;
     }
-    for parts in found.instances() {
-        actions.meet(alloc, task, found, parts.children())?;
+    for decomposition in graph.decompositions() {
+        actions.meet(alloc, task, graph, decomposition.children.as_slice())?;
     }
     actions.run(alloc)?;
     Ok(actions)

@@ -11,12 +11,10 @@
 mod check;
 mod facts;
 mod find;
-mod fluents;
 mod laws;
 mod of;
 mod reach;
 mod tasks;
 
-pub use fluents::fluent_predicates;
 pub use laws::{reach_examples_hold, reach_stays, reached_stays};
 pub use reach::RelaxedReach;

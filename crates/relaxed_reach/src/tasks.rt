@@ -1,61 +1,53 @@
-//! Which compound tasks are known, and which of them never end: two worklists over the enumerated instances. Nothing is
-//! promised of it: whoever uses it checks it.
+//! Which compound tasks are known, and which of them never end: two worklists over the decompositions of a graph. The
+//! marks have no contract, since [`RelaxedReach::of`] checks them.
 
 use crate::facts::FactSets;
 use crate::find::Actions;
 use crate::reach::Marks;
-use htn_ground::{Child, GroundTask};
+use htn_ground::Child;
 use std::alloc::{AllocError, Global};
 use std::mem;
-use tree_sizes::{Enumeration, Parts};
+use task_graph::{Decomposition, NodeId, TaskGraph};
 
-/// What is known of an expanded task.
+/// What is known of a listed node. That of a step or an action is not used.
 #[derive(Drop)]
 struct Entry {
-    /// All that may become of it was enumerated.
+    /// All nodes below the task are in the graph, as far as is found.
     is_known: bool,
-    /// Some tree of it ends, as far as it is found.
+    /// Some decomposition tree of the task ends, as far as is found.
     ends: bool,
-    /// The tasks in whose instances it stands.
-    parents: Vec<u32>,
-    /// The instances in which it stands.
+    /// The tasks that have the task in a decomposition.
+    parents: Vec<NodeId>,
+    /// The places of the decompositions that have the task as a node.
     uses: Vec<u32>,
 }
 
-/// An instance.
+/// A decomposition.
 #[derive(Drop)]
 struct Pending {
-    task: u32,
-    /// How many of its nodes aren't found to end.
+    task: NodeId,
+    /// The number of its nodes that are not yet found to end.
     missing: u32,
 }
 
-/// Tasks and instances by number.
+/// The worklists.
 #[derive(Drop)]
 struct Tasks {
+    /// By listed node.
     entries: Vec<Entry>,
+    /// By place of the decomposition.
     pending: Vec<Pending>,
-    /// Tasks that aren't known, whose parents may still be so.
-    unknown: Vec<u32>,
-    /// Tasks that end, which are still missing in their instances.
-    ended: Vec<u32>,
-}
-
-/// The number of a compound task, if its instances are listed.
-fn expanded_number(found: &Enumeration, goal: &GroundTask) -> Option<usize> {
-    let number = found.tasks().get_index_of(goal)?;
-    if number < found.expanded() {
-        Some(number)
-    } else {
-        None
-    }
+    /// Tasks that are not known, whose parents are not yet visited.
+    unknown: Vec<NodeId>,
+    /// Tasks that end, whose uses are not yet visited.
+    ended: Vec<NodeId>,
 }
 
 impl Tasks {
-    /// So many tasks, all of them known and none ended.
-    fn new(alloc: Global, expanded: usize) -> Result<Tasks, AllocError> {
-        let mut entries = Vec::with_capacity(alloc, expanded)?;
-        for _ in 0..expanded {
+    /// Worklists for this many listed nodes. All tasks are known and none ends.
+    fn new(alloc: Global, listed: usize) -> Result<Tasks, AllocError> {
+        let mut entries = Vec::with_capacity(alloc, listed)?;
+        for _ in 0..listed {
             entries.push(Entry {
                 is_known: true,
                 ends: false,
@@ -71,9 +63,9 @@ impl Tasks {
         })
     }
 
-    /// A task isn't known.
-    fn forget(&mut self, task: u32) -> Result<(), AllocError> {
-        let Some(entry) = self.entries.get_mut(task as usize) else {
+    /// Marks a task as not known.
+    fn forget(&mut self, task: NodeId) -> Result<(), AllocError> {
+        let Some(entry) = self.entries.get_mut(task.index as usize) else {
             return Ok(());
         };
         if !entry.is_known {
@@ -84,9 +76,9 @@ impl Tasks {
         Ok(())
     }
 
-    /// A task ends.
-    fn end(&mut self, task: u32) -> Result<(), AllocError> {
-        let Some(entry) = self.entries.get_mut(task as usize) else {
+    /// Marks a task as one that ends.
+    fn end(&mut self, task: NodeId) -> Result<(), AllocError> {
+        let Some(entry) = self.entries.get_mut(task.index as usize) else {
             return Ok(());
         };
         if entry.ends {
@@ -97,44 +89,36 @@ impl Tasks {
         Ok(())
     }
 
-    /// Notes a task among the nodes of an instance of another. Whether it has to end for the instance to do so: what
-    /// wasn't expanded may end, but isn't known.
-    fn note(
-        &mut self,
-        found: &Enumeration,
-        instance: u32,
-        parent: u32,
-        goal: &GroundTask,
-    ) -> Result<bool, AllocError> {
-        let Some(number) = expanded_number(found, goal) else {
+    /// Adds a use of a compound task by a decomposition of another one. Whether the decomposition has to wait until the
+    /// task ends: one that is not listed may end, but is not known.
+    fn add_use(&mut self, place: u32, parent: NodeId, task: NodeId) -> Result<bool, AllocError> {
+        let Some(entry) = self.entries.get_mut(task.index as usize) else {
             self.forget(parent)?;
             return Ok(false);
         };
-        if let Some(entry) = self.entries.get_mut(number) {
-            entry.parents.push(parent)?;
-            entry.uses.push(instance)?;
-        }
+        entry.parents.push(parent)?;
+        entry.uses.push(place)?;
         Ok(true)
     }
 
-    /// Takes in an instance.
+    /// Adds a decomposition.
     fn add(
         &mut self,
-        found: &Enumeration,
         actions: &Actions,
         facts: &FactSets,
-        parts: &Parts,
+        decomposition: &Decomposition,
     ) -> Result<(), AllocError> {
-        let Ok(instance) = u32::try_from(self.pending.len()) else {
+        let Ok(place) = u32::try_from(self.pending.len()) else {
             return Err(AllocError);
         };
-        let task = parts.task();
+        let task = decomposition.task;
         let mut missing = 0u32;
-        for child in parts.children() {
-            let is_missing = match child {
+        let nodes = decomposition.children.as_slice();
+        for (node, id) in nodes.iter().zip(&decomposition.nodes) {
+            let is_missing = match node {
                 Child::Precondition(literals) => !facts.are_possible(literals.as_slice()),
                 Child::Action(goal) => !actions.is_possible(goal),
-                Child::Task(goal) => self.note(found, instance, task, goal)?,
+                Child::Task(_) => self.add_use(place, task, *id)?,
             };
             if is_missing {
                 missing = missing.saturating_add(1);
@@ -147,9 +131,9 @@ impl Tasks {
         Ok(())
     }
 
-    /// A node of an instance ends.
-    fn lessen(&mut self, instance: u32) -> Result<(), AllocError> {
-        let Some(pending) = self.pending.get_mut(instance as usize) else {
+    /// Counts one node of a decomposition as one that ends.
+    fn lessen(&mut self, place: u32) -> Result<(), AllocError> {
+        let Some(pending) = self.pending.get_mut(place as usize) else {
             return Ok(());
         };
         pending.missing = pending.missing.saturating_sub(1);
@@ -160,13 +144,14 @@ impl Tasks {
         Ok(())
     }
 
-    /// Forgets each task that has an instance with a node that isn't known. No task is forgotten twice.
+    /// Marks each task as not known that has a decomposition with a node that is not known. Each enters the list at most
+    /// once.
     fn forget_parents(&mut self, alloc: Global) -> Result<(), AllocError> {
         for _ in 0..self.entries.len() {
             let Some(task) = self.unknown.pop() else {
                 break;
             };
-            let Some(entry) = self.entries.get_mut(task as usize) else {
+            let Some(entry) = self.entries.get_mut(task.index as usize) else {
                 continue;
             };
             let parents = mem::replace(&mut entry.parents, Vec::new(alloc));
@@ -177,28 +162,28 @@ impl Tasks {
         Ok(())
     }
 
-    /// Ends each task that has an instance whose nodes all end. No task ends twice.
+    /// Marks each task as one that ends that has a decomposition whose nodes all end. Each enters the list at most once.
     fn end_all(&mut self, alloc: Global) -> Result<(), AllocError> {
         for _ in 0..self.entries.len() {
             let Some(task) = self.ended.pop() else {
                 break;
             };
-            let Some(entry) = self.entries.get_mut(task as usize) else {
+            let Some(entry) = self.entries.get_mut(task.index as usize) else {
                 continue;
             };
             let uses = mem::replace(&mut entry.uses, Vec::new(alloc));
-            for instance in &uses {
-                self.lessen(*instance)?;
+            for place in &uses {
+                self.lessen(*place)?;
             }
         }
         Ok(())
     }
 
     /// The tasks that are known, and those that never end.
-    fn marks(&self, alloc: Global, found: &Enumeration) -> Result<Marks, AllocError> {
+    fn marks(&self, alloc: Global, graph: &TaskGraph) -> Result<Marks, AllocError> {
         let mut marks = Marks::none(alloc);
-        for (number, entry) in self.entries.iter().enumerate() {
-            let Some(goal) = found.tasks().get_index(number) else {
+        for (node, entry) in graph.nodes().iter().zip(&self.entries) {
+            let Child::Task(goal) = node else {
                 continue;
             };
             if entry.is_known {
@@ -215,15 +200,15 @@ impl Tasks {
 /// The compound tasks that are known, and those that never end.
 pub(crate) fn task_marks(
     alloc: Global,
-    found: &Enumeration,
+    graph: &TaskGraph,
     actions: &Actions,
     facts: &FactSets,
 ) -> Result<Marks, AllocError> {
-    let mut tasks = Tasks::new(alloc, found.expanded())?;
-    for parts in found.instances() {
-        tasks.add(found, actions, facts, parts)?;
+    let mut tasks = Tasks::new(alloc, graph.listed())?;
+    for decomposition in graph.decompositions() {
+        tasks.add(actions, facts, decomposition)?;
     }
     tasks.forget_parents(alloc)?;
     tasks.end_all(alloc)?;
-    tasks.marks(alloc, found)
+    tasks.marks(alloc, graph)
 }

@@ -6,7 +6,7 @@ ghost use Rattle.htn_net.specs.Grounded.{grounded-prop};
 ghost use Rattle.htn_net.specs.Listed.{listing_machine};
 ghost use Rattle.needs_table.specs.Prospects.{ProspectsHold};
 ghost use Rattle.task_machine.specs.Bounds.{most_steps, prospects-prop};
-ghost use Rattle.tree_sizes.specs.Enumerated.{IsEnumeration};
+ghost use Rattle.task_graph.specs.Graph.{IsGraph};
 ghost use Rattle.tree_sizes.specs.Sizes.{size_of};
 
 use crate::configuration::{Configuration, Reached};
@@ -15,7 +15,8 @@ use htn_task::Task;
 use needs_table::Prospects;
 use std::alloc::{AllocError, Global};
 use std::thread::Threads;
-use tree_sizes::{Enumeration, TreeSizes};
+use task_graph::TaskGraph;
+use tree_sizes::TreeSizes;
 use word_machine::{Horizon, Machine, Measured};
 
 /// The word machine of a task as a search takes it: from a configuration a rank leads to the next
@@ -32,18 +33,18 @@ pub struct TaskMachine<'a> {
 }
 
 impl<'a> TaskMachine<'a> {
-    /// The word machine of a task. By what was listed of the task it knows sizes and needs.
+    /// The word machine of a task, with the sizes and the needs of the nodes of its graph.
     pub fn new(
         alloc: Global,
         task: &'a Task,
-        found: Enumeration,
+        graph: TaskGraph,
     ) -> Result<TaskMachine<'a>, AllocError>
-        requires { IsEnumeration task.now found }
+        requires { IsGraph task.now graph }
         ensures { IfOk result (λ m. m.task.now ≡ task.now) }
     {
         let _initial = task.initial_atoms();
-        let prospects = Prospects::of(alloc, task, &found)?;
-        let sizes = TreeSizes::of_enumerated(alloc, found)?;
+        let prospects = Prospects::of(alloc, task, &graph)?;
+        let sizes = TreeSizes::of(alloc, graph)?;
         Ok(TaskMachine {
             task,
             alloc,

@@ -22,7 +22,6 @@ use htn_ground::goal_literals;
 use htn_task::Task;
 use needs_table::NeedsTable;
 use network_table::NetworkTable;
-use relaxed_reach::fluent_predicates;
 use state_table::{AtomTable, BitState, CompiledLiterals, StateTable};
 use std::alloc::{AllocError, Global};
 
@@ -58,7 +57,7 @@ impl Tables {
         ensures nothing_noted { IfOk result (λ t. (t.needs.nodes.items ≡ []) × (t.needs.goals.items ≡ [])
             × (t.needs.lists.items ≡ [])) }
     {
-        let fluents = fluent_predicates(alloc, task)?;
+        let fluents = Vec::from_slice(alloc, task.fluents())?;
         let mut atoms = AtomTable::new(alloc, fluents, task.initial_atoms())?;
         let literals = goal_literals(alloc, task)?;
         let goal = CompiledLiterals::of(alloc, &mut atoms, literals.as_slice())?;

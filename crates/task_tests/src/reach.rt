@@ -7,7 +7,7 @@ use htn_task::Task;
 use relaxed_reach::RelaxedReach;
 use std::alloc::Global;
 use std::test::Fail;
-use tree_sizes::enumerate;
+use task_graph::enumerate;
 
 // Whether anything ends a node.
 fn node_text(reach: &RelaxedReach, child: &Child) -> &'static str {

@@ -1,164 +1,160 @@
 -- Sizes that were checked are a lower measure.
-use Rattle.std.proofs.Common.{◌≡◌, ℕ, ◌+◌, ◌≤◌, Bool, true, false, cond, List, [], ◌∷◌, map, length, get_or, drop, slice_get, Option, Some, None, inl, inr, refl, sym, ap, ap₂, ◌∙◌, subst, arith, ◌⊎◌}
-use Rattle.std.specs.List.{sum_by}
-use Rattle.std.proofs.lemmas.Bool.{both_ways, cases_Bool, cases_lt}
-use Rattle.std.proofs.lemmas.List.{get_or_past}
+use Rattle.std.proofs.Common.{◌≡◌, ℕ, zero, suc, ◌+◌, ◌≤◌, ◌<◌, Bool, true, false, cond, ◌&&◌, List, [], ◌∷◌, All, map, length, get_or, drop, slice_get, Option, Some, None, inl, inr, refl, sym, ap, ap₂, ◌∙◌, subst, arith, ◌⊎◌}
+use Rattle.std.specs.Prelude.{is_some}
+use Rattle.std.specs.List.{list_any, sum_by}
+use Rattle.std.proofs.lemmas.Bool.{and_parts, cases_lt}
 use Rattle.std.proofs.lemmas.List.Folds.{Any-from_list_any}
 use Rattle.std.proofs.lemmas.List.Sums.{get_or-le-sum_by, sum_by-cons}
 use Rattle.std.proofs.lemmas.Option.{slice_get_within, get_or_from_slice_get}
-use Rattle.htn_model.specs.Equality.{ground_task_eq-decides}
 use Rattle.htn_model.specs.Exhaustion.{is_dead}
 use Rattle.htn_model.specs.Grounding.{problem_of}
-use Rattle.htn_model.specs.Problem.{Child, precondition, action, task, GroundTask, ground_task_eq, Network}
+use Rattle.htn_model.specs.Literal.{Literal}
+use Rattle.htn_model.specs.Problem.{Child, precondition, action, task, GroundTask, Network, Problem}
 use Rattle.htn_model.specs.Task.{Task}
-use Rattle.tree_sizes.specs.Enumerated.{HasParts, IsEnumeration}
-use Rattle.tree_sizes.specs.Measure.{IsLowerMeasure, is_barred}
-use Rattle.tree_sizes.specs.Numbers.{AreBarred, AreParts, HasBarred, compounds, is_among, number_of}
-use Rattle.tree_sizes.specs.Sizes.{AreLower, measure, out_of_reach, size_at, size_by, size_of_number}
-use Rattle.tree_sizes.specs.declared.enumeration.Enumeration.{Enumeration}
-use Rattle.tree_sizes.specs.declared.parts.Parts.{Parts}
-use Rattle.tree_sizes.proofs.Listed.{listed_of}
-use Rattle.tree_sizes.proofs.Numbers.{as_many, number_at}
+use Rattle.task_graph.specs.Barred.{is_barred, is_barred_node}
+use Rattle.task_graph.specs.Graph.{AreIds, IsGraph, id_of, is_barred_at, is_known_barred, nodes_of}
+use Rattle.task_graph.specs.declared.graph.TaskGraph.{TaskGraph}
+use Rattle.task_graph.specs.declared.node_id.NodeId.{NodeId}
+use Rattle.task_graph.proofs.Ids.{id_at}
+use Rattle.task_graph.proofs.Listed.{HasDecomposition, barred_at, covered}
+use Rattle.tree_sizes.specs.Measure.{IsLowerMeasure}
+use Rattle.tree_sizes.specs.Sizes.{AreLower, IsSize, measure, out_of_reach, size_at, size_by, size_by_id}
 
-module _ (tasks barred : List GroundTask) (sizes : List ℕ) where
+module _ (t : Task) (g : TaskGraph) (sizes : List ℕ) (graph : IsGraph t g) (lower : AreLower g sizes) where
+  -- the nodes
+  abbrev nodes : List Child
+  nodes = nodes_of g
+
   -- the size of a node
   abbrev size : Child → ℕ
-  size = measure tasks barred sizes
+  size = measure nodes sizes
 
-  -- the size of a ground task
-  abbrev of : GroundTask → ℕ
-  of g = size_of_number sizes (number_of tasks g)
+  -- what was checked of a node with an id
+  checked : (x : Child) (i : ℕ) → id_of nodes x ≡ Some i → IsSize g i x (size_at sizes i)
+  checked x i is = lower.nodes i x (id_at nodes x i is)
 
-  -- an action counts 1 at least
-  action_positive : (b : Bool) → 1 ≤ cond b out_of_reach 1
-  action_positive true = omega arith
-  action_positive false = omega arith
+  -- the size of a node stands at its id
+  size_is : (x : Child) (i : ℕ) → id_of nodes x ≡ Some i → size x ≡ size_at sizes i
+  size_is (precondition literals) i is = sym (checked (precondition literals) i is)
+  size_is (action h) i is = ap (size_by_id sizes) is
+  size_is (task h) i is = ap (size_by_id sizes) is
 
-  -- the sizes of nodes, those of compound tasks apart
-  children_sum : (children : List Child) → length children + sum_by of (compounds children) ≤ sum_by size children + length (compounds children)
-  children_sum [] = omega arith
-  children_sum (precondition literals ∷ children) =
-      let rest = children_sum children in let one = sum_by-cons size (precondition literals) children in omega arith
-  children_sum (action g ∷ children) =
-      let rest = children_sum children in
-      let one = sum_by-cons size (action g) children in
-      let some = action_positive (is_among barred g) in
-      omega arith
-  children_sum (task g ∷ children) =
-      let rest = children_sum children in
-      let one = sum_by-cons size (task g) children in
-      let own = sum_by-cons of g (compounds children) in
-      omega arith
+  -- 1, or out of all reach, is at least 1
+  one_or_far : (b : Bool) (n : ℕ) → n ≡ cond b out_of_reach 1 → 1 ≤ n
+  one_or_far true n is = omega arith
+  one_or_far false n is = omega arith
 
-  -- the sizes of tasks are those by their numbers
-  numbered_sum : (ts : List GroundTask) (ids : List ℕ) → map (number_of tasks) ts ≡ map Some ids → sum_by of ts ≡ sum_by (size_at sizes) ids
-  numbered_sum [] [] are = refl
-  numbered_sum [] (id ∷ ids) are = absurd cc
-  numbered_sum (g ∷ ts) [] are = absurd cc
-  numbered_sum (g ∷ ts) (id ∷ ids) are =
-      let first : number_of tasks g ≡ Some id = ap (λ l. get_or l 0 None) are in
-      let rest = numbered_sum ts ids (ap (λ l. drop 1 l) are) in
-      sum_by-cons of g ts ∙ ap₂ (λ a b. a + b) (ap (size_of_number sizes) first) rest ∙ sym (sum_by-cons (size_at sizes) id ids)
+  -- each node counts at least 1
+  positive : (x : Child) → 1 ≤ size x
+  positive (precondition literals) = omega arith
+  positive (action h) = by (id_of nodes (action h)) refl
+    where
+      by : (o : Option ℕ) → id_of nodes (action h) ≡ o → 1 ≤ size_by_id sizes o
+      by None is = omega arith
+      by (Some i) is = one_or_far (is_barred_at g i) (size_at sizes i) (checked (action h) i is)
+  positive (task h) = by (id_of nodes (task h)) refl
+    where
+      by : (o : Option ℕ) → id_of nodes (task h) ≡ o → 1 ≤ size_by_id sizes o
+      by None is = omega arith
+      by (Some i) is = (checked (task h) i is).0
 
-  -- the sizes of an instance's nodes, by its parts
-  parts_sum : (children : List Child) (p : Parts) (number : ℕ) → AreParts tasks number children p → size_by sizes p ≤ 1 + sum_by size children
-  parts_sum children p number are =
-      let all = children_sum children in
-      let subtasks = numbered_sum (compounds children) p.subtasks.items are.subtasks in
-      let many = as_many tasks children p.subtasks.items are.subtasks in
-      let steps = are.steps in
-      omega arith
+  -- an action that may be carried out counts 1
+  action_one : (h : GroundTask) → is_barred (problem_of t) h ≡ false → size (action h) ≤ 1
+  action_one h alive = by (id_of nodes (action h)) refl
+    where
+      by : (o : Option ℕ) → id_of nodes (action h) ≡ o → size_by_id sizes o ≤ 1
+      by None is = omega arith
+      by (Some i) is =
+          let one : size_at sizes i ≡ 1 = checked (action h) i is ∙ ap (λ b. cond b out_of_reach 1) (barred_at t g h i graph.grounded is ∙ alive) in
+          omega (arith, one)
 
-  module _ (instances : List Parts) (expanded : ℕ) (lower : AreLower sizes instances expanded) where
-    -- what is not expanded counts 1
-    past_is_one : (n : ℕ) → expanded ≤ n → size_at sizes n ≡ 1
-    past_is_one n past = let known = lower.known in get_or_past sizes n 1 (omega arith)
+  -- the sum by ids is that of the nodes
+  ids_sum : (ids : List NodeId) (xs : List Child) → AreIds nodes ids xs → sum_by (λ (i : NodeId). size_at sizes i.index) ids ≡ sum_by size xs
+  ids_sum [] [] are = refl
+  ids_sum [] (x ∷ xs) are = absurd cc
+  ids_sum (i ∷ ids) [] are = absurd cc
+  ids_sum (i ∷ ids) (x ∷ xs) are =
+      let first : id_of nodes x ≡ Some i.index = sym (ap (λ l. get_or l 0 None) are) in
+      let rest = ids_sum ids xs (ap (λ l. drop 1 l) are) in
+      sum_by-cons (λ (j : NodeId). size_at sizes j.index) i ids ∙ ap₂ (λ a b. a + b) (sym (size_is x i.index first)) rest ∙ sym (sum_by-cons size x xs)
 
-    -- each size is at least 1, and none out of all reach
-    at_within : (n : ℕ) → (1 ≤ size_at sizes n) × (size_at sizes n ≤ out_of_reach)
-    at_within n = elim (cases_lt n (length sizes)) [
-      | inl less ↦ (lower.positive n 1 less, lower.bounded n 1 less)
-      | inr past ↦ (let one = get_or_past sizes n 1 past in (omega (arith, one), omega (arith, one)))
-    ]
+  -- no size is more than a decomposition of its task gives
+  within_listed : (id : ℕ) (n : Network) → HasDecomposition g id n → size_at sizes id ≤ 1 + sum_by size n.children
+  within_listed id n (d, at, named, same) =
+      let inside = slice_get_within g.decompositions.items at.0 d at.1 in
+      let is = get_or_from_slice_get g.decompositions.items at.0 d d at.1 in
+      let own : size_at sizes d.task.index ≤ size_by sizes d = subst (λ e. size_at sizes e.task.index ≤ size_by sizes e) is (lower.within at.0 d inside) in
+      let numbered : AreIds nodes d.nodes.items d.children = subst (λ e. AreIds nodes e.nodes.items e.children) is (graph.numbered at.0 d inside) in
+      let sum = ids_sum d.nodes.items d.children numbered in
+      let children : sum_by size d.children ≡ sum_by size n.children = ap (λ (m : Network). sum_by size m.children) same in
+      let task : size_at sizes d.task.index ≡ size_at sizes id = ap (size_at sizes) named in
+      omega (arith, own, sum, children, task)
 
-    -- so it is with a task, whether it has a number or not
-    number_positive : (o : Option ℕ) → 1 ≤ size_of_number sizes o
-    number_positive None = omega arith
-    number_positive (Some n) = (at_within n).0
+  -- a node that is known to be never carried out is out of all reach
+  far : (x : Child) → is_known_barred t nodes x ≡ true → size x ≡ out_of_reach
+  far (precondition literals) known = absurd cc
+  far (task h) known = absurd cc
+  far (action h) known = by (id_of nodes (action h)) refl (and_parts (is_barred (problem_of t) h) (is_some (id_of nodes (action h))) known)
+    where
+      by : (o : Option ℕ) → id_of nodes (action h) ≡ o → (is_barred (problem_of t) h ≡ true) × (is_some o ≡ true) → size_by_id sizes o ≡ out_of_reach
+      by None is parts = absurd cc
+      by (Some i) is parts = checked (action h) i is ∙ ap (λ b. cond b out_of_reach 1) (barred_at t g h i graph.grounded is ∙ parts.0)
 
-    -- and with each node
-    positive : (x : Child) → 1 ≤ size x
-    positive (precondition literals) = omega arith
-    positive (action g) = action_positive (is_among barred g)
-    positive (task g) = number_positive (number_of tasks g)
+  -- no size is more than a network gives with such a node
+  within_barred : (h : GroundTask) (id : ℕ) (n : Network) → slice_get nodes id ≡ Some (task h) → list_any (is_known_barred t nodes) n.children ≡ true → size_at sizes id ≤ 1 + sum_by size n.children
+  within_barred h id n at any =
+      let found = Any-from_list_any (is_known_barred t nodes) n.children any in
+      let x = found.1 in
+      let one : size (get_or n.children found.0 x) ≡ out_of_reach = ap size found.3 ∙ far x found.4 in
+      let part = get_or-le-sum_by size n.children found.0 x found.2 in
+      let most = (lower.nodes id (task h) at).1 in
+      omega (arith, one, part, most)
 
-    -- no size is more than an instance gives of which the parts are there
-    within_parts : (n : ℕ) (x : Network) → HasParts tasks instances n x → size_at sizes n ≤ 1 + sum_by size x.children
-    within_parts n x (j, p, at, are, of) =
-        let inside = slice_get_within instances j p at in
-        let is : get_or instances j p ≡ p = get_or_from_slice_get instances j p p at in
-        let own : size_at sizes p.task ≤ size_by sizes p = subst (λ (q : Parts). size_at sizes q.task ≤ size_by sizes q) is (lower.within j p inside) in
-        let named : size_at sizes p.task ≡ size_at sizes n = ap (size_at sizes) are.task in
-        let sum = parts_sum x.children p n are in
-        omega (arith, own, named, sum)
-
-    -- nor more than one gives with an action that is never carried out
-    within_barred : (n : ℕ) (children : List Child) → HasBarred barred children → size_at sizes n ≤ 1 + sum_by size children
-    within_barred n children (k, g, at, among) =
-        let inside = slice_get_within children k (action g) at in
-        let is : get_or children k (action g) ≡ action g = get_or_from_slice_get children k (action g) (action g) at in
-        let one : size (get_or children k (action g)) ≡ out_of_reach = ap size is ∙ ap (λ b. cond b out_of_reach 1) among in
-        let part = get_or-le-sum_by size children k (action g) inside in
-        let most = (at_within n).1 in
-        omega (arith, one, part, most)
-
-    -- nor than any other
-    within_covered : (n : ℕ) (x : Network) → HasParts tasks instances n x ⊎ HasBarred barred x.children → size_at sizes n ≤ 1 + sum_by size x.children
-    within_covered n x (inl parts) = within_parts n x parts
-    within_covered n x (inr never) = within_barred n x.children never
-
--- what is among these is never carried out
-pub among_barred : (t : Task) (barred : List GroundTask) (g : GroundTask) → AreBarred t barred → is_among barred g ≡ true → is_barred (problem_of t) g ≡ true
-among_barred t barred g all among =
-    let found = Any-from_list_any (ground_task_eq g) barred among in
-    let same : g ≡ found.1 = (ground_task_eq-decides g found.1).0 found.4 in
-    subst (λ (h : GroundTask). is_barred (problem_of t) h ≡ true) (sym same)
-    (subst (λ (h : GroundTask). is_barred (problem_of t) h ≡ true) found.3 (all found.0 found.1 found.2))
-
--- an action that may be carried out counts 1
-action_one : (t : Task) (barred : List GroundTask) (g : GroundTask) → AreBarred t barred → is_barred (problem_of t) g ≡ false → cond (is_among barred g) out_of_reach 1 ≤ 1
-action_one t barred g all alive = elim (cases_Bool (is_among barred g)) [
-  | inl among ↦ absurd (both_ways (is_barred (problem_of t) g) alive (among_barred t barred g all among))
-  | inr none ↦ (let one : cond (is_among barred g) out_of_reach 1 ≡ 1 = ap (λ b. cond b out_of_reach 1) none in omega (arith, one))
-]
+  -- a compound task counts no more than 1 and what the nodes of an instance count
+  task_within : (h : GroundTask) (number : ℕ) (n : Network) → slice_get ((problem_of t).methods_of h) number ≡ Some n → is_dead (problem_of t) n ≡ false → size (task h) ≤ 1 + sum_by size n.children
+  task_within h number n there live = by (id_of nodes (task h)) refl
+    where
+      by : (o : Option ℕ) → id_of nodes (task h) ≡ o → size_by_id sizes o ≤ 1 + sum_by size n.children
+      by None is = omega arith
+      by (Some id) is =
+          let at = id_at nodes (task h) id is in
+          elim (cases_lt id g.listed) [
+            | inl less ↦
+                (elim (covered t g h number n id graph there live less at) [
+                  | inl listed ↦ within_listed id n listed
+                  | inr known ↦ within_barred h id n at known
+                ])
+            | inr past ↦ (let one = (lower.nodes id (task h) at).2 past in omega (arith, one))
+          ]
 
 -- sizes that passed the check are a lower measure
-pub lower_measure : (t : Task) (e : Enumeration) (sizes : List ℕ) → IsEnumeration t e → AreLower sizes e.instances.items e.expanded
-    → IsLowerMeasure (problem_of t) (measure e.tasks.keys e.actions.barred.keys sizes)
-lower_measure t e sizes enumerated lower = record {
-  positive = positive e.tasks.keys e.actions.barred.keys sizes e.instances.items e.expanded lower;
+pub lower_measure : (t : Task) (g : TaskGraph) (sizes : List ℕ) → IsGraph t g → AreLower g sizes → IsLowerMeasure (problem_of t) (measure (nodes_of g) sizes)
+lower_measure t g sizes graph lower = record {
+  positive = positive t g sizes graph lower;
   step = λ literals. omega arith;
-  action = λ g alive. action_one t e.actions.barred.keys g enumerated.barred alive;
-  task = λ g number network at live. by g network number at live (number_of e.tasks.keys g) refl;
+  action = action_one t g sizes graph lower;
+  task = task_within t g sizes graph lower;
 }
-  where
-    by : (g : GroundTask) (network : Network) (number : ℕ) → slice_get ((problem_of t).methods_of g) number ≡ Some network → is_dead (problem_of t) network ≡ false
-        → (o : Option ℕ) → number_of e.tasks.keys g ≡ o → size_of_number sizes o ≤ 1 + sum_by (measure e.tasks.keys e.actions.barred.keys sizes) network.children
-    by g network number at live None is = omega arith
-    by g network number at live (Some n) is = elim (cases_lt n e.expanded) [
-      | inl less ↦
-          (let found = listed_of network t g number at live in
-          let covered = enumerated.covered g n less (number_at e.tasks.keys g n is) found.0 found.1 found.2 in
-          subst (λ (m : Network). size_at sizes n ≤ 1 + sum_by (measure e.tasks.keys e.actions.barred.keys sizes) m.children) (sym found.3)
-          (within_covered e.tasks.keys e.actions.barred.keys sizes e.instances.items e.expanded lower n found.1.network covered))
-      | inr past ↦ (let one = past_is_one e.tasks.keys e.actions.barred.keys sizes e.instances.items e.expanded lower n past in omega (arith, one))
-    ]
 
--- no sizes at all pass it
-pub none_lower : (instances : List Parts) (expanded : ℕ) → AreLower [] instances expanded
-none_lower instances expanded = record {
-  known = omega arith;
-  positive = λ k d inside. absurd (omega (arith, inside));
-  bounded = λ k d inside. absurd (omega (arith, inside));
-  within = λ k p inside. omega arith;
+-- where no size is known each node counts 1
+all_ones : (known : List Child) (x : Child) → measure known [] x ≡ 1
+all_ones known (precondition literals) = refl
+all_ones known (action h) = by (id_of known (action h))
+  where
+    by : (o : Option ℕ) → size_by_id [] o ≡ 1
+    by None = refl
+    by (Some i) = refl
+all_ones known (task h) = by (id_of known (task h))
+  where
+    by : (o : Option ℕ) → size_by_id [] o ≡ 1
+    by None = refl
+    by (Some i) = refl
+
+-- that is a lower measure
+pub ones_measure : (problem : Problem) (known : List Child) → IsLowerMeasure problem (measure known [])
+ones_measure problem known = record {
+  positive = λ x. (let one = all_ones known x in omega (arith, one));
+  step = λ literals. omega arith;
+  action = λ h alive. (let one = all_ones known (action h) in omega (arith, one));
+  task = λ h number n at live. (let one = all_ones known (task h) in omega (arith, one));
 }

@@ -1,4 +1,2 @@
 pub mod Measure
-pub mod Numbers
-pub mod Enumerated
 pub mod Sizes

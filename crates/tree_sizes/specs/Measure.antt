@@ -1,22 +1,14 @@
 -- Bounds from below on the numbers that a word must still have, by a measure on the open nodes.
-use Rattle.std.specs.Prelude.{◌≡◌, ◌↔◌, ℕ, ◌+◌, ◌≤◌, Bool, true, false, not, cond, List, [], length, max, min, Option, None, Some, slice_get}
+use Rattle.std.specs.Prelude.{◌≡◌, ◌↔◌, ℕ, ◌+◌, ◌≤◌, Bool, true, false, not, cond, List, [], length, max, min, Some, slice_get}
 use Rattle.std.specs.FinMap.{retain_keys}
-use Rattle.std.specs.List.{list_any, sum_by}
+use Rattle.std.specs.List.{sum_by}
 use Rattle.htn_model.specs.Atom.{Atom}
 use Rattle.htn_model.specs.State.{State, contains, state_eq}
-use Rattle.htn_model.specs.Literal.{Literal, Action}
+use Rattle.htn_model.specs.Literal.{Literal}
 use Rattle.htn_model.specs.Problem.{Child, precondition, action, task, GroundTask, IsGrounded, Network, Problem}
 use Rattle.htn_model.specs.Machine.{Config, IsDone}
-use Rattle.htn_model.specs.Exhaustion.{is_dead, is_dead_literal, live_step, LeadsLive}
-
--- no instance, or one that needs a literal that stays false
-abbrev pub is_barred_by : Problem → Option Action → Bool
-is_barred_by problem None = true
-is_barred_by problem (Some a) = list_any (is_dead_literal problem) a.precondition
-
--- whether an action is never carried out
-abbrev pub is_barred : Problem → GroundTask → Bool
-is_barred problem g = is_barred_by problem (problem.action_of g)
+use Rattle.htn_model.specs.Exhaustion.{is_dead, live_step, LeadsLive}
+use Rattle.task_graph.specs.Barred.{is_barred}
 
 -- a node takes a number itself, and a compound task no more than that and what the nodes of any of its instances take,
 -- dead ones apart

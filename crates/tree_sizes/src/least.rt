@@ -1,16 +1,17 @@
-//! Least tree sizes, found as Knuth found least derivations of a grammar (A generalization of Dijkstra's
-//! algorithm, 1977): of the tasks that have no size yet, the one of which some instance is known and least gets
-//! that size. Nothing is promised of them: whoever uses them checks them.
+//! Minimum decomposition sizes, found as Knuth found least derivations of a grammar (A generalization of Dijkstra's
+//! algorithm, 1977): of the tasks that have no size yet, the one with the least decomposition, all of whose nodes have
+//! sizes, gets its size. They have no contract, since [`TreeSizes::of`] checks them.
 
-use crate::check::OUT_OF_REACH;
-use crate::parts::Parts;
+use crate::check::{OUT_OF_REACH, size_at};
+use htn_ground::Child;
 use std::alloc::{AllocError, Global};
 use std::mem;
+use task_graph::{Decomposition, NodeId, TaskGraph};
 
-/// An instance of a task: the size so far, and how many subtasks have none yet.
+/// A decomposition: its size so far, and the number of its nodes that have none yet.
 #[derive(Drop)]
 struct Pending {
-    task: u32,
+    task: NodeId,
     size: u32,
     missing: u32,
 }
@@ -18,21 +19,43 @@ struct Pending {
 /// The sizes so far.
 #[derive(Drop)]
 struct Search {
+    /// By node.
     sizes: Vec<u32>,
     pending: Vec<Pending>,
-    /// By task, the instances in which it stands.
+    /// By node, the places of the decompositions that wait for its size.
     uses: Vec<Vec<u32>>,
-    /// By size, the tasks of which an instance has it, as far as the greatest that one had.
-    reached: Vec<Vec<u32>>,
+    /// By size, the tasks with a decomposition of it, up to the greatest size so far.
+    reached: Vec<Vec<NodeId>>,
+}
+
+/// The size of a node before any decomposition is counted. What a compound task takes is not known where its
+/// decompositions are not listed.
+fn first_size(graph: &TaskGraph, id: NodeId, node: &Child) -> u32 {
+    match node {
+        Child::Precondition(_) => 1,
+        Child::Action(_) if graph.is_barred(id) => OUT_OF_REACH,
+        Child::Task(_) if graph.is_listed(id) => OUT_OF_REACH,
+        Child::Action(_) | Child::Task(_) => 1,
+    }
+}
+
+/// Whether a node gets its size by decompositions.
+fn is_sought(graph: &TaskGraph, id: NodeId) -> bool {
+    match graph.node(id) {
+        Some(Child::Task(_)) => graph.is_listed(id),
+        _ => false,
+    }
 }
 
 impl Search {
-    /// No task has a size.
-    fn new(alloc: Global, tasks: usize) -> Result<Search, AllocError> {
-        let mut sizes = Vec::with_capacity(alloc, tasks)?;
-        let mut uses = Vec::with_capacity(alloc, tasks)?;
-        for _ in 0..tasks {
-            sizes.push(OUT_OF_REACH)?;
+    /// No decomposition is counted.
+    fn new(alloc: Global, graph: &TaskGraph) -> Result<Search, AllocError> {
+        let count = graph.nodes().len();
+        let mut sizes = Vec::with_capacity(alloc, count)?;
+        let mut uses = Vec::with_capacity(alloc, count)?;
+        for (place, node) in graph.nodes().iter().enumerate() {
+            let index = u32::try_from(place).unwrap_or(u32::MAX);
+            sizes.push(first_size(graph, NodeId { index }, node))?;
             uses.push(Vec::new(alloc))?;
         }
         Ok(Search {
@@ -43,8 +66,8 @@ impl Search {
         })
     }
 
-    /// An instance of the task has this size. What is out of reach is not noted.
-    fn reach(&mut self, alloc: Global, task: u32, size: u32) -> Result<(), AllocError> {
+    /// Notes that a decomposition of a task has a size, unless that is out of reach.
+    fn reach(&mut self, alloc: Global, task: NodeId, size: u32) -> Result<(), AllocError> {
         if size >= OUT_OF_REACH {
             return Ok(());
         }
@@ -57,26 +80,29 @@ impl Search {
         Ok(())
     }
 
-    /// Takes in an instance. A subtask that is not searched has the size 1.
-    fn add(&mut self, alloc: Global, parts: &Parts) -> Result<(), AllocError> {
-        // At most 2^32 instances have places. Past them the answer is want of memory although none was refused: so
+    /// Counts the nodes of a decomposition that have sizes, and lets it wait for the others.
+    fn add(
+        &mut self,
+        alloc: Global,
+        graph: &TaskGraph,
+        decomposition: &Decomposition,
+    ) -> Result<(), AllocError> {
+        // At most 2^32 decompositions have places. Past them the answer is want of memory although none was refused: so
         // many take more than 50 GB in this list alone. A search lists far fewer.
         let Ok(place) = u32::try_from(self.pending.len()) else {
             return Err(AllocError);
         };
-        let mut size = u32::try_from(parts.steps)
-            .unwrap_or(OUT_OF_REACH)
-            .saturating_add(1);
+        let mut size = 1u32;
         let mut missing = 0u32;
-        for subtask in &parts.subtasks {
-            if let Some(places) = self.uses.get_mut(*subtask as usize) {
+        for node in &decomposition.nodes {
+            if !is_sought(graph, *node) {
+                size = size.saturating_add(size_at(&self.sizes, *node));
+            } else if let Some(places) = self.uses.get_mut(node.index as usize) {
                 places.push(place)?;
                 missing = missing.saturating_add(1);
-            } else {
-                size = size.saturating_add(1);
             }
         }
-        let task = parts.task;
+        let task = decomposition.task;
         self.pending.push(Pending {
             task,
             size,
@@ -88,7 +114,7 @@ impl Search {
         Ok(())
     }
 
-    /// A subtask of the instance at a place has this size.
+    /// Adds the size of a node to the decomposition at a place, which waited for it.
     fn lengthen(&mut self, alloc: Global, place: u32, size: u32) -> Result<(), AllocError> {
         let Some(pending) = self.pending.get_mut(place as usize) else {
             return Ok(());
@@ -102,16 +128,16 @@ impl Search {
         Ok(())
     }
 
-    /// Gives a task this size, unless it has one.
-    fn settle(&mut self, alloc: Global, task: u32, size: u32) -> Result<(), AllocError> {
-        let Some(known) = self.sizes.get_mut(task as usize) else {
+    /// Gives a task a size, unless it has one.
+    fn settle(&mut self, alloc: Global, task: NodeId, size: u32) -> Result<(), AllocError> {
+        let Some(known) = self.sizes.get_mut(task.index as usize) else {
             return Ok(());
         };
         if *known <= size {
             return Ok(());
         }
         *known = size;
-        let Some(uses) = self.uses.get_mut(task as usize) else {
+        let Some(uses) = self.uses.get_mut(task.index as usize) else {
             return Ok(());
         };
         let places = mem::replace(uses, Vec::new(alloc));
@@ -121,7 +147,7 @@ impl Search {
         Ok(())
     }
 
-    /// Gives their size to the tasks of which an instance has it.
+    /// Settles the tasks with a decomposition of a size.
     fn settle_reached(&mut self, alloc: Global, size: u32) -> Result<(), AllocError> {
         let Some(reached) = self.reached.get_mut(size as usize) else {
             return Ok(());
@@ -134,15 +160,11 @@ impl Search {
     }
 }
 
-/// Sizes for as many tasks as were expanded, by their instances.
-pub(crate) fn least_sizes(
-    alloc: Global,
-    expanded: usize,
-    instances: &[Parts],
-) -> Result<Vec<u32>, AllocError> {
-    let mut search = Search::new(alloc, expanded)?;
-    for parts in instances {
-        search.add(alloc, parts)?;
+/// The sizes of all nodes of a graph.
+pub(crate) fn least_sizes(alloc: Global, graph: &TaskGraph) -> Result<Vec<u32>, AllocError> {
+    let mut search = Search::new(alloc, graph)?;
+    for decomposition in graph.decompositions() {
+        search.add(alloc, graph, decomposition)?;
     }
     for size in 1..OUT_OF_REACH {
         if size as usize >= search.reached.len() {

@@ -3,5 +3,5 @@ use Rattle.std.specs.List.{sum_by}
 use Rattle.tree_sizes.specs.Sizes.{size_at}
 use Rattle.tree_sizes.proofs.check.size_by.Given as goal
 
-abbrev pub invariant-loop-subtask : goal.invariant-loop-subtask
-invariant-loop-subtask l = l.size ≡ min (1 + (l.parts.steps + sum_by (size_at l.sizes) (take l.subtask-index l.parts.subtasks.items))) (2 ^ 64 - 1)
+abbrev pub invariant-loop-node : goal.invariant-loop-node
+invariant-loop-node l = l.size ≡ min (1 + sum_by (λ i. size_at l.sizes i.index) (take l.node-index l.decomposition.nodes.items)) (2 ^ 64 - 1)

@@ -2,8 +2,8 @@ use Rattle.relaxed_reach.proofs.Checked.{checked_reach, starts_reached}
 use Rattle.relaxed_reach.proofs.reach.RelaxedReach.of.Goals as goal
 
 pub returns-then-is_right-clause-reach : goal.returns-then-is_right-clause-reach
-returns-then-is_right-clause-reach c = λ listed.
-    checked_reach c.args.task.now c.in_ok-reach.reach c.args.found.now listed (c.in_ok-is_right.ensures c.if-is_right.true)
+returns-then-is_right-clause-reach c = λ graph.
+    checked_reach c.args.task.now c.in_ok-reach.reach c.args.graph.now graph c.in_ok-reach.ensures (c.in_ok-is_right.ensures c.if-is_right.true)
 
 pub returns-then-is_right-clause-starts : goal.returns-then-is_right-clause-starts
 returns-then-is_right-clause-starts c =

@@ -1,4 +1,4 @@
-use Rattle.std.proofs.Common.{◌∙◌, ◌&&◌, List, ℕ, not, ap, sym, subst, slice_get}
+use Rattle.std.proofs.Common.{◌∙◌, ◌&&◌, List, ℕ, false, get_or, not, ap, sym, subst, slice_get}
 use Rattle.std.proofs.lemmas.Option.{none-some}
 use Rattle.htn_model.specs.Literal.{Literal}
 use Rattle.htn_model.specs.State.{State, contains}
@@ -19,7 +19,7 @@ returns-clause-own c =
     let first = c.in_ok-atoms.ensures in record {
       atoms = atoms_later t atoms c.of.new.table c.in_ok-goal.ensures.later (record {
         table = first.table;
-        fluents = λ p. ap (λ f. is_changed f p) first.fluents ∙ c.in_ok-fluents.ensures p;
+        fluents = λ p. ap (λ f. is_changed f p) first.fluents ∙ ap (λ l. get_or l p false) c.in_ok-fluents.ensures ∙ c.fluents.ensures p;
         statics = λ a. first.statics a ∙ ap (λ (s : State). contains s a && not (is_fluent atoms a)) c.initial_atoms.ensures.value;
       });
       numbering = subst (λ (l : List (List ℕ)). IsNumbering l) (sym c.new-3.ensures) numbering_none;

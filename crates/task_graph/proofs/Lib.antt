@@ -1,0 +1,4 @@
+pub mod Ids
+pub mod Sets
+pub mod Growing
+pub mod Listed

@@ -1,0 +1,4 @@
+pub mod Ids
+pub mod Barred
+pub mod Graph
+pub mod Growth
