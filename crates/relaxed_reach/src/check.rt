@@ -140,8 +140,8 @@ impl RelaxedReach {
         Ok(true)
     }
 
-    /// Whether an instance bears out what is marked of its task: all its nodes are known if the task is, and one of them
-    /// is blocked if the task is.
+    /// Whether an instance bears out what is marked of its task: all its nodes are known if the task is, and one of
+    /// them is blocked if the task is.
     fn passes(&self, goal: &GroundTask, children: &[Child]) -> bool
         ensures { result ≡ passes (reach_of self.now) goal.now (children_of children.now) }
     {

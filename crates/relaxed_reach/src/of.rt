@@ -73,8 +73,8 @@ impl RelaxedReach {
     }
 
     /// What is reached from a task's initial state by the nodes of the graph. A compound task is not known if it is not
-    /// listed, nor if a decomposition of it has a node that is not known. The answer is none where an initial network has
-    /// a node that is not known, and no barred one.
+    /// listed, nor if a decomposition of it has a node that is not known. The answer is none where an initial network
+    /// has a node that is not known, and no barred one.
     pub fn of(
         alloc: Global,
         task: &Task,

@@ -144,8 +144,8 @@ impl Tasks {
         Ok(())
     }
 
-    /// Marks each task as not known that has a decomposition with a node that is not known. Each enters the list at most
-    /// once.
+    /// Marks each task as not known that has a decomposition with a node that is not known. Each enters the list at
+    /// most once.
     fn forget_parents(&mut self, alloc: Global) -> Result<(), AllocError> {
         for _ in 0..self.entries.len() {
             let Some(task) = self.unknown.pop() else {
@@ -162,7 +162,8 @@ impl Tasks {
         Ok(())
     }
 
-    /// Marks each task as one that ends that has a decomposition whose nodes all end. Each enters the list at most once.
+    /// Marks each task as one that ends that has a decomposition whose nodes all end. Each enters the list at most
+    /// once.
     fn end_all(&mut self, alloc: Global) -> Result<(), AllocError> {
         for _ in 0..self.entries.len() {
             let Some(task) = self.ended.pop() else {

@@ -55,8 +55,8 @@ impl TaskGraph {
         }
     }
 
-    /// Whether one of the nodes is an action that is never carried out. Actions are added for that, up to the first such
-    /// one.
+    /// Whether one of the nodes is an action that is never carried out. Actions are added for that, up to the first
+    /// such one.
     fn has_barred(
         &mut self,
         alloc: Global,

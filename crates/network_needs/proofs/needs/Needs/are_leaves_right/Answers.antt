@@ -20,8 +20,9 @@ loop-number-preserved c = λ t graph k r low at x there. elim (cases_lt k c.loop
       let inside : i < length n.rows.leaf_rows.items = (let long = ap length rows in omega (arith, long, c.loop-number-test.true)) in
       let is : item ≡ get_or n.rows.leaf_rows.items i item = c.row-item.is ∙ ap (λ (l : List Row). get_or l i item) rows in
       let same_row : item ≡ r = sym (same_Some r item (sym at ∙ ap (slice_get n.rows.leaf_rows.items) place ∙ slice_get-get_or n.rows.leaf_rows.items i item inside ∙ ap Some (sym is))) in
-      let same_leaf : leaf ≡ x =
-      sym (same_Some x leaf (sym there ∙ ap (slice_get n.rows.leaves.keys) place ∙ ap (λ (l : List Node). slice_get l i) (sym c.as_slice-leaves.ensures.keys) ∙ sym c.in-Some.ensures.lookup)) in
+      let found = c.in-Some.ensures.lookup in
+      let leaf_at : slice_get c.as_slice-leaves.result.now i ≡ Some leaf = slice_get-get_or c.as_slice-leaves.result.now i leaf found.3.0 ∙ ap Some (sym found.1) in
+      let same_leaf : leaf ≡ x = sym (same_Some x leaf (sym there ∙ ap (slice_get n.rows.leaves.keys) place ∙ ap (λ (l : List Node). slice_get l i) (sym c.as_slice-leaves.ensures.keys) ∙ leaf_at)) in
       subst (λ (y : Node). IsLeafRight t n (child_view y) r) same_leaf
       (subst (λ (q : Row). IsLeafRight t n (child_view leaf) q) same_row (c.in_ok-is_right.ensures c.if-not-is_right.false t graph)))
 ]

@@ -20,10 +20,10 @@ returns-in-Precondition c = λ passes t _.
     (each_literal (λ m. Contains (literals_of c.as_slice-in-Precondition.result.now) m) c.as_slice.result.now (c.are_among.ensures passes) l
     (subst (λ (ls : List Literal). Contains (literals_of ls) l) (sym c.as_slice.ensures.value) at)))
 
-pub returns-in_ok-is_right : goal.returns-in_ok-is_right
-returns-in_ok-is_right c = λ passes t graph.
+pub returns-in_ok-is_right-in-Some : goal.returns-in_ok-is_right-in-Some
+returns-in_ok-is_right-in-Some c = λ passes t graph.
     let g = c.args.graph.now in
     let view : child_view c.args.leaf.now ≡ action c.in-Action.field-0 = ap child_view c.in-Action.is in
     let id : id_of (nodes_of g) (action c.in-Action.field-0) ≡ Some c.in-Some.id.index = ap (id_of (nodes_of g)) (sym view) ∙ sym c.in-Some.ensures in
     subst (λ (x : Child). IsLeafRight t c.args.self.now x c.args.row.now) (sym view)
-    (λ a is. c.in_ok-is_right.ensures passes a (c.action.ensures ∙ action_at t g c.in-Action.field-0 c.in-Some.id.index graph.grounded id ∙ is))
+    (λ a is. c.in_ok-is_right-in-Some.ensures passes a (c.action.ensures ∙ action_at t g c.in-Action.field-0 c.in-Some.id.index graph.grounded id ∙ is))
