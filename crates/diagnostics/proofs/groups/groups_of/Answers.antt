@@ -1,0 +1,9 @@
+use Rattle.std.proofs.Common.{◌≡◌, length, get_or, refl, sym, ap, ◌∙◌}
+use Rattle.std.proofs.lemmas.Option.{slice_get-get_or}
+use Rattle.diagnostics.specs.Groups.{joined}
+use Rattle.diagnostics.specs.Written.{saying}
+use Rattle.diagnostics.proofs.Joins.{folded_next}
+use Rattle.diagnostics.proofs.groups.groups_of.Goals as goal
+
+pub loop-index-preserved : goal.loop-index-preserved
+loop-index-preserved c = (c.in_ok-join.ensures.said, folded_next c.args.diagnostics.now c.loop-index.index c.loop-index-test.true _ _ c.loop-index.invariant.1 c.in_ok-join.ensures.joined)
