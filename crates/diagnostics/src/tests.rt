@@ -9,20 +9,36 @@ use text_places::Lines;
 
 const TEXT: &[u8] = b"(p)\n\t(q ?x)\n\t(q ?y)\n";
 
-const UNKNOWN: [Part; 2] = [Part::Words("no predicate is named "), Part::Name(b"q")];
+/// A message of two parts.
+fn message<'a>(
+    alloc: Global,
+    first: Part<'a>,
+    second: Part<'a>,
+) -> Result<Vec<Part<'a>>, AllocError> {
+    let mut parts = Vec::new(alloc);
+    parts.push(first)?;
+    parts.push(second)?;
+    Ok(parts)
+}
 
 /// An error at a place, with a help.
 fn unknown<'a>(alloc: Global, spot: Spot<'a>) -> Result<Diagnostic<'a>, AllocError> {
+    let help = message(alloc, Part::Words("did you mean "), Part::Name(b"p"))?;
     let mut remarks = Vec::new(alloc);
     remarks.push(Remark {
         kind: RemarkKind::Help,
-        message: Vec::from_slice(alloc, &[Part::Words("did you mean "), Part::Name(b"p")])?,
+        message: help,
     })?;
+    let words = message(
+        alloc,
+        Part::Words("no predicate is named "),
+        Part::Name(b"q"),
+    )?;
     Ok(Diagnostic {
         severity: Severity::Error,
         code: "UnknownName",
         about: Where::Place(spot),
-        message: Vec::from_slice(alloc, &UNKNOWN)?,
+        message: words,
         label: Vec::new(alloc),
         remarks,
         notes: Vec::new(alloc),
@@ -70,36 +86,51 @@ const NOTED: &[u8] = b"d.hddl: warning: 7 facts [Many]
 d.hddl:1:2: note: the first
     1 | (p)
       |  ^
+      = also at d.hddl
 
-no errors, 1 warning
+no errors, 2 warnings
 ";
 
+/// A warning of a text, with a note.
+fn counted<'a>(
+    alloc: Global,
+    about: Where<'a>,
+    spot: Spot<'a>,
+) -> Result<Diagnostic<'a>, AllocError> {
+    let first = message(alloc, Part::Words("the "), Part::Words("first"))?;
+    let mut notes = Vec::new(alloc);
+    notes.push(Note {
+        spot,
+        message: first,
+    })?;
+    let words = message(alloc, Part::Number(7), Part::Words(" facts"))?;
+    Ok(Diagnostic {
+        severity: Severity::Warning,
+        code: "Many",
+        about,
+        message: words,
+        label: Vec::new(alloc),
+        remarks: Vec::new(alloc),
+        notes,
+    })
+}
+
 #[test]
-fn a_warning_without_a_place(rt: HostRuntime) -> Result<(), AllocError> {
+fn warnings_without_a_place(rt: HostRuntime) -> Result<(), AllocError> {
     let source = Source {
         role: Role::Domain,
         name: "d.hddl",
         lines: Lines::new(rt.alloc(), TEXT)?,
     };
-    let mut notes = Vec::new(rt.alloc());
-    notes.push(Note {
-        spot: Spot {
-            source: &source,
-            place: 1,
-            word_len: 1,
-        },
-        message: Vec::from_slice(rt.alloc(), &[Part::Words("the first")])?,
-    })?;
     let mut diagnostics = Vec::new(rt.alloc());
-    diagnostics.push(Diagnostic {
-        severity: Severity::Warning,
-        code: "Many",
-        about: Where::Text(&source),
-        message: Vec::from_slice(rt.alloc(), &[Part::Number(7), Part::Words(" facts")])?,
-        label: Vec::new(rt.alloc()),
-        remarks: Vec::new(rt.alloc()),
-        notes,
-    })?;
+    for place in [1, 6] {
+        let spot = Spot {
+            source: &source,
+            place,
+            word_len: 1,
+        };
+        diagnostics.push(counted(rt.alloc(), Where::Text(&source), spot)?)?;
+    }
     let text = text_report(rt.alloc(), diagnostics.as_slice(), &[], 0, false)?;
     assert!(rt; text.as_slice() == NOTED, "the report");
     Ok(())

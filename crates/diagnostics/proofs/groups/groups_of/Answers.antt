@@ -1,7 +1,3 @@
-use Rattle.std.proofs.Common.{◌≡◌, length, get_or, refl, sym, ap, ◌∙◌}
-use Rattle.std.proofs.lemmas.Option.{slice_get-get_or}
-use Rattle.diagnostics.specs.Groups.{joined}
-use Rattle.diagnostics.specs.Written.{saying}
 use Rattle.diagnostics.proofs.Joins.{folded_next}
 use Rattle.diagnostics.proofs.groups.groups_of.Goals as goal
 

@@ -1,7 +1,6 @@
-use Rattle.std.proofs.Common.{◌≡◌, ℕ, ◌<◌, ◌≤◌, Some, List, [], ◌∷◌, ◌++◌, length, map, nat_eq, refl, sym, ap, ◌∙◌, arith}
+use Rattle.std.proofs.Common.{◌≡◌, ◌<◌, ◌≤◌, [], ◌∷◌, ◌++◌, length, map, refl, sym, ap, ◌∙◌, arith}
 use Rattle.std.proofs.lemmas.List.{length-map, map_push}
 use Rattle.std.proofs.lemmas.Option.{get_or_from_slice_get, slice_get_read}
-use Rattle.std.specs.Prelude.{slice_get}
 use Rattle.diagnostics.specs.Groups.{told, first_saying, joined, picked}
 use Rattle.diagnostics.specs.Written.{saying}
 use Rattle.diagnostics.proofs.Joins.{joined_below, joined_end, joins_by_keys, as_many_keys, keys_stay, keys_grow, sayings_stay, told_set, told_push}

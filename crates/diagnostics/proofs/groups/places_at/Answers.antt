@@ -1,4 +1,4 @@
-use Rattle.std.proofs.Common.{◌≡◌, ◌++◌, ◌∷◌, [], length, take, get_or, refl, ap, sym, ◌∙◌, map}
+use Rattle.std.proofs.Common.{◌++◌, ◌∷◌, [], length, take, get_or, refl, ap, sym, ◌∙◌, map}
 use Rattle.std.proofs.lemmas.List.{map_push}
 use Rattle.std.proofs.lemmas.Option.{slice_get_read}
 use Rattle.diagnostics.specs.Groups.{picked}

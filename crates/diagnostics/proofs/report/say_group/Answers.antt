@@ -1,7 +1,6 @@
-use Rattle.std.proofs.Common.{◌≡◌, ◌+◌, ◌++◌, List, length, get_or, drop, refl, ap, sym, ◌∙◌, map}
+use Rattle.std.proofs.Common.{◌≡◌, ◌+◌, ◌++◌, length, get_or, drop, refl, ap, sym, ◌∙◌, map}
 use Rattle.std.proofs.lemmas.List.{take_rest}
 use Rattle.std.proofs.lemmas.Option.{slice_get_read}
-use Rattle.diagnostics.specs.declared.diagnostic.Where.{Where}
 use Rattle.diagnostics.specs.Groups.{picked}
 use Rattle.diagnostics.specs.Ink.{written}
 use Rattle.diagnostics.specs.Written.{group_inks, whole_inks}

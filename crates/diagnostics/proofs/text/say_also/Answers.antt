@@ -1,4 +1,4 @@
-use Rattle.std.proofs.Common.{◌≡◌, ◌++◌, ap, ◌∙◌}
+use Rattle.std.proofs.Common.{◌++◌, ap, ◌∙◌}
 use Rattle.diagnostics.specs.Ink.{written}
 use Rattle.diagnostics.specs.Written.{also_inks}
 use Rattle.diagnostics.proofs.Adds.{front_of}
