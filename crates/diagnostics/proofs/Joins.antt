@@ -12,7 +12,7 @@ use Rattle.std.specs.declared.alloc.Global.{Global}
 use Rattle.std.specs.Prelude.{slice_get}
 use Rattle.std.specs.List.{cons_option}
 use Rattle.std.proofs.lemmas.List.Elements.{filter_map-append}
-use Rattle.diagnostics.specs.Groups.{first_saying, joined, folded, told, picked, with_one, JoinsAt}
+use Rattle.diagnostics.specs.Groups.{first_saying, joined, folded, members_of, picked, with_one, JoinsAt}
 use Rattle.diagnostics.specs.Written.{saying}
 
 -- ---- the first element that passes
@@ -134,14 +134,14 @@ module _ (ds : List Diagnostic) (i : ℕ) (d : Diagnostic) (is : slice_get ds i 
   picked_push ns = filter_map-append (slice_get ds) ns (i ∷ []) ∙ ap (λ o. picked ds ns ++ cons_option o []) is
 
   -- in one of the groups
-  pub told_set : (gs : List (Vec ℕ Global)) (n : ℕ) (old new : Vec ℕ Global) → n < length gs → old ≡ get_or gs n old → new.items ≡ old.items ++ i ∷ [] → told ds (set gs n new) ≡ with_one n d (told ds gs)
-  told_set [] n old new h at grown = absurd (omega arith)
-  told_set (g ∷ gs) zero old new h at grown = ap (λ t. t ∷ told ds gs) (ap (picked ds) (grown ∙ ap (λ v. v.items ++ i ∷ []) at) ∙ picked_push g.items)
-  told_set (g ∷ gs) (suc n) old new h at grown = ap (λ t. picked ds g.items ∷ t) (told_set gs n old new (omega arith) at grown)
+  pub members_set : (gs : List (Vec ℕ Global)) (n : ℕ) (old new : Vec ℕ Global) → n < length gs → old ≡ get_or gs n old → new.items ≡ old.items ++ i ∷ [] → members_of ds (set gs n new) ≡ with_one n d (members_of ds gs)
+  members_set [] n old new h at grown = absurd (omega arith)
+  members_set (g ∷ gs) zero old new h at grown = ap (λ t. t ∷ members_of ds gs) (ap (picked ds) (grown ∙ ap (λ v. v.items ++ i ∷ []) at) ∙ picked_push g.items)
+  members_set (g ∷ gs) (suc n) old new h at grown = ap (λ t. picked ds g.items ∷ t) (members_set gs n old new (omega arith) at grown)
 
   -- in a group of its own
-  pub told_push : (gs : List (Vec ℕ Global)) (new : Vec ℕ Global) → new.items ≡ i ∷ [] → told ds (gs ++ new ∷ []) ≡ told ds gs ++ (d ∷ []) ∷ []
-  told_push gs new grown = map_push (λ g. picked ds g.items) gs new ∙ ap (λ t. told ds gs ++ t ∷ []) (ap (picked ds) grown ∙ picked_push [])
+  pub members_push : (gs : List (Vec ℕ Global)) (new : Vec ℕ Global) → new.items ≡ i ∷ [] → members_of ds (gs ++ new ∷ []) ≡ members_of ds gs ++ (d ∷ []) ∷ []
+  members_push gs new grown = map_push (λ g. picked ds g.items) gs new ∙ ap (λ t. members_of ds gs ++ t ∷ []) (ap (picked ds) grown ∙ picked_push [])
 
 -- ---- the elements at some indices
 

@@ -27,8 +27,8 @@ abbrev pub picked : List Diagnostic → List ℕ → List Diagnostic
 picked ds is = filter_map (slice_get ds) is
 
 -- groups by the indices of their diagnostics
-abbrev pub told : List Diagnostic → List (Vec ℕ Global) → List (List Diagnostic)
-told ds gs = map (λ g. picked ds g.items) gs
+abbrev pub members_of : List Diagnostic → List (Vec ℕ Global) → List (List Diagnostic)
+members_of ds gs = map (λ g. picked ds g.items) gs
 
 -- the element at an index joins
 abbrev pub JoinsAt : (Diagnostic → List ℕ) → List Diagnostic → ℕ → List (List Diagnostic) → List (List Diagnostic) → Type 0

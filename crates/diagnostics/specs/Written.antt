@@ -78,7 +78,7 @@ group_inks (d ∷ more) = whole_inks d (map (λ e. e.about) more)
 
 -- ---- reports
 
--- how many groups of a list are written, where at most so many are, and 0 is all
+-- how many groups are written of a list of some length: at most the limit, of which 0 is all
 abbrev pub shown_count : ℕ → ℕ → ℕ
 shown_count zero len = len
 shown_count (suc n) len = min (suc n) len

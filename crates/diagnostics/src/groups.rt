@@ -1,7 +1,7 @@
 //! Diagnostics that say the same, put together.
 
 ghost use Rattle.std.specs.Prelude.{◌≡◌, ◌<◌, [], ◌++◌, OnOk, IfOk, map, length};
-ghost use Rattle.diagnostics.specs.Groups.{first_saying, folded, told, picked, JoinsAt};
+ghost use Rattle.diagnostics.specs.Groups.{first_saying, folded, members_of, picked, JoinsAt};
 ghost use Rattle.diagnostics.specs.Written.{saying as saying_of};
 
 use crate::diagnostic::{Diagnostic, Where};
@@ -37,9 +37,9 @@ fn join(
     index: usize,
 ) -> Result<(), AllocError>
     requires inside { index < length diagnostics.now }
-    requires same { map (λ v. v.items) said.old.keys ≡ map (first_saying saying_of) (told diagnostics.now groups.old.items) }
-    ensures said { OnOk result (map (λ v. v.items) said.new.keys ≡ map (first_saying saying_of) (told diagnostics.now groups.new.items)) }
-    ensures joined { OnOk result (JoinsAt saying_of diagnostics.now index (told diagnostics.now groups.old.items) (told diagnostics.now groups.new.items)) }
+    requires same { map (λ v. v.items) said.old.keys ≡ map (first_saying saying_of) (members_of diagnostics.now groups.old.items) }
+    ensures said { OnOk result (map (λ v. v.items) said.new.keys ≡ map (first_saying saying_of) (members_of diagnostics.now groups.new.items)) }
+    ensures joined { OnOk result (JoinsAt saying_of diagnostics.now index (members_of diagnostics.now groups.old.items) (members_of diagnostics.now groups.new.items)) }
 {
     let key = saying(alloc, &diagnostics[index])?;
     let (at, _is_new) = said.insert_full(key)?;
@@ -58,7 +58,7 @@ pub(crate) fn groups_of(
     alloc: Global,
     diagnostics: &[Diagnostic<'_>],
 ) -> Result<Vec<Vec<usize>>, AllocError>
-    ensures { IfOk result (λ groups. told diagnostics.now groups.items ≡ folded saying_of diagnostics.now) }
+    ensures { IfOk result (λ groups. members_of diagnostics.now groups.items ≡ folded saying_of diagnostics.now) }
 {
     let mut said = IndexSet::new(alloc);
     let mut groups = Vec::new(alloc);

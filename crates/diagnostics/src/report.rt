@@ -13,7 +13,7 @@ use crate::lines::say_message;
 use crate::text::{say_head, say_whole};
 use std::alloc::{AllocError, Global};
 
-/// How many groups are written, where at most so many are, and 0 is all.
+/// How many of `len` groups are written: at most `limit` of them, of which 0 is all.
 fn shown_count(limit: usize, len: usize) -> usize
     ensures { result ≡ spec.shown_count limit len }
 {

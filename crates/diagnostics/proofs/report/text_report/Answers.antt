@@ -2,7 +2,7 @@ use Rattle.std.proofs.Common.{◌≡◌, ℕ, ◌-◌, List, [], ◌∷◌, ◌+
 use Rattle.std.specs.List.{flat_map}
 use Rattle.std.proofs.lemmas.List.{take-map, length-map}
 use Rattle.diagnostics.specs.Ink.{Ink, written}
-use Rattle.diagnostics.specs.Groups.{told, folded, picked}
+use Rattle.diagnostics.specs.Groups.{members_of, folded, picked}
 use Rattle.diagnostics.specs.Written.{saying, group_inks, shown_count, cut_inks, summary_inks, counts_inks, is_error}
 use Rattle.std.specs.declared.alloc.Global.{Global}
 use Rattle.std.specs.declared.vec.Vec.{Vec}
@@ -11,9 +11,9 @@ use Rattle.diagnostics.proofs.Adds.{adds}
 use Rattle.diagnostics.proofs.report.text_report.Goals as goal
 
 -- what is written of each group, by its diagnostics
-each_told : (ds : List Diagnostic) (gs : List (Vec ℕ Global)) → flat_map group_inks (told ds gs) ≡ flat_map (λ g. group_inks (picked ds g.items)) gs
-each_told ds [] = refl
-each_told ds (g ∷ gs) = ap (λ l. group_inks (picked ds g.items) ++ l) (each_told ds gs)
+each_members : (ds : List Diagnostic) (gs : List (Vec ℕ Global)) → flat_map group_inks (members_of ds gs) ≡ flat_map (λ g. group_inks (picked ds g.items)) gs
+each_members ds [] = refl
+each_members ds (g ∷ gs) = ap (λ l. group_inks (picked ds g.items) ++ l) (each_members ds gs)
 
 pub returns : goal.returns
 returns c =
@@ -30,12 +30,12 @@ returns c =
     let summary : List Ink = flat_map summary_inks c.args.summary.now in
     let counts : List Ink = counts_inks errors (length ds - errors) in
     let many : c.shown_count-count.result ≡ n = c.shown_count-count.ensures ∙ ap (shown_count c.args.limit) (c.len.ensures ∙ c.in_ok-groups.groups.ok.0 ∙ size) in
-    let taken : told ds (take c.shown_count-count.result c.as_slice.result.now) ≡ take n groups =
-    sym (take-map (λ g. picked ds g.items) c.shown_count-count.result c.as_slice.result.now) ∙ ap (λ l. take c.shown_count-count.result (told ds l)) c.as_slice.ensures.value
+    let taken : members_of ds (take c.shown_count-count.result c.as_slice.result.now) ≡ take n groups =
+    sym (take-map (λ g. picked ds g.items) c.shown_count-count.result c.as_slice.result.now) ∙ ap (λ l. take c.shown_count-count.result (members_of ds l)) c.as_slice.ensures.value
     ∙ ap (take c.shown_count-count.result) c.in_ok-groups.ensures ∙ ap (λ k. take k groups) many in
     let first : c.say_groups.new.out.items ≡ o ++ written col listed =
     c.in_ok-say_groups.ensures ∙ ap (λ l. l ++ written col (flat_map (λ g. group_inks (picked ds g.items)) (take c.shown_count-count.result c.as_slice.result.now))) c.new-out.ensures.items
-    ∙ ap (written col) (sym (each_told ds (take c.shown_count-count.result c.as_slice.result.now))) ∙ ap (λ l. written col (flat_map group_inks l)) taken in
+    ∙ ap (written col) (sym (each_members ds (take c.shown_count-count.result c.as_slice.result.now))) ∙ ap (λ l. written col (flat_map group_inks l)) taken in
     let rest : c.len-2.result - c.shown_count-count.result ≡ length groups - n = omega (arith, many, c.len-2.ensures, c.in_ok-groups.groups.ok.0, size) in
     let left : c.say_cut.new.out.items ≡ c.say_groups.new.out.items ++ written col cut = c.in_ok-say_cut.ensures ∙ ap (λ k. c.say_groups.new.out.items ++ written col (cut_inks k)) rest in
     let counted : c.say_counts.new.out.items ≡ c.say_summary.new.out.items ++ written col counts =
