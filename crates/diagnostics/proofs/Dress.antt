@@ -1,12 +1,12 @@
 -- Outputs are tame, and colour is all that their sequences add.
-use Rattle.std.proofs.Common.{◌≡◌, ℕ, zero, suc, ◌<◌, ◌||◌, ◌&&◌, Bool, true, false, eqb, leb, List, [], ◌∷◌, ◌++◌, length, map, refl, sym, ap, ◌∙◌, ⊎_elim, arith}
-use Rattle.std.proofs.lemmas.Bool.{cases_Bool, or_left}
+use Rattle.std.proofs.Common.{◌≡◌, ℕ, suc, ◌||◌, ◌&&◌, Bool, true, false, eqb, leb, List, [], ◌∷◌, ◌++◌, map, refl, ap, ◌∙◌, ⊎_elim, arith}
+use Rattle.std.proofs.lemmas.Bool.{cases_Bool}
 use Rattle.std.proofs.lemmas.Bool.Decides.{nat_tests}
 use Rattle.std.specs.List.{AllPass}
 use Rattle.text_places.specs.Shown.{shown}
 use Rattle.diagnostics.specs.declared.ink.Style.{Style}
 use Rattle.diagnostics.specs.declared.ink.Style.TheVariants as style
-use Rattle.diagnostics.specs.Ink.{Ink, begin, end, words, file, feed, sequence, reset, ink_bytes, written}
+use Rattle.diagnostics.specs.Ink.{Ink, begin, end, words, file, feed, sequence, written}
 use Rattle.diagnostics.specs.Tame.{is_tame, IsTame, none, byte, begins, ends, plain, HasTameNames}
 
 -- a tab or printable ASCII

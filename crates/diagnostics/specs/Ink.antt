@@ -1,5 +1,5 @@
 -- What an output is made of, and its bytes with and without colour.
-use Rattle.std.specs.Prelude.{ℕ, Bool, true, false, if◌then◌else◌, List, [], ◌∷◌, ◌++◌, map, codes}
+use Rattle.std.specs.Prelude.{ℕ, Bool, if◌then◌else◌, List, [], ◌∷◌, ◌++◌, map, codes}
 use Rattle.std.specs.List.{flat_map}
 use Rattle.text_places.specs.Shown.{shown}
 use Rattle.diagnostics.specs.declared.ink.Style.{Style}

@@ -1,4 +1,5 @@
+pub mod Groups
 pub mod Ink
 pub mod Parts
-pub mod Written
 pub mod Tame
+pub mod Written

@@ -90,10 +90,3 @@ pub struct Diagnostic<'a> {
     pub remarks: Vec<Remark<'a>>,
     pub notes: Vec<Note<'a>>,
 }
-
-/// Diagnostics that say the same: the first of them, and the places of the others.
-#[derive(Drop)]
-pub struct Group<'d, 'a> {
-    pub first: &'d Diagnostic<'a>,
-    pub also: Vec<Spot<'a>>,
-}

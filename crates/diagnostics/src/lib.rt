@@ -2,14 +2,17 @@
 #![tactic(auto)]
 
 mod diagnostic;
+mod groups;
 mod ink;
 mod laws;
 mod lines;
 mod report;
+#[cfg(test)]
+mod tests;
 mod text;
 
 pub use diagnostic::{
-    Diagnostic, Group, Note, Part, Remark, RemarkKind, Role, Severity, Source, Spot, Where,
+    Diagnostic, Note, Part, Remark, RemarkKind, Role, Severity, Source, Spot, Where,
 };
 pub use ink::Style;
 pub use laws::{colour_is_dress, output_is_tame};

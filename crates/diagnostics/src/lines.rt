@@ -60,7 +60,7 @@ pub(crate) fn say_place(out: &mut Vec<u8>, colour: bool, spot: &Spot<'_>) -> Res
     Ok(())
 }
 
-/// A byte so many times.
+/// A byte, repeated.
 fn say_repeated(out: &mut Vec<u8>, colour: bool, byte: u8, count: usize) -> Result<(), AllocError>
     ensures { OnOk result (out.new.items ≡ out.old.items ++ written colour (said (replicate count byte))) }
 {

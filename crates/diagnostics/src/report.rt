@@ -1,21 +1,59 @@
 //! Reports of many diagnostics.
 
-ghost use Rattle.std.specs.Prelude.{◌≡◌, ◌++◌, [], OnOk, IfOk, false, length};
+ghost use Rattle.std.specs.Prelude.{◌≡◌, ◌++◌, [], OnOk, IfOk, false, count_by};
 ghost use Rattle.std.specs.List.{flat_map};
+ghost use Rattle.diagnostics.specs.Groups.{picked};
 ghost use Rattle.diagnostics.specs.Ink.{written};
 ghost use Rattle.diagnostics.specs.Written as spec;
 
-use crate::diagnostic::{Diagnostic, Group, Part};
+use crate::diagnostic::{Diagnostic, Part, Severity};
+use crate::groups::{groups_of, places_at};
 use crate::ink::{Style, close, end_line, open, say, say_number};
 use crate::lines::say_message;
-use crate::text::{say_groups, say_head};
+use crate::text::{say_head, say_whole};
 use std::alloc::{AllocError, Global};
 
-/// How many groups are written, where at most so many are, and 0 is all.
+/// How many of `len` groups are written: at most `limit` of them, of which 0 is all.
 fn shown_count(limit: usize, len: usize) -> usize
     ensures { result ≡ spec.shown_count limit len }
 {
     if limit == 0 { len } else { limit.min(len) }
+}
+
+/// A group, by the indices of its diagnostics; an index past the end has none.
+fn say_group(
+    alloc: Global,
+    out: &mut Vec<u8>,
+    colour: bool,
+    diagnostics: &[Diagnostic<'_>],
+    indices: &[usize],
+) -> Result<(), AllocError>
+    ensures { OnOk result (out.new.items ≡ out.old.items ++ written colour (spec.group_inks (picked diagnostics.now indices.now))) }
+{
+    for (at, index) in indices.iter().enumerate() {
+        if let Some(diagnostic) = diagnostics.get(*index) {
+            let also = places_at(alloc, diagnostics, &indices[at + 1..])?;
+            say_whole(alloc, out, colour, diagnostic, also.as_slice())?;
+            return Ok(());
+        }
+    }
+    Ok(())
+}
+
+/// Each group.
+fn say_groups(
+    alloc: Global,
+    out: &mut Vec<u8>,
+    colour: bool,
+    diagnostics: &[Diagnostic<'_>],
+    groups: &[Vec<usize>],
+) -> Result<(), AllocError>
+    ensures { OnOk result (out.new.items ≡ out.old.items ++ written colour (flat_map (λ g. spec.group_inks (picked diagnostics.now g.items)) groups.now)) }
+{
+    for group in groups {
+        say_group(alloc, out, colour, diagnostics, group.as_slice())?;
+    }
+    Ok(())
 }
 
 /// How many groups are left, if any.
@@ -95,25 +133,46 @@ fn say_counts(
     Ok(())
 }
 
-/// Groups as people read them: at most `limit` of them, of which 0 is all; then how many are left, the lines of
-/// `summary`, and how many errors and warnings there are. An error where memory was refused.
+/// Whether this is an error.
+fn is_error(severity: Severity) -> bool
+    ensures { result ≡ spec.is_error severity }
+{
+    matches!(severity, Severity::Error)
+}
+
+/// How many of the diagnostics are errors.
+fn count_errors(diagnostics: &[Diagnostic<'_>]) -> usize
+    ensures { result ≡ count_by (λ d. spec.is_error d.severity) diagnostics.now }
+{
+    diagnostics.iter().filter(|d| is_error(d.severity)).count()
+}
+
+/// Diagnostics as people read them: those that say the same stand together, at the first place. At most `limit` groups
+/// are written, of which 0 is all; then how many are left, the lines of `summary`, and how many errors and warnings
+/// there are. An error where memory was refused.
 pub fn text_report(
     alloc: Global,
-    groups: &[Group<'_, '_>],
+    diagnostics: &[Diagnostic<'_>],
     summary: &[Vec<Part<'_>>],
     limit: usize,
-    errors: usize,
-    warnings: usize,
     colour: bool,
 ) -> Result<Vec<u8>, AllocError>
-    ensures { IfOk result (λ bytes. bytes.items ≡ written colour (spec.groups_inks groups.now summary.now limit errors warnings)) }
+    ensures { IfOk result (λ bytes. bytes.items ≡ written colour (spec.report_inks diagnostics.now summary.now limit)) }
 {
     let mut out = Vec::new(alloc);
+    let groups = groups_of(alloc, diagnostics)?;
     let count = shown_count(limit, groups.len());
-    say_groups(alloc, &mut out, colour, &groups[..count])?;
+    say_groups(
+        alloc,
+        &mut out,
+        colour,
+        diagnostics,
+        &groups.as_slice()[..count],
+    )?;
     say_cut(&mut out, colour, groups.len() - count)?;
     say_summary(&mut out, colour, summary)?;
-    say_counts(&mut out, colour, errors, warnings)?;
+    let errors = count_errors(diagnostics);
+    say_counts(&mut out, colour, errors, diagnostics.len() - errors)?;
     Ok(out)
 }
 

@@ -6,7 +6,7 @@ ghost use Rattle.diagnostics.specs.Ink.{written};
 ghost use Rattle.diagnostics.specs.Parts.{remark_inks, note_inks};
 ghost use Rattle.diagnostics.specs.Written as spec;
 
-use crate::diagnostic::{Diagnostic, Group, Note, Part, Remark, Severity, Spot, Where};
+use crate::diagnostic::{Diagnostic, Note, Remark, Severity, Where};
 use crate::ink::{Style, close, end_line, open, say, say_in, say_name, say_number};
 use crate::lines::{say_message, say_note, say_place, say_remark, say_snippet};
 use std::alloc::{AllocError, Global};
@@ -31,7 +31,7 @@ fn say_where(out: &mut Vec<u8>, colour: bool, about: &Where<'_>) -> Result<(), A
 }
 
 /// The word for a severity.
-fn severity_word(severity: Severity) -> &'static [u8]
+pub(crate) fn severity_word(severity: Severity) -> &'static [u8]
     ensures { result.now ≡ spec.severity_word severity }
 {
     match severity {
@@ -51,7 +51,7 @@ pub(crate) fn severity_style(severity: Severity) -> Style
 }
 
 /// The code in brackets.
-fn say_code(out: &mut Vec<u8>, colour: bool, code: &str) -> Result<(), AllocError>
+pub(crate) fn say_code(out: &mut Vec<u8>, colour: bool, code: &str) -> Result<(), AllocError>
     ensures { OnOk result (out.new.items ≡ out.old.items ++ written colour (spec.code_inks code.now)) }
 {
     open(out, colour, Style::Dim)?;
@@ -142,12 +142,12 @@ fn say_notes(
 }
 
 /// Each place after a comma.
-fn say_more_places(out: &mut Vec<u8>, colour: bool, spots: &[Spot<'_>]) -> Result<(), AllocError>
-    ensures { OnOk result (out.new.items ≡ out.old.items ++ written colour (flat_map spec.comma_inks spots.now)) }
+fn say_more_places(out: &mut Vec<u8>, colour: bool, places: &[Where<'_>]) -> Result<(), AllocError>
+    ensures { OnOk result (out.new.items ≡ out.old.items ++ written colour (flat_map spec.comma_inks places.now)) }
 {
-    for spot in spots {
+    for place in places {
         say(out, colour, b", ")?;
-        say_place(out, colour, spot)?;
+        say_where(out, colour, place)?;
     }
     Ok(())
 }
@@ -169,15 +169,15 @@ fn say_rest(out: &mut Vec<u8>, colour: bool, count: usize) -> Result<(), AllocEr
 fn say_listed(
     out: &mut Vec<u8>,
     colour: bool,
-    first: &Spot<'_>,
-    rest: &[Spot<'_>],
+    first: &Where<'_>,
+    rest: &[Where<'_>],
 ) -> Result<(), AllocError>
     ensures { OnOk result (out.new.items ≡ out.old.items ++ written colour (spec.also_inks (first.now ∷ rest.now))) }
 {
     let listed = rest.len().min(ALSO - 1);
     say_in(out, colour, Style::Rule, b"      = ")?;
     say_in(out, colour, Style::Note, b"also at ")?;
-    say_place(out, colour, first)?;
+    say_where(out, colour, first)?;
     say_more_places(out, colour, &rest[..listed])?;
     say_rest(out, colour, rest.len() - listed)?;
     end_line(out, colour)?;
@@ -185,10 +185,10 @@ fn say_listed(
 }
 
 /// The further places, if there are any.
-fn say_also(out: &mut Vec<u8>, colour: bool, spots: &[Spot<'_>]) -> Result<(), AllocError>
-    ensures { OnOk result (out.new.items ≡ out.old.items ++ written colour (spec.also_inks spots.now)) }
+fn say_also(out: &mut Vec<u8>, colour: bool, places: &[Where<'_>]) -> Result<(), AllocError>
+    ensures { OnOk result (out.new.items ≡ out.old.items ++ written colour (spec.also_inks places.now)) }
 {
-    match spots {
+    match places {
         [] => Ok(()),
         [first, rest @ ..] => {
             say_listed(out, colour, first, rest)?;
@@ -197,36 +197,21 @@ fn say_also(out: &mut Vec<u8>, colour: bool, spots: &[Spot<'_>]) -> Result<(), A
     }
 }
 
-/// A diagnostic, and the further places of which the same is said, with an empty line after them.
-fn say_group(
+/// A diagnostic, and the places of others that say the same, with an empty line after them.
+pub(crate) fn say_whole(
     alloc: Global,
     out: &mut Vec<u8>,
     colour: bool,
-    group: &Group<'_, '_>,
+    diagnostic: &Diagnostic<'_>,
+    also: &[Where<'_>],
 ) -> Result<(), AllocError>
-    ensures { OnOk result (out.new.items ≡ out.old.items ++ written colour (spec.group_inks group.now)) }
+    ensures { OnOk result (out.new.items ≡ out.old.items ++ written colour (spec.whole_inks diagnostic.now also.now)) }
 {
-    let diagnostic = group.first;
     say_head(out, colour, diagnostic)?;
     say_shown(alloc, out, colour, diagnostic)?;
     say_remarks(out, colour, diagnostic.remarks.as_slice())?;
     say_notes(alloc, out, colour, diagnostic.notes.as_slice())?;
-    say_also(out, colour, group.also.as_slice())?;
+    say_also(out, colour, also)?;
     end_line(out, colour)?;
-    Ok(())
-}
-
-/// Each group.
-pub(crate) fn say_groups(
-    alloc: Global,
-    out: &mut Vec<u8>,
-    colour: bool,
-    groups: &[Group<'_, '_>],
-) -> Result<(), AllocError>
-    ensures { OnOk result (out.new.items ≡ out.old.items ++ written colour (flat_map spec.group_inks groups.now)) }
-{
-    for group in groups {
-        say_group(alloc, out, colour, group)?;
-    }
     Ok(())
 }

@@ -127,7 +127,7 @@ feeds_push bytes b =
 
 -- ---- a place among them
 
--- so many of the numbers are below the place, and those after them are not
+-- the first numbers, as many as the count says, are below the place, and those after them are not
 pub record Parts (fs : List ℕ) (place count : ℕ) : Type 0 where
   pub within : count ≤ length fs
   pub below : (i : ℕ) → i < count → get_or fs i 0 < place
@@ -162,7 +162,7 @@ parts_of text place h =
 
 -- ---- lines and columns
 
--- a byte that is no line feed goes on with the line
+-- a byte that is no line feed is part of a line
 pub in_line : (b : ℕ) → (b ≡ 10 → ⊥) → is_in_line b ≡ true
 in_line b other = not_from_false (is_line_feed b) (ne_eqb b 10 other)
 
@@ -170,7 +170,7 @@ in_line b other = not_from_false (is_line_feed b) (ne_eqb b 10 other)
 pub not_in_line : (b : ℕ) → b ≡ 10 → is_in_line b ≡ false
 not_in_line b feed = ap not (eq-eqb b 10 feed)
 
--- where the line after so many line feeds begins, no line feed follows up to the place
+-- from the beginning of the line after the first line feeds on, none follows up to the place
 pub record LineStands (text : List ℕ) (place count : ℕ) : Type 0 where
   pub before : start_of text count ≤ place
   pub clear : (q : ℕ) → start_of text count ≤ q → q < length text → ((i : ℕ) → count ≤ i → i < length (feeds_from 0 text) → q < get_or (feeds_from 0 text) i 0) → get_or text q 0 ≡ 10 → ⊥

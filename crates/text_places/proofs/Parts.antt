@@ -106,7 +106,7 @@ module _ (text : List ℕ) (place : ℕ) (h : place ≤ length text) where
   column_le : column_of text place ≤ place
   column_le = omega (arith, column_is text place h)
 
-  -- from the beginning of the line on stand the bytes from the place on, after so many
+  -- after the bytes before it, the line has the bytes from the place on
   from_start : drop (column_of text place) (drop (line_start text place) text) ≡ drop place text
   from_start =
       let le = column_le in

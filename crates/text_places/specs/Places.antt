@@ -7,7 +7,7 @@ use Rattle.text_places.specs.declared.position.Position.{Position}
 abbrev pub is_line_feed : ℕ → Bool
 is_line_feed b = b == 10
 
--- whether a byte goes on with the line
+-- whether a byte is part of a line
 abbrev pub is_in_line : ℕ → Bool
 is_in_line b = not (is_line_feed b)
 
@@ -41,7 +41,7 @@ abbrev pub feeds_from : ℕ → List ℕ → List ℕ
 feeds_from place [] = []
 feeds_from place (b ∷ bytes) = if is_line_feed b then place ∷ feeds_from (place + 1) bytes else feeds_from (place + 1) bytes
 
--- where the line after so many line feeds begins
+-- where the line after the first line feeds, as many as the number says, begins
 abbrev pub start_of : List ℕ → ℕ → ℕ
 start_of text zero = 0
 start_of text (suc feeds) = slice_index (feeds_from 0 text) feeds + 1

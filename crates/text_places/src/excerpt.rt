@@ -28,7 +28,7 @@ pub struct Excerpt<'a> {
     pub is_cut_after: bool,
 }
 
-/// The part of a line that is shown around the place after so many of its bytes.
+/// The part of a line that is shown around the place after its first `column` bytes.
 pub(crate) fn excerpt_of<'a>(line: &'a [u8], column: usize) -> Excerpt<'a>
     ensures { seen result ≡ spec.excerpt_of line.now column }
 {

@@ -121,7 +121,7 @@ impl<'a> Lines<'a> {
         self.feeds.len()
     }
 
-    /// Where the line after so many line feeds begins.
+    /// Where the line after the first `count` line feeds begins.
     fn start(&self, count: usize) -> usize
         requires { count ≤ count_by is_line_feed self.now }
         ensures value { result ≡ start_of self.now count }

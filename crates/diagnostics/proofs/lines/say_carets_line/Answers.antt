@@ -1,4 +1,4 @@
-use Rattle.std.proofs.Common.{◌≡◌, ℕ, List, ◌++◌, ap, ◌∙◌}
+use Rattle.std.proofs.Common.{◌≡◌, List, ◌++◌, ap, ◌∙◌}
 use Rattle.std.specs.Prelude.{codes, replicate}
 use Rattle.text_places.specs.Shown as shown
 use Rattle.diagnostics.specs.declared.ink.Style.TheVariants.{Rule}

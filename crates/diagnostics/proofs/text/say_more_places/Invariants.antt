@@ -5,5 +5,5 @@ use Rattle.diagnostics.specs.Written.{comma_inks}
 use Rattle.diagnostics.proofs.text.say_more_places.Given as goal
 
 -- what is written so far
-abbrev pub invariant-loop-spot : goal.invariant-loop-spot
-invariant-loop-spot l = l.out.items ≡ l.initial.out.items ++ written l.colour (flat_map comma_inks (take l.spot-index l.spots))
+abbrev pub invariant-loop-place : goal.invariant-loop-place
+invariant-loop-place l = l.out.items ≡ l.initial.out.items ++ written l.colour (flat_map comma_inks (take l.place-index l.places))
