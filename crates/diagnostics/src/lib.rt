@@ -7,8 +7,6 @@ mod ink;
 mod laws;
 mod lines;
 mod report;
-#[cfg(test)]
-mod tests;
 mod text;
 
 pub use diagnostic::{

@@ -1,4 +1,4 @@
-//! Tests of words, texts, places, names, checks, plan texts, forests and command lines.
+//! Tests of words, texts, places, names, checks, plan texts, forests, reports and command lines.
 #![tactic(auto)]
 
 #[cfg(test)]
@@ -15,6 +15,8 @@ mod names;
 mod places;
 #[cfg(test)]
 mod plan_texts;
+#[cfg(test)]
+mod reports;
 #[cfg(test)]
 mod texts;
 #[cfg(test)]

@@ -1,9 +1,9 @@
 //! Tests of reports.
 
-use crate::diagnostic::{
-    Diagnostic, Note, Part, Remark, RemarkKind, Role, Severity, Source, Spot, Where,
+use diagnostics::{
+    Diagnostic, Note, Part, Remark, RemarkKind, Role, Severity, Source, Spot, Where, short_report,
+    text_report,
 };
-use crate::report::{short_report, text_report};
 use std::alloc::{AllocError, Global};
 use text_places::Lines;
 
