@@ -1,4 +1,4 @@
-use Rattle.std.proofs.Common.{◌∙◌, ◌&&◌, List, ℕ, false, get_or, not, ap, sym, subst, slice_get}
+use Rattle.std.proofs.Common.{rules, ◌≡◌, ◌∙◌, ◌&&◌, List, ℕ, false, get_or, not, ap, sym, subst, slice_get}
 use Rattle.std.proofs.lemmas.Option.{none-some}
 use Rattle.htn_model.specs.Literal.{Literal}
 use Rattle.htn_model.specs.State.{State, contains}
@@ -16,10 +16,11 @@ pub returns-clause-own : goal.returns-clause-own
 returns-clause-own c =
     let t = c.args.task.now in
     let atoms = c.in_ok-atoms.atoms in
-    let first = c.in_ok-atoms.ensures in record {
+    let first = c.in_ok-atoms.ensures in
+    let flags : c.in_ok-fluents.fluents.items ≡ c.fluents.result.now = search rules in record {
       atoms = atoms_later t atoms c.of.new.table c.in_ok-goal.ensures.later (record {
         table = first.table;
-        fluents = λ p. ap (λ f. is_changed f p) first.fluents ∙ ap (λ l. get_or l p false) c.in_ok-fluents.ensures ∙ c.fluents.ensures p;
+        fluents = λ p. ap (λ f. is_changed f p) first.fluents ∙ ap (λ l. get_or l p false) flags ∙ c.fluents.ensures p;
         statics = λ a. first.statics a ∙ ap (λ (s : State). contains s a && not (is_fluent atoms a)) c.initial_atoms.ensures.value;
       });
       numbering = subst (λ (l : List (List ℕ)). IsNumbering l) (sym c.new-3.ensures) numbering_none;
