@@ -1,4 +1,4 @@
-//! What becomes of networks, by the numbers that are noted.
+//! The expansions of networks, put together from the numbers of their drafts.
 ghost use Rattle.std.specs.Prelude.{All, IfOk, IfSome, length};
 ghost use Rattle.network_table.specs.Networks.{IsWhole, Knows, numbered_at};
 ghost use Rattle.network_table.specs.Expansions.{AreDecompositions, AreInstances, AreRemovals, IsExpansion, Live, free_positions};
@@ -10,7 +10,7 @@ use crate::notes::{Known, Notes, noted_number};
 use crate::table::NetworkTable;
 use std::alloc::{AllocError, Global};
 
-/// What becomes of the network of a job.
+/// The expansion of a job's network, if it was found.
 #[derive(Drop)]
 pub(crate) struct Found {
     pub(crate) job: usize,
@@ -18,7 +18,8 @@ pub(crate) struct Found {
 }
 
 impl NetworkTable {
-    /// The networks in which the nodes of an instance stand in the place of the node at a position, if all are noted.
+    /// The numbers of the successors by the job's instances, in the place of the node at a position; none unless each
+    /// has a number.
     fn noted_decompositions(
         &self,
         alloc: Global,
@@ -46,7 +47,7 @@ impl NetworkTable {
         Ok(Some(successors))
     }
 
-    /// The networks without each of the free nodes, if all are noted.
+    /// A removal for each free node; none unless each successor has a number.
     fn noted_removals(
         &self,
         alloc: Global,
@@ -78,7 +79,7 @@ impl NetworkTable {
         Ok(Some(removals))
     }
 
-    /// What becomes of a job's network, if all that it becomes is noted.
+    /// The expansion of a job's network; none unless each successor has a number.
     fn noted_expansion(
         &self,
         alloc: Global,
@@ -108,7 +109,7 @@ impl NetworkTable {
         }
     }
 
-    /// What becomes of the networks of so many jobs from a place on, where all that they become is noted.
+    /// The expansions of `len` jobs from a place on, each where all successors have numbers.
     pub(crate) fn assemble_part(
         &self,
         alloc: Global,

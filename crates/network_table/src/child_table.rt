@@ -9,7 +9,7 @@ use htn_ground::Child;
 use indexmap::IndexSet;
 use std::alloc::{AllocError, Global};
 
-/// The nodes that have numbers, each with a bound from below, which the caller gives.
+/// Nodes with numbers, each with a bound from below on the steps that it takes; the caller supplies the bound.
 #[derive(Drop)]
 pub struct ChildTable {
     children: IndexSet<Child>,
@@ -78,7 +78,7 @@ impl ChildTable {
             self.bounds.push(bound)?;
         }
         // This never fails: an `IndexSet` takes at most 9 * 2^28 values, and answers want of memory past them
-        // although none was refused. So many nodes take more than 25 GB.
+        // although none was refused. That many nodes take more than 25 GB.
         let Ok(id) = u32::try_from(place) else {
             return Err(AllocError);
         };

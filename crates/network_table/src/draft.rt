@@ -1,4 +1,4 @@
-//! Lists what many networks become, before any of it is made.
+//! Drafts: the successors of many networks, listed before any of them is made.
 ghost use Rattle.std.specs.Prelude.{◌≡◌, ◌<◌, All};
 ghost use Rattle.network_table.specs.Networks.{IsWhole, Knows};
 
@@ -14,8 +14,8 @@ pub struct Job<'a> {
     pub instances: &'a [Network],
 }
 
-/// A network that a job's becomes, not made yet: the node at the position goes, and an instance
-/// of the job takes its place, if any.
+/// A successor of a job's network that is not made yet: the node at the position is removed, and an instance of the
+/// job, if any, takes its place.
 #[derive(Clone, Copy, Drop)]
 pub(crate) struct Draft {
     pub(crate) job: usize,
@@ -23,14 +23,14 @@ pub(crate) struct Draft {
     pub(crate) instance: Option<usize>,
 }
 
-/// A draft, with a hint that tells most others from it.
+/// A draft with a digest: drafts of one network have equal digests, and most others have different ones.
 #[derive(Clone, Copy, Drop)]
 pub(crate) struct Listed {
     pub(crate) draft: Draft,
     pub(crate) digest: u64,
 }
 
-/// A digest with more nodes.
+/// A digest after further nodes.
 fn digest_more(digest: u64, nodes: &[u32]) -> u64 {
     let mut digest = digest;
     for node in nodes {
@@ -42,7 +42,7 @@ fn digest_more(digest: u64, nodes: &[u32]) -> u64 {
     digest
 }
 
-/// A number for nodes with others in the place of one; the same nodes have the same.
+/// The digest of a list of nodes in which others stand in the place of one; equal lists have equal digests.
 fn digest_of(nodes: &[u32], position: usize, inner: &[u32]) -> u64 {
     let (before, rest) = nodes.split_at(position.min(nodes.len()));
     let digest = digest_more(digest_more(0, before), inner);
@@ -53,14 +53,14 @@ fn digest_of(nodes: &[u32], position: usize, inner: &[u32]) -> u64 {
     digest ^ (digest >> 29)
 }
 
-/// The worker to which a digest falls.
+/// The worker that makes the drafts of a digest.
 pub(crate) fn shard_of(digest: u64, count: usize) -> usize
     requires { 0 < count }
 {
     ((digest.wrapping_mul(0xd131_0ba6_98df_b5ad) >> 32) % count as u64) as usize
 }
 
-/// By job, where its drafts begin, of so many jobs.
+/// For each of `len` jobs the place of its first draft.
 pub(crate) fn starts_of(
     alloc: Global,
     drafts: &[Listed],
@@ -76,7 +76,7 @@ pub(crate) fn starts_of(
 }
 
 impl NetworkTable {
-    /// Lists what a job's network becomes.
+    /// Lists the successors of a job's network.
     fn list_job(
         &self,
         alloc: Global,
@@ -88,7 +88,7 @@ impl NetworkTable {
         requires known { Knows self.now job.network }
     {
         let Entry::Whole(network) = self.entry(job.network) else {
-            // What becomes of a chain has its nodes: it is made where it is numbered, and nothing is copied.
+            // A successor of a chain shares its nodes: it is made where it is numbered, and nothing is copied.
             return Ok(());
         };
         let nodes = network.nodes();
@@ -120,7 +120,7 @@ impl NetworkTable {
         Ok(())
     }
 
-    /// Lists what the networks become of some jobs whose expansions are not known.
+    /// Lists the successors of the networks of those jobs whose expansions are not known.
     pub(crate) fn list_jobs(
         &self,
         alloc: Global,

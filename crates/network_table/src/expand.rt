@@ -1,4 +1,4 @@
-//! What becomes of a network, found once.
+//! The expansion of one network, found once.
 ghost use Rattle.std.specs.Prelude.{◌≡◌, ◌<◌, ℕ, List, All, IfOk, IfSome, OnOk, IsSome, length, get_or};
 ghost use Rattle.std.specs.Option.{option_map};
 ghost use Rattle.htn_model.specs.Problem.{GroundTask, task};
@@ -114,8 +114,8 @@ impl NetworkTable {
         network.replaced(alloc, position, inner)
     }
 
-    /// The number of a job's network in which this one takes the place of the node at a position, which it may get only
-    /// now.
+    /// The number of a job's network in which this one takes the place of the node at a position; a new one if it has
+    /// none.
     fn successor(
         &mut self,
         alloc: Global,
@@ -134,7 +134,7 @@ impl NetworkTable {
     {
         if let Entry::Chain(link) = self.entry(job.network) {
             if position == 0 && inner.is_chain() {
-                // The nodes that stay are not copied.
+                // The nodes behind it are shared, not copied.
                 let rest = link.rest;
                 let number = self.keep_before(inner.nodes(), rest)?;
                 return Ok(number);
@@ -145,7 +145,8 @@ impl NetworkTable {
         Ok(number)
     }
 
-    /// The networks in which the nodes of an instance stand in the place of the node at a position.
+    /// The numbers of the networks in which the nodes of an instance stand in the place of the node at a position, for
+    /// each instance.
     fn decompositions(
         &mut self,
         alloc: Global,
@@ -168,7 +169,7 @@ impl NetworkTable {
         Ok(successors)
     }
 
-    /// The networks without each of the free nodes.
+    /// A removal for each free node.
     fn removals(&mut self, alloc: Global, job: Job) -> Result<Vec<Removal>, AllocError>
         requires whole { IsWhole self.old }
         requires known { Knows self.old job.network }
@@ -189,7 +190,7 @@ impl NetworkTable {
         Ok(removals)
     }
 
-    /// What becomes of a job's network.
+    /// The expansion of a job's network.
     fn find_expansion(&mut self, alloc: Global, job: Job) -> Result<Expansion, AllocError>
         requires whole { IsWhole self.old }
         requires known { Knows self.old job.network }
@@ -211,7 +212,7 @@ impl NetworkTable {
         }
     }
 
-    /// Finds what becomes of a job's network, unless that is known.
+    /// Finds the expansion of a job's network, unless it is known.
     pub(crate) fn expand_job(&mut self, alloc: Global, job: Job) -> Result<(), AllocError>
         requires whole { IsWhole self.old }
         requires known { Knows self.old job.network }

@@ -1,4 +1,4 @@
-//! What becomes of many networks, found by several workers.
+//! The expansions of many networks, found by several workers.
 ghost use Rattle.std.specs.Prelude.{◌≡◌, ◌<◌, ℕ, All, IfOk, OnOk, IsSome, List};
 ghost use Rattle.network_table.specs.Numbered.{IsWithin};
 ghost use Rattle.network_table.specs.Networks.{children, expansion_at, IsGrown, IsMore, IsWhole, Knows};
@@ -16,7 +16,7 @@ use std::alloc::{AllocError, Global};
 use std::thread::Threads;
 use workers::map_indices;
 
-/// Notes the number of a draft's network where the draft is listed.
+/// Writes the number of a draft's network at the place of the draft.
 fn note_at(noted: &mut Vec<Option<Known>>, at: usize, known: Known)
     ensures { (t : Networks) (jobs : List Jobs) → IsKnown t jobs known → AreKnown t jobs noted.old.items → AreKnown t jobs noted.new.items }
 {
@@ -26,8 +26,8 @@ fn note_at(noted: &mut Vec<Option<Known>>, at: usize, known: Known)
 }
 
 impl NetworkTable {
-    /// Notes the numbers of the drafts whose networks were found in the table. (The table and the jobs are named for
-    /// the contract alone.)
+    /// Writes the numbers of the drafts whose networks the table has already. (The table and the jobs are named for the
+    /// contract alone.)
     fn note_found(&self, jobs: &[Job], found: &[Noted], noted: &mut Vec<Option<Known>>)
         requires found { AreNoted self.now jobs.now found.now }
         requires noted { AreKnown self.now jobs.now noted.old.items }
@@ -38,7 +38,7 @@ impl NetworkTable {
         }
     }
 
-    /// Numbers what was made, and notes for each draft the number of its network.
+    /// Numbers the networks that one worker made, and writes for each draft the number of its network.
     fn note_made<R: Threads + Sync>(
         &mut self,
         rt: &R,
@@ -75,7 +75,7 @@ impl NetworkTable {
         Ok(())
     }
 
-    /// Numbers what all workers made, and notes for each draft the number of its network.
+    /// Numbers the networks that all workers made, and writes for each draft the number of its network.
     fn note_all<R: Threads + Sync>(
         &mut self,
         rt: &R,
@@ -102,7 +102,7 @@ impl NetworkTable {
         Ok(noted)
     }
 
-    /// Finds what becomes of the jobs' networks, one after another.
+    /// Finds the expansions of the jobs' networks, one after another.
     fn expand_each(&mut self, alloc: Global, jobs: &[Job]) -> Result<(), AllocError>
         requires whole { IsWhole self.old }
         requires known { All (λ j. Knows self.old j.network) jobs.now }
@@ -115,7 +115,8 @@ impl NetworkTable {
         Ok(())
     }
 
-    /// Finds what becomes of the jobs' networks by the numbers that are noted, by so many workers.
+    /// Puts the expansions of the jobs' networks together from the numbers of their drafts, by at most `workers`
+    /// workers.
     fn assemble_all<R: Threads + Sync>(
         &self,
         rt: &R,
@@ -141,7 +142,7 @@ impl NetworkTable {
         map_indices(rt, alloc, workers, &assemble)
     }
 
-    /// Remembers what was found of the network of a job, but where that is known.
+    /// Stores the expansion that was found for a job's network, unless it has one.
     fn remember_one(&mut self, jobs: &[Job], found: Found)
         requires whole { IsWhole self.old }
         requires known { All (λ j. Knows self.old j.network) jobs.now }
@@ -156,7 +157,7 @@ impl NetworkTable {
         self.remember(network, expansion);
     }
 
-    /// Remembers what was found, but where that is known.
+    /// Stores the expansions that one worker found, each unless the network has one.
     fn remember_found(&mut self, jobs: &[Job], found: Vec<Found>)
         requires whole { IsWhole self.old }
         requires known { All (λ j. Knows self.old j.network) jobs.now }
@@ -168,7 +169,7 @@ impl NetworkTable {
         }
     }
 
-    /// Remembers what all workers found, but where that is known.
+    /// Stores the expansions that all workers found, each unless the network has one.
     fn remember_all(
         &mut self,
         jobs: &[Job],
@@ -185,7 +186,7 @@ impl NetworkTable {
         Ok(())
     }
 
-    /// Lists what the jobs' networks become, by so many workers.
+    /// Lists the drafts of the jobs' networks, by at most `workers` workers.
     fn list_all<R: Threads + Sync>(
         &self,
         rt: &R,
@@ -210,7 +211,7 @@ impl NetworkTable {
         Ok(drafts)
     }
 
-    /// Makes the networks of drafts, by so many workers.
+    /// Makes the networks of drafts, by at most `workers` workers.
     fn make_all<R: Threads + Sync>(
         &self,
         rt: &R,
@@ -233,7 +234,7 @@ impl NetworkTable {
         map_indices(rt, alloc, workers, &make)
     }
 
-    /// Finds what becomes of networks, by so many workers.
+    /// Finds the expansions of the jobs' networks, by at most `workers` workers.
     pub fn expand_all<R: Threads + Sync>(
         &mut self,
         rt: &R,
@@ -251,14 +252,14 @@ impl NetworkTable {
         ensures sound { OnOk result ((live : Live)
             → All (λ j. AreInstances live self.old j.network j.instances.now) jobs.now
             → IsSound live self.old → IsSound live self.new) }
-        // nothing else is found
+        // No other expansions are found.
         ensures others { OnOk result ((n : ℕ) → All (λ j. n ≡ j.network → ⊥) jobs.now
             → expansion_at self.new n ≡ expansion_at self.old n) }
-        // no node gets a number
+        // No node is numbered here.
         ensures children { OnOk result (self.new.children ≡ self.old.children) }
     {
         if workers == 1 {
-            // One worker makes a network where it is numbered: nothing has to be told apart beforehand.
+            // One worker makes a network where it is numbered, so drafts would spare nothing.
             self.expand_each(alloc, jobs)?;
             return Ok(());
         }
@@ -274,7 +275,7 @@ impl NetworkTable {
             workers,
         )?;
         self.remember_all(jobs, all)?;
-        // What is not found yet is found here: nothing, but where a note was missing.
+        // Expansions with a draft that has no number are found one by one; usually there are none.
         self.expand_each(alloc, jobs)?;
         Ok(())
     }

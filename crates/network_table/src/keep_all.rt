@@ -14,7 +14,7 @@ use std::alloc::{AllocError, Global};
 use std::thread::Threads;
 use workers::{for_each_mut, workers_for};
 
-/// Of several workers each numbers so many networks at least: to start one for fewer takes longer.
+/// The least share of a worker, in networks, where several are started: to start one for fewer takes longer.
 const NETWORKS_A_WORKER: usize = 500;
 
 /// How many nodes a network has, and the sum of the bounds of these.
@@ -24,8 +24,8 @@ pub(crate) struct Measure {
     pub(crate) bound: u64,
 }
 
-/// Places as numbers, if words of 32 bits hold them. At most 2^32 networks have numbers, as where they are
-/// kept one by one: past them a search answers `OutOfMemory` although no memory was refused.
+/// Places as numbers, if words of 32 bits hold them. At most 2^32 networks have numbers, also where they are added one
+/// by one: past them a search answers `OutOfMemory` although no memory was refused.
 fn numbers_of(alloc: Global, places: &[usize]) -> Result<Vec<u32>, AllocError>
     ensures { IfOk result (λ v. v.items ≡ places.now) }
 {
@@ -40,7 +40,7 @@ fn numbers_of(alloc: Global, places: &[usize]) -> Result<Vec<u32>, AllocError>
 }
 
 impl NetworkTable {
-    /// How many nodes the network at a place has, and the sum of the bounds of these, where it is kept whole.
+    /// The count of nodes of the network at a place, and the sum of their bounds, where the network is stored whole.
     fn measure(&self, place: usize) -> Measure
         requires placed { place < length self.now.networks }
         requires kept { IsKeptWhole (numbered_at self.now place) }
@@ -57,7 +57,7 @@ impl NetworkTable {
         }
     }
 
-    /// The same of the network that stands so many places after another.
+    /// The same of the network `offset` places after another.
     fn measure_after(&self, first: usize, at: usize) -> Measure
         requires measurable { AreMeasurable self.now first }
         requires placed { at < length (drop first self.now.networks) }
@@ -67,7 +67,7 @@ impl NetworkTable {
         self.measure(first + at)
     }
 
-    /// The same of each network from a place on, put into as many slots by so many workers.
+    /// The same of each network from a place on, written into slots by at most `workers` workers.
     fn measure_each<R: Threads + Sync>(
         &self,
         rt: &R,
@@ -92,7 +92,7 @@ impl NetworkTable {
         for_each_mut(rt, slots, workers, &measure);
     }
 
-    /// The same of each network from a place on, found by so many workers.
+    /// The same of each network from a place on, by at most `workers` workers.
     fn measures<R: Threads + Sync>(
         &self,
         rt: &R,
@@ -114,7 +114,7 @@ impl NetworkTable {
         Ok(measures)
     }
 
-    /// Puts down the measure of the network that comes next.
+    /// Appends the measure of the next network.
     fn put_measure(&mut self, one: Measure) -> Result<(), AllocError>
         ensures children { self.new.children ≡ self.old.children }
         ensures networks { self.new.networks ≡ self.old.networks }
@@ -128,7 +128,7 @@ impl NetworkTable {
         Ok(())
     }
 
-    /// Puts down the measures of the networks that come next.
+    /// Appends the measures of the next networks.
     fn put_measures(&mut self, all: &[Measure]) -> Result<(), AllocError>
         ensures children { self.new.children ≡ self.old.children }
         ensures networks { self.new.networks ≡ self.old.networks }
@@ -145,7 +145,7 @@ impl NetworkTable {
         Ok(())
     }
 
-    /// The numbers of networks that are kept whole, which they may get only now, found by so many workers.
+    /// The numbers of networks that are stored whole, new ones for those that have none, by at most `workers` workers.
     pub(crate) fn keep_all<R: Threads + Sync>(
         &mut self,
         rt: &R,

@@ -1,4 +1,4 @@
-//! Makes what many networks become.
+//! Makes the networks of drafts.
 ghost use Rattle.std.specs.Prelude.{◌≡◌, ◌<◌, true, List, All, IfOk, IfSome, OnOk, length, get_or};
 ghost use Rattle.network_table.specs.Numbered.{IsWithin, nothing};
 ghost use Rattle.network_table.specs.Entries.{IsKeptWhole, networks_alone};
@@ -15,7 +15,7 @@ use indexmap::IndexMap;
 use interner::Batch;
 use std::alloc::{AllocError, Global};
 
-/// Where the network of a draft stands, and where the draft is listed.
+/// The place of a draft's network among those that were made, and the place of the draft.
 #[derive(Clone, Copy, Drop)]
 pub(crate) struct Place {
     pub(crate) at: usize,
@@ -23,7 +23,7 @@ pub(crate) struct Place {
     pub(crate) network: usize,
 }
 
-/// The number of the network of a draft, and where the draft is listed.
+/// The number of a draft's network, and the place of the draft.
 #[derive(Clone, Copy, Drop)]
 pub(crate) struct Noted {
     pub(crate) at: usize,
@@ -31,7 +31,7 @@ pub(crate) struct Noted {
 }
 
 /// Networks that were made of drafts, with the places of the drafts; and the drafts whose networks have numbers
-/// already. None is a chain: the networks are to be numbered side by side, and a chain is kept over another.
+/// already. None is a chain: the networks are numbered side by side, and a chain is stored as a cell on another.
 #[derive(Drop)]
 pub(crate) struct Made {
     pub(crate) networks: Batch<Entry>,
@@ -39,8 +39,7 @@ pub(crate) struct Made {
     pub(crate) noted: Vec<Noted>,
 }
 
-/// Where a network stands, as far as it was looked for: at a place among those that were made, or in the table, by its
-/// number.
+/// Where a network was found: at a place among those that were made, or in the table, by its number.
 #[derive(Clone, Copy, Drop)]
 pub(crate) enum Standing {
     Unknown,
@@ -67,7 +66,7 @@ fn inner_of<'a>(
     Some(&instances[place])
 }
 
-/// Whether a network stands at a place among some.
+/// Whether the network at a place is this one.
 fn is_at(networks: &Batch<Entry>, place: usize, network: &Network) -> bool
     ensures { let all = networks_alone networks.now in
         result ≡ true → (place < length all) × (get_or all place nothing ≡ network.now) }
@@ -82,8 +81,8 @@ fn is_at(networks: &Batch<Entry>, place: usize, network: &Network) -> bool
 }
 
 impl NetworkTable {
-    /// Makes the network of a draft, if the draft is one of the jobs' and the network is no chain: what is one is made
-    /// where it is numbered.
+    /// Makes the network of a draft, if the draft is one of the jobs' and the network is no chain: chains are made where
+    /// they are numbered.
     fn make(&self, alloc: Global, jobs: &[Job], draft: Draft) -> Result<Option<Network>, AllocError>
         requires whole { IsWhole self.now }
         requires known { All (λ j. Knows self.now j.network) jobs.now }
@@ -113,7 +112,7 @@ impl NetworkTable {
         Ok(Some(next))
     }
 
-    /// Whether a network that is kept whole has a number.
+    /// The number of a network that is stored whole, if it has one.
     fn has_number(&self, number: u32, network: &Network) -> bool
         ensures { result ≡ true → IsNumberOf self.now number network.now }
     {
@@ -126,8 +125,8 @@ impl NetworkTable {
         }
     }
 
-    /// Where a network stands among those that were made, or in the table, and the network. It is looked for in the
-    /// table unless it stands where the hint tells.
+    /// Where a network is among those that were made, or in the table, and the network itself. It is looked for in the
+    /// table unless the hint has its place.
     fn standing_of(
         &self,
         networks: &Batch<Entry>,
@@ -148,8 +147,8 @@ impl NetworkTable {
         }
     }
 
-    /// Puts down where the network of a draft stands that is listed at a place: its place, or its number if it has one;
-    /// and the network, if it stands nowhere. It gives where the network stands.
+    /// Records where the network of the draft at a place is: its number if it has one, else its place, at which it is
+    /// added if it is new. The answer is where it is.
     fn put(
         &self,
         jobs: &[Job],
@@ -191,7 +190,7 @@ impl NetworkTable {
         }
     }
 
-    /// Makes the network of a draft that is listed at a place, and puts down where it stands, which it gives.
+    /// Makes the network of the draft at a place, and records where it is, which is the answer.
     fn add(
         &self,
         alloc: Global,
@@ -216,8 +215,7 @@ impl NetworkTable {
         self.put(jobs, made, standing, at, draft, next)
     }
 
-    /// Makes the networks of the drafts that fall to a shard, equal ones mostly once, and finds those that have
-    /// numbers.
+    /// Makes the networks of the drafts of a shard, equal ones mostly once, and finds those that have numbers.
     pub(crate) fn make_shard(
         &self,
         alloc: Global,

@@ -18,14 +18,13 @@ pub struct Link {
     pub rest: u32,
 }
 
-/// What is kept of a network.
+/// How a network is stored.
 #[derive(Drop)]
 pub enum Entry {
-    /// Of one whose nodes stand one after another, as of a list of cells: the first, and where the others are kept.
-    /// So networks with the same nodes at the end share these (hash consing: Ershov, On programming of arithmetic
-    /// operations, 1958).
+    /// A totally ordered one as a cell of a list: the first node, and the entry of the others. So networks with the
+    /// same nodes at the end share these (hash consing: Ershov, On programming of arithmetic operations, 1958).
     Chain(Link),
-    /// Of any other, and of the one without nodes: all of it.
+    /// Any other, and the one without nodes: all of it.
     Whole(Network),
 }
 
@@ -98,24 +97,24 @@ impl NetworkSet {
         Ok(NetworkSet { entries })
     }
 
-    /// How many there are.
+    /// The number of networks.
     pub(crate) fn len(&self) -> usize
         ensures { result ≡ length self.now }
     {
         self.entries.len()
     }
 
-    /// What is kept of the network at a place.
+    /// The entry of the network at a place.
     pub(crate) fn entry(&self, place: usize) -> &Entry
         requires { place < length self.now }
         ensures entry { IsEntryAt self.now place result.now }
-        // each node of a chain has a place of its own
+        // Each node of a chain has a place of its own.
         ensures short { IsChain (get_or self.now place nothing) → length (get_or self.now place nothing).nodes ≤ place }
     {
         self.entries.get(place)
     }
 
-    /// The place of the network that an entry stands for, if that is kept.
+    /// The place of the network of an entry, if the set has it.
     pub(crate) fn place_of(&self, entry: &Entry) -> Option<usize>
         ensures some { IfSome result (λ n. (n < length self.now) × (get_or self.now n nothing ≡ network_by self.now entry.now)) }
         ensures none { IfNone result ((n : ℕ) → n < length self.now → Fits self.now entry.now
@@ -124,7 +123,7 @@ impl NetworkSet {
         self.entries.number_of(entry)
     }
 
-    /// The place of the network that an entry stands for, and whether it comes only now, as the last.
+    /// The place of the network of an entry, and whether it is new; a new one is added as the last.
     pub(crate) fn insert(&mut self, entry: Entry) -> Result<(usize, bool), AllocError>
         requires { Fits self.old entry }
         ensures place { IfOk result (λ r. (r.0 < length self.new) × (get_or self.new r.0 nothing ≡ network_by self.old entry)) }
@@ -136,7 +135,8 @@ impl NetworkSet {
         Ok(placed)
     }
 
-    /// The places of networks that are kept whole, which may come only now, found by so many workers.
+    /// The places of networks that are stored whole, new ones for those that the set has not, by at most `workers`
+    /// workers.
     pub(crate) fn insert_all<R: Threads + Sync>(
         &mut self,
         rt: &R,

@@ -10,7 +10,7 @@ pub(crate) struct Known {
     pub(crate) number: u32,
 }
 
-/// What is noted of drafts, with the place of the first draft of a job.
+/// The numbers of drafts, as far as they are known, with the place of the first draft of a job.
 #[derive(Clone, Copy, Drop)]
 pub(crate) struct Notes<'a> {
     pub(crate) noted: &'a [Option<Known>],
@@ -18,7 +18,7 @@ pub(crate) struct Notes<'a> {
     pub(crate) first: usize,
 }
 
-/// The number that is noted for a draft at a place, if it is.
+/// The number of the draft at a place, if it is known.
 pub(crate) fn noted_number(noted: &[Option<Known>], at: usize, draft: Draft) -> Option<u32>
     ensures { IfSome result (λ n. (k : Known) × (slice_get noted.now at ≡ Some (Some k)) × (k.number ≡ n)
         × (k.draft ≡ draft)) }

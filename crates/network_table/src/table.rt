@@ -20,8 +20,8 @@ use htn_ground::Child;
 use htn_order::Order;
 use std::alloc::{AllocError, Global};
 
-/// The networks that have numbers, each with its count of nodes, a bound from below on the numbers
-/// that it takes, and what becomes of it, once that is known.
+/// Networks with numbers, each with its count of nodes, a bound from below on the steps that it takes, and its
+/// expansion once it is known.
 #[derive(Drop)]
 pub struct NetworkTable {
     pub(crate) children: ChildTable,
@@ -31,8 +31,8 @@ pub struct NetworkTable {
     pub(crate) expansions: Vec<Option<Expansion>>,
 }
 
-/// A place, if a word of 32 bits holds it. One past them is no number of a network: what would keep that one
-/// answers an error.
+/// A place as a number, if a word of 32 bits holds it. A place past them is no number: to add a network there is an
+/// error.
 fn number_at(place: Option<usize>) -> Option<u32>
     ensures some { IfSome result (λ n. place ≡ Some n) }
     ensures none { IfNone result ((n : ℕ) → n < 2 ^ 32 → place ≡ Some n → ⊥) }
@@ -72,18 +72,18 @@ impl NetworkTable {
         })
     }
 
-    /// How many networks have numbers.
+    /// The number of networks.
     pub fn len(&self) -> usize
         ensures { result ≡ length self.now.networks }
     {
         self.networks.len()
     }
 
-    /// What is kept of the network of a number.
+    /// The entry of the network of a number.
     pub fn entry(&self, number: u32) -> &Entry
         requires { Knows self.now number }
         ensures entry { IsEntryAt self.now.networks number result.now }
-        // each node of a chain has a number of its own
+        // Each node of a chain has a number of its own.
         ensures short { IsChain (numbered_at self.now number) → length (numbered_at self.now number).nodes ≤ number }
     {
         self.networks.entry(number as usize)
@@ -139,7 +139,7 @@ impl NetworkTable {
         self.children.number_of(child)
     }
 
-    /// How many nodes the network of a number has.
+    /// The count of nodes of the network of a number.
     pub fn open_len(&self, number: u32) -> u64
         requires whole { IsWhole self.now }
         requires known { Knows self.now number }
@@ -153,14 +153,14 @@ impl NetworkTable {
         requires whole { IsWhole self.now }
         requires known { Knows self.now number }
         ensures value { result ≡ bound_of self.now.children (numbered_at self.now number) }
-        // where the nodes' bounds are a measure, the sum of it, as far as a word holds it
+        // Where the nodes' bounds are a lower measure, this is its sum, as far as a word holds it.
         ensures measured { (measure : model.Child → ℕ) → AreBounds measure self.now.children
             → result ≡ min (sum_by measure (network_at self.now number).children) (2 ^ 64 - 1) }
     {
         self.bounds[number as usize]
     }
 
-    /// What becomes of the network of a number, once that is known.
+    /// The expansion of the network of a number, once it is known.
     pub fn expansion(&self, number: u32) -> Option<&Expansion>
         requires whole { IsWhole self.now }
         requires known { Knows self.now number }
@@ -169,8 +169,8 @@ impl NetworkTable {
         self.expansions[number as usize].as_ref()
     }
 
-    /// The number of a network, if it has one that a word of 32 bits holds and is no chain; and the network, which is
-    /// taken since a set is asked for an entry. It takes no memory.
+    /// The number of a network, if it has one that a word of 32 bits holds and is no chain; and the network itself,
+    /// which is moved in since a set is asked for an entry. It takes no memory.
     pub(crate) fn number_of(&self, network: Network) -> (Option<u32>, Network)
         requires { IsWhole self.now }
         ensures some { IfSome result.0 (λ n. IsNumberOf self.now n network) }
@@ -185,7 +185,7 @@ impl NetworkTable {
         (number_at(place), network)
     }
 
-    /// How many nodes the network at a place has, where that is known of those before it.
+    /// The count of nodes of the network at a place, where that of those before it is known.
     fn count_open(&self, place: usize) -> u64
         requires placed { place < length self.now.networks }
         requires known { (n : ℕ) → n < place → (n < length self.now.open_lens.items)
@@ -198,7 +198,7 @@ impl NetworkTable {
         }
     }
 
-    /// The sum of the bounds of the nodes of the network at a place, where that is known of those before it.
+    /// The sum of the bounds of the nodes of the network at a place, where that of those before it is known.
     fn sum_open(&self, place: usize) -> u64
         requires placed { place < length self.now.networks }
         requires known { (n : ℕ) → n < place → (n < length self.now.bounds.items)
@@ -216,7 +216,7 @@ impl NetworkTable {
         }
     }
 
-    /// The number of the network that an entry stands for, which it may get only now.
+    /// The number of the network of an entry; a new one if it has none.
     fn keep_entry(&mut self, entry: Entry) -> Result<u32, AllocError>
         requires whole { IsWhole self.old }
         requires fits { Fits self.old.networks entry }
@@ -228,7 +228,7 @@ impl NetworkTable {
     {
         let (place, is_new) = self.networks.insert(entry)?;
         // At most 2^32 networks have numbers. Past them a search answers `OutOfMemory` although no memory was
-        // refused. Three lists alone hold more than 16 bytes for each: so many networks take more than 64 GB.
+        // refused. Three lists alone hold more than 16 bytes for each: that many networks take more than 64 GB.
         let Ok(number) = u32::try_from(place) else {
             return Err(AllocError);
         };
@@ -243,7 +243,7 @@ impl NetworkTable {
         Ok(number)
     }
 
-    /// The number of a chain of these nodes before those of a chain that has a number, which it may get only now.
+    /// The number of a chain of these nodes before those of a chain that has a number; a new one if it has none.
     pub(crate) fn keep_before(&mut self, nodes: &[u32], rest: u32) -> Result<u32, AllocError>
         requires whole { IsWhole self.old }
         requires known { Knows self.old rest }
@@ -265,7 +265,7 @@ impl NetworkTable {
         Ok(number)
     }
 
-    /// The number of a network, which it may get only now.
+    /// The number of a network; a new one if it has none.
     pub fn keep(&mut self, network: Network) -> Result<u32, AllocError>
         requires whole { IsWhole self.old }
         requires within { IsWithin (children self.old) network }
@@ -284,7 +284,7 @@ impl NetworkTable {
         Ok(number)
     }
 
-    /// The number of a node, which it may get only now, with this bound.
+    /// The number of a node; a new one, with this bound, if it has none.
     pub fn keep_child(&mut self, child: Child, bound: u32) -> Result<u32, AllocError>
         requires { IsWhole self.old }
         ensures whole { OnOk result (IsWhole self.new) }
@@ -299,7 +299,7 @@ impl NetworkTable {
         Ok(id)
     }
 
-    /// The numbers of nodes in their order, which they may get only now, each with its bound.
+    /// The numbers of nodes in their order, new ones for those that have none, each with its bound.
     pub fn keep_children(
         &mut self,
         alloc: Global,
@@ -323,7 +323,7 @@ impl NetworkTable {
         Ok(ids)
     }
 
-    /// Remembers what becomes of the network of a number.
+    /// Stores the expansion of the network of a number.
     pub(crate) fn remember(&mut self, number: u32, expansion: Expansion)
         requires whole { IsWhole self.old }
         requires known { Knows self.old number }
