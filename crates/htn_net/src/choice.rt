@@ -7,17 +7,16 @@ use htn_ground::Instance;
 use htn_state::State;
 use std::sync::Arc;
 
-/// What becomes of the node that a number chooses.
+/// What a step does with the node that its number chooses.
 #[derive(Drop)]
 pub enum Change {
     /// A compound task is decomposed: the nodes of this instance take its place.
     Decomposed(Instance),
-    /// A step or an action is carried out: it is gone, and this is the state then.
+    /// A precondition step or an action is carried out: it leaves the network, and this is the state afterwards.
     Performed(Arc<State>),
 }
 
-/// What a number of a configuration stands for: the open node that it chooses, and what becomes of
-/// it.
+/// What a number of a configuration stands for: the open node that it chooses, and what the step does with it.
 #[derive(Drop)]
 pub struct Choice {
     /// The number of the instance among those of the first free compound task; or, where no compound
@@ -44,7 +43,7 @@ pub(crate) struct Performance {
     pub(crate) number: u64,
     /// Its position among the open nodes.
     pub(crate) position: usize,
-    /// The state then.
+    /// The state afterwards.
     pub(crate) state: Arc<State>,
 }
 

@@ -164,7 +164,7 @@ impl Config {
         Ok(next)
     }
 
-    /// The configuration where the step or action at a position is gone, and the state is this one.
+    /// The configuration without the step or action at a position, in this state.
     pub(crate) fn performed(
         &self,
         alloc: Global,

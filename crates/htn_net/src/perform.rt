@@ -1,4 +1,4 @@
-//! What carrying out a step or an action makes of the state.
+//! The state after a step or an action.
 ghost use Rattle.std.specs.Prelude.{◌≡◌, All, IfOk, None, Some, cond, map};
 ghost use Rattle.std.specs.Arc.{arc_value};
 ghost use Rattle.std.specs.Option.{option_map};

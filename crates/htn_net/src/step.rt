@@ -15,8 +15,8 @@ use htn_ground::{distinct_live_methods_of, instance_at};
 use htn_task::Task;
 use std::alloc::{AllocError, Global};
 
-/// What a number chooses where no compound task is free: the position of an open node, and what becomes
-/// of it.
+/// What a number chooses where no compound task is free: the position of an open node, and what the step does with
+/// it.
 fn choose_free(
     alloc: Global,
     task: &Task,
@@ -37,10 +37,9 @@ fn choose_free(
 }
 
 impl Config {
-    /// What a number chooses: the position of an open node, and what becomes of it; none where it is not
-    /// one that the configuration allows. No other instance is made, so their numbers need not fit 64 bits.
-    /// An error means that memory was refused, or that the instance's method is past the 65,536th, as none
-    /// of a checked text is.
+    /// What a number chooses: the position of an open node, and what the step does with it; none where the number is
+    /// not one that the configuration allows. No other instance is made, so their numbers need not fit 64 bits. An error
+    /// means that memory was refused, or that the instance's method is past the 65,536th, as none of a checked text is.
     pub fn choose(
         &self,
         alloc: Global,
@@ -82,7 +81,7 @@ impl Config {
         Ok(Some((position, Change::Decomposed(instance))))
     }
 
-    /// The configuration in which this has become of the open node at a position.
+    /// The configuration after this step at the open node of a position.
     pub fn after(
         &self,
         alloc: Global,

@@ -106,7 +106,7 @@ impl AtomTable {
             return Ok(number);
         }
         // At most 2^32 atoms would have numbers, and an `IndexSet` takes no more than 9 * 2^28. Past these a search
-        // answers `OutOfMemory` although no memory was refused. So many atoms take more than 25 GB.
+        // answers `OutOfMemory` although no memory was refused. That many atoms take more than 25 GB.
         let Ok(number) = u32::try_from(self.atoms.len()) else {
             return Err(AllocError);
         };
@@ -114,7 +114,7 @@ impl AtomTable {
         Ok(number)
     }
 
-    /// How many atoms have numbers.
+    /// The number of atoms.
     pub fn len(&self) -> usize
         ensures table { IsTable self.now }
         ensures count { result ≡ length self.now.atoms }

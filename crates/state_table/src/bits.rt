@@ -22,7 +22,7 @@ pub(crate) fn has_bit(words: &[u64], number: u32) -> bool
     (word(words, (number / 64) as usize) >> (number % 64)) & 1 == 1
 }
 
-/// Makes the words at least so many. The bits stay.
+/// Appends words of 0 up to this length at least. The bits stay.
 fn widen(words: &mut Words, count: usize) -> Result<(), AllocError>
     ensures len { OnOk result (count ≤ length words.new.items) }
     ensures same { OnOk result ((k : ℕ) → get_or words.new.items k 0 ≡ get_or words.old.items k 0) }

@@ -33,7 +33,7 @@ pub struct CompiledAction {
     adds: Vec<u32>,
 }
 
-/// Sorts numbers, and keeps each once.
+/// Sorts numbers, and drops repeats.
 fn keep_once(numbers: &mut Vec<u32>)
     ensures { (test : ℕ → Bool) → list_all test numbers.new.items ≡ list_all test numbers.old.items }
 {
@@ -53,7 +53,7 @@ impl CompiledLiterals {
         }
     }
 
-    /// Notes whether a literal of a static atom or an equality holds.
+    /// Adds a literal of a static atom or an equality, which holds in every state or in none.
     fn decide(&mut self, holds: bool)
         ensures { (words : List ℕ) → all_hold words self.new ≡ (all_hold words self.old && holds) }
     {

@@ -7,7 +7,7 @@ use indexmap::IndexSet;
 use std::alloc::{AllocError, Global};
 use std::marker::Model;
 
-/// States by number, in the order in which they were kept, none of them twice.
+/// States by number, in the order in which they were added, none of them twice.
 #[derive(Drop)]
 pub struct StateTable {
     states: IndexSet<BitState>,
@@ -56,14 +56,14 @@ impl StateTable {
         ensures grown { OnOk result (IsExtension self.old self.new) }
         ensures number { IfOk result (λ n. slice_get self.new n ≡ Some state) }
         ensures numbering { IsNumbering self.new }
-        // nothing else gets a number
+        // No other state is numbered.
         ensures others { OnOk result ((n : ℕ) (other : List ℕ) → slice_get self.new n ≡ Some other
             → (slice_get self.old n ≡ Some other) ⊎ (other ≡ state)) }
         ensures unchanged { OnErr result (self.new ≡ self.old) }
     {
         if self.states.len() > u32::MAX as usize {
             // Every number is given. In a search this never comes: an `IndexSet` takes at most 9 * 2^28 values, and
-            // answers want of memory past them although none was refused. So many states take more than 25 GB.
+            // answers want of memory past them although none was refused. That many states take more than 25 GB.
             return self.number_of(&state).ok_or(AllocError);
         }
         let (place, _) = self.states.insert_full(state)?;
