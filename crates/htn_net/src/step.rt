@@ -38,8 +38,9 @@ fn choose_free(
 
 impl Config {
     /// What a number chooses: the position of an open node, and what the step does with it; none where the number is
-    /// not one that the configuration allows. No other instance is made, so their numbers need not fit 64 bits. An error
-    /// means that memory was refused, or that the instance's method is past the 65,536th, as none of a checked text is.
+    /// not one that the configuration allows. No other instance is made, so their numbers need not fit 64 bits. An
+    /// error means that memory was refused, or that the instance's method is past the 65,536th, as none of a checked
+    /// text is.
     pub fn choose(
         &self,
         alloc: Global,
