@@ -9,8 +9,10 @@ use Rattle.htn_model.specs.Machine.{Config, IsDone}
 use Rattle.htn_model.specs.Problem.{Child, IsGrounded, Problem}
 use Rattle.tree_sizes.specs.Measure.{is_as_at_first}
 use Rattle.tree_sizes.specs.Sizes.{out_of_reach}
-use Rattle.tree_sizes.proofs.Bounded.{states_last}
-use Rattle.network_needs.specs.Bounds.{IsEstimate, needs_bound}
+use Rattle.heuristic.specs.Heuristic.{dead_end_bound}
+use Rattle.heuristic.proofs.Bounds.{dead_ends_are_consistent, greater_is_estimate}
+use Rattle.tree_sizes.proofs.Bounded.{dead_ends}
+use Rattle.network_needs.specs.Bounds.{needs_bound}
 use Rattle.network_needs.specs.Needs.{may_end, needed, needed_goal, network_of}
 use Rattle.network_needs.specs.Rows.{blocks, outlook_of}
 use Rattle.network_needs.proofs.Bounded.{needs_are_bounds}
@@ -19,50 +21,8 @@ use Rattle.relaxed_reach.specs.Tables.{reach_of}
 use Rattle.relaxed_reach.specs.declared.reach.RelaxedReach.{RelaxedReach}
 use Rattle.relaxed_reach.proofs.Lasting.{reach_stays, reached_stays}
 use Rattle.relaxed_reach.proofs.Lists.{any_or}
-use Rattle.needs_table.specs.Prospects.{AllProspectsHold, is_unreached, may_be_reached, may_end_reached, outlook_by}
+use Rattle.needs_table.specs.Prospects.{AllProspectsHold, is_out, is_unreached, may_be_reached, may_end_reached, outlook_by}
 use Rattle.needs_table.specs.declared.prospects.Prospects.{Prospects}
-
--- ## Bounds
-
-module _ (problem : Problem) (grounded : IsGrounded problem) (low : Config → ℕ) (law : IsEstimate problem low) (may : Config → Bool)
-    (step : (c d : Config) (number : ℕ) → live_step problem c number ≡ Some d → is_as_at_first problem c.state ≡ true → may d ≡ true → may c ≡ true)
-    (done : (c : Config) → IsDone problem c → may c ≡ true) where
-  -- whether a configuration never ends by the test
-  abbrev lost : Config → Bool
-  lost c = is_as_at_first problem c.state && not (may c)
-
-  -- what is added for what never ends
-  abbrev more : Bool → ℕ
-  more b = cond b out_of_reach 0
-
-  -- after what never ends comes what never ends
-  lost_stays : (c d : Config) (number : ℕ) → live_step problem c number ≡ Some d → lost c ≡ true → lost d ≡ true
-  lost_stays c d number is never =
-      let parts = and_parts (is_as_at_first problem c.state) (not (may c)) never in
-      let first : is_as_at_first problem d.state ≡ true = (states_last problem grounded).stays c d number is parts.0 in
-      let not_ends : may d ≡ false = false_from_ne_true _ (λ ends. both_ways _ (not-true _ parts.1) (step c d number is parts.0 ends)) in
-      ap (λ b. b && not (may d)) first ∙ ap not not_ends
-
-  -- so what is added never falls
-  more_rises : (a b : Bool) → (a ≡ true → b ≡ true) → more a ≤ more b
-  more_rises true b up = let e : more b ≡ out_of_reach = ap more (up refl) in omega (arith, e)
-  more_rises false b up = omega arith
-
-  -- a bound that sees what never ends is a bound
-  pub raised : IsEstimate problem (λ c. max (low c) (more (lost c)))
-  raised = record {
-    above_open = λ c. most (length c.open_nodes) (low c) (more (lost c)) (law.above_open c);
-    done_zero = λ c is.
-        (let ends : lost c ≡ false = and_right (is_as_at_first problem c.state) _ (not_from_true _ (done c is)) in
-        ap (λ n. max n (more (lost c))) (law.done_zero c is) ∙ ap (λ b. max 0 (more b)) ends);
-    lowers_one = λ c d number is. least (low c) (low d) (more (lost c)) (more (lost d)) (law.lowers_one c d number is) (more_rises (lost c) (lost d) (lost_stays c d number is));
-  }
-    where
-      most : (a b x : ℕ) → a ≤ b → a ≤ max b x
-      most a b x nodes = omega (arith, nodes)
-
-      least : (a b x y : ℕ) → a ≤ b + 1 → x ≤ y → max a x ≤ max b y + 1
-      least a b x y one rises = omega (arith, one, rises)
 
 -- ## What is reached, where that is known
 
@@ -124,8 +84,10 @@ start_reached (Some r) starts right = right
 pub prospects_hold : AllProspectsHold
 prospects_hold problem starts size cap p grounded measure right = record {
   first = start_reached p.reach starts right.first;
-  bound = raised problem grounded (needs_bound problem size cap (outlook_of p.needs)) (needs_are_bounds problem size cap (outlook_of p.needs) grounded measure right.outlook) (may_end_reached p.reach)
-      (end_lasts problem grounded p.reach right.reach) (done_ends problem grounded p.reach right.reach);
+  bound = greater_is_estimate problem (needs_bound problem size cap (outlook_of p.needs)) (dead_end_bound out_of_reach (is_out problem p.reach))
+      (needs_are_bounds problem size cap (outlook_of p.needs) grounded measure right.outlook)
+      (dead_ends_are_consistent problem out_of_reach (is_out problem p.reach)
+      (dead_ends problem grounded (may_end_reached p.reach) (end_lasts problem grounded p.reach right.reach) (done_ends problem grounded p.reach right.reach)));
   stays = reached_lasts problem grounded p.reach right.reach;
   told = told_by problem grounded p right.reach;
 }

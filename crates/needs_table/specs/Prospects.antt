@@ -6,7 +6,8 @@ use Rattle.htn_model.specs.Machine.{Config}
 use Rattle.htn_model.specs.Problem.{Child, IsGrounded, Problem}
 use Rattle.tree_sizes.specs.Measure.{IsLowerMeasure, is_as_at_first}
 use Rattle.tree_sizes.specs.Sizes.{out_of_reach}
-use Rattle.network_needs.specs.Bounds.{IsEstimate, needs_bound}
+use Rattle.heuristic.specs.Heuristic.{IsEstimate}
+use Rattle.network_needs.specs.Bounds.{needs_bound}
 use Rattle.network_needs.specs.Needs.{IsOutlook, Outlook, may_end}
 use Rattle.network_needs.specs.Rows.{blocks, outlook_of}
 use Rattle.relaxed_reach.specs.Reach.{IsRelaxedReach, is_lost_node, is_reached, may_end_by}

@@ -1,8 +1,8 @@
 -- Bounds from below that see what a configuration lacks.
-use Rattle.std.specs.Prelude.{◌≡◌, ℕ, ◌+◌, ◌≤◌, Bool, not, ◌&&◌, cond, length, max, Some}
+use Rattle.std.specs.Prelude.{ℕ, Bool, not, ◌&&◌, cond, max}
 use Rattle.htn_model.specs.Problem.{Child, IsGrounded, Problem}
-use Rattle.htn_model.specs.Machine.{Config, IsDone}
-use Rattle.htn_model.specs.Exhaustion.{live_step}
+use Rattle.htn_model.specs.Machine.{Config}
+use Rattle.heuristic.specs.Heuristic.{IsEstimate}
 use Rattle.tree_sizes.specs.Measure.{IsLowerMeasure, is_as_at_first, lower_bound}
 use Rattle.tree_sizes.specs.Sizes.{out_of_reach}
 use Rattle.network_needs.specs.Needs.{IsOutlook, Outlook, may_end}
@@ -15,13 +15,7 @@ is_lost problem o c = is_as_at_first problem c.state && not (may_end problem o c
 abbrev pub needs_bound : Problem → (Child → ℕ) → ℕ → Outlook → Config → ℕ
 needs_bound problem size cap o c = max (lower_bound problem size cap c) (cond (is_lost problem o c) out_of_reach 0)
 
--- at least the open nodes, nothing where the configuration is done, and a live step lowers it by one at most
-pub record IsEstimate (problem : Problem) (low : Config → ℕ) : Type 0 where
-  pub above_open : (c : Config) → length c.open_nodes ≤ low c
-  pub done_zero : (c : Config) → IsDone problem c → low c ≡ 0
-  pub lowers_one : (c d : Config) (number : ℕ) → live_step problem c number ≡ Some d → low c ≤ low d + 1
-
--- the bounds by a lower measure and an outlook are such
+-- the bounds by a lower measure and an outlook are estimates
 abbrev pub NeedsAreBounds : Type 0
 NeedsAreBounds =
     (problem : Problem) (size : Child → ℕ) (cap : ℕ) (o : Outlook) → IsGrounded problem → IsLowerMeasure problem size → IsOutlook problem o

@@ -24,7 +24,7 @@ use Rattle.tree_sizes.specs.Measure.{estimate}
 use Rattle.tree_sizes.specs.Sizes.{out_of_reach, size_of}
 use Rattle.tree_sizes.specs.declared.tree_sizes.TreeSizes.{TreeSizes}
 use Rattle.tree_sizes.proofs.Lasting.{agreeing}
-use Rattle.network_needs.specs.Bounds.{IsEstimate}
+use Rattle.heuristic.specs.Heuristic.{IsEstimate}
 use Rattle.network_needs.specs.Needs.{may_end, Outlook}
 use Rattle.network_needs.specs.Rows.{outlook_of}
 use Rattle.needs_table.specs.Prospects.{ProspectsHold, may_be_reached, may_end_reached, outlook_by, prospects_bound}
@@ -113,7 +113,7 @@ belonging_lawful t size p grounded holds =
 -- what is a bound from below for the machine by numbers is one for that by ranks
 pub bounded : (t : Task) (low : Config → ℕ) → IsEstimate (problem_of t) low → IsLowerBound (listing_machine t) low
 bounded t low law = record {
-  lowers_one = λ c d rank step. (let s = live_rank t c d rank step.0 in law.lowers_one c d s.0 s.1);
-  done_zero = λ c done. law.done_zero c (done_from (problem_of t) c done);
+  lowers_one = λ c d rank step. (let s = live_rank t c d rank step.0 in law.consistent.lowers_one c d s.0 s.1);
+  done_zero = λ c done. law.consistent.done_zero c (done_from (problem_of t) c done);
   above_open = law.above_open;
 }

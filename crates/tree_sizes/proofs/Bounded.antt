@@ -1,17 +1,20 @@
 -- The bounds by a lower measure are bounds from below.
-use Rattle.std.proofs.Common.{◌≡◌, ℕ, suc, ◌+◌, ◌<◌, ◌≤◌, Bool, true, false, cond, List, [], ◌∷◌, ◌++◌, length, get_or, take, drop, Option, Some, None, max, min, ◌⊎◌, inl, inr, refl, sym, ap, ◌∙◌, subst, arith, option_and_then}
+use Rattle.std.proofs.Common.{◌≡◌, ℕ, suc, ◌+◌, ◌<◌, ◌≤◌, Bool, true, false, not, ◌&&◌, cond, List, [], ◌∷◌, ◌++◌, length, get_or, take, drop, Option, Some, None, max, min, ◌⊎◌, inl, inr, refl, sym, ap, ◌∙◌, subst, arith}
 use Rattle.std.specs.List.{list_any, sum_by}
+use Rattle.std.proofs.lemmas.Bool.{and_parts, and_right, both_ways, false_from_ne_true, not_from_true, not-true}
 use Rattle.std.proofs.lemmas.List.Sums.{sum_by-cons, sum_by-append}
 use Rattle.htn_model.specs.State.{State}
 use Rattle.htn_model.specs.Literal.{Action, after, holds}
 use Rattle.htn_model.specs.Problem.{Child, precondition, action, task, IsGrounded, Problem, perform, perform_action}
 use Rattle.htn_model.specs.Choice.{splice, child_of}
 use Rattle.htn_model.specs.Machine.{Config, Choice, choose, result_of, IsDone}
-use Rattle.htn_model.specs.Exhaustion.{is_dead, is_dead_literal, live_step, LeadsLive}
+use Rattle.htn_model.specs.Exhaustion.{is_dead, is_dead_literal, live_step}
 use Rattle.htn_model.proofs.Exhaustion.{chosen_agrees}
-use Rattle.htn_model.proofs.Splices.{split_at, length_splice}
+use Rattle.htn_model.proofs.Splices.{split_at}
 use Rattle.htn_model.proofs.Steps.{Decomposes, Executes, chosen}
 use Rattle.htn_model.proofs.Regrown.{choice_within}
+use Rattle.heuristic.specs.Heuristic.{AreDeadEnds}
+use Rattle.heuristic.proofs.Bounds.{fewer, live_choice}
 use Rattle.tree_sizes.specs.Measure.{IsLowerMeasure, StatesLast, estimate, is_as_at_first, lower_bound, MeasuresAreBounds}
 use Rattle.task_graph.specs.Barred.{is_barred_by}
 use Rattle.tree_sizes.proofs.Lasting.{agreed, agreeing, alive_literals}
@@ -25,24 +28,6 @@ sum_splice f i ys xs d inside =
     let new = sum_by-append f (take i xs) (ys ++ drop (suc i) xs) in
     let middle = sum_by-append f ys (drop (suc i) xs) in
     omega arith
-
--- ## Live steps
-
--- a live step makes a choice that is not dead
-pub live_choice : (problem : Problem) (c d : Config) (number : ℕ) → live_step problem c number ≡ Some d
-    → (choice : Choice) × (choose problem c number ≡ Some choice) × (is_dead problem choice.network ≡ false) × (result_of c choice ≡ d)
-live_choice problem c d number is = by (choose problem c number) refl is
-  where
-    when : (choice : Choice) (b : Bool) → choose problem c number ≡ Some choice → is_dead problem choice.network ≡ b → cond b None (Some (result_of c choice)) ≡ Some d
-        → (choice : Choice) × (choose problem c number ≡ Some choice) × (is_dead problem choice.network ≡ false) × (result_of c choice ≡ d)
-    when choice true e dead h = absurd cc
-    when choice false e live h = (choice, e, live, (let same : result_of c choice ≡ d = cc in same))
-
-    by : (o : Option Choice) → choose problem c number ≡ o
-        → option_and_then (λ choice. cond (is_dead problem choice.network) None (Some (result_of c choice))) o ≡ Some d
-        → (choice : Choice) × (choose problem c number ≡ Some choice) × (is_dead problem choice.network ≡ false) × (result_of c choice ≡ d)
-    by None e h = absurd cc
-    by (Some choice) e h = when choice (is_dead problem choice.network) e refl h
 
 module _ (problem : Problem) (grounded : IsGrounded problem) where
   -- what is as at first stays so
@@ -58,6 +43,19 @@ module _ (problem : Problem) (grounded : IsGrounded problem) where
     stays = λ c d number is passes.
         let made = live_choice problem c d number is in
         subst (λ (x : Config). is_as_at_first problem x.state ≡ true) made.3 (stays c number made.0 made.1 passes);
+  }
+
+  -- where what no effect names is as at first, a configuration that may not end is a dead end, if what may end after a
+  -- live step might before it
+  pub dead_ends : (may : Config → Bool) → ((c d : Config) (number : ℕ) → live_step problem c number ≡ Some d → is_as_at_first problem c.state ≡ true → may d ≡ true → may c ≡ true)
+      → ((c : Config) → IsDone problem c → may c ≡ true) → AreDeadEnds problem (λ c. is_as_at_first problem c.state && not (may c))
+  dead_ends may step done = record {
+    not_done = λ c is. and_right (is_as_at_first problem c.state) _ (not_from_true _ (done c is));
+    stays = λ c d number is lost.
+        let parts = and_parts (is_as_at_first problem c.state) (not (may c)) lost in
+        let first : is_as_at_first problem d.state ≡ true = states_last.stays c d number is parts.0 in
+        let not_ends : may d ≡ false = false_from_ne_true _ (λ ends. both_ways _ (not-true _ parts.1) (step c d number is parts.0 ends)) in
+        ap (λ b. b && not (may d)) first ∙ ap not not_ends;
   }
 
   module _ (size : Child → ℕ) (measure : IsLowerMeasure problem size) where
@@ -82,13 +80,6 @@ module _ (problem : Problem) (grounded : IsGrounded problem) where
         subst (λ x. size x ≤ 1 + sum_by size choice.network.children) (sym d.is_task) (measure.task d.name number choice.network d.method live)
     replaced_by c number choice passes (inr e) live =
         let one : size (child_of c.open_nodes choice.position) ≤ 1 = performed c.state choice.state (child_of c.open_nodes choice.position) passes e.performs in
-        omega arith
-
-    -- a choice lowers the count of open nodes by one at most
-    fewer : (c : Config) (number : ℕ) (choice : Choice) → choose problem c number ≡ Some choice → length c.open_nodes ≤ length (result_of c choice).open_nodes + 1
-    fewer c number choice is =
-        let within = choice_within problem c number choice (chosen problem c number choice is) in
-        let lengths = length_splice choice.position choice.network.children c.open_nodes within in
         omega arith
 
     -- one that is not dead the sum too
@@ -125,14 +116,14 @@ module _ (problem : Problem) (grounded : IsGrounded problem) where
         where
           by : (b : Bool) → is_as_at_first problem c.state ≡ b → cond b (estimate size cap c) (length c.open_nodes) ≤ lower_bound problem size cap (result_of c choice) + 1
           by true passes =
-              let few = fewer c number choice is in
+              let few = fewer problem c number choice is in
               let sums = lowered c number choice passes is live in
               let same : lower_bound problem size cap (result_of c choice) ≡ estimate size cap (result_of c choice) =
               ap (λ b. cond b (estimate size cap (result_of c choice)) (length (result_of c choice).open_nodes)) (stays c number choice is passes) in
               let step : estimate size cap c ≤ estimate size cap (result_of c choice) + 1 = omega (arith, few, sums) in
               omega (arith, same, step)
           by false passes =
-              let few = fewer c number choice is in
+              let few = fewer problem c number choice is in
               let nodes = above (result_of c choice) in
               omega (arith, few, nodes)
 
@@ -142,21 +133,12 @@ module _ (problem : Problem) (grounded : IsGrounded problem) where
           let made = live_choice problem c d number is in
           subst (λ x. lower_bound problem size cap c ≤ lower_bound problem size cap x + 1) made.3 (bound_lowered c number made.0 made.1 made.2)
 
-      -- a word that finishes has so many numbers
-      long_enough : (word : List ℕ) (c last : Config) → LeadsLive problem word c last → IsDone problem last → lower_bound problem size cap c ≤ length word
-      long_enough [] c last same done =
-          let e : lower_bound problem size cap c ≡ 0 = closed c (subst (λ (d : Config). d.open_nodes ≡ []) (sym same) done.0) in
-          omega (arith, e)
-      long_enough (number ∷ word) c last (choice, is, live, rest) done =
-          let more = long_enough word (result_of c choice) last rest done in
-          let one = bound_lowered c number choice is live in
-          omega (arith, more, one)
-
 -- the law
 pub measures_are_bounds : MeasuresAreBounds
 measures_are_bounds problem size cap grounded measure = record {
+  consistent = record {
+    done_zero = λ c done. closed problem grounded size measure cap c done.0;
+    lowers_one = step_lowered problem grounded size measure cap;
+  };
   above_open = above problem grounded size measure cap;
-  closed_zero = closed problem grounded size measure cap;
-  lowers_one = step_lowered problem grounded size measure cap;
-  shortest = long_enough problem grounded size measure cap;
 }

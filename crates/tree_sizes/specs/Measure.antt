@@ -6,8 +6,9 @@ use Rattle.htn_model.specs.Atom.{Atom}
 use Rattle.htn_model.specs.State.{State, contains, state_eq}
 use Rattle.htn_model.specs.Literal.{Literal}
 use Rattle.htn_model.specs.Problem.{Child, precondition, action, task, GroundTask, IsGrounded, Network, Problem}
-use Rattle.htn_model.specs.Machine.{Config, IsDone}
-use Rattle.htn_model.specs.Exhaustion.{is_dead, live_step, LeadsLive}
+use Rattle.htn_model.specs.Machine.{Config}
+use Rattle.htn_model.specs.Exhaustion.{is_dead, live_step}
+use Rattle.heuristic.specs.Heuristic.{IsEstimate}
 use Rattle.task_graph.specs.Barred.{is_barred}
 
 -- a node takes a number itself, and a compound task no more than that and what the nodes of any of its instances take,
@@ -46,15 +47,7 @@ estimate size cap c = max (length c.open_nodes) (min (sum_by size c.open_nodes) 
 abbrev pub lower_bound : Problem → (Child → ℕ) → ℕ → Config → ℕ
 lower_bound problem size cap c = cond (is_as_at_first problem c.state) (estimate size cap c) (length c.open_nodes)
 
--- at least the open nodes, nothing where none is open, and a step lowers it by one at most; so no word without dead
--- numbers that finishes is shorter
-pub record IsLowerBound (problem : Problem) (low : Config → ℕ) : Type 0 where
-  pub above_open : (c : Config) → length c.open_nodes ≤ low c
-  pub closed_zero : (c : Config) → c.open_nodes ≡ [] → low c ≡ 0
-  pub lowers_one : (c d : Config) (number : ℕ) → live_step problem c number ≡ Some d → low c ≤ low d + 1
-  pub shortest : (word : List ℕ) (c last : Config) → LeadsLive problem word c last → IsDone problem last → low c ≤ length word
-
--- the bounds by a lower measure are such, whatever the cap
+-- the bounds by a lower measure are estimates, whatever the cap
 abbrev pub MeasuresAreBounds : Type 0
 MeasuresAreBounds =
-    (problem : Problem) (size : Child → ℕ) (cap : ℕ) → IsGrounded problem → IsLowerMeasure problem size → IsLowerBound problem (lower_bound problem size cap)
+    (problem : Problem) (size : Child → ℕ) (cap : ℕ) → IsGrounded problem → IsLowerMeasure problem size → IsEstimate problem (lower_bound problem size cap)
