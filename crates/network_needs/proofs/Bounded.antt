@@ -14,7 +14,7 @@ use Rattle.network_needs.proofs.Lasting.{needs_stay}
 lost_ends : (problem : Problem) (o : Outlook) → IsGrounded problem → IsOutlook problem o → AreDeadEnds problem (is_lost problem o)
 lost_ends problem o grounded right =
     let stay = needs_stay problem o grounded right in
-    dead_ends problem grounded (may_end problem o) stay.step stay.done
+    dead_ends problem grounded (may_end problem o) (λ c d number is first ends. stay.step c d number is first ends) (λ c done. stay.done c done)
 
 -- the law
 pub needs_are_bounds : NeedsAreBounds
