@@ -10,7 +10,7 @@ use Rattle.htn_calls.specs.Calls as model
 use Rattle.htn_calls.specs.Calls.{Covers}
 use Rattle.htn_calls.specs.Closed.{IsClosed}
 use Rattle.htn_calls.proofs.Numbered.{mapped_in, in_mapped}
-use Rattle.call_table.specs.Lists.{Lists, IsLink, list_at, nodes_of}
+use Rattle.call_table.specs.Lists.{Lists, list_at, nodes_of}
 use Rattle.call_table.specs.Sites.{site_eq, site_eq-decides}
 use Rattle.call_table.specs.Views.{exit_view, rule_view, place_view, summary_view, places_view, call_at, numbers, listing, IsMetAt, IsCalledBy, IsFollowedBy, IsClosedCall, AreClosedCalls, ArePlaces, AreExits}
 use Rattle.call_table.specs.declared.call.Exit.{Exit}

@@ -1,17 +1,14 @@
 -- A table whose numbers are closed is closed.
-use Rattle.std.proofs.Common.{◌≡◌, ℕ, ◌+◌, ◌≤◌, List, [], ◌∷◌, map, length, arith, length-append}
-use Rattle.htn_model.specs.State.{State}
+use Rattle.std.proofs.Common.{ℕ, ◌≤◌, List, [], ◌∷◌, map, length, arith, length-append}
 use Rattle.htn_model.specs.Problem.{Network, Problem}
 use Rattle.htn_model.specs.Levels.{Stepping}
-use Rattle.htn_calls.specs.Calls as model
 use Rattle.htn_calls.specs.Numbered.{IsNumbering}
 use Rattle.htn_calls.specs.Series.{series_of}
 use Rattle.htn_calls.specs.Split.{rules_of, node_count}
 use Rattle.htn_calls.proofs.Numbered.{numbers_close}
-use Rattle.call_table.specs.Lists.{Lists, count_of, nodes_of}
-use Rattle.call_table.specs.Meaning.{StandsFor, NumbersCloseTables}
+use Rattle.call_table.specs.Lists.{count_of, nodes_of}
+use Rattle.call_table.specs.Meaning.{NumbersCloseTables}
 use Rattle.call_table.specs.Views.{numbers, listing}
-use Rattle.call_table.specs.declared.call.CallTable.{CallTable}
 
 -- blocks have no fewer nodes than are counted
 nodes_counted : (counts : List ℕ) (block : ℕ → Network) → ((j : ℕ) → count_of counts j ≤ length (block j).children) → (js : List ℕ)

@@ -25,8 +25,8 @@ pub struct Place {
     pub distance: u32,
 }
 
-/// What is known of a block in a state: its rules, in which states it ends and at what cost, the floor, which no end that
-/// is not listed is below, and the places by which this is checked.
+/// What is known of a block in a state: its rules, in which states it ends and at what cost, the floor, below which no
+/// other end is, and the places by which this is checked.
 #[derive(Drop)]
 pub struct Call {
     pub rules: Vec<Rule>,

@@ -1,9 +1,9 @@
 //! Tables of calls by numbers, and whether one is closed.
 //!
-//! A call is a block of a task network that begins in a state. A [`CallTable`] lists for some calls in which states they
-//! end and at what cost ([`Exit`]), and below which number of steps they end nowhere else (the floor). It may be found in
-//! any way: [`are_closed`] checks it in one pass, by local conditions on each call's rules and places. Lists of blocks
-//! have numbers ([`BlockLists`]), and share their ends.
+//! A call is a block of a task network that begins in a state. A [`CallTable`] lists for some calls in which states
+//! they end and at what cost ([`Exit`]), and below which number of steps they end nowhere else (the floor). It may be
+//! found in any way: [`are_closed`] checks it in one pass, by local conditions on each call's rules and places. Lists
+//! of blocks have numbers ([`BlockLists`]), and share their ends.
 #![tactic(auto)]
 
 mod call;

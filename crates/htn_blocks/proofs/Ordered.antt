@@ -1,13 +1,12 @@
 -- Totally ordered networks have one block for each node.
-use Rattle.std.proofs.Common.{◌≡◌, ℕ, suc, ◌+◌, ◌-◌, ◌<◌, ◌≤◌, ◌&&◌, cond, eqb, ltb, inl, inr, List, [], ◌∷◌, ◌++◌, length, map, refl, sym, ap, ap₂, ◌∙◌, arith, lt-ltb, le-ltb}
+use Rattle.std.proofs.Common.{◌≡◌, ℕ, suc, ◌+◌, ◌-◌, ◌<◌, ◌≤◌, ◌&&◌, cond, eqb, ltb, inl, inr, List, [], ◌∷◌, ◌++◌, length, refl, sym, ap, ap₂, ◌∙◌, arith, lt-ltb, le-ltb}
 use Rattle.std.proofs.lemmas.Bool.{cases_lt}
-use Rattle.htn_model.specs.State.{State}
-use Rattle.htn_model.specs.Problem.{Child, Network, Order, is_before}
+use Rattle.htn_model.specs.Problem.{Child, Order, is_before}
 use Rattle.htn_model.specs.Machine.{no_network, origin, replaced, replaced_order}
 use Rattle.htn_model.proofs.Splices.{table_within, table_square}
 use Rattle.htn_order.specs.Shapes.{chain}
 use Rattle.htn_calls.specs.Cuts.{split}
-use Rattle.htn_calls.specs.Series.{series_before, series, opened, IsTable}
+use Rattle.htn_calls.specs.Series.{series_before, series, opened}
 use Rattle.htn_calls.specs.Split.{network_of}
 use Rattle.htn_calls.proofs.Series.{before_first, before_across, before_back, before_second, same_tables}
 use Rattle.htn_calls.proofs.Words.{series_square}

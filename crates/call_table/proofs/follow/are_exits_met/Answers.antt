@@ -1,4 +1,4 @@
-use Rattle.std.proofs.Common.{◌≡◌, ◌+◌, get_or, refl, ap, ap₂, subst, ◌∙◌}
+use Rattle.std.proofs.Common.{◌≡◌, ◌+◌, get_or, refl, ap₂, subst}
 use Rattle.std.proofs.lemmas.List.Elements.{All-more}
 use Rattle.call_table.specs.Lists.{list_at}
 use Rattle.call_table.specs.Views.{IsMetAt}

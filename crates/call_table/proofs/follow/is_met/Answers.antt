@@ -1,4 +1,4 @@
-use Rattle.std.proofs.Common.{◌≤◌, leb-true, arith}
+use Rattle.std.proofs.Common.{leb-true, arith}
 use Rattle.call_table.proofs.Followed.{place_meets}
 use Rattle.call_table.proofs.follow.is_met.Goals as goal
 

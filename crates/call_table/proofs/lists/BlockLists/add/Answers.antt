@@ -1,4 +1,4 @@
-use Rattle.std.proofs.Common.{◌≡◌, ◌≤◌, ◌<◌, ◌+◌, ◌∷◌, [], get_or, length, sym, ap, subst, ◌∙◌, arith}
+use Rattle.std.proofs.Common.{◌≡◌, ◌≤◌, ◌<◌, [], get_or, length, sym, ap, subst, ◌∙◌, arith}
 use Rattle.call_table.specs.Lists.{AreLinked, lists_of, nodes_of}
 use Rattle.call_table.proofs.Links.{linked_push, lists_len}
 use Rattle.call_table.proofs.lists.BlockLists.add.Goals as goal
