@@ -1,0 +1,4 @@
+pub mod Apart
+pub mod Leasts
+pub mod Lowered
+pub mod FirstThree

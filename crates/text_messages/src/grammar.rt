@@ -1,0 +1,330 @@
+//! What is said of a word that can't stand where it stands.
+
+use crate::candidates::expected;
+use crate::instead::instead_of;
+use crate::said::{Said, plain, plain_words};
+use crate::spots::{spot_at, word_at};
+use crate::words::{first_in_list, index_at, open_after, words_or_none};
+use diagnostics::{Part, Role, Source};
+use hddl_words::{Kind, Token, is_same};
+use near_names::nearest;
+use std::alloc::{AllocError, Global};
+
+/// The most words that are said to be expected.
+const SHOWN: usize = 8;
+
+/// A place that the grammar refuses, and what it would have there.
+#[derive(Drop)]
+struct RefusedPlace<'a> {
+    source: &'a Source<'a>,
+    /// The bytes of the word at the place; none at the end of the text.
+    word: &'a [u8],
+    /// The words before it.
+    before: Vec<Token<'a>>,
+    /// How many brackets are open there.
+    open: usize,
+    /// What may stand there: a word of each class, and keywords.
+    expected: Vec<&'static [u8]>,
+}
+
+/// Looks at a place that is refused.
+fn refused_place<'a>(
+    alloc: Global,
+    source: &'a Source<'a>,
+    place: usize,
+) -> Result<RefusedPlace<'a>, AllocError> {
+    let text = source.lines.text();
+    let mut before = words_or_none(alloc, text)?;
+    let index = index_at(before.as_slice(), place);
+    before.truncate(index);
+    let open = open_after(before.as_slice());
+    let front = &text[..place.min(text.len())];
+    let expected = expected(alloc, source.role, front, open)?;
+    Ok(RefusedPlace {
+        source,
+        word: word_at(source, place),
+        before,
+        open,
+        expected,
+    })
+}
+
+/// Whether a word is among these.
+fn has(words: &[&'static [u8]], word: &[u8]) -> bool {
+    words.iter().any(|one| *one == word)
+}
+
+/// Whether a word is a keyword.
+fn is_keyword(word: &[u8]) -> bool {
+    matches!(word, [b':', _, ..])
+}
+
+/// How a word that may stand somewhere is named, where it is named among these.
+fn named(word: &'static [u8], expected: &[&'static [u8]]) -> Option<Part<'static>> {
+    if is_keyword(word) {
+        return None;
+    }
+    match word {
+        b"a-name" => Some(Part::Words("a name")),
+        b"?x" => Some(Part::Words("a variable")),
+        // These are names where any name may stand.
+        b"define" | b"domain" | b"problem" if has(expected, b"a-name") => None,
+        _ => Some(Part::Name(word)),
+    }
+}
+
+/// The words that may stand at a place as they are named: each once, keywords last.
+fn names_of(alloc: Global, expected: &[&'static [u8]]) -> Result<Vec<Part<'static>>, AllocError> {
+    let mut names = Vec::new(alloc);
+    for word in expected {
+        if let Some(name) = named(*word, expected) {
+            names.push(name)?;
+        }
+    }
+    if has(expected, b":any") {
+        names.push(Part::Words("a keyword"))?;
+        return Ok(names);
+    }
+    for word in expected {
+        if is_keyword(*word) {
+            names.push(Part::Name(*word))?;
+        }
+    }
+    Ok(names)
+}
+
+/// `A`, `A or B`, `A, B or C`, after other words.
+fn add_listed<'a>(
+    message: &mut Vec<Part<'a>>,
+    names: &[Part<'a>],
+    last: &'static str,
+) -> Result<(), AllocError> {
+    for (index, name) in names.iter().enumerate() {
+        if index > 0 {
+            let is_last = index.saturating_add(1) == names.len();
+            message.push(Part::Words(if is_last { last } else { ", " }))?;
+        }
+        message.push(*name)?;
+    }
+    Ok(())
+}
+
+/// `expected A or B`: eight at most, and then `...`.
+fn expectation<'a>(alloc: Global, expected: &[&'static [u8]]) -> Result<Vec<Part<'a>>, AllocError> {
+    let mut names = names_of(alloc, expected)?;
+    if names.len() > SHOWN {
+        names.truncate(SHOWN);
+        names.push(Part::Words("..."))?;
+    }
+    let mut message = Vec::new(alloc);
+    message.push(Part::Words("expected "))?;
+    if names.is_empty() {
+        message.push(Part::Words("nothing"))?;
+    }
+    add_listed(&mut message, names.as_slice(), " or ")?;
+    Ok(message)
+}
+
+/// The keywords that may stand at a place and are nearest to another one.
+fn near_keywords(
+    alloc: Global,
+    word: &[u8],
+    expected: &[&'static [u8]],
+) -> Result<Vec<Part<'static>>, AllocError> {
+    let mut keywords: Vec<&'static [u8]> = Vec::new(alloc);
+    for one in expected {
+        if is_keyword(*one) {
+            keywords.push(*one)?;
+        }
+    }
+    let mut found = Vec::new(alloc);
+    for index in nearest(alloc, word, keywords.as_slice())? {
+        if let Some(keyword) = keywords.get(index) {
+            found.push(Part::Name(*keyword))?;
+        }
+    }
+    Ok(found)
+}
+
+/// A word that the language has not.
+fn left_out<'a>(alloc: Global, refusal: &RefusedPlace<'a>) -> Result<Said<'a>, AllocError> {
+    plain(
+        alloc,
+        &[
+            Part::Name(refusal.word),
+            Part::Words(" is not in the language that htnplan reads"),
+        ],
+    )
+}
+
+/// A keyword that the language has not, or a slip in one.
+fn unknown_keyword<'a>(alloc: Global, refusal: &RefusedPlace<'a>) -> Result<Said<'a>, AllocError> {
+    let near = near_keywords(alloc, refusal.word, refusal.expected.as_slice())?;
+    if near.is_empty() {
+        let label = expectation(alloc, refusal.expected.as_slice())?;
+        return left_out(alloc, refusal)?.labelled(alloc, label.as_slice());
+    }
+    let mut help = Vec::new(alloc);
+    help.push(Part::Words("did you mean "))?;
+    add_listed(&mut help, near.as_slice(), " or ")?;
+    help.push(Part::Words("?"))?;
+    plain(
+        alloc,
+        &[Part::Words("unknown keyword "), Part::Name(refusal.word)],
+    )?
+    .helped(alloc, help.as_slice())
+}
+
+/// A word that means what the language leaves out.
+pub(crate) fn unsupported<'a>(
+    alloc: Global,
+    source: &'a Source<'a>,
+    place: usize,
+) -> Result<Said<'a>, AllocError> {
+    let refusal = refused_place(alloc, source, place)?;
+    if matches!(refusal.word, b"(") {
+        let label = expectation(alloc, refusal.expected.as_slice())?;
+        return plain_words(alloc, "a bracket can't stand here")?
+            .labelled(alloc, label.as_slice())?
+            .helped_by(
+                alloc,
+                "if this is `either`: declare a type above both in `:types`, and name that",
+            );
+    }
+    if let Some(instead) = instead_of(source.role, refusal.word) {
+        return left_out(alloc, &refusal)?.helped_by(alloc, instead);
+    }
+    if is_keyword(refusal.word) {
+        return unknown_keyword(alloc, &refusal);
+    }
+    let label = expectation(alloc, refusal.expected.as_slice())?;
+    left_out(alloc, &refusal)?.labelled(alloc, label.as_slice())
+}
+
+/// A problem where a domain is wanted, or the other way round.
+fn exchanged<'a>(
+    alloc: Global,
+    refusal: &RefusedPlace<'a>,
+) -> Result<Option<Said<'a>>, AllocError> {
+    let (is, wanted): (&str, &str) = match refusal.source.role {
+        Role::Domain if is_same(refusal.word, b"problem") => ("problem", "domain"),
+        Role::Problem if is_same(refusal.word, b"domain") => ("domain", "problem"),
+        _ => return Ok(None),
+    };
+    // `(define (` stands before the word.
+    if refusal.before.len() != 3 {
+        return Ok(None);
+    }
+    let said = plain(
+        alloc,
+        &[
+            Part::Words("this text is a "),
+            Part::Words(is),
+            Part::Words(", and a "),
+            Part::Words(wanted),
+            Part::Words(" is wanted"),
+        ],
+    )?
+    .helped_by(alloc, "are the two files exchanged?")?;
+    Ok(Some(said))
+}
+
+/// A keyword that can't stand somewhere, or stands there a second time.
+fn misplaced_keyword<'a>(
+    alloc: Global,
+    refusal: &RefusedPlace<'a>,
+) -> Result<Said<'a>, AllocError> {
+    if let Some(first) = first_in_list(refusal.before.as_slice(), refusal.word) {
+        let spot = spot_at(refusal.source, first.place);
+        return plain(
+            alloc,
+            &[
+                Part::Name(refusal.word),
+                Part::Words(" stands here a second time"),
+            ],
+        )?
+        .noted_by(alloc, spot, "the first one");
+    }
+    let label = expectation(alloc, refusal.expected.as_slice())?;
+    plain(
+        alloc,
+        &[Part::Name(refusal.word), Part::Words(" can't stand here")],
+    )?
+    .labelled(alloc, label.as_slice())
+}
+
+/// Whether some word is this one.
+fn has_word(words: &[Token<'_>], text: &[u8]) -> bool {
+    words.iter().any(|word| is_same(word.text, text))
+}
+
+/// A problem that has no domain or no network.
+fn unfinished_problem<'a>(
+    alloc: Global,
+    refusal: &RefusedPlace<'a>,
+) -> Result<Option<Said<'a>>, AllocError> {
+    let words = refusal.before.as_slice();
+    let (has_domain, has_htn) = (has_word(words, b":domain"), has_word(words, b":htn"));
+    let missing = match (has_domain, has_htn) {
+        (false, false) => "this problem has no `(:domain ..)` and no `(:htn ..)`",
+        (false, true) => "this problem has no `(:domain ..)`",
+        (true, false) => "this problem has no `(:htn ..)`",
+        (true, true) => return Ok(None),
+    };
+    let said = plain_words(alloc, missing)?;
+    if has_htn {
+        return Ok(Some(said));
+    }
+    let said = said.helped_by(
+        alloc,
+        "a problem without `:htn` is one for a classical planner",
+    )?;
+    Ok(Some(said))
+}
+
+/// A closing bracket before something that is required.
+fn unfinished<'a>(
+    alloc: Global,
+    refusal: &RefusedPlace<'a>,
+) -> Result<Option<Said<'a>>, AllocError> {
+    if !matches!(refusal.word, b")") {
+        return Ok(None);
+    }
+    match (refusal.source.role, refusal.open) {
+        (Role::Problem, 1) => unfinished_problem(alloc, refusal),
+        (Role::Domain, 2) if has(refusal.expected.as_slice(), b":task") => {
+            let said = plain_words(
+                alloc,
+                "this method doesn't say which task it decomposes",
+            )?.labelled_by(alloc, "`:task` is missing")?;
+            Ok(Some(said))
+        }
+        _ => Ok(None),
+    }
+}
+
+/// A word that the grammar has not where it stands.
+pub(crate) fn not_expected<'a>(
+    alloc: Global,
+    source: &'a Source<'a>,
+    place: usize,
+) -> Result<Said<'a>, AllocError> {
+    let refusal = refused_place(alloc, source, place)?;
+    if let Some(said) = exchanged(alloc, &refusal)? {
+        return Ok(said);
+    }
+    if is_keyword(refusal.word) {
+        return misplaced_keyword(alloc, &refusal);
+    }
+    if let Some(said) = unfinished(alloc, &refusal)? {
+        return Ok(said);
+    }
+    let mut message = expectation(alloc, refusal.expected.as_slice())?;
+    message.push(Part::Words(", found "))?;
+    message.push(if refusal.word.is_empty() {
+        Part::Words("the end of the text")
+    } else {
+        Part::Name(refusal.word)
+    })?;
+    plain(alloc, message.as_slice())
+}

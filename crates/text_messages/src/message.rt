@@ -1,0 +1,131 @@
+//! The diagnostic of a text's fault.
+
+ghost use Rattle.std.specs.Prelude.{◌≡◌, IfOk};
+ghost use Rattle.text_messages.specs.Messages as spec;
+ghost use Rattle.text_messages.specs.Messages.{IsAbout};
+
+use crate::brackets::{extra_close, unclosed};
+use crate::grammar::{not_expected, unsupported};
+use crate::said::{Said, plain, plain_words};
+use crate::spots::{spot_at, word_at};
+use diagnostics::{Diagnostic, Part, Severity, Source, Where};
+use hddl_words::TextFault;
+use std::alloc::{AllocError, Global};
+
+/// The name of a fault.
+fn code_of(fault: TextFault) -> &'static str
+    ensures { result.now ≡ spec.code_of fault }
+{
+    match fault {
+        TextFault::NotAscii(_) => "NotAscii",
+        TextFault::BadWord(_) => "BadWord",
+        TextFault::Unclosed(_) => "Unclosed",
+        TextFault::ExtraClose(_) => "ExtraClose",
+        TextFault::TooDeep(_) => "TooDeep",
+        TextFault::Expected(_) => "Expected",
+        TextFault::Unsupported(_) => "Unsupported",
+        TextFault::TooLong(_) => "TooLong",
+        TextFault::OutOfMemory => "OutOfMemory",
+    }
+}
+
+/// What a fault is about: its place, or the text as a whole where that is too long.
+fn about<'a>(source: &'a Source<'a>, fault: TextFault) -> Where<'a>
+    ensures { IsAbout source.now fault result }
+{
+    match fault {
+        TextFault::NotAscii(place)
+        | TextFault::BadWord(place)
+        | TextFault::Unclosed(place)
+        | TextFault::ExtraClose(place)
+        | TextFault::TooDeep(place)
+        | TextFault::Expected(place)
+        | TextFault::Unsupported(place) => Where::Place(spot_at(source, place)),
+        TextFault::TooLong(_) | TextFault::OutOfMemory => Where::Text(source),
+    }
+}
+
+/// A byte that isn't printable ASCII.
+fn not_ascii<'a>(
+    alloc: Global,
+    source: &'a Source<'a>,
+    place: usize,
+) -> Result<Said<'a>, AllocError> {
+    let said = plain_words(
+        alloc,
+        "a byte that is no printable ASCII may stand in a comment only",
+    )?;
+    match source.lines.text().get(place) {
+        Some(byte) => said.labelled(alloc, &[Part::Words("byte "), Part::Number(*byte as u64)]),
+        None => Ok(said),
+    }
+}
+
+/// A word of no kind.
+fn bad_word<'a>(
+    alloc: Global,
+    source: &'a Source<'a>,
+    place: usize,
+) -> Result<Said<'a>, AllocError> {
+    let word = word_at(source, place);
+    let said = plain(alloc, &[Part::Name(word), Part::Words(" is no word")])?;
+    match word {
+        b"->" => said.helped_by(alloc, "`->` belongs to plans"),
+        [b'?', ..] => said.labelled_by(alloc, "a variable needs a name"),
+        [b':', ..] => said.labelled_by(alloc, "a keyword needs a name"),
+        _ => said
+            .labelled_by(alloc, "a number or a comparison")?
+            .helped_by(
+                alloc,
+                "numbers are left out; a name can begin with none of `?`, `:`, `-`, `=`, `<`",
+            ),
+    }
+}
+
+/// What is said of a fault.
+fn said_of<'a>(
+    alloc: Global,
+    source: &'a Source<'a>,
+    fault: TextFault,
+) -> Result<Said<'a>, AllocError> {
+    match fault {
+        TextFault::NotAscii(place) => not_ascii(alloc, source, place),
+        TextFault::BadWord(place) => bad_word(alloc, source, place),
+        TextFault::Unclosed(_) => unclosed(alloc, source),
+        TextFault::ExtraClose(_) => extra_close(alloc, source),
+        TextFault::TooDeep(_) => plain_words(alloc, "more than 64 brackets are open here"),
+        TextFault::Expected(place) => not_expected(alloc, source, place),
+        TextFault::Unsupported(place) => unsupported(alloc, source, place),
+        TextFault::TooLong(_) => plain_words(alloc, "the text is longer than 16,777,216 bytes"),
+        TextFault::OutOfMemory => Err(AllocError),
+    }
+}
+
+/// The error that a fault of a text is told as. The text's role says whether it was read as a problem or as a domain.
+/// An error where memory was refused, and for the fault `OutOfMemory`, of which nothing is told. Takes time in the
+/// length of the text.
+pub fn text_diagnostic<'a>(
+    alloc: Global,
+    source: &'a Source<'a>,
+    fault: TextFault,
+) -> Result<Diagnostic<'a>, AllocError>
+    ensures severity { IfOk result (λ d. d.severity ≡ Severity.Error) }
+    ensures code { IfOk result (λ d. d.code.now ≡ spec.code_of fault) }
+    ensures about { IfOk result (λ d. IsAbout source.now fault d.about) }
+{
+    let Said {
+        message,
+        label,
+        remarks,
+        notes,
+    } = said_of(alloc, source, fault)?;
+    Ok(Diagnostic {
+        severity: Severity::Error,
+        code: code_of(fault),
+        about: about(source, fault),
+        message,
+        label,
+        remarks,
+        notes,
+    })
+}

@@ -1,0 +1,50 @@
+//! The words that a diagnostic points at.
+
+ghost use Rattle.std.specs.Prelude.{◌≡◌, ◌≤◌, length};
+ghost use Rattle.hddl_words.specs.Word.{is_word_byte as is_part};
+ghost use Rattle.text_messages.specs.Spots.{word_len_at, IsAt};
+
+use diagnostics::{Source, Spot};
+
+/// Whether a byte is part of a word other than a bracket.
+fn is_word_byte(byte: u8) -> bool
+    ensures { result ≡ is_part byte }
+{
+    33 <= byte && byte <= 126 && !(byte == b'(' || byte == b')' || byte == b';')
+}
+
+/// How many bytes the word at the front has: a run of such bytes, and else one; none at the end.
+fn word_len(bytes: &[u8]) -> usize
+    ensures value { result ≡ word_len_at bytes.now }
+    ensures within { result ≤ length bytes.now }
+{
+    let mut len = 0;
+    while len < bytes.len() && is_word_byte(bytes[len]) {
+        len += 1;
+    }
+    if len == 0 && !bytes.is_empty() {
+        1
+    } else {
+        len
+    }
+}
+
+/// The word at a place of a text. A place past the end is the end.
+pub(crate) fn spot_at<'a>(source: &'a Source<'a>, place: usize) -> Spot<'a>
+    ensures { IsAt source.now place result }
+{
+    let text = source.lines.text();
+    let place = place.min(text.len());
+    Spot {
+        source,
+        place,
+        word_len: word_len(&text[place..]),
+    }
+}
+
+/// The bytes of the word at a place. A place past the end has none.
+pub(crate) fn word_at<'a>(source: &'a Source<'a>, place: usize) -> &'a [u8] {
+    let text = source.lines.text();
+    let rest = &text[place.min(text.len())..];
+    &rest[..word_len(rest)]
+}
