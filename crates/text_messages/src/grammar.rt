@@ -125,6 +125,19 @@ fn expectation<'a>(alloc: Global, expected: &[&'static [u8]]) -> Result<Vec<Part
     Ok(message)
 }
 
+/// Whether what may stand at a place wasn't looked for: something may wherever a bracket is open.
+fn is_unknown(refusal: &RefusedPlace<'_>) -> bool {
+    refusal.expected.is_empty() && refusal.open > 0
+}
+
+/// What stands beside the carets: what may stand there, if that is known.
+fn label_of<'a>(alloc: Global, refusal: &RefusedPlace<'a>) -> Result<Vec<Part<'a>>, AllocError> {
+    if is_unknown(refusal) {
+        return Ok(Vec::new(alloc));
+    }
+    expectation(alloc, refusal.expected.as_slice())
+}
+
 /// The keywords that may stand at a place and are nearest to another one.
 fn near_keywords(
     alloc: Global,
@@ -161,7 +174,7 @@ fn left_out<'a>(alloc: Global, refusal: &RefusedPlace<'a>) -> Result<Said<'a>, A
 fn unknown_keyword<'a>(alloc: Global, refusal: &RefusedPlace<'a>) -> Result<Said<'a>, AllocError> {
     let near = near_keywords(alloc, refusal.word, refusal.expected.as_slice())?;
     if near.is_empty() {
-        let label = expectation(alloc, refusal.expected.as_slice())?;
+        let label = label_of(alloc, refusal)?;
         return left_out(alloc, refusal)?.labelled(alloc, label.as_slice());
     }
     let mut help = Vec::new(alloc);
@@ -183,7 +196,7 @@ pub(crate) fn unsupported<'a>(
 ) -> Result<Said<'a>, AllocError> {
     let refusal = refused_place(alloc, source, place)?;
     if matches!(refusal.word, b"(") {
-        let label = expectation(alloc, refusal.expected.as_slice())?;
+        let label = label_of(alloc, &refusal)?;
         return plain_words(alloc, "a bracket can't stand here")?
             .labelled(alloc, label.as_slice())?
             .helped_by(
@@ -197,7 +210,7 @@ pub(crate) fn unsupported<'a>(
     if is_keyword(refusal.word) {
         return unknown_keyword(alloc, &refusal);
     }
-    let label = expectation(alloc, refusal.expected.as_slice())?;
+    let label = label_of(alloc, &refusal)?;
     left_out(alloc, &refusal)?.labelled(alloc, label.as_slice())
 }
 
@@ -245,7 +258,7 @@ fn misplaced_keyword<'a>(
         )?
         .noted_by(alloc, spot, "the first one");
     }
-    let label = expectation(alloc, refusal.expected.as_slice())?;
+    let label = label_of(alloc, refusal)?;
     plain(
         alloc,
         &[Part::Name(refusal.word), Part::Words(" can't stand here")],
@@ -318,6 +331,12 @@ pub(crate) fn not_expected<'a>(
     }
     if let Some(said) = unfinished(alloc, &refusal)? {
         return Ok(said);
+    }
+    if is_unknown(&refusal) {
+        return plain(
+            alloc,
+            &[Part::Name(refusal.word), Part::Words(" can't stand here")],
+        );
     }
     let mut message = expectation(alloc, refusal.expected.as_slice())?;
     message.push(Part::Words(", found "))?;
