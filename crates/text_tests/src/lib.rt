@@ -1,4 +1,4 @@
-//! Tests of words, texts, places, names, checks, plan texts, forests, reports and command lines.
+//! Tests of words, texts, places, names, checks, messages, plan texts, forests, reports and command lines.
 #![tactic(auto)]
 
 #[cfg(test)]
@@ -9,6 +9,8 @@ mod command_lines;
 mod first_faults;
 #[cfg(test)]
 mod forests;
+#[cfg(test)]
+mod messages;
 #[cfg(test)]
 mod names;
 #[cfg(test)]
