@@ -2,6 +2,8 @@ pub mod KnownTypes
 pub mod Cyclic
 pub mod Typing
 pub mod SchemaLists
+pub mod Inside
 pub mod TextParts
 pub mod Whole
 pub mod Repeats
+pub mod Gathering

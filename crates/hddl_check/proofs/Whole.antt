@@ -1,17 +1,18 @@
 -- The parts of the two texts fail exactly where the items do.
-use Rattle.std.proofs.Common.{◌≡◌, ℕ, List, ◌++◌, ◌⊎◌, inl, inr, refl, sym, subst}
-use Rattle.std.specs.List.{flat_map}
+use Rattle.std.proofs.Common.{◌≡◌, ℕ, List, ◌++◌, ◌⊎◌, Some, true, inl, inr, refl, sym, subst}
+use Rattle.std.specs.List.{flat_map, zip}
 use Rattle.std.proofs.lemmas.List.Elements.{Contains-append_cases}
 use Rattle.hddl_tree.specs.declared.term.Term.{Term}
 use Rattle.hddl_tree.specs.declared.term.Term.TheVariants as term
 use Rattle.hddl_tree.specs.declared.network.NetworkText.{NetworkText}
 use Rattle.hddl_tree.specs.declared.domain.DomainText.{DomainText}
 use Rattle.hddl_tree.specs.declared.problem.ProblemText.{ProblemText}
-use Rattle.hddl_meaning.specs.Mentions.{Text, Mention, IsIn}
+use Rattle.hddl_words.specs.Names.{Variable}
+use Rattle.hddl_meaning.specs.Mentions.{Text, Mention, Typed, IsIn}
 use Rattle.hddl_meaning.specs.Uses.{Use, TermUse, Schema}
 use Rattle.hddl_meaning.specs.Items as items
 use Rattle.hddl_meaning.specs.Names.{object_names, predicate_names, compound_names, task_names}
-use Rattle.hddl_meaning.specs.Items.{FailsAt, IsMissing, IsUnknownType, IsUnknownName, IsWrongArity, IsTypeClash, IsTooMany, IsWellTypedPair, Signature, predicate_signatures, task_signatures, schemas_in, IsPast, terms_in, tasks_in, arguments_of, flattened, subtask_mentions, most_declarations, most_parameters, most_variables, most_subtasks}
+use Rattle.hddl_meaning.specs.Items.{FailsAt, IsMissing, IsUnknownType, IsUnknownName, IsWrongArity, IsClash, IsTypeClash, IsTooMany, IsWellTypedPair, Signature, predicate_signatures, task_signatures, schemas_in, IsPast, terms_in, tasks_in, arguments_of, flattened, subtask_mentions, most_declarations, most_parameters, most_variables, most_subtasks}
 use Rattle.hddl_meaning.specs.declared.fault.Source.{Source}
 use Rattle.hddl_meaning.specs.declared.fault.Source.TheVariants as source
 use Rattle.hddl_meaning.specs.declared.fault.At.{At}
@@ -19,9 +20,11 @@ use Rattle.hddl_meaning.specs.declared.fault.CheckFault.{CheckFault}
 use Rattle.hddl_meaning.specs.declared.fault.CheckFault.TheVariants as fault
 use Rattle.hddl_meaning.proofs.Listed.{in_left, in_right, in_flat_map}
 use Rattle.hddl_uses.specs.Known.{AreKnown, IsKnown}
-use Rattle.hddl_uses.specs.Parts.{Part, FailsIn, UseFails, IsWrongCount, HasClash}
-use Rattle.hddl_check.specs.TextParts.{PartFails}
+use Rattle.hddl_uses.specs.Parts.{Part, FailsIn, PassedOverIn, UseFails, IsWrongCount, HasClash}
+use Rattle.hddl_check.specs.TextParts.{PartFails, PartPassed}
 use Rattle.hddl_check.specs.Cycles.{IsCycleFault}
+use Rattle.hddl_check.specs.Faults.{IsFirst, IsLeftOut, IsOvertakenName, IsUntypedClash}
+use Rattle.hddl_scope.specs.Ranks.{comes_before}
 use Rattle.hddl_uses.specs.Parts.Part.{Different, Limited, TypeName, Atom, Decomposed, Subtask, Side, Network, Types, Objects}
 use Rattle.hddl_scope.proofs.Finding.{flat_mapped}
 use Rattle.hddl_check.proofs.Typing.{objects_known}
@@ -267,12 +270,78 @@ module _ (d : DomainText) (p : ProblemText) where
     faults_complete (fault.TooMany at) h = inr (many_faults at h)
     faults_complete fault.OutOfMemory h = absurd h
 
+  -- each fault of the pair is a cycle of types or fails in one of the texts, or is a clash where the objects aren't known
+  pub faults_decided : AreKnown d p ⊎ (AreKnown d p → ⊥) → (f : CheckFault) → FailsAt d p f → (IsCycleFault d f ⊎ PartFails d p f) ⊎ IsUntypedClash d p f
+  faults_decided (inl known) f h = inl (faults_complete known f h)
+  faults_decided (inr unknown) (fault.Duplicate at) (g, before, first, middle, second, after, in', whole, same, is) =
+      inl (inr (failing_part (fault.Duplicate at) at.source (Different g) in' (at.place, refl, (before, first, middle, second, after, whole, same, is))))
+  faults_decided (inr unknown) (fault.UnknownType at) h = inl (inr (type_faults at h))
+  faults_decided (inr unknown) (fault.TypeCycle at) h = inl (inl (at, refl, h))
+  faults_decided (inr unknown) (fault.UnknownName at) h = inl (inr (name_faults at h))
+  faults_decided (inr unknown) (fault.Arity at) h = inl (inr (count_faults at h))
+  faults_decided (inr unknown) (fault.TypeClash at) h = by h
+    where
+      -- a clash of a variable fails in any case
+      variable_clash : (names : List Text) (signatures : List Signature) (u : Use) (s : Signature) (x : Variable) (of_place : Typed)
+          → items.declaration_in signatures u.atom.name ≡ Some s → IsIn (term.Variable x, of_place) (zip u.atom.terms s.places)
+          → IsClash d p u.variables (term.Variable x) of_place at.place → UseFails d p at.source names signatures u (fault.TypeClash at)
+      variable_clash names signatures u s x of_place e among clash =
+          inr (inr (inr (at.place, refl, (s, term.Variable x, of_place, e, among, record { clash = clash; known = tt }))))
+
+      atoms : (u : Use) (s : Signature) (argument : Term) (of_place : Typed) → IsIn u (flattened (λ s. s.atoms) (schemas_in d p at.source))
+          → items.declaration_in (predicate_signatures d) u.atom.name ≡ Some s → IsIn (argument, of_place) (zip u.atom.terms s.places)
+          → IsClash d p u.variables argument of_place at.place → (IsCycleFault d (fault.TypeClash at) ⊎ PartFails d p (fault.TypeClash at)) ⊎ IsUntypedClash d p (fault.TypeClash at)
+      atoms u s (term.Variable x) of_place in' e among clash =
+          inl (inr (failing_part (fault.TypeClash at) at.source (Atom u) in' (variable_clash (predicate_names d) (predicate_signatures d) u s x of_place e among clash)))
+      atoms u s (term.Object x) of_place in' e among clash = inr (at, u.variables, x, of_place, refl, clash, unknown)
+
+      tasks : (u : Use) (s : Signature) (argument : Term) (of_place : Typed) → IsIn u (flattened tasks_in (schemas_in d p at.source))
+          → items.declaration_in (task_signatures d) u.atom.name ≡ Some s → IsIn (argument, of_place) (zip u.atom.terms s.places)
+          → IsClash d p u.variables argument of_place at.place → (IsCycleFault d (fault.TypeClash at) ⊎ PartFails d p (fault.TypeClash at)) ⊎ IsUntypedClash d p (fault.TypeClash at)
+      tasks u s (term.Variable x) of_place in' e among clash =
+          inl (inr (task_faults at.source u (fault.TypeClash at) in' (λ names. variable_clash names (task_signatures d) u s x of_place e among clash)))
+      tasks u s (term.Object x) of_place in' e among clash = inr (at, u.variables, x, of_place, refl, clash, unknown)
+
+      by : IsTypeClash d p at → (IsCycleFault d (fault.TypeClash at) ⊎ PartFails d p (fault.TypeClash at)) ⊎ IsUntypedClash d p (fault.TypeClash at)
+      by (inl (u, s, argument, of_place, in', e, among, clash)) = atoms u s argument of_place in' e among clash
+      by (inr (u, s, argument, of_place, in', e, among, clash)) = tasks u s argument of_place in' e among clash
+  faults_decided (inr unknown) (fault.OrderCycle at) (w, a, in', cycle, is) =
+      inl (inr (failing_part (fault.OrderCycle at) at.source (Network w.0 w.1) in' (inl (at.place, refl, (a, cycle, is)))))
+  faults_decided (inr unknown) (fault.UnknownSubtask at) (w, name, in', named, missing) =
+      inl (inr (failing_part (fault.UnknownSubtask at) at.source (Network w.0 w.1) in' (inr (at.place, refl, (name, named, missing)))))
+  faults_decided (inr unknown) (fault.TooMany at) h = inl (inr (many_faults at h))
+  faults_decided (inr unknown) fault.OutOfMemory h = absurd h
+
+  -- what is passed over of a part is a name that is overtaken
+  overtaken : (text : Source) (x : Part) (f : CheckFault) → IsPart d p text x → PassedOverIn text x f → IsOvertakenName d p f
+  overtaken text (Different g) f in' (place, e, over) = (record { source = text; place = place }, g, e, in', over)
+  overtaken text (Limited n m) f in' gone = absurd gone
+  overtaken text (TypeName m) f in' gone = absurd gone
+  overtaken text (Atom u) f in' gone = absurd gone
+  overtaken text (Decomposed u) f in' gone = absurd gone
+  overtaken text (Subtask u) f in' gone = absurd gone
+  overtaken text (Side t) f in' gone = absurd gone
+  overtaken text (Network at n) f in' gone = absurd gone
+  overtaken text Types f in' gone = absurd gone
+  overtaken text Objects f in' gone = absurd gone
+
+  -- what is passed over is left out of a list of all faults
+  pub left_out : (f : CheckFault) → PartPassed d p f → IsLeftOut d p f
+  left_out f (inl (x, at, o)) = inl (overtaken source.Domain x f (is_part d p source.Domain x at) o)
+  left_out f (inr (x, at, o)) = inl (overtaken source.Problem x f (is_part d p source.Problem x at) o)
+
   -- a cycle of types, and what fails in one of the texts, is a fault of the pair
   pub faults_sound : (f : CheckFault) → IsCycleFault d f ⊎ PartFails d p f → FailsAt d p f
   faults_sound f (inl (at, is, cycle)) = subst (FailsAt d p) (sym is) cycle
   faults_sound f (inr fails) = parts_sound f fails
 
   -- ## Where no part fails
+
+  -- a fault before which none comes of those that fail, but for what is passed over, is the first
+  pub first_of : AreKnown d p ⊎ (AreKnown d p → ⊥) → (f : CheckFault)
+      → ((g : CheckFault) → IsCycleFault d g ⊎ PartFails d p g → comes_before g f ≡ true → PartPassed d p g) → IsFirst d p f
+  first_of known f first = λ g fails before.
+      elim (faults_decided known g fails) [ inl q ↦ left_out g (first g q before) | inr untyped ↦ inr untyped ]
 
   module _ (none : (f : CheckFault) → IsCycleFault d f ⊎ PartFails d p f → ⊥) where
     -- no type is unknown

@@ -14,7 +14,7 @@ use Rattle.hddl_meaning.specs.Items as items
 use Rattle.hddl_meaning.specs.declared.fault.Source.TheVariants as source
 use Rattle.hddl_meaning.specs.declared.fault.CheckFault.{CheckFault}
 use Rattle.hddl_scope.specs.Findings.{AnyOf}
-use Rattle.hddl_uses.specs.Parts.{Part, FailsIn, Different, Limited, Atom, Decomposed, Subtask, Side, Types, Objects, type_parts, quantifier_parts, network_parts}
+use Rattle.hddl_uses.specs.Parts.{Part, FailsIn, PassedOverIn, Different, Limited, Atom, Decomposed, Subtask, Side, Types, Objects, type_parts, quantifier_parts, network_parts}
 
 -- what has to fit in parameters: they differ, are few enough, and have declared types
 abbrev pub parameter_parts : List VariableGroup → List Part
@@ -87,3 +87,7 @@ problem_parts p =
 -- a part of one of the texts fails
 abbrev pub PartFails : DomainText → ProblemText → CheckFault → Type 0
 PartFails d p f = AnyOf (FailsIn d p source.Domain) (domain_parts d) f ⊎ AnyOf (FailsIn d p source.Problem) (problem_parts p) f
+
+-- a fault of a part of one of the texts that isn't looked for
+abbrev pub PartPassed : DomainText → ProblemText → CheckFault → Type 0
+PartPassed d p f = AnyOf (PassedOverIn source.Domain) (domain_parts d) f ⊎ AnyOf (PassedOverIn source.Problem) (problem_parts p) f

@@ -1,25 +1,57 @@
 //! Whether a domain and a problem fit together, and the task that they are.
-ghost use Rattle.std.specs.Prelude.{◌≡◌, ◌≢◌, IfOk, IfErr};
+ghost use Rattle.std.specs.Prelude.{◌≡◌, ◌≢◌, ◌⊎◌, ◌↔◌, [], slice_get, Contains, IfOk, IfErr, IfSome, OnOk};
 ghost use Rattle.hddl_meaning.specs.Building.{IsTaskOf, vocabulary_of};
 ghost use Rattle.hddl_meaning.specs.Items.{FailsAt, IsWellTypedPair};
 ghost use Rattle.hddl_meaning.specs.declared.fault.CheckFault.TheVariants.{OutOfMemory};
-ghost use Rattle.hddl_check.specs.Cycles.{PairFails};
-ghost use Rattle.hddl_scope.specs.Findings.{Finds};
+ghost use Rattle.hddl_meaning.specs.declared.fault.CheckFault.{CheckFault};
+ghost use Rattle.hddl_check.specs.Faults.{IsFirst, IsLeftOut, PairFails};
+ghost use Rattle.hddl_check.specs.TextParts.{PartPassed};
+ghost use Rattle.hddl_scope.specs.Findings.{Adds, Finds};
+ghost use Rattle.hddl_scope.specs.Ranks.{AreInOrder};
 ghost use Rattle.hddl_uses.specs.Known.{AreKnown};
 
-use crate::cycles::{is_first, type_cycle};
-use crate::faults::fault_among;
+use crate::cycles::check_cycles;
+use crate::faults::check_texts;
 use crate::objects::known_objects;
 use hddl_build::build;
 use hddl_meaning::CheckFault;
 use hddl_names::{TypeHierarchy, Vocabulary};
-use hddl_scope::first_of;
+use hddl_scope::{Findings, in_order};
 use hddl_tree::{DomainText, ProblemText};
 use hddl_uses::Declarations;
 use htn_task::Task;
 use std::alloc::{AllocError, Global};
 
-/// A fault of a pair.
+/// Faults of a pair.
+fn check_pair(
+    alloc: Global,
+    problem: &ProblemText,
+    vocabulary: &Vocabulary,
+    types: &TypeHierarchy,
+    found: &mut Findings,
+) -> Result<(), AllocError>
+    requires { vocabulary.now ≡ vocabulary_of types.now problem.now }
+    ensures added { OnOk result (Adds (PartPassed types.now problem.now) (PairFails types.now problem.now) found.old found.new) }
+    ensures known { OnOk result (AreKnown types.now problem.now ⊎ (AreKnown types.now problem.now → ⊥)) }
+{
+    let domain = types.domain();
+    check_cycles(alloc, types, found)?;
+    let objects = known_objects(alloc, problem, vocabulary, types)?;
+    let declared = Declarations::of(alloc, domain)?;
+    check_texts(
+        alloc,
+        domain,
+        problem,
+        vocabulary,
+        types,
+        objects.as_ref(),
+        &declared,
+        found,
+    )?;
+    Ok(())
+}
+
+/// The first fault of a pair.
 fn fault_of(
     alloc: Global,
     domain: &DomainText,
@@ -27,25 +59,13 @@ fn fault_of(
     vocabulary: &Vocabulary,
 ) -> Result<Option<CheckFault>, AllocError>
     requires { vocabulary.now ≡ vocabulary_of domain.now problem.now }
-    ensures { IfOk result (Finds (PairFails domain.now problem.now)) }
+    ensures finds { IfOk result (Finds (PairFails domain.now problem.now)) }
+    ensures first { IfOk result (λ fault. IfSome fault (IsFirst domain.now problem.now)) }
 {
     let types = TypeHierarchy::of(alloc, domain, vocabulary)?;
-    let cycle = type_cycle(alloc, &types)?;
-    if is_first(cycle, domain, vocabulary) {
-        return Ok(cycle);
-    }
-    let objects = known_objects(alloc, problem, vocabulary, &types)?;
-    let declared = Declarations::of(alloc, domain)?;
-    let fault = fault_among(
-        alloc,
-        domain,
-        problem,
-        vocabulary,
-        &types,
-        objects.as_ref(),
-        &declared,
-    )?;
-    Ok(first_of(cycle, fault))
+    let mut found = Findings::first(alloc);
+    check_pair(alloc, problem, vocabulary, &types, &mut found)?;
+    Ok(found.faults().first().copied())
 }
 
 /// The task of a pair that fits together.
@@ -74,6 +94,7 @@ fn answer_of(
     ensures fits { IfOk result (λ answer. IfOk answer (λ _. IsWellTypedPair domain.now problem.now)) }
     ensures task { IfOk result (λ answer. IfOk answer (IsTaskOf domain.now problem.now)) }
     ensures fault { IfOk result (λ answer. IfErr answer (FailsAt domain.now problem.now)) }
+    ensures first { IfOk result (λ answer. IfErr answer (IsFirst domain.now problem.now)) }
 {
     let vocabulary = Vocabulary::of(alloc, domain, problem)?;
     let fault = fault_of(alloc, domain, problem, &vocabulary)?;
@@ -95,9 +116,41 @@ pub fn check(alloc: Global, domain: &DomainText, problem: &ProblemText) -> Resul
     ensures task { IfOk result (IsTaskOf domain.now problem.now) }
     // The fault holds at its place.
     ensures fault { IfErr result (λ fault. fault ≢ OutOfMemory → FailsAt domain.now problem.now fault) }
+    // None comes before it, but for those that aren't looked for.
+    ensures first { IfErr result (λ fault. fault ≢ OutOfMemory → IsFirst domain.now problem.now fault) }
 {
     match answer_of(alloc, domain, problem) {
         Ok(answer) => answer,
         Err(_) => Err(CheckFault::OutOfMemory),
     }
+}
+
+/// All faults of a domain and a problem, each once, by their places, the domain's before the problem's: none exactly
+/// where they fit together.
+///
+/// Those that `check` doesn't look for aren't looked for either: clashes of constants and objects where a type of one
+/// of them isn't declared or there are more than 65,536 of them, and a name that stands again after one of that name
+/// whose place is past it, as where parameters stand after a precondition, but for the place of that parameter.
+pub fn all_faults(
+    alloc: Global,
+    domain: &DomainText,
+    problem: &ProblemText,
+) -> Result<Vec<CheckFault>, AllocError>
+    // Each fault that is listed holds at its place.
+    ensures sound { IfOk result (λ faults. (f : CheckFault) → Contains faults.items f → FailsAt domain.now problem.now f) }
+    // Each that holds is listed, unless it isn't looked for.
+    ensures complete { IfOk result (λ faults. (f : CheckFault) → FailsAt domain.now problem.now f → Contains faults.items f ⊎ IsLeftOut domain.now problem.now f) }
+    // None is listed where the two fit together.
+    ensures none { IfOk result (λ faults. (faults.items ≡ []) ↔ IsWellTypedPair domain.now problem.now) }
+    // They come in the order of the texts, and none twice.
+    ensures order { IfOk result (λ faults. AreInOrder faults.items) }
+    // The first is the fault that `check` names.
+    ensures first { IfOk result (λ faults. IfSome (slice_get faults.items 0) (IsFirst domain.now problem.now)) }
+{
+    let vocabulary = Vocabulary::of(alloc, domain, problem)?;
+    let types = TypeHierarchy::of(alloc, domain, &vocabulary)?;
+    let mut found = Findings::all(alloc);
+    check_pair(alloc, problem, &vocabulary, &types, &mut found)?;
+    let faults = in_order(alloc, found.faults())?;
+    Ok(faults)
 }

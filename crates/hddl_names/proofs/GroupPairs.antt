@@ -6,8 +6,6 @@ use Rattle.hddl_meaning.specs.Mentions.{Text, Mention, folded, mention_of}
 use Rattle.hddl_meaning.specs.Names.{number_in, object, optional_mention}
 use Rattle.hddl_meaning.specs.Types.{text_or_object}
 use Rattle.hddl_names.specs.Members.{number_typed, declared_in}
-use Rattle.hddl_names.specs.Cycles.{placed_pair, placed_in}
-use Rattle.hddl_names.specs.declared.cycles.PlacedPair.{PlacedPair}
 use Rattle.hddl_names.specs.TypeNumbers.{number_pair, with_parents, with_object, pairs_in, object_pairs_in}
 
 -- each type of a group has the group's type as parent
@@ -45,18 +43,3 @@ group_declared objects types g parent is = ap (λ q. map (λ (x : Name). (number
         ≡ map (number_typed objects types) (map (λ x. record { mention = mention_of x; of_type = option_map mention_of g.of_type }) ns ++ [])
     by [] = refl
     by (x ∷ ns) = ap (λ r. (number_in objects (folded x.text), number_in types (text_or_object (option_map mention_of g.of_type))) ∷ r) (by ns)
-
--- a pair with its place
-abbrev placed : ℕ → ℕ → ℕ → PlacedPair
-placed child parent place = record { child = child; parent = parent; place = place }
-
--- the pairs of a group with their places
-pub group_placed : (names : List Text) (g : NameGroup) (parent : ℕ) → parent ≡ number_in names (text_or_object (option_map mention_of g.of_type))
-    → map (λ (x : Name). record { child = number_in names (folded x.text); parent = parent; place = x.place }) g.names ≡ placed_in names (g ∷ [])
-group_placed names g parent is =
-    ap (λ q. map (λ (x : Name). placed (number_in names (folded x.text)) q x.place) g.names) is ∙ by g.names
-  where
-    by : (ns : List Name) → map (λ x. placed (number_in names (folded x.text)) (number_in names (text_or_object (option_map mention_of g.of_type))) x.place) ns
-        ≡ map (placed_pair names) (map (λ x. record { mention = mention_of x; of_type = option_map mention_of g.of_type }) ns ++ [])
-    by [] = refl
-    by (x ∷ ns) = ap (λ r. placed (number_in names (folded x.text)) (number_in names (text_or_object (option_map mention_of g.of_type))) x.place ∷ r) (by ns)

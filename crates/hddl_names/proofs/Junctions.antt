@@ -62,7 +62,7 @@ reaches_more ps qs more a b (inl is) = inl is
 reaches_more ps qs more a b (inr r) = inr (leads_more ps qs more a b r)
 
 -- a way and another from its end are one way
-joined : (pairs : List (ℕ × ℕ)) (a b c : ℕ) → Reaches pairs a b → Reaches pairs b c → Reaches pairs a c
+pub joined : (pairs : List (ℕ × ℕ)) (a b c : ℕ) → Reaches pairs a b → Reaches pairs b c → Reaches pairs a c
 joined pairs a b c (inl is) r = subst (λ x. Reaches pairs x c) (sym is) r
 joined pairs a b c (inr r) (inl is) = inr (subst (Precedes pairs a) is r)
 joined pairs a b c (inr r) (inr s) = inr (follow pairs a b c r s)

@@ -7,6 +7,7 @@ pub mod Found
 pub mod FromPairs
 pub mod Fronts
 pub mod GroupPairs
+pub mod Heads
 pub mod Junctions
 pub mod Levels
 pub mod Lowercase

@@ -1,12 +1,9 @@
 -- The closure of pairs of numbers, kept as lines and junctions.
 use Rattle.std.specs.Prelude.{◌≡◌, ◌<◌, ◌↔◌, ◌⊎◌, ℕ, true, not, ◌&&◌, Option, Some, IfSome, List, [], length, get_or, slice_get, nat_eq, Contains}
 use Rattle.std.specs.List.{filter, list_any, position}
-use Rattle.hddl_tree.specs.declared.domain.DomainText.{DomainText}
-use Rattle.hddl_meaning.specs.Mentions.{Text}
 use Rattle.hddl_names.specs.Intervals.{IsInside, top_at}
 use Rattle.hddl_names.specs.NumberSets.{has}
 use Rattle.hddl_names.specs.Reach.{Reaches}
-use Rattle.hddl_names.specs.TypeNumbers.{AreTypesOf, numbered_pairs}
 use Rattle.hddl_names.specs.declared.intervals.Interval.{Interval}
 
 -- junctions, the intervals and tops of lines between them, and for each number the positions of the junctions that lead
@@ -61,8 +58,3 @@ Meet c a b = LeadsTo c a b ⊎ LeadsTo c b a ⊎ ShareJunction c a b
 pub record Tells (pairs : List (ℕ × ℕ)) (count : ℕ) (c : Closure) : Type 0 where
   pub leads : (a b : ℕ) → a < count → 0 < b → b < count → LeadsTo c a b ↔ Reaches pairs a b
   pub meet : (a b : ℕ) → 0 < a → a < count → 0 < b → b < count → Meet c a b ↔ ((s : ℕ) × (s < count) × Reaches pairs s a × Reaches pairs s b)
-
--- the names of a domain's types with their parents and children, and the closure, if there is one, that tells the same
-pub record AreHierarchyOf (d : DomainText) (names : List Text) (up down : List (List ℕ)) (closure : Option Closure) : Type 0 where
-  pub types : AreTypesOf d names up down
-  pub told : IfSome closure (Tells (numbered_pairs d) (length names))

@@ -1,10 +1,10 @@
 pub mod Closures
 pub mod Cycles
 pub mod Folding
+pub mod Heads
 pub mod Intervals
 pub mod Members
 pub mod NumberSets
-pub mod Ranks
 pub mod Reach
 pub mod Rows
 pub mod Texts

@@ -1,20 +1,18 @@
 //! Which types of a domain are below which.
-ghost use Rattle.std.specs.Prelude.{◌≡◌, ℕ, ◌<◌, ◌↔◌, false, IsTrue, IfOk, Contains, All, MatchOption, option_map, length};
+ghost use Rattle.std.specs.Prelude.{◌≡◌, ℕ, ◌<◌, ◌↔◌, false, IsTrue, IfOk, Contains, All, option_map, length};
 ghost use Rattle.std.specs.List.{position};
-ghost use Rattle.hddl_meaning.specs.Mentions.{mention_of};
+ghost use Rattle.hddl_meaning.specs.Mentions.{mention_of, typed_names};
 ghost use Rattle.hddl_meaning.specs.Names.{is_same_text, type_names};
-ghost use Rattle.hddl_meaning.specs.Types.{IsBelow, text_or_object};
+ghost use Rattle.hddl_meaning.specs.Types.{IsBelow, IsOnCycle, text_or_object};
 ghost use Rattle.hddl_meaning.specs.Items.{ShareSubtype};
-ghost use Rattle.hddl_names.specs.Cycles.{HasNoCycle, IsFirstCycle};
+ghost use Rattle.hddl_names.specs.Cycles.{typed_name};
 ghost use Rattle.hddl_names.specs.Reach.{IsAboveSome};
 ghost use Rattle.hddl_names.specs.TypeNumbers.{type_at, is_root, numbered_pairs};
 
-use crate::closure::Closure;
-use crate::cycles::placed_pairs;
+use crate::condensed::Condensed;
 use crate::edges::{rows_of, turned};
 use crate::names::Names;
-use crate::pairs::parent_pairs;
-use crate::ranks::{rank_of, ranks_of};
+use crate::pairs::{parent_number, parent_pairs};
 use crate::reach::{all_reached, reached};
 use crate::rows::Rows;
 use crate::vocabulary::Vocabulary;
@@ -32,15 +30,15 @@ pub struct TypeHierarchy<'a> {
     parents: Rows,
     /// What each type is a parent of.
     children: Rows,
-    /// What tells which type is below which. It may be missing where there is a cycle.
-    closure: Option<Closure>,
+    /// What tells which type is below which, for speed.
+    closure: Option<Condensed>,
 }
 
 impl<'a> Model for TypeHierarchy<'a> {
     ghost use Rattle.hddl_tree.specs.declared.domain.DomainText.{DomainText as Domain};
     ghost use Rattle.hddl_tree.specs.contracts.condition.Condition as condition;
     ghost use Rattle.std.specs.Coded.{codes};
-    ghost use Rattle.hddl_names.specs.Closures.{AreHierarchyOf};
+    ghost use Rattle.hddl_names.specs.Heads.{AreHierarchyOf};
 
     ghost Value = { Domain };
 
@@ -81,7 +79,7 @@ impl<'a> TypeHierarchy<'a> {
         let back = turned(alloc, &pairs)?;
         let parents = rows_of(alloc, names.len(), &pairs)?;
         let children = rows_of(alloc, names.len(), &back)?;
-        let closure = Closure::of(alloc, &pairs, &parents, &children)?;
+        let closure = Condensed::of(alloc, &pairs, &parents, &children)?;
         Ok(TypeHierarchy {
             domain,
             names,
@@ -165,20 +163,21 @@ impl<'a> TypeHierarchy<'a> {
         Ok(cycle)
     }
 
-    /// The place of the first name in the text of `:types` that stands in a declared pair on a cycle, None where there
-    /// is none, or an error where memory was refused.
-    pub fn cycle_at(&self, alloc: Global) -> Result<Option<usize>, AllocError>
-        ensures { IfOk result (λ found. MatchOption found (HasNoCycle self.now) (IsFirstCycle self.now)) }
+    /// Whether a declaration of a type, with the parent that is written for it, lies on a cycle, or an error where memory
+    /// was refused.
+    pub fn lies_on_cycle(
+        &self,
+        alloc: Global,
+        name: &Name,
+        parent: &Option<Name>,
+    ) -> Result<bool, AllocError>
+        requires { Contains (typed_names self.now.types) (typed_name parent.now name.now) }
+        ensures { IfOk result (λ cycle. IsTrue cycle ↔ IsOnCycle self.now (typed_name parent.now name.now)) }
     {
-        let pairs = placed_pairs(alloc, self.names, self.domain.types.as_slice())?;
-        let ranks = ranks_of(alloc, &self.parents, &self.children)?;
-        for pair in pairs.as_slice() {
-            if rank_of(&ranks, pair.child) == rank_of(&ranks, pair.parent)
-                && self.is_on_cycle(alloc, pair.child, pair.parent)?
-            {
-                return Ok(Some(pair.place));
-            }
-        }
-        Ok(None)
+        let mut buffer = Vec::new(alloc);
+        let child = self.names.number_or_zero(&mut buffer, name.text())?;
+        let parent = parent_number(&mut buffer, self.names, parent)?;
+        let cycle = self.is_on_cycle(alloc, child, parent)?;
+        Ok(cycle)
     }
 }

@@ -2,7 +2,7 @@
 #![tactic(auto)]
 
 mod closure;
-mod cycles;
+mod condensed;
 mod declared_types;
 mod edges;
 mod hierarchy;

@@ -1,12 +1,9 @@
-//! Ranks of numbers, of which no number leads to one of a higher rank.
+//! Ranks of numbers: two numbers have the same exactly where each leads to the other.
 //!
-//! So all numbers of a cycle have the same rank, and a pair of two ranks is on none. Two walks find ranks
-//! that only numbers which lead to one another share, so that a pair of one rank lies on a cycle. No promise
-//! rests on these walks but that of speed: whether ranks rise is looked at once, after them.
+//! No promise rests on the walks that find them but that of speed.
 //!
 //! In the words of graphs: the numbers of strongly connected components, by Kosaraju's algorithm.
-ghost use Rattle.std.specs.Prelude.{◌≡◌, ◌≤◌, ◌↔◌, IsTrue, IfOk, All, get_or};
-ghost use Rattle.hddl_names.specs.Ranks.{NeverRise};
+ghost use Rattle.std.specs.Prelude.{◌≡◌, get_or};
 
 use crate::rows::Rows;
 use std::alloc::{AllocError, Global};
@@ -87,8 +84,8 @@ fn group_ranks(
     Ok(ranks)
 }
 
-/// A rank for each number. `back` has the rows the other way round.
-fn likely_ranks(alloc: Global, rows: &Rows, back: &Rows) -> Result<Vec<usize>, AllocError> {
+/// A rank for each number. `back` has the rows the other way round. The work is that of going over all rows.
+pub(crate) fn ranks_of(alloc: Global, rows: &Rows, back: &Rows) -> Result<Vec<usize>, AllocError> {
     let mut order = in_order(alloc, back)?;
     order.reverse();
     let ranks = group_ranks(alloc, rows, order.as_slice())?;
@@ -100,35 +97,4 @@ pub(crate) fn rank_of(ranks: &[usize], number: usize) -> usize
     ensures { result ≡ get_or ranks.now number 0 }
 {
     ranks.get(number).copied().unwrap_or(0)
-}
-
-/// Whether none of these has a rank above this one.
-fn are_within(ranks: &[usize], numbers: &[usize], most: usize) -> bool
-    ensures { IsTrue result ↔ All (λ x. get_or ranks.now x 0 ≤ most) numbers.now }
-{
-    numbers.iter().all(|x| rank_of(ranks, *x) <= most)
-}
-
-/// Whether no number leads to one of a higher rank.
-fn never_rise(rows: &Rows, ranks: &[usize]) -> bool
-    ensures { IsTrue result ↔ NeverRise rows.now ranks.now }
-{
-    for number in 0..rows.len() {
-        if !are_within(ranks, rows.row(number), rank_of(ranks, number)) {
-            return false;
-        }
-    }
-    true
-}
-
-/// Ranks that never rise: of a number and one in its row they are the same only where the two lead to one another.
-/// `back` has the rows the other way round. The work is that of going over all rows.
-pub(crate) fn ranks_of(alloc: Global, rows: &Rows, back: &Rows) -> Result<Vec<usize>, AllocError>
-    ensures { IfOk result (λ ranks. NeverRise rows.now ranks.items) }
-{
-    let ranks = likely_ranks(alloc, rows, back)?;
-    if never_rise(rows, ranks.as_slice()) {
-        return Ok(ranks);
-    }
-    Ok(Vec::new(alloc))
 }

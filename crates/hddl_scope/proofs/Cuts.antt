@@ -1,5 +1,5 @@
 -- A list cut at a position, and typed lists group by group.
-use Rattle.std.proofs.Common.{◌≡◌, ℕ, ◌+◌, ◌<◌, List, [], ◌∷◌, ◌++◌, map, Some, sym, ap, ◌∙◌, take, drop, get_or, length, add-one, drop-cons, arith, append-nil, option_map}
+use Rattle.std.proofs.Common.{◌≡◌, ℕ, suc, ◌+◌, ◌<◌, ◌≤◌, List, [], ◌∷◌, ◌++◌, map, Some, sym, ap, ◌∙◌, take, drop, get_or, length, add-one, drop-cons, arith, append-nil, option_map, length-append}
 use Rattle.std.specs.List.{flat_map}
 use Rattle.std.proofs.lemmas.List.{take_more, length-take-le, map-append, take-append-drop, length-map}
 use Rattle.std.proofs.lemmas.Grind.{flat_map-append}
@@ -60,3 +60,23 @@ past_mapped limit mention xs x place lt is at =
       length-map (take limit xs) mention ∙ length-take-le limit xs (omega arith),
       at,
     )
+
+-- where the same list is cut after as many items, the same item follows
+same_cut : {X : Type 0} (xs ys : List X) (x y : X) (us vs : List X) → xs ++ x ∷ us ≡ ys ++ y ∷ vs → length xs ≡ length ys → x ≡ y
+same_cut [] [] x y us vs e long = cc
+same_cut [] (b ∷ ys) x y us vs e long = absurd (let none : 0 ≡ suc (length ys) = long in omega (arith, none))
+same_cut (a ∷ xs) [] x y us vs e long = absurd (let none : suc (length xs) ≡ 0 = long in omega (arith, none))
+same_cut (a ∷ xs) (b ∷ ys) x y us vs e long =
+    same_cut xs ys x y us vs (let tails : xs ++ x ∷ us ≡ ys ++ y ∷ vs = cc in tails) (let more : suc (length xs) ≡ suc (length ys) = long in omega (arith, more))
+
+-- one mention is the first past a limit
+pub past_once : (limit : ℕ) (ms : List Mention) (a b : ℕ) → IsPast limit ms a → IsPast limit ms b → b ≡ a
+past_once limit ms a b (before, m, after, cut, long, at) (front, n, rest, cut', long', at') =
+    at' ∙ ap (λ (x : Mention). x.place) (same_cut front before n m rest after (sym cut' ∙ cut) (long' ∙ sym long)) ∙ sym at
+
+-- where there are no more mentions than the limit, none is past it
+pub none_past : (limit : ℕ) (ms : List Mention) (place : ℕ) → length ms ≤ limit → IsPast limit ms place → ⊥
+none_past limit ms place few (before, m, after, cut, long, at) =
+    let all : length ms ≡ length before + length (m ∷ after) = ap length cut ∙ length-append before (m ∷ after) in
+    let more : length (m ∷ after) ≡ length after + 1 = omega arith in
+    omega (arith, few, all, more, long)

@@ -1,5 +1,5 @@
 -- Names that are counted once.
-use Rattle.std.proofs.Common.{◌≡◌, ◌↔◌, ℕ, ◌+◌, ◌<◌, ◌≤◌, Bool, List, [], ◌∷◌, ◌++◌, Some, None, is_some, length, ap, refl, sym, ◌∙◌, inl, inr, subst, cond, true, false, true≢false, ◌||◌, map, take, drop, get_or, append_assoc, append-nil}
+use Rattle.std.proofs.Common.{◌≡◌, ◌↔◌, ℕ, ◌+◌, ◌<◌, ◌≤◌, Bool, List, [], ◌∷◌, ◌++◌, Some, None, is_some, length, ap, refl, sym, ◌∙◌, inl, inr, subst, cond, true, false, true≢false, ◌||◌, map, take, drop, get_or, append_assoc, append-nil, length-append, arith, ◌⊎◌}
 use Rattle.std.specs.List.{list_any}
 use Rattle.std.proofs.lemmas.List.{map-append, length-map, take_more, take_all}
 use Rattle.hddl_meaning.specs.Mentions.{Text, Mention, IsIn, texts}
@@ -105,3 +105,65 @@ Within-past known first ms k m place lt is past at w =
 -- a list all of which is within the limit has none past it
 pub Within-end : (known : Entries) (first ms : List Mention) (k : ℕ) → length ms ≤ k → Within known first (take k ms) → Finds (IsPastAfter first ms) None
 Within-end known first ms k le w = subst (λ l. Finds (IsPastAfter first l) None) (take_all k ms le) (Finds-none w.none)
+
+-- ## One name is the first past the limit
+
+-- a new text is one more
+one_more : (ts : List Text) (t : Text) → (IsIn t ts → ⊥) → length (distinct (ts ++ t ∷ [])) ≡ length (distinct ts) + 1
+one_more ts t new = by (list_any (is_same_text t) (distinct ts)) refl
+  where
+    by : (b : Bool) → list_any (is_same_text t) (distinct ts) ≡ b → length (distinct (ts ++ t ∷ [])) ≡ length (distinct ts) + 1
+    by true some = absurd (new (of_distinct ts t some))
+    by false none =
+        ap length (distinct_push ts t ∙ ap (λ b. cond b (distinct ts) (distinct ts ++ t ∷ [])) none) ∙ length-append (distinct ts) (t ∷ [])
+
+-- a text more leaves as many distinct ones or more
+no_fewer : (ts us : List Text) → length (distinct ts) ≤ length (distinct (ts ++ us))
+no_fewer ts [] = let same = ap (λ l. length (distinct l)) (append-nil ts) in omega (arith, same)
+no_fewer ts (u ∷ us) =
+    let more : length (distinct ts) ≤ length (distinct (ts ++ u ∷ [])) = by (list_any (is_same_text u) (distinct ts)) refl in
+    let rest : length (distinct (ts ++ u ∷ [])) ≤ length (distinct (ts ++ u ∷ us)) =
+    subst (λ l. length (distinct (ts ++ u ∷ [])) ≤ length (distinct l)) (append_assoc ts (u ∷ []) us) (no_fewer (ts ++ u ∷ []) us) in
+    omega (arith, more, rest)
+  where
+    by : (b : Bool) → list_any (is_same_text u) (distinct ts) ≡ b → length (distinct ts) ≤ length (distinct (ts ++ u ∷ []))
+    by true some = let e = ap length (distinct_push ts u ∙ ap (λ b. cond b (distinct ts) (distinct ts ++ u ∷ [])) some) in omega (arith, e)
+    by false none =
+        let e = ap length (distinct_push ts u ∙ ap (λ b. cond b (distinct ts) (distinct ts ++ u ∷ [])) none) ∙ length-append (distinct ts) (u ∷ []) in omega (arith, e)
+
+-- of two cuts of a list one is in front of the other, or both are the same
+two_cuts : {X : Type 0} (xs ys : List X) (x y : X) (us vs : List X) → xs ++ x ∷ us ≡ ys ++ y ∷ vs
+    → (x ≡ y) ⊎ ((rest : List X) × (ys ≡ (xs ++ x ∷ []) ++ rest)) ⊎ ((rest : List X) × (xs ≡ (ys ++ y ∷ []) ++ rest))
+two_cuts [] [] x y us vs e = inl cc
+two_cuts [] (b ∷ ys) x y us vs e = inr (inl (ys, let same : x ≡ b = cc in ap (λ z. z ∷ ys) (sym same)))
+two_cuts (a ∷ xs) [] x y us vs e = inr (inr (xs, let same : a ≡ y = cc in ap (λ z. z ∷ xs) same))
+two_cuts (a ∷ xs) (b ∷ ys) x y us vs e =
+    let same : a ≡ b = cc in
+    elim (two_cuts xs ys x y us vs (let tails : xs ++ x ∷ us ≡ ys ++ y ∷ vs = cc in tails)) [
+      | inl is ↦ inl is
+      | inr (inl (rest, is)) ↦ inr (inl (rest, λ i. sym same i ∷ is i))
+      | inr (inr (rest, is)) ↦ inr (inr (rest, λ i. same i ∷ is i))
+    ]
+
+module _ (first : List Mention) where
+  -- a cut past the new mention has more names
+  not_past : (before front rest : List Mention) (m : Mention) → front ≡ (before ++ m ∷ []) ++ rest → (IsIn m.text (texts (first ++ before)) → ⊥)
+      → length (distinct (texts (first ++ before))) ≡ 65535 → length (distinct (texts (first ++ front))) ≡ 65535 → ⊥
+  not_past before front rest m is new wide wide' =
+      let all : texts (first ++ front) ≡ (texts (first ++ before) ++ m.text ∷ []) ++ texts rest =
+      ap (λ l. texts (first ++ l)) is ∙ ap texts (sym (append_assoc first (before ++ m ∷ []) rest) ∙ ap (λ l. l ++ rest) (sym (append_assoc first before (m ∷ []))))
+      ∙ map-append (λ (m : Mention). m.text) ((first ++ before) ++ m ∷ []) rest
+      ∙ ap (λ l. l ++ texts rest) (map-append (λ (m : Mention). m.text) (first ++ before) (m ∷ [])) in
+      let more = one_more (texts (first ++ before)) m.text new in
+      let few = no_fewer (texts (first ++ before) ++ m.text ∷ []) (texts rest) in
+      let e = ap (λ l. length (distinct l)) all in
+      omega (arith, more, few, e, wide, wide')
+
+  -- one mention is the first past the limit
+  pub past_after_once : (ms : List Mention) (a b : ℕ) → IsPastAfter first ms a → IsPastAfter first ms b → b ≡ a
+  past_after_once ms a b (before, m, after, cut, wide, new, at) (front, n, rest, cut', wide', new', at') =
+      elim (two_cuts before front m n after rest (sym cut ∙ cut')) [
+        | inl is ↦ at' ∙ ap (λ (x : Mention). x.place) (sym is) ∙ sym at
+        | inr (inl (more, is)) ↦ absurd (not_past before front more m is new wide wide')
+        | inr (inr (more, is)) ↦ absurd (not_past front before more n is new' wide' wide)
+      ]

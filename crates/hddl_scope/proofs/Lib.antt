@@ -1,4 +1,5 @@
 pub mod Finding
+pub mod Adding
 pub mod Cuts
 pub mod Entries
 pub mod Positions
@@ -6,3 +7,6 @@ pub mod Repeating
 pub mod Distinctness
 pub mod ScopeLists
 pub mod InForce
+pub mod Standing
+pub mod Ordering
+pub mod Least

@@ -1,15 +1,15 @@
 -- The places of names that were read, and the first name that stood before.
-use Rattle.std.proofs.Common.{◌≡◌, ◌⊎◌, ℕ, ◌<◌, Bool, true, false, cond, max, List, [], ◌∷◌, ◌++◌, Option, Some, None, IfSome, is_some, refl, sym, ap, subst, ◌∙◌, inl, inr, arith, ◌+◌, take, get_or, length, IsSome, append_assoc, true≢false}
+use Rattle.std.proofs.Common.{◌≡◌, ◌⊎◌, ℕ, ◌<◌, ◌≤◌, Bool, true, false, cond, max, List, [], ◌∷◌, ◌++◌, Option, Some, None, is_some, refl, sym, ap, subst, ◌∙◌, inl, inr, arith, ◌+◌, take, get_or, length, IsSome, append_assoc, true≢false}
 use Rattle.std.specs.Cmp.Lexicographic.{same_text}
 use Rattle.std.proofs.lemmas.List.{take_more}
 use Rattle.std.proofs.lemmas.Cmp.{nat_list_eq_equiv}
 use Rattle.std.proofs.lemmas.List.Elements.{Contains-append_left, Contains-append_right, Contains-append_cases, Contains-push, Contains-push_cases}
 use Rattle.hddl_meaning.specs.Mentions.{Text, Mention, IsIn}
 use Rattle.hddl_meaning.specs.Names.{is_same_text}
-use Rattle.hddl_scope.specs.Findings.{Finds, IsOneOf}
 use Rattle.hddl_scope.specs.Numbers.{Entries, number_at}
-use Rattle.hddl_scope.specs.Repeats.{IsRepeat, noted, repeat_of}
-use Rattle.hddl_scope.proofs.Finding.{sound-one, IfSome-weaker}
+use Rattle.hddl_scope.specs.Repeats.{AreRepeats, IsFirstOf, IsOvertaken, IsRepeat, noted, repeat_of}
+use Rattle.std.proofs.lemmas.Bool.{cases_lt}
+use Rattle.hddl_meaning.proofs.Listed.{at_head, at_tail, in_nothing, texts_decide}
 
 -- a text has the same bytes as itself
 pub same_itself : (t : Text) → is_same_text t t ≡ true
@@ -88,92 +88,224 @@ stands (y ∷ ys) x at = elim (Contains-append_cases (y ∷ []) ys x at) [
 pub Contains-middle : {X : Type 0} (before after : List X) (x : X) → IsIn x (before ++ x ∷ after)
 Contains-middle before after x = Contains-append_right before (x ∷ after) x (Contains-append_left (x ∷ []) after x (Contains-push [] x))
 
--- the entries are of mentions and of all of them, and what is found is the first that stood before
-pub record Kept (known : Entries) (ms : List Mention) (found : Option ℕ) : Type 0 where
-  pub from : (t : Text) (n : ℕ) → number_at known t ≡ Some n → IsIn (record { text = t; place = n }) ms
-  pub all : (m : Mention) → IsIn m ms → IsSome (number_at known m.text)
-  pub none : found ≡ None → (place : ℕ) → IsRepeat ms place → ⊥
-  pub repeat : IfSome found (IsRepeat ms)
-
 -- in an empty list nothing stands twice
-no_repeat : (place : ℕ) → IsRepeat [] place → ⊥
+pub no_repeat : (place : ℕ) → IsRepeat [] place → ⊥
 no_repeat place ([], first, middle, second, after, e, same, is) = cc
 no_repeat place (b ∷ bs, first, middle, second, after, e, same, is) = cc
-
--- before anything is read nothing is kept or found
-pub Kept-start : Kept [] [] None
-Kept-start = record {
-  from = λ t n e. cc;
-  all = λ m at. absurd (let gone : at.0 < 0 = at.1 in omega (arith, gone));
-  none = λ _. no_repeat;
-  repeat = tt;
-}
 
 -- what stands twice in a list does so with one mention more
 pub more : (ms : List Mention) (m : Mention) (place : ℕ) → IsRepeat ms place → IsRepeat (ms ++ m ∷ []) place
 more ms m place (before, first, middle, second, after, e, same, is) =
     (before, first, middle, second, after ++ m ∷ [], ap (λ l. l ++ m ∷ []) e ∙ append_assoc (before ++ first ∷ middle) (second ∷ after) (m ∷ []), same, is)
 
-module _ (known : Entries) (ms : List Mention) (m : Mention) (found next : Option ℕ) where
-  -- a new name is kept, and is no repeat
-  kept_new : number_at known m.text ≡ None → Kept known ms found → IsOneOf found None next → Kept (known ++ (m.text, m.place) ∷ []) (ms ++ m ∷ []) next
-  kept_new none k one = record {
-    from = λ t n e. elim (number_at-cases known m.text m.place t n e) [
-      | inl old ↦ Contains-append_left ms (m ∷ []) (record { text = t; place = n }) (k.from t n old)
-      | inr is ↦ subst (λ x. IsIn x (ms ++ m ∷ [])) (λ i. record { text = sym is.0 i; place = is.1 i }) (Contains-push ms m)
-    ];
-    all = λ x at. elim (Contains-push_cases ms m x at) [
-      | inl old ↦ number_at-still known m.text m.place x.text (k.all x old)
-      | inr is ↦ subst (λ (y : Mention). IsSome (number_at (known ++ (m.text, m.place) ∷ []) y.text)) is (ap is_some (number_at-new known m.text m.place none))
-    ];
-    none = λ e place (before, first, middle, second, after, cut, same, is). elim (snoc_cases ms m (before ++ first ∷ middle) second after cut) [
-      | inl (all, last) ↦
-          let at : IsIn first ms = subst (IsIn first) all (Contains-middle before middle first) in
-          let there : IsSome (number_at known first.text) = k.all first at in
-          let gone : number_at known first.text ≡ None = ap (number_at known) (same ∙ ap (λ (y : Mention). y.text) last) ∙ none in
-          true≢false (sym there ∙ ap is_some gone)
-      | inr (rest, e') ↦ k.none (one.none e).0 place (before, first, middle, second, rest, e', same, is)
-    ];
-    repeat = sound-one (IsRepeat (ms ++ m ∷ [])) (IfSome-weaker (IsRepeat ms) (IsRepeat (ms ++ m ∷ [])) (more ms m) found k.repeat) tt one;
-  }
+-- what is overtaken in a list is so with one mention more
+pub overtaken_more : (ms : List Mention) (m : Mention) (place : ℕ) → IsOvertaken ms place → IsOvertaken (ms ++ m ∷ []) place
+overtaken_more ms m place (before, first, middle, second, after, third, e, same, is, at, text, lt) =
+    (before, first, middle, second, after ++ m ∷ [], third, ap (λ l. l ++ m ∷ []) e ∙ append_assoc (before ++ first ∷ middle) (second ∷ after) (m ∷ []), same, is, at, text, lt)
 
-  -- a name that was kept is a repeat, the first unless one was found before
-  kept_old : (first : ℕ) → number_at known m.text ≡ Some first → Kept known ms found → IsOneOf found (Some (max first m.place)) next
-      → Kept known (ms ++ m ∷ []) next
-  kept_old first some k one =
-      let old : Mention = record { text = m.text; place = first } in
-      let cut : (before : List Mention) × (after : List Mention) × (ms ≡ before ++ old ∷ after) = stands ms old (k.from m.text first some) in
-      let repeat : IsRepeat (ms ++ m ∷ []) (max first m.place) = (cut.0, old, cut.1, m, [], ap (λ l. l ++ m ∷ []) cut.2, refl, refl) in
-      record {
-        from = λ t n e. Contains-append_left ms (m ∷ []) (record { text = t; place = n }) (k.from t n e);
-        all = λ x at. elim (Contains-push_cases ms m x at) [
-          | inl old ↦ k.all x old
-          | inr is ↦ subst (λ (y : Mention). IsSome (number_at known y.text)) is (ap is_some some)
-        ];
-        none = λ e. let none = (one.none e).1 in cc;
-        repeat = sound-one (IsRepeat (ms ++ m ∷ [])) (IfSome-weaker (IsRepeat ms) (IsRepeat (ms ++ m ∷ [])) (more ms m) found k.repeat) repeat one;
-      }
+-- the first mention of a text is another of that text, or stands before it
+first_or_before : (front rest before after : List Mention) (m first : Mention) → front ++ m ∷ rest ≡ before ++ first ∷ after
+    → ((x : Mention) → IsIn x front → x.text ≡ first.text → ⊥) → (m ≡ first) ⊎ IsIn m before
+first_or_before [] rest [] after m first e none = inl cc
+first_or_before [] rest (b ∷ bs) after m first e none = inr (let same : m ≡ b = cc in subst (λ x. IsIn x (b ∷ bs)) (sym same) (at_head b bs))
+first_or_before (f ∷ fs) rest [] after m first e none = absurd (none f (at_head f fs) (let same : f ≡ first = cc in ap (λ (x : Mention). x.text) same))
+first_or_before (f ∷ fs) rest (b ∷ bs) after m first e none =
+    elim (first_or_before fs rest bs after m first (let tails : fs ++ m ∷ rest ≡ bs ++ first ∷ after = cc in tails) (λ x at. none x (at_tail f x fs at))) [
+      | inl is ↦ inl is
+      | inr at ↦ inr (at_tail b m bs at)
+    ]
 
-  -- what is kept and found with one mention more
-  pub Kept-more : Kept known ms found → IsOneOf found (repeat_of (number_at known m.text) m.place) next → Kept (noted known m) (ms ++ m ∷ []) next
-  Kept-more k one = by (number_at known m.text) refl one
+-- of two places the later is one of them
+later_is : (a b : ℕ) → ((max a b ≡ b) × (a ≤ b)) ⊎ ((max a b ≡ a) × (b < a))
+later_is a b = elim (cases_lt b a) [ inl lt ↦ inr (omega (arith, lt), lt) | inr le ↦ inl (omega (arith, le), le) ]
+
+module _ (ms : List Mention) (m : Mention) (found : Option ℕ) (is_first : IsFirstOf ms m.text found) where
+  -- where the mention stands again, it repeats one before
+  pub repeats_here : (place : ℕ) → repeat_of found m.place ≡ Some place → IsRepeat (ms ++ m ∷ []) place
+  repeats_here place e = by found is_first e
     where
-      known_after : Option ℕ → Entries
-      known_after o = cond (is_some o) known (known ++ (m.text, m.place) ∷ [])
+      by : (o : Option ℕ) → IsFirstOf ms m.text o → repeat_of o m.place ≡ Some place → IsRepeat (ms ++ m ∷ []) place
+      by None none e = cc
+      by (Some n) (front, first, rest, cut, same, at, none) e =
+          (front, first, rest, m, [], ap (λ l. l ++ m ∷ []) cut, same, let is : max n m.place ≡ place = cc in sym is ∙ ap (λ k. max k m.place) (sym at))
 
-      by : (o : Option ℕ) → number_at known m.text ≡ o → IsOneOf found (repeat_of o m.place) next → Kept (known_after o) (ms ++ m ∷ []) next
-      by None none o = kept_new none k o
-      by (Some first) some o = kept_old first some k o
+  -- where it doesn't, nothing before has its text
+  pub none_here : repeat_of found m.place ≡ None → (x : Mention) → IsIn x ms → x.text ≡ m.text → ⊥
+  none_here e = by found is_first e
+    where
+      by : (o : Option ℕ) → IsFirstOf ms m.text o → repeat_of o m.place ≡ None → (x : Mention) → IsIn x ms → x.text ≡ m.text → ⊥
+      by None none e = none
+      by (Some n) is e = cc
 
--- the same one mention further in the list
-pub Kept-step : (known after : Entries) (ms : List Mention) (i : ℕ) (m : Mention) (found here next : Option ℕ) → i < length ms → m ≡ get_or ms i m
-    → here ≡ repeat_of (number_at known m.text) m.place → after ≡ noted known m → IsOneOf found here next
-    → Kept known (take i ms) found → Kept after (take (i + 1) ms) next
-Kept-step known after ms i m found here next lt is told put one k =
+  -- a repeat by the mention is that of the first one before, or an older one, or overtaken
+  later_repeat : (before middle : List Mention) (first : Mention) (place : ℕ) → before ++ first ∷ middle ≡ ms → first.text ≡ m.text → place ≡ max first.place m.place
+      → (repeat_of found m.place ≡ Some place) ⊎ IsRepeat ms place ⊎ IsOvertaken (ms ++ m ∷ []) place
+  later_repeat before middle first place all same is = by found is_first
+    where
+      whole : ms ++ m ∷ [] ≡ before ++ first ∷ middle ++ m ∷ []
+      whole = ap (λ l. l ++ m ∷ []) (sym all)
+
+      by : (o : Option ℕ) → IsFirstOf ms m.text o → (repeat_of o m.place ≡ Some place) ⊎ IsRepeat ms place ⊎ IsOvertaken (ms ++ m ∷ []) place
+      by None none = absurd (none first (subst (IsIn first) all (Contains-middle before middle first)) same)
+      by (Some n) (front, third, rest, cut, text, at, none) =
+          elim (first_or_before front rest before middle third first (sym cut ∙ sym all) (λ x i e. none x i (e ∙ same))) [
+            | inl e ↦ inl (ap Some (sym (is ∙ ap (λ k. max k m.place) (sym (ap (λ (x : Mention). x.place) e) ∙ at))))
+            | inr i ↦ elim (cases_lt place third.place) [
+              | inl lt ↦ inr (inr (before, first, middle, m, [], third, whole, same, is, i, text ∙ sym same, lt))
+              | inr le ↦ elim (later_is first.place m.place) [
+                | inl (last, _) ↦ inl (ap Some (let big : max n m.place ≡ place = omega (arith, at, le, is, last) in big))
+                | inr (last, _) ↦
+                    let (b, a, cut') = stands before third i in
+                    inr (inl (b, third, a, first, middle, sym all ∙ ap (λ l. l ++ first ∷ middle) cut', text ∙ sym same, omega (arith, le, is, last)))
+              ]
+            ]
+          ]
+
+  -- so is each repeat of the list with it
+  pub repeat_cases : (place : ℕ) → IsRepeat (ms ++ m ∷ []) place → (repeat_of found m.place ≡ Some place) ⊎ IsRepeat ms place ⊎ IsOvertaken (ms ++ m ∷ []) place
+  repeat_cases place (before, first, middle, second, after, e, same, is) =
+      elim (snoc_cases ms m (before ++ first ∷ middle) second after e) [
+        | inl (all, last) ↦
+            later_repeat before middle first place all (same ∙ ap (λ (x : Mention). x.text) last) (is ∙ ap (λ (x : Mention). max first.place x.place) last)
+        | inr (rest, e') ↦ inr (inl (before, first, middle, second, rest, e', same, is))
+      ]
+
+-- the repeats that are listed of the first mentions, but for those that were listed elsewhere
+pub record Listed (Elsewhere : ℕ → Type 0) (ms : List Mention) (places : List ℕ) : Type 0 where
+  pub sound : (place : ℕ) → IsIn place places → IsRepeat ms place
+  pub complete : (place : ℕ) → IsRepeat ms place → IsIn place places ⊎ Elsewhere place ⊎ IsOvertaken ms place
+
+-- the places after one mention more
+abbrev pub with_place : List ℕ → Option ℕ → List ℕ
+with_place places None = places
+with_place places (Some place) = places ++ place ∷ []
+
+-- one mention more
+pub Listed-more : (E : ℕ → Type 0) (ms : List Mention) (m : Mention) (found : Option ℕ) (places : List ℕ) → IsFirstOf ms m.text found
+    → Listed E ms places → Listed E (ms ++ m ∷ []) (with_place places (repeat_of found m.place))
+Listed-more E ms m found places is_first old = by (repeat_of found m.place) refl
+  where
+    kept : (place : ℕ) → IsIn place places ⊎ E place ⊎ IsOvertaken ms place → IsIn place places ⊎ E place ⊎ IsOvertaken (ms ++ m ∷ []) place
+    kept place (inl i) = inl i
+    kept place (inr (inl e)) = inr (inl e)
+    kept place (inr (inr o)) = inr (inr (overtaken_more ms m place o))
+
+    by : (o : Option ℕ) → repeat_of found m.place ≡ o → Listed E (ms ++ m ∷ []) (with_place places o)
+    by None e = record {
+      sound = λ place i. more ms m place (old.sound place i);
+      complete = λ place r. elim (repeat_cases ms m found is_first place r) [
+        | inl here ↦ let gone = sym e ∙ here in cc
+        | inr (inl before) ↦ kept place (old.complete place before)
+        | inr (inr over) ↦ inr (inr over)
+      ];
+    }
+    by (Some n) e = record {
+      sound = λ place i. elim (Contains-push_cases places n place i) [
+        | inl there ↦ more ms m place (old.sound place there)
+        | inr is ↦ repeats_here ms m found is_first place (e ∙ ap Some is)
+      ];
+      complete = λ place r. elim (repeat_cases ms m found is_first place r) [
+        | inl here ↦ inl (subst (λ k. IsIn k (places ++ n ∷ [])) (let is : n ≡ place = let both = sym e ∙ here in cc in is) (Contains-push places n))
+        | inr (inl before) ↦ elim (kept place (old.complete place before)) [
+          | inl i ↦ inl (Contains-append_left places (n ∷ []) place i)
+          | inr rest ↦ inr rest
+        ]
+        | inr (inr over) ↦ inr (inr over)
+      ];
+    }
+
+-- ## Names that are read in turn
+
+-- each text has the place of its first mention, the repeats are listed, and where none is there is none
+pub record Read (known : Entries) (ms : List Mention) (places : List ℕ) : Type 0 where
+  pub firsts : (t : Text) → IsFirstOf ms t (number_at known t)
+  pub listed : Listed (λ _. ⊥) ms places
+  pub none : places ≡ [] → (place : ℕ) → IsRepeat ms place → ⊥
+
+-- before anything is read nothing is known or listed
+pub Read-start : Read [] [] []
+Read-start = record {
+  firsts = λ t m at same. in_nothing m at;
+  listed = record { sound = λ place i. absurd (in_nothing place i); complete = λ place r. absurd (no_repeat place r) };
+  none = λ _. no_repeat;
+}
+
+-- the first mention of a text stays it with one mention more
+first_kept : (ms : List Mention) (m : Mention) (t : Text) (place : ℕ) → IsFirstOf ms t (Some place) → IsFirstOf (ms ++ m ∷ []) t (Some place)
+first_kept ms m t place (front, first, rest, cut, same, at, none) =
+    (front, first, rest ++ m ∷ [], ap (λ l. l ++ m ∷ []) cut ∙ append_assoc front (first ∷ rest) (m ∷ []), same, at, none)
+
+-- a mention of another text is the first of none that has none
+first_other : (ms : List Mention) (m : Mention) (t : Text) → (m.text ≡ t → ⊥) → IsFirstOf ms t None → IsFirstOf (ms ++ m ∷ []) t None
+first_other ms m t differs none x at same =
+    elim (Contains-push_cases ms m x at) [ inl i ↦ none x i same | inr is ↦ differs (ap (λ (y : Mention). y.text) is ∙ same) ]
+
+-- where nothing has the text, the mention is the first
+first_new : (ms : List Mention) (m : Mention) → IsFirstOf ms m.text None → IsFirstOf (ms ++ m ∷ []) m.text (Some m.place)
+first_new ms m none = (ms, m, [], refl, refl, refl, none)
+
+-- the first mentions with one more
+firsts_more : (known : Entries) (ms : List Mention) (m : Mention) → ((t : Text) → IsFirstOf ms t (number_at known t)) → (t : Text) → IsFirstOf (ms ++ m ∷ []) t (number_at (noted known m) t)
+firsts_more known ms m old t = by (number_at known m.text) refl (old m.text)
+  where
+    -- the entries after the mention, where its text has that number
+    after : Option ℕ → Entries
+    after o = cond (is_some o) known (known ++ (m.text, m.place) ∷ [])
+
+    there : (n : ℕ) → number_at known m.text ≡ Some n → (o : Option ℕ) → number_at known t ≡ o → IsFirstOf ms t o → IsFirstOf (ms ++ m ∷ []) t o
+    there n some None none is = first_other ms m t (λ same. let gone = sym some ∙ ap (number_at known) same ∙ none in cc) is
+    there n some (Some k) e is = first_kept ms m t k is
+
+    fresh : number_at known m.text ≡ None → IsFirstOf ms m.text None → (b : Bool) → is_same_text t m.text ≡ b → (o : Option ℕ) → number_at known t ≡ o → IsFirstOf ms t o
+        → IsFirstOf (ms ++ m ∷ []) t (cond (is_some o) o (cond b (Some m.place) None))
+    fresh none new true same None e is = subst (λ u. IsFirstOf (ms ++ m ∷ []) u (Some m.place)) (sym ((texts_decide t m.text).0 same)) (first_new ms m new)
+    fresh none new false same None e is =
+        first_other ms m t (λ eq. true≢false (sym ((texts_decide t m.text).1 (sym eq)) ∙ same)) is
+    fresh none new b same (Some k) e is = first_kept ms m t k is
+
+    by : (o : Option ℕ) → number_at known m.text ≡ o → IsFirstOf ms m.text o → IsFirstOf (ms ++ m ∷ []) t (number_at (after o) t)
+    by None none new =
+        subst (IsFirstOf (ms ++ m ∷ []) t) (sym (number_at-push known m.text m.place t))
+        (fresh none new (is_same_text t m.text) refl (number_at known t) refl (old t))
+    by (Some n) some is = there n some (number_at known t) refl (old t)
+
+-- what is read with one mention more
+pub Read-more : (known : Entries) (ms : List Mention) (m : Mention) (places : List ℕ) → Read known ms places
+    → Read (noted known m) (ms ++ m ∷ []) (with_place places (repeat_of (number_at known m.text) m.place))
+Read-more known ms m places old = record {
+  firsts = firsts_more known ms m old.firsts;
+  listed = Listed-more (λ _. ⊥) ms m found places (old.firsts m.text) old.listed;
+  none = by (repeat_of found m.place) refl;
+}
+  where
+    found : Option ℕ
+    found = number_at known m.text
+
+    pushed : (n : ℕ) → places ++ n ∷ [] ≡ [] → ⊥
+    pushed n e = in_nothing n (subst (IsIn n) e (Contains-push places n))
+
+    by : (o : Option ℕ) → repeat_of found m.place ≡ o → with_place places o ≡ [] → (place : ℕ) → IsRepeat (ms ++ m ∷ []) place → ⊥
+    by None e empty place (before, first, middle, second, after, cut, same, is) =
+        elim (snoc_cases ms m (before ++ first ∷ middle) second after cut) [
+          | inl (all, last) ↦
+              none_here ms m found (old.firsts m.text) e first (subst (IsIn first) all (Contains-middle before middle first)) (same ∙ ap (λ (x : Mention). x.text) last)
+          | inr (rest, e') ↦ old.none empty place (before, first, middle, second, rest, e', same, is)
+        ]
+    by (Some n) e empty place r = pushed n empty
+
+-- the step of a loop over the mentions
+pub Read-step : (known after : Entries) (ms : List Mention) (i : ℕ) (m : Mention) (found : Option ℕ) (places next : List ℕ) → i < length ms → m ≡ get_or ms i m
+    → found ≡ number_at known m.text → next ≡ with_place places (repeat_of found m.place) → after ≡ noted known m
+    → Read known (take i ms) places → Read after (take (i + 1) ms) next
+Read-step known after ms i m found places next lt is told then put old =
     let e : take i ms ++ m ∷ [] ≡ take (i + 1) ms = ap (λ x. take i ms ++ x ∷ []) is ∙ sym (take_more ms i m lt) in
-    subst (λ l. Kept after l next) e
-    (subst (λ a. Kept a (take i ms ++ m ∷ []) next) (sym put) (Kept-more known (take i ms) m found next k (subst (λ h. IsOneOf found h next) told one)))
+    subst (λ l. Read after l next) e
+    (subst (λ a. Read a (take i ms ++ m ∷ []) next) (sym put)
+    (subst (Read (noted known m) (take i ms ++ m ∷ [])) (sym (then ∙ ap (λ o. with_place places (repeat_of o m.place)) told)) (Read-more known (take i ms) m places old)))
 
--- what was found at the end is the first repeat, if there is one
-pub Kept-finds : (known : Entries) (ms : List Mention) (found : Option ℕ) → Kept known ms found → Finds (IsRepeat ms) found
-Kept-finds known ms found k = record { sound = k.repeat; complete = k.none }
+-- what is listed of a whole list
+pub Listed-repeats : (ms : List Mention) (places : List ℕ) → Listed (λ _. ⊥) ms places → AreRepeats 0 ms places
+Listed-repeats ms places h = record {
+  sound = h.sound;
+  complete = λ place r. elim (h.complete place r) [ inl i ↦ inl i | inr (inl gone) ↦ absurd gone | inr (inr over) ↦ inr (inr over) ];
+}

@@ -1,3 +1,4 @@
+pub mod Ranks
 pub mod Findings
 pub mod Numbers
 pub mod Repeats

@@ -1,6 +1,6 @@
 -- Names of which one stands twice.
-use Rattle.std.specs.Prelude.{◌≡◌, ℕ, cond, max, List, [], ◌∷◌, ◌++◌, Option, Some, None, is_some, length, map}
-use Rattle.hddl_meaning.specs.Mentions.{Mention, IsIn, texts}
+use Rattle.std.specs.Prelude.{◌≡◌, ◌⊎◌, ◌<◌, ℕ, cond, max, List, [], ◌∷◌, ◌++◌, Option, Some, None, is_some, length, map, take}
+use Rattle.hddl_meaning.specs.Mentions.{Mention, Text, IsIn, texts}
 use Rattle.hddl_meaning.specs.Names.{distinct}
 use Rattle.hddl_meaning.specs.Items.{most_declarations}
 use Rattle.hddl_scope.specs.Numbers.{Entries, number_at}
@@ -29,3 +29,22 @@ IsPastAfter first mentions place =
 -- the names are those of the mentions, each once
 abbrev pub AreNamesOf : Entries → List Mention → Type 0
 AreNamesOf known mentions = map (λ e. e.0) known ≡ distinct (texts mentions)
+
+-- two of one text after a third one whose place is past both: the later place of the two
+abbrev pub IsOvertaken : List Mention → ℕ → Type 0
+IsOvertaken group place =
+    (before : List Mention) × (first : Mention) × (middle : List Mention) × (second : Mention) × (after : List Mention) × (third : Mention)
+    × (group ≡ before ++ first ∷ middle ++ second ∷ after) × (first.text ≡ second.text) × (place ≡ max first.place second.place)
+    × IsIn third before × (third.text ≡ first.text) × (place < third.place)
+
+-- the places at which mentions past the first so many repeat others, but for those that are overtaken
+pub record AreRepeats (start : ℕ) (group : List Mention) (places : List ℕ) : Type 0 where
+  pub sound : (place : ℕ) → IsIn place places → IsRepeat group place
+  pub complete : (place : ℕ) → IsRepeat group place → IsIn place places ⊎ IsRepeat (take start group) place ⊎ IsOvertaken group place
+
+-- the place of the first mention of a text, or None where there is none
+abbrev pub IsFirstOf : List Mention → Text → Option ℕ → Type 0
+IsFirstOf group text None = (m : Mention) → IsIn m group → m.text ≡ text → ⊥
+IsFirstOf group text (Some place) =
+    (before : List Mention) × (m : Mention) × (after : List Mention) × (group ≡ before ++ m ∷ after) × (m.text ≡ text) × (m.place ≡ place)
+    × ((x : Mention) → IsIn x before → x.text ≡ text → ⊥)

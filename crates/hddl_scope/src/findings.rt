@@ -1,48 +1,66 @@
-//! Of several faults, the one that comes first in the texts.
-ghost use Rattle.hddl_scope.specs.Findings.{IsOneOf};
+//! The faults that a check finds: all of them, or the first in the texts alone.
+ghost use Rattle.std.specs.Prelude.{◌≡◌, [], true, false, slice_get, OnOk};
+ghost use Rattle.hddl_scope.specs.Findings.{keep};
 
-use hddl_meaning::{At, CheckFault, Source};
+use crate::ranks::comes_before;
+use hddl_meaning::CheckFault;
+use std::alloc::{AllocError, Global};
+use std::marker::Model;
 
-/// Where the fault stands, unless it is want of memory.
-fn at(fault: CheckFault) -> Option<At> {
-    match fault {
-        CheckFault::Duplicate(at)
-        | CheckFault::UnknownType(at)
-        | CheckFault::TypeCycle(at)
-        | CheckFault::UnknownName(at)
-        | CheckFault::Arity(at)
-        | CheckFault::TypeClash(at)
-        | CheckFault::OrderCycle(at)
-        | CheckFault::UnknownSubtask(at)
-        | CheckFault::TooMany(at) => Some(at),
-        CheckFault::OutOfMemory => None,
-    }
+/// Faults that were found. Contracts see those that are kept, and whether all are.
+#[derive(Drop)]
+pub struct Findings {
+    keeps_all: bool,
+    faults: Vec<CheckFault>,
 }
 
-/// Whether the first place comes later in the texts, of which the domain is the first.
-fn is_later(a: At, b: At) -> bool {
-    match (a.source, b.source) {
-        (Source::Domain, Source::Problem) => false,
-        (Source::Problem, Source::Domain) => true,
-        _ => b.place < a.place,
-    }
+impl Model for Findings {
+    ghost Value = { Rattle.hddl_scope.specs.Findings.Kept };
+
+    ghost view = { λ findings. record { keeps_all = findings.keeps_all; faults = findings.faults.items } };
 }
 
-/// Whether the first fault comes later in the texts.
-fn comes_later(a: CheckFault, b: CheckFault) -> bool {
-    match (at(a), at(b)) {
-        (Some(a), Some(b)) => is_later(a, b),
-        _ => false,
+impl Findings {
+    /// No faults, of which all will be kept.
+    pub fn all(alloc: Global) -> Findings
+        ensures { result ≡ record { keeps_all = true; faults = [] } }
+    {
+        Findings {
+            keeps_all: true,
+            faults: Vec::new(alloc),
+        }
     }
-}
 
-/// The fault that comes first in the texts, if there is one.
-pub fn first_of(a: Option<CheckFault>, b: Option<CheckFault>) -> Option<CheckFault>
-    ensures { IsOneOf a b result }
-{
-    match (a, b) {
-        (None, _) => b,
-        (_, None) => a,
-        (Some(first), Some(second)) => { if comes_later(first, second) { b } else { a } }
+    /// No faults, of which the first in the texts will be kept.
+    pub fn first(alloc: Global) -> Findings
+        ensures { result ≡ record { keeps_all = false; faults = [] } }
+    {
+        Findings {
+            keeps_all: false,
+            faults: Vec::new(alloc),
+        }
+    }
+
+    /// The faults that are kept.
+    pub fn faults(&self) -> &[CheckFault]
+        ensures { result.now ≡ self.now.faults }
+    {
+        &self.faults
+    }
+
+    /// Adds a fault.
+    pub fn push(&mut self, fault: CheckFault) -> Result<(), AllocError>
+        ensures { OnOk result (self.new ≡ keep self.old fault) }
+    {
+        if !self.keeps_all {
+            if let Some(first) = self.faults.first().copied()
+                && !comes_before(fault, first)
+            {
+                return Ok(());
+            }
+            self.faults.clear();
+        }
+        self.faults.push(fault)?;
+        Ok(())
     }
 }

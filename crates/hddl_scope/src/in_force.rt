@@ -1,14 +1,14 @@
 //! The variables in force, found by their texts.
-ghost use Rattle.std.specs.Prelude.{◌≡◌, [], ◌∷◌, ◌++◌, length, take, cond, is_some, Some, None, IfOk, OnErr, OnOk};
+ghost use Rattle.std.specs.Prelude.{◌≡◌, ℕ, [], ◌∷◌, ◌++◌, length, take, cond, is_some, Option, Some, None, IfOk, OnErr, OnOk};
 ghost use Rattle.std.specs.Prelude.{option_and_then, option_map, slice_get};
 ghost use Rattle.std.specs.List.{flat_map, position};
-ghost use Rattle.hddl_meaning.specs.Mentions.{Text};
+ghost use Rattle.hddl_meaning.specs.Mentions.{Mention, Text};
 ghost use Rattle.hddl_meaning.specs.Names.{is_same_text};
 ghost use Rattle.hddl_meaning.specs.Items.{IsPast, variable_in, variable_mentions};
 ghost use Rattle.hddl_meaning.specs.Uses.{parameters_of, quantified_of};
 ghost use Rattle.hddl_scope.specs.Findings.{Finds};
 ghost use Rattle.hddl_scope.specs.Numbers.{number_at};
-ghost use Rattle.hddl_scope.specs.Repeats.{IsRepeat};
+ghost use Rattle.hddl_scope.specs.Repeats.{AreRepeats, IsFirstOf, IsRepeat, repeat_of};
 ghost use Rattle.hddl_scope.specs.Scopes.{group_variables, has_text};
 
 use crate::numbers::Numbers;
@@ -144,6 +144,37 @@ impl<'a> Scope<'a> {
         ensures { Finds (IsRepeat (variable_mentions self.now)) result }
     {
         self.repeat
+    }
+
+    /// The place at which the variable at a position stands again, if one of its text stands before: the later place of
+    /// its and the first one's.
+    fn repeat_at(&self, position: usize) -> Option<usize>
+        ensures { (m : Mention) → slice_get (variable_mentions self.now) position ≡ Some m
+            → (first : Option ℕ) × IsFirstOf (take position (variable_mentions self.now)) m.text first × (result ≡ repeat_of first m.place) }
+    {
+        let Some(variable) = self.at(Some(position)) else {
+            return None;
+        };
+        let Some(first) = self.position(variable.text()) else {
+            return None;
+        };
+        if first >= position {
+            return None;
+        }
+        later(self.place_at(Some(first)), variable.place())
+    }
+
+    /// The places at which variables past the first `start` ones stand again.
+    pub fn repeats(&self, alloc: Global, start: usize) -> Result<Vec<usize>, AllocError>
+        ensures { IfOk result (λ places. AreRepeats start (variable_mentions self.now) places.items) }
+    {
+        let mut places = Vec::new(alloc);
+        for position in start..self.entries.len() {
+            if let Some(place) = self.repeat_at(position) {
+                places.push(place)?;
+            }
+        }
+        Ok(places)
     }
 
     /// The place of the first variable past a limit, if there are more.

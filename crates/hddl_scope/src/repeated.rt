@@ -1,8 +1,8 @@
 //! Names that must differ.
-ghost use Rattle.std.specs.Prelude.{◌≡◌, IfOk, OnOk};
-ghost use Rattle.hddl_scope.specs.Findings.{Finds, IsOneOf};
+ghost use Rattle.std.specs.Prelude.{◌≡◌, ℕ, [], IfOk, OnOk};
+ghost use Rattle.hddl_scope.specs.Findings.{IsOneOf};
 ghost use Rattle.hddl_scope.specs.Numbers.{number_at};
-ghost use Rattle.hddl_scope.specs.Repeats.{IsRepeat, noted, repeat_of};
+ghost use Rattle.hddl_scope.specs.Repeats.{AreRepeats, IsRepeat, noted, repeat_of};
 
 use crate::mention::Mention;
 use crate::numbers::Numbers;
@@ -57,17 +57,20 @@ pub(crate) fn note(
     note_after(alloc, known, mention, first)
 }
 
-/// The place of a name that stood before, if there is one.
-pub fn first_repeat(alloc: Global, mentions: &[Mention<'_>]) -> Result<Option<usize>, AllocError>
-    ensures { IfOk result (Finds (IsRepeat mentions.now)) }
+/// The places at which names stand that stood before: of each name but the first of its text, its place or that of the
+/// first, whichever is later.
+pub fn repeats(alloc: Global, mentions: &[Mention<'_>]) -> Result<Vec<usize>, AllocError>
+    ensures repeats { IfOk result (λ places. AreRepeats 0 mentions.now places.items) }
+    ensures none { IfOk result (λ places. places.items ≡ [] → (place : ℕ) → IsRepeat mentions.now place → ⊥) }
 {
     let mut known = Numbers::with_capacity(alloc, mentions.len())?;
-    let mut found = None;
+    let mut places = Vec::new(alloc);
     for mention in mentions {
         let first = known.get(mention.text());
-        let here = later(first, mention.place());
+        if let Some(first) = first {
+            places.push(first.max(mention.place()))?;
+        }
         note_after(alloc, &mut known, mention, first)?;
-        found = least(found, here);
     }
-    Ok(found)
+    Ok(places)
 }

@@ -6,5 +6,7 @@ pub mod Pairs
 pub mod Searching
 pub mod Placing
 pub mod Using
+pub mod Duplicates
+pub mod Arguing
 pub mod Counting
 pub mod Circling

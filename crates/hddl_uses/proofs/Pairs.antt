@@ -15,12 +15,13 @@ use Rattle.hddl_meaning.specs.Names.{is_same_text, optional_mention}
 use Rattle.hddl_meaning.specs.Networks.{is_text, labelled, pair_of, written_pairs}
 use Rattle.hddl_meaning.specs.Items.{label_mentions}
 use Rattle.hddl_meaning.proofs.Listed.{at_head, at_tail, in_cases, in_nothing, texts_decide}
-use Rattle.hddl_scope.specs.Findings.{Finds, AnyOf}
+use Rattle.hddl_scope.specs.Findings.{Adds, AddsAny, Kept}
 use Rattle.hddl_uses.specs.Labels.{IsNumbering, IsUnknownLabel, names_of, pairs_of}
 use Rattle.hddl_scope.specs.Numbers.{Entries, number_at}
 use Rattle.hddl_scope.specs.Findings.{Faulted}
 use Rattle.hddl_uses.specs.Parts.{HasUnknownLabel}
-use Rattle.hddl_scope.proofs.Finding.{Finds-same, none_from}
+use Rattle.hddl_scope.proofs.Adding.{Adds-same}
+use Rattle.hddl_scope.proofs.Finding.{none_from}
 use Rattle.hddl_scope.proofs.Positions.{has_position}
 
 -- ## Pairs
@@ -124,8 +125,8 @@ module _ (n : NetworkText) (numbers : Entries) (number : IsNumbering n numbers) 
       by false none = known t ∙ none
 
   -- names without numbers are those that no subtask has
-  pub unknown_labels : (text : Source) {found : Option CheckFault} → Finds (AnyOf (IsUnknownLabel text numbers) (flat_map names_of n.orderings)) found
-      → Finds (Faulted UnknownSubtask text (HasUnknownLabel n)) found
+  pub unknown_labels : (text : Source) {O : CheckFault → Type 0} {before after : Kept} → AddsAny (λ _ _. ⊥) (IsUnknownLabel text numbers) (flat_map names_of n.orderings) before after
+      → Adds O (Faulted UnknownSubtask text (HasUnknownLabel n)) before after
   unknown_labels text =
-      Finds-same (λ f (name, at, (place, is, (none, there))). (place, is, (name, at, (missing (folded name.text) none, there))))
+      Adds-same (λ f (name, at, gone). absurd gone) (λ f (name, at, (place, is, (none, there))). (place, is, (name, at, (missing (folded name.text) none, there))))
       (λ f (place, is, (name, at, (gone, there))). (name, at, (place, is, (none_there (folded name.text) gone, there))))

@@ -13,8 +13,8 @@ use Rattle.hddl_meaning.specs.Names.{optional_mention, is_same_text, object, typ
 use Rattle.hddl_meaning.specs.Items.{type_of, IsDeclaredType}
 use Rattle.hddl_meaning.proofs.Listed.{at_head, at_tail, in_left, in_cases, in_nothing}
 use Rattle.hddl_meaning.specs.declared.fault.CheckFault.{CheckFault}
-use Rattle.hddl_scope.specs.Findings.{Finds, AnyOf}
-use Rattle.hddl_scope.proofs.Finding.{Finds-list, Finds-mapped}
+use Rattle.hddl_scope.specs.Findings.{AddsAny, Kept}
+use Rattle.hddl_scope.proofs.Adding.{Adds-list, Adds-mapped}
 use Rattle.hddl_scope.proofs.Positions.{is_number_of}
 use Rattle.hddl_uses.specs.Parts.{Part, TypeName, type_parts, variable_group_parts, name_group_parts}
 
@@ -60,33 +60,33 @@ is_type_number d t =
       λ h. (is_number_of all t).1 (elim h [ inl is ↦ subst (λ z. IsIn z all) (sym is) (at_head object (texts (type_mentions d))) | inr at ↦ at_tail object t (texts (type_mentions d)) at ]),
     )
 
--- ## Findings
+-- ## Faults
 
-module _ (P : Part → CheckFault → Type 0) where
-  -- what is found of a group's type is found of its names' types
-  group_types : {X : Type 0} (mention : X → Mention) (of_type : Option Name) (x : X) (xs : List X) {found : Option CheckFault}
-      → Finds (AnyOf P (map TypeName (optional_mention of_type))) found → Finds (AnyOf P (type_parts (map (typed_as mention of_type) (x ∷ xs)))) found
+module _ (O P : Part → CheckFault → Type 0) where
+  -- faults of a group's type are those of its names' types
+  group_types : {X : Type 0} (mention : X → Mention) (of_type : Option Name) (x : X) (xs : List X) {before after : Kept}
+      → AddsAny O P (map TypeName (optional_mention of_type)) before after → AddsAny O P (type_parts (map (typed_as mention of_type) (x ∷ xs))) before after
   group_types mention of_type x xs h =
-      Finds-mapped P TypeName (optional_mention of_type) (flat_map type_of (map (typed_as mention of_type) (x ∷ xs)))
+      Adds-mapped O P TypeName (optional_mention of_type) (flat_map type_of (map (typed_as mention of_type) (x ∷ xs)))
       (types_all mention of_type x xs) (types_within mention of_type (x ∷ xs)) h
 
   -- the same of a group of variables
-  pub variable_group : (g : VariableGroup) {found : Option CheckFault} → (g.variables ≡ [] → ⊥)
-      → Finds (AnyOf P (map TypeName (optional_mention g.of_type))) found → Finds (AnyOf P (variable_group_parts g)) found
-  variable_group g {found} some h = by g.variables some
+  pub variable_group : (g : VariableGroup) {before after : Kept} → (g.variables ≡ [] → ⊥)
+      → AddsAny O P (map TypeName (optional_mention g.of_type)) before after → AddsAny O P (variable_group_parts g) before after
+  variable_group g {before} {after} some h = by g.variables some
     where
-      by : (xs : List words.Variable) → (xs ≡ [] → ⊥) → Finds (AnyOf P (variable_group_parts (record { variables = xs; of_type = g.of_type }))) found
+      by : (xs : List words.Variable) → (xs ≡ [] → ⊥) → AddsAny O P (variable_group_parts (record { variables = xs; of_type = g.of_type })) before after
       by [] some = absurd (some refl)
-      by (x ∷ xs) some = Finds-list P (ap type_parts (sym (append-nil (map (typed_as variable_mention g.of_type) (x ∷ xs))))) (group_types variable_mention g.of_type x xs h)
+      by (x ∷ xs) some = Adds-list O P (ap type_parts (sym (append-nil (map (typed_as variable_mention g.of_type) (x ∷ xs))))) (group_types variable_mention g.of_type x xs h)
 
   -- the same of a group of names
-  pub name_group : (g : NameGroup) {found : Option CheckFault} → (g.names ≡ [] → ⊥)
-      → Finds (AnyOf P (map TypeName (optional_mention g.of_type))) found → Finds (AnyOf P (name_group_parts g)) found
-  name_group g {found} some h = by g.names some
+  pub name_group : (g : NameGroup) {before after : Kept} → (g.names ≡ [] → ⊥)
+      → AddsAny O P (map TypeName (optional_mention g.of_type)) before after → AddsAny O P (name_group_parts g) before after
+  name_group g {before} {after} some h = by g.names some
     where
-      by : (xs : List Name) → (xs ≡ [] → ⊥) → Finds (AnyOf P (name_group_parts (record { names = xs; of_type = g.of_type }))) found
+      by : (xs : List Name) → (xs ≡ [] → ⊥) → AddsAny O P (name_group_parts (record { names = xs; of_type = g.of_type })) before after
       by [] some = absurd (some refl)
-      by (x ∷ xs) some = Finds-list P (ap type_parts (sym (append-nil (map (typed_as mention_of g.of_type) (x ∷ xs))))) (group_types mention_of g.of_type x xs h)
+      by (x ∷ xs) some = Adds-list O P (ap type_parts (sym (append-nil (map (typed_as mention_of g.of_type) (x ∷ xs))))) (group_types mention_of g.of_type x xs h)
 
 -- the types of two lists have to fit, one list after the other
 type_parts-append : (xs ys : List Typed) → type_parts (xs ++ ys) ≡ type_parts xs ++ type_parts ys

@@ -21,7 +21,7 @@ use Rattle.hddl_meaning.specs.declared.fault.CheckFault.{CheckFault}
 use Rattle.hddl_meaning.specs.declared.fault.CheckFault.TheVariants as fault
 use Rattle.hddl_scope.specs.Findings.{Faulted}
 use Rattle.hddl_uses.specs.Known.{IsKnownClash}
-use Rattle.hddl_scope.specs.Repeats.{IsRepeat}
+use Rattle.hddl_scope.specs.Repeats.{IsOvertaken, IsRepeat}
 
 -- one thing that has to fit
 pub data Part : Type 0 where
@@ -102,6 +102,11 @@ FailsIn d p text (Side t) f = Faulted fault.UnknownName text (items.IsUnknownTer
 FailsIn d p text (Network place n) f = Faulted fault.OrderCycle text (IsCyclic place n) f ⊎ Faulted fault.UnknownSubtask text (HasUnknownLabel n) f
 FailsIn d p text Types f = Faulted fault.TooMany text (items.IsPastDistinct items.most_declarations (type_mentions d)) f
 FailsIn d p text Objects f = Faulted fault.TooMany text (λ place. items.IsPastObjects d p (record { source = text; place = place })) f
+
+-- a fault of a part that isn't looked for: a repeat of names that are overtaken by one in front of them
+abbrev pub PassedOverIn : Source → Part → CheckFault → Type 0
+PassedOverIn text (Different mentions) f = Faulted fault.Duplicate text (IsOvertaken mentions) f
+PassedOverIn text _ f = ⊥
 
 -- ## Parts
 

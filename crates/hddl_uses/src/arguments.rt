@@ -1,6 +1,6 @@
 //! Terms where they are used.
-ghost use Rattle.std.specs.Prelude.{◌≡◌, ◌↔◌, List, Some, IfOk, IsTrue, length};
-ghost use Rattle.std.specs.List.{position, zip};
+ghost use Rattle.std.specs.Prelude.{◌≡◌, ◌↔◌, List, Some, IfOk, IsTrue, OnOk};
+ghost use Rattle.std.specs.List.{position};
 ghost use Rattle.hddl_tree.specs.declared.term.Term.TheVariants as term;
 ghost use Rattle.hddl_meaning.specs.Mentions.{IsIn, Text};
 ghost use Rattle.hddl_meaning.specs.Names.{is_same_text, object_names, type_names};
@@ -8,14 +8,14 @@ ghost use Rattle.hddl_meaning.specs.Types.{text_or_object, HasType};
 ghost use Rattle.hddl_meaning.specs.Items.{MayStand};
 ghost use Rattle.hddl_meaning.specs.Uses.{Variable as VariableInForce};
 ghost use Rattle.hddl_uses.specs.Contexts.{AnyArgumentFails, ArgumentFails, Fails, IsUnknownObject};
-ghost use Rattle.hddl_scope.specs.Findings.{Finds};
+ghost use Rattle.hddl_scope.specs.Findings.{Adds};
 ghost use Rattle.hddl_uses.specs.Known.{AreKnown, IsTyped};
 ghost use Rattle.hddl_uses.specs.Parts.{Side};
 
 use crate::context::Context;
 use hddl_meaning::CheckFault;
 use hddl_names::fold;
-use hddl_scope::{Declared, Scope, first_of};
+use hddl_scope::{Declared, Findings, Scope};
 use hddl_tree::{Name, Term, Variable};
 use std::alloc::AllocError;
 
@@ -24,19 +24,25 @@ fn check_variable(
     context: &Context<'_, '_>,
     scope: &Scope<'_>,
     variable: &Variable,
-) -> Result<Option<CheckFault>, AllocError>
-    ensures { IfOk result (Finds (Fails context.now (Side (record { variables = scope.now; term = term.Variable variable.now })))) }
+    found: &mut Findings,
+) -> Result<(), AllocError>
+    ensures { OnOk result (Adds (λ _. ⊥) (Fails context.now (Side (record { variables = scope.now; term = term.Variable variable.now }))) found.old found.new) }
 {
     let text = fold(context.alloc, variable.text())?;
     if scope.get(text.as_slice()).is_some() {
-        return Ok(None);
+        return Ok(());
     }
-    Ok(Some(CheckFault::UnknownName(context.at(variable.place()))))
+    found.push(CheckFault::UnknownName(context.at(variable.place())))?;
+    Ok(())
 }
 
 /// A constant or object that isn't declared.
-fn check_object(context: &Context<'_, '_>, name: &Name) -> Result<Option<CheckFault>, AllocError>
-    ensures { IfOk result (Finds (IsUnknownObject context.now name.now)) }
+fn check_object(
+    context: &Context<'_, '_>,
+    name: &Name,
+    found: &mut Findings,
+) -> Result<(), AllocError>
+    ensures { OnOk result (Adds (λ _. ⊥) (IsUnknownObject context.now name.now) found.old found.new) }
 {
     let text = fold(context.alloc, name.text())?;
     if context
@@ -45,9 +51,10 @@ fn check_object(context: &Context<'_, '_>, name: &Name) -> Result<Option<CheckFa
         .number_of(text.as_slice())
         .is_some()
     {
-        return Ok(None);
+        return Ok(());
     }
-    Ok(Some(CheckFault::UnknownName(context.at(name.place()))))
+    found.push(CheckFault::UnknownName(context.at(name.place())))?;
+    Ok(())
 }
 
 /// A variable that isn't in force, or a constant or object that isn't declared.
@@ -55,12 +62,13 @@ pub(crate) fn check_term(
     context: &Context<'_, '_>,
     scope: &Scope<'_>,
     term: &Term,
-) -> Result<Option<CheckFault>, AllocError>
-    ensures { IfOk result (Finds (Fails context.now (Side (record { variables = scope.now; term = term.now })))) }
+    found: &mut Findings,
+) -> Result<(), AllocError>
+    ensures { OnOk result (Adds (λ _. ⊥) (Fails context.now (Side (record { variables = scope.now; term = term.now }))) found.old found.new) }
 {
     match term {
-        Term::Variable(variable) => check_variable(context, scope, variable),
-        Term::Object(name) => check_object(context, name),
+        Term::Variable(variable) => check_variable(context, scope, variable, found),
+        Term::Object(name) => check_object(context, name, found),
     }
 }
 
@@ -153,17 +161,20 @@ fn check_variable_argument(
     scope: &Scope<'_>,
     variable: &Variable,
     place: &Declared<'_>,
-) -> Result<Option<CheckFault>, AllocError>
-    ensures { IfOk result (Finds (ArgumentFails context.now scope.now (term.Variable variable.now, place.now))) }
+    found: &mut Findings,
+) -> Result<(), AllocError>
+    ensures { OnOk result (Adds (λ _. ⊥) (ArgumentFails context.now scope.now (term.Variable variable.now, place.now)) found.old found.new) }
 {
     let text = fold(context.alloc, variable.text())?;
     let Some(declared) = scope.get(text.as_slice()) else {
-        return Ok(Some(CheckFault::UnknownName(context.at(variable.place()))));
+        found.push(CheckFault::UnknownName(context.at(variable.place())))?;
+        return Ok(());
     };
     if is_barred(context, declared, place)? {
-        return Ok(Some(CheckFault::TypeClash(context.at(variable.place()))));
+        found.push(CheckFault::TypeClash(context.at(variable.place())))?;
+        return Ok(());
     }
-    Ok(None)
+    Ok(())
 }
 
 /// A constant or object that isn't declared, or lacks the type of its place.
@@ -171,18 +182,21 @@ fn check_object_argument(
     context: &Context<'_, '_>,
     name: &Name,
     place: &Declared<'_>,
-) -> Result<Option<CheckFault>, AllocError>
-    ensures { IfOk result (λ found. (variables : List VariableInForce)
-        → Finds (ArgumentFails context.now variables (term.Object name.now, place.now)) found) }
+    found: &mut Findings,
+) -> Result<(), AllocError>
+    ensures { (variables : List VariableInForce)
+        → OnOk result (Adds (λ _. ⊥) (ArgumentFails context.now variables (term.Object name.now, place.now)) found.old found.new) }
 {
     let text = fold(context.alloc, name.text())?;
     let Some(object) = context.vocabulary.objects().number_of(text.as_slice()) else {
-        return Ok(Some(CheckFault::UnknownName(context.at(name.place()))));
+        found.push(CheckFault::UnknownName(context.at(name.place())))?;
+        return Ok(());
     };
     if lacks_type(context, object, place)? {
-        return Ok(Some(CheckFault::TypeClash(context.at(name.place()))));
+        found.push(CheckFault::TypeClash(context.at(name.place())))?;
+        return Ok(());
     }
-    Ok(None)
+    Ok(())
 }
 
 /// An argument that isn't known, or can't have the type of its place.
@@ -191,29 +205,34 @@ fn check_argument(
     scope: &Scope<'_>,
     argument: &Term,
     place: &Declared<'_>,
-) -> Result<Option<CheckFault>, AllocError>
-    ensures { IfOk result (Finds (ArgumentFails context.now scope.now (argument.now, place.now))) }
+    found: &mut Findings,
+) -> Result<(), AllocError>
+    ensures { OnOk result (Adds (λ _. ⊥) (ArgumentFails context.now scope.now (argument.now, place.now)) found.old found.new) }
 {
     match argument {
-        Term::Variable(variable) => check_variable_argument(context, scope, variable, place),
-        Term::Object(name) => check_object_argument(context, name, place),
+        Term::Variable(variable) => {
+            check_variable_argument(context, scope, variable, place, found)
+        }
+        Term::Object(name) => check_object_argument(context, name, place, found),
     }
 }
 
-/// A fault of some argument, where there are as many arguments as places.
+/// Faults of arguments: of each whether it is known, and, as far as there are places, whether it can have the type of
+/// its place.
 pub(crate) fn check_arguments(
     context: &Context<'_, '_>,
     scope: &Scope<'_>,
     arguments: &[Term],
     places: &[Declared<'_>],
-) -> Result<Option<CheckFault>, AllocError>
-    requires { length arguments.now ≡ length places.now }
-    ensures { IfOk result (Finds (AnyArgumentFails context.now scope.now (zip arguments.now places.now))) }
+    found: &mut Findings,
+) -> Result<(), AllocError>
+    ensures { OnOk result (Adds (λ _. ⊥) (AnyArgumentFails context.now scope.now arguments.now places.now) found.old found.new) }
 {
-    let mut found = None;
     for (index, argument) in arguments.iter().enumerate() {
-        let here = check_argument(context, scope, argument, &places[index])?;
-        found = first_of(found, here);
+        match places.get(index) {
+            Some(place) => check_argument(context, scope, argument, place, found)?,
+            None => check_term(context, scope, argument, found)?,
+        }
     }
-    Ok(found)
+    Ok(())
 }

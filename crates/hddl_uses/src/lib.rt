@@ -19,6 +19,6 @@ pub use context::Context;
 pub use declared::Declarations;
 pub use mentions::{check_different, check_limit};
 pub use networks::check_network;
-pub use quantifiers::{check_count, check_repeat};
+pub use quantifiers::{check_count, check_repeats};
 pub use types::{check_name_types, check_variable_types};
 pub use uses::{check_atoms, check_constraints, check_decomposed, check_effects, check_tasks_used};

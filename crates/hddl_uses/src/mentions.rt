@@ -1,26 +1,40 @@
 //! Checks of lists of names.
-ghost use Rattle.std.specs.Prelude.{IfOk};
-ghost use Rattle.hddl_uses.specs.Contexts.{Fails};
-ghost use Rattle.hddl_scope.specs.Findings.{Finds};
+ghost use Rattle.std.specs.Prelude.{◌≡◌, map, OnOk};
+ghost use Rattle.std.specs.List.{fold};
+ghost use Rattle.hddl_scope.specs.Findings.{Adds, keep};
+ghost use Rattle.hddl_uses.specs.Contexts.{duplicate_at, Fails, PassedOver};
 ghost use Rattle.hddl_uses.specs.Parts.{Different, Limited};
 
 use crate::context::Context;
 use hddl_meaning::CheckFault;
-use hddl_scope::{Mention, first_past, first_repeat};
+use hddl_scope::{Findings, Mention, first_past, repeats};
 use std::alloc::AllocError;
 
-/// A name that stands twice.
+/// A fault at each place at which a name stands again.
+pub(crate) fn push_repeats(
+    context: &Context<'_, '_>,
+    places: &[usize],
+    found: &mut Findings,
+) -> Result<(), AllocError>
+    ensures { OnOk result (found.new ≡ fold keep found.old (map (duplicate_at context.now.source) places.now)) }
+{
+    for place in places {
+        found.push(CheckFault::Duplicate(context.at(*place)))?;
+    }
+    Ok(())
+}
+
+/// Names that stand again.
 pub fn check_different(
     context: &Context<'_, '_>,
     mentions: &[Mention<'_>],
-) -> Result<Option<CheckFault>, AllocError>
-    ensures { IfOk result (Finds (Fails context.now (Different mentions.now))) }
+    found: &mut Findings,
+) -> Result<(), AllocError>
+    ensures { OnOk result (Adds (PassedOver context.now (Different mentions.now)) (Fails context.now (Different mentions.now)) found.old found.new) }
 {
-    let repeat = first_repeat(context.alloc, mentions)?;
-    match repeat {
-        Some(place) => Ok(Some(CheckFault::Duplicate(context.at(place)))),
-        None => Ok(None),
-    }
+    let places = repeats(context.alloc, mentions)?;
+    push_repeats(context, &places, found)?;
+    Ok(())
 }
 
 /// The first name past a limit.
@@ -28,11 +42,12 @@ pub fn check_limit(
     context: &Context<'_, '_>,
     limit: usize,
     mentions: &[Mention<'_>],
-) -> Option<CheckFault>
-    ensures { Finds (Fails context.now (Limited limit mentions.now)) result }
+    found: &mut Findings,
+) -> Result<(), AllocError>
+    ensures { OnOk result (Adds (PassedOver context.now (Limited limit mentions.now)) (Fails context.now (Limited limit mentions.now)) found.old found.new) }
 {
-    match first_past(limit, mentions) {
-        Some(place) => Some(CheckFault::TooMany(context.at(place))),
-        None => None,
+    if let Some(place) = first_past(limit, mentions) {
+        found.push(CheckFault::TooMany(context.at(place)))?;
     }
+    Ok(())
 }

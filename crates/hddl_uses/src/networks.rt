@@ -1,13 +1,13 @@
 //! Task networks: their subtasks' names and their order.
-ghost use Rattle.std.specs.Prelude.{◌≡◌, ◌++◌, ◌↔◌, length, IfOk, IsTrue};
+ghost use Rattle.std.specs.Prelude.{◌≡◌, ◌++◌, ◌↔◌, length, IfOk, IsTrue, OnOk};
 ghost use Rattle.std.specs.List.{flat_map};
 ghost use Rattle.htn_order.specs.Closure.{AreBelow, successors};
 ghost use Rattle.hddl_meaning.specs.Networks.{order_pairs, written_pairs};
 ghost use Rattle.hddl_meaning.specs.Items.{most_subtasks, subtask_mentions};
 ghost use Rattle.hddl_meaning.specs.declared.fault.CheckFault.TheVariants.{OrderCycle};
-ghost use Rattle.hddl_uses.specs.Contexts.{AnyFails, Fails};
+ghost use Rattle.hddl_uses.specs.Contexts.{Fails, PassedOver};
 ghost use Rattle.hddl_uses.specs.Parts.{IsCyclic, Limited, Network, network_parts};
-ghost use Rattle.hddl_scope.specs.Findings.{AnyOf, Faulted, Finds};
+ghost use Rattle.hddl_scope.specs.Findings.{Adds, AddsAny, Faulted};
 ghost use Rattle.hddl_uses.specs.Labels.{IsNumbering, IsUnknownLabel, Circles, names_of};
 
 use crate::context::Context;
@@ -16,7 +16,7 @@ use crate::labels::{label_numbers, labels_in, pairs_in};
 use crate::mentions::check_different;
 use hddl_meaning::CheckFault;
 use hddl_names::fold;
-use hddl_scope::{MOST_SUBTASKS, Numbers, first_of};
+use hddl_scope::{Findings, MOST_SUBTASKS, Numbers};
 use hddl_tree::{Name, NetworkText, OrderingText};
 use htn_order::close_chain;
 use std::alloc::{AllocError, Global};
@@ -26,31 +26,32 @@ fn check_label(
     context: &Context<'_, '_>,
     numbers: &Numbers,
     name: &Name,
-) -> Result<Option<CheckFault>, AllocError>
-    ensures { IfOk result (Finds (IsUnknownLabel context.now.source numbers.now name.now)) }
+    found: &mut Findings,
+) -> Result<(), AllocError>
+    ensures { OnOk result (Adds (λ _. ⊥) (IsUnknownLabel context.now.source numbers.now name.now) found.old found.new) }
 {
     let text = fold(context.alloc, name.text())?;
     if numbers.get(text.as_slice()).is_some() {
-        return Ok(None);
+        return Ok(());
     }
-    Ok(Some(CheckFault::UnknownSubtask(context.at(name.place()))))
+    found.push(CheckFault::UnknownSubtask(context.at(name.place())))?;
+    Ok(())
 }
 
-/// A name in orderings that no subtask has.
+/// Names in orderings that no subtask has.
 fn check_labels(
     context: &Context<'_, '_>,
     numbers: &Numbers,
     orderings: &[OrderingText],
-) -> Result<Option<CheckFault>, AllocError>
-    ensures { IfOk result (Finds (AnyOf (IsUnknownLabel context.now.source numbers.now) (flat_map names_of orderings.now))) }
+    found: &mut Findings,
+) -> Result<(), AllocError>
+    ensures { OnOk result (AddsAny (λ _ _. ⊥) (IsUnknownLabel context.now.source numbers.now) (flat_map names_of orderings.now) found.old found.new) }
 {
-    let mut found = None;
     for ordering in orderings {
-        let before = check_label(context, numbers, &ordering.before)?;
-        let after = check_label(context, numbers, &ordering.after)?;
-        found = first_of(found, first_of(before, after));
+        check_label(context, numbers, &ordering.before, found)?;
+        check_label(context, numbers, &ordering.after, found)?;
     }
-    Ok(found)
+    Ok(())
 }
 
 /// Whether the pairs have a cycle, together with the sequence of the list.
@@ -88,53 +89,61 @@ fn check_cycle(
     place: usize,
     network: &NetworkText,
     numbers: &Numbers,
-) -> Result<Option<CheckFault>, AllocError>
+    found: &mut Findings,
+) -> Result<(), AllocError>
     requires { IsNumbering network.now numbers.now }
-    ensures { IfOk result (Finds (Faulted OrderCycle context.now.source (IsCyclic place network.now))) }
+    ensures { OnOk result (Adds (λ _. ⊥) (Faulted OrderCycle context.now.source (IsCyclic place network.now)) found.old found.new) }
 {
     let pairs = pairs_in(context.alloc, numbers, network.orderings.as_slice())?;
     let cyclic = has_cycle(context.alloc, network, &pairs)?;
     if cyclic {
-        return Ok(Some(CheckFault::OrderCycle(context.at(place))));
+        found.push(CheckFault::OrderCycle(context.at(place)))?;
+        return Ok(());
     }
-    Ok(None)
+    Ok(())
 }
 
-/// A cycle of a network's order, or a name in it that no subtask has.
+/// A cycle of a network's order, and names in it that no subtask has.
 fn check_order(
     context: &Context<'_, '_>,
     place: usize,
     network: &NetworkText,
-) -> Result<Option<CheckFault>, AllocError>
-    ensures { IfOk result (Finds (Fails context.now (Network place network.now))) }
+    found: &mut Findings,
+) -> Result<(), AllocError>
+    ensures { OnOk result (Adds (λ _. ⊥) (Fails context.now (Network place network.now)) found.old found.new) }
 {
     let numbers = label_numbers(context.alloc, network.subtasks.as_slice())?;
-    let cycle = check_cycle(context, place, network, &numbers)?;
-    let unknown = check_labels(context, &numbers, network.orderings.as_slice())?;
-    Ok(first_of(cycle, unknown))
+    check_cycle(context, place, network, &numbers, found)?;
+    check_labels(context, &numbers, network.orderings.as_slice(), found)?;
+    Ok(())
 }
 
 /// The first subtask past the limit.
-fn check_subtasks(context: &Context<'_, '_>, network: &NetworkText) -> Option<CheckFault>
-    ensures { Finds (Fails context.now (Limited most_subtasks (subtask_mentions network.now))) result }
+fn check_subtasks(
+    context: &Context<'_, '_>,
+    network: &NetworkText,
+    found: &mut Findings,
+) -> Result<(), AllocError>
+    ensures { OnOk result (Adds (λ _. ⊥) (Fails context.now (Limited most_subtasks (subtask_mentions network.now))) found.old found.new) }
 {
-    match network.subtasks.as_slice().get(MOST_SUBTASKS) {
-        Some(subtask) => Some(CheckFault::TooMany(context.at(subtask.place()))),
-        None => None,
+    if let Some(subtask) = network.subtasks.as_slice().get(MOST_SUBTASKS) {
+        found.push(CheckFault::TooMany(context.at(subtask.place())))?;
     }
+    Ok(())
 }
 
-/// A fault of a network's names or order.
+/// Faults of a network's names and its order.
 pub fn check_network(
     context: &Context<'_, '_>,
     place: usize,
     network: &NetworkText,
-) -> Result<Option<CheckFault>, AllocError>
-    ensures { IfOk result (Finds (AnyFails context.now (network_parts place network.now))) }
+    found: &mut Findings,
+) -> Result<(), AllocError>
+    ensures { OnOk result (AddsAny (PassedOver context.now) (Fails context.now) (network_parts place network.now) found.old found.new) }
 {
     let labels = labels_in(context.alloc, network.subtasks.as_slice())?;
-    let repeated = check_different(context, &labels)?;
-    let limit = check_subtasks(context, network);
-    let order = check_order(context, place, network)?;
-    Ok(first_of(repeated, first_of(limit, order)))
+    check_different(context, &labels, found)?;
+    check_subtasks(context, network, found)?;
+    check_order(context, place, network, found)?;
+    Ok(())
 }

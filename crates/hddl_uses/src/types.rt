@@ -1,16 +1,16 @@
 //! Types that are named.
-ghost use Rattle.std.specs.Prelude.{◌↔◌, IfOk, IsTrue, map};
+ghost use Rattle.std.specs.Prelude.{◌↔◌, IfOk, IsTrue, OnOk, map};
 ghost use Rattle.hddl_meaning.specs.Items.{IsDeclaredType};
 ghost use Rattle.hddl_meaning.specs.Mentions.{folded, typed_names, typed_variables};
 ghost use Rattle.hddl_meaning.specs.Names.{optional_mention};
-ghost use Rattle.hddl_uses.specs.Contexts.{AnyFails};
-ghost use Rattle.hddl_scope.specs.Findings.{Finds};
+ghost use Rattle.hddl_scope.specs.Findings.{AddsAny};
+ghost use Rattle.hddl_uses.specs.Contexts.{Fails, PassedOver};
 ghost use Rattle.hddl_uses.specs.Parts.{TypeName, type_parts, name_group_parts, variable_group_parts};
 
 use crate::context::Context;
 use hddl_meaning::CheckFault;
 use hddl_names::fold;
-use hddl_scope::first_of;
+use hddl_scope::Findings;
 use hddl_tree::{Name, NameGroup, VariableGroup};
 use std::alloc::AllocError;
 
@@ -27,71 +27,72 @@ fn is_declared(context: &Context<'_, '_>, name: &Name) -> Result<bool, AllocErro
 fn check_type(
     context: &Context<'_, '_>,
     of_type: &Option<Name>,
-) -> Result<Option<CheckFault>, AllocError>
-    ensures { IfOk result (Finds (AnyFails context.now (map TypeName (optional_mention of_type.now)))) }
+    found: &mut Findings,
+) -> Result<(), AllocError>
+    ensures { OnOk result (AddsAny (PassedOver context.now) (Fails context.now) (map TypeName (optional_mention of_type.now)) found.old found.new) }
 {
-    match of_type {
-        Some(name) => {
-            let known = is_declared(context, name)?;
-            if known {
-                return Ok(None);
-            }
-            Ok(Some(CheckFault::UnknownType(context.at(name.place()))))
-        }
-        None => Ok(None),
+    let Some(name) = of_type else {
+        return Ok(());
+    };
+    if is_declared(context, name)? {
+        return Ok(());
     }
+    found.push(CheckFault::UnknownType(context.at(name.place())))?;
+    Ok(())
 }
 
 fn check_variable_group(
     context: &Context<'_, '_>,
     group: &VariableGroup,
-) -> Result<Option<CheckFault>, AllocError>
-    ensures { IfOk result (Finds (AnyFails context.now (variable_group_parts group.now))) }
+    found: &mut Findings,
+) -> Result<(), AllocError>
+    ensures { OnOk result (AddsAny (PassedOver context.now) (Fails context.now) (variable_group_parts group.now) found.old found.new) }
 {
     if group.variables.is_empty() {
-        return Ok(None);
+        return Ok(());
     }
-    let found = check_type(context, &group.of_type)?;
-    Ok(found)
+    check_type(context, &group.of_type, found)?;
+    Ok(())
 }
 
 fn check_name_group(
     context: &Context<'_, '_>,
     group: &NameGroup,
-) -> Result<Option<CheckFault>, AllocError>
-    ensures { IfOk result (Finds (AnyFails context.now (name_group_parts group.now))) }
+    found: &mut Findings,
+) -> Result<(), AllocError>
+    ensures { OnOk result (AddsAny (PassedOver context.now) (Fails context.now) (name_group_parts group.now) found.old found.new) }
 {
     if group.names.is_empty() {
-        return Ok(None);
+        return Ok(());
     }
-    let found = check_type(context, &group.of_type)?;
-    Ok(found)
+    check_type(context, &group.of_type, found)?;
+    Ok(())
 }
 
-/// A type of parameters or variables that isn't declared.
+/// Types of parameters or variables that aren't declared.
 pub fn check_variable_types(
     context: &Context<'_, '_>,
     groups: &[VariableGroup],
-) -> Result<Option<CheckFault>, AllocError>
-    ensures { IfOk result (Finds (AnyFails context.now (type_parts (typed_variables groups.now)))) }
+    found: &mut Findings,
+) -> Result<(), AllocError>
+    ensures { OnOk result (AddsAny (PassedOver context.now) (Fails context.now) (type_parts (typed_variables groups.now)) found.old found.new) }
 {
-    let mut found = None;
     for group in groups {
-        found = first_of(found, check_variable_group(context, group)?);
+        check_variable_group(context, group, found)?;
     }
-    Ok(found)
+    Ok(())
 }
 
-/// A type of constants or objects that isn't declared.
+/// Types of constants or objects that aren't declared.
 pub fn check_name_types(
     context: &Context<'_, '_>,
     groups: &[NameGroup],
-) -> Result<Option<CheckFault>, AllocError>
-    ensures { IfOk result (Finds (AnyFails context.now (type_parts (typed_names groups.now)))) }
+    found: &mut Findings,
+) -> Result<(), AllocError>
+    ensures { OnOk result (AddsAny (PassedOver context.now) (Fails context.now) (type_parts (typed_names groups.now)) found.old found.new) }
 {
-    let mut found = None;
     for group in groups {
-        found = first_of(found, check_name_group(context, group)?);
+        check_name_group(context, group, found)?;
     }
-    Ok(found)
+    Ok(())
 }

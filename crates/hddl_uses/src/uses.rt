@@ -1,10 +1,11 @@
 //! Atoms, tasks and equalities where they are used.
-ghost use Rattle.std.specs.Prelude.{IfOk, List, map, take};
+ghost use Rattle.std.specs.Prelude.{List, OnOk, map, take};
 ghost use Rattle.std.specs.List.{flat_map};
 ghost use Rattle.hddl_meaning.specs.Items.{Signature};
 ghost use Rattle.hddl_meaning.specs.Uses.{sides};
-ghost use Rattle.hddl_uses.specs.Contexts.{AnyFails, Fails};
-ghost use Rattle.hddl_scope.specs.Findings.{Finds};
+ghost use Rattle.hddl_meaning.specs.declared.fault.CheckFault.TheVariants.{Arity};
+ghost use Rattle.hddl_scope.specs.Findings.{Adds, AddsAny, Faulted};
+ghost use Rattle.hddl_uses.specs.Contexts.{Fails, IsMiscounted, PassedOver, PlacesFail};
 ghost use Rattle.hddl_uses.specs.Parts.{Atom, Decomposed, Side, Subtask, UseFails};
 ghost use Rattle.hddl_uses.specs.Tables.{IsTableOf};
 
@@ -13,141 +14,187 @@ use crate::context::Context;
 use crate::signatures::Signatures;
 use hddl_meaning::CheckFault;
 use hddl_names::fold;
-use hddl_scope::{Scope, first_of};
+use hddl_scope::{Declared, Findings, Scope};
 use hddl_tree::{AtomText, EqualityText, LiteralText, SubtaskText};
 use std::alloc::AllocError;
 
-/// A fault of an atom or a task, of which the name has to be that of one of the first `count` declarations.
+/// A number of arguments other than the number of places.
+fn check_count(
+    context: &Context<'_, '_>,
+    atom: &AtomText,
+    places: usize,
+    found: &mut Findings,
+) -> Result<(), AllocError>
+    ensures { OnOk result (Adds (λ _. ⊥) (Faulted Arity context.now.source (IsMiscounted atom.now places)) found.old found.new) }
+{
+    if atom.terms.len() == places {
+        return Ok(());
+    }
+    found.push(CheckFault::Arity(context.at(atom.name.place())))?;
+    Ok(())
+}
+
+/// Faults of the arguments of an atom or a task whose declaration has these places.
+fn check_places(
+    context: &Context<'_, '_>,
+    scope: &Scope<'_>,
+    atom: &AtomText,
+    places: &[Declared<'_>],
+    found: &mut Findings,
+) -> Result<(), AllocError>
+    ensures { OnOk result (Adds (λ _. ⊥) (PlacesFail context.now scope.now atom.now places.now) found.old found.new) }
+{
+    check_count(context, atom, places.len(), found)?;
+    check_arguments(context, scope, atom.terms.as_slice(), places, found)?;
+    Ok(())
+}
+
+/// Faults of an atom or a task, of which the name has to be that of one of the first `count` declarations.
 fn check_use(
     context: &Context<'_, '_>,
     declared: &Signatures<'_>,
     count: usize,
     scope: &Scope<'_>,
     atom: &AtomText,
-) -> Result<Option<CheckFault>, AllocError>
-    ensures { IfOk result (λ found. (signatures : List Signature) → IsTableOf signatures declared.now
-        → Finds (UseFails context.now.domain.now context.now.problem.now context.now.source (map (λ s. s.name) (take count signatures)) signatures
-        (record { variables = scope.now; atom = atom.now })) found) }
+    found: &mut Findings,
+) -> Result<(), AllocError>
+    ensures { (signatures : List Signature) → IsTableOf signatures declared.now
+        → OnOk result (Adds (λ _. ⊥) (UseFails context.now.domain.now context.now.problem.now context.now.source (map (λ s. s.name) (take count signatures)) signatures
+        (record { variables = scope.now; atom = atom.now })) found.old found.new) }
 {
     let text = fold(context.alloc, atom.name.text())?;
-    let Some(places) = declared.get(count, text.as_slice()) else {
-        return Ok(Some(CheckFault::UnknownName(context.at(atom.name.place()))));
-    };
-    if atom.terms.len() != places.len() {
-        return Ok(Some(CheckFault::Arity(context.at(atom.name.place()))));
+    if let Some(places) = declared.get(count, text.as_slice()) {
+        check_places(context, scope, atom, places, found)?;
+        return Ok(());
     }
-    let found = check_arguments(context, scope, atom.terms.as_slice(), places)?;
-    Ok(found)
+    found.push(CheckFault::UnknownName(context.at(atom.name.place())))?;
+    if let Some(places) = declared.get(declared.len(), text.as_slice()) {
+        check_places(context, scope, atom, places, found)?;
+        return Ok(());
+    }
+    check_arguments(context, scope, atom.terms.as_slice(), &[], found)?;
+    Ok(())
 }
 
-/// A fault of an atom.
+/// Faults of an atom.
 pub(crate) fn check_atom(
     context: &Context<'_, '_>,
     scope: &Scope<'_>,
     atom: &AtomText,
-) -> Result<Option<CheckFault>, AllocError>
-    ensures { IfOk result (Finds (Fails context.now (Atom (record { variables = scope.now; atom = atom.now })))) }
+    found: &mut Findings,
+) -> Result<(), AllocError>
+    ensures { OnOk result (Adds (λ _. ⊥) (Fails context.now (Atom (record { variables = scope.now; atom = atom.now }))) found.old found.new) }
 {
     let predicates = &context.declared.predicates;
-    let found = check_use(context, predicates, predicates.len(), scope, atom)?;
-    Ok(found)
+    check_use(context, predicates, predicates.len(), scope, atom, found)?;
+    Ok(())
 }
 
-/// A fault of the task that a method decomposes: it has to be a compound one.
+/// Faults of the task that a method decomposes: it has to be a compound one.
 pub fn check_decomposed(
     context: &Context<'_, '_>,
     scope: &Scope<'_>,
     task: &AtomText,
-) -> Result<Option<CheckFault>, AllocError>
-    ensures { IfOk result (Finds (Fails context.now (Decomposed (record { variables = scope.now; atom = task.now })))) }
+    found: &mut Findings,
+) -> Result<(), AllocError>
+    ensures { OnOk result (Adds (λ _. ⊥) (Fails context.now (Decomposed (record { variables = scope.now; atom = task.now }))) found.old found.new) }
 {
     let compound = context.domain.tasks.len();
-    let found = check_use(context, &context.declared.tasks, compound, scope, task)?;
-    Ok(found)
+    check_use(
+        context,
+        &context.declared.tasks,
+        compound,
+        scope,
+        task,
+        found,
+    )?;
+    Ok(())
 }
 
-/// A fault of a subtask.
+/// Faults of a subtask.
 fn check_subtask(
     context: &Context<'_, '_>,
     scope: &Scope<'_>,
     task: &AtomText,
-) -> Result<Option<CheckFault>, AllocError>
-    ensures { IfOk result (Finds (Fails context.now (Subtask (record { variables = scope.now; atom = task.now })))) }
+    found: &mut Findings,
+) -> Result<(), AllocError>
+    ensures { OnOk result (Adds (λ _. ⊥) (Fails context.now (Subtask (record { variables = scope.now; atom = task.now }))) found.old found.new) }
 {
     let tasks = &context.declared.tasks;
-    let found = check_use(context, tasks, tasks.len(), scope, task)?;
-    Ok(found)
+    check_use(context, tasks, tasks.len(), scope, task, found)?;
+    Ok(())
 }
 
-/// A side of an equality that isn't known.
+/// Sides of an equality that aren't known.
 pub(crate) fn check_equality(
     context: &Context<'_, '_>,
     scope: &Scope<'_>,
     equality: &EqualityText,
-) -> Result<Option<CheckFault>, AllocError>
-    ensures { IfOk result (Finds (AnyFails context.now (map Side (sides scope.now equality.now)))) }
+    found: &mut Findings,
+) -> Result<(), AllocError>
+    ensures { OnOk result (AddsAny (PassedOver context.now) (Fails context.now) (map Side (sides scope.now equality.now)) found.old found.new) }
 {
-    let left = check_term(context, scope, &equality.left)?;
-    let right = check_term(context, scope, &equality.right)?;
-    Ok(first_of(left, right))
+    check_term(context, scope, &equality.left, found)?;
+    check_term(context, scope, &equality.right, found)?;
+    Ok(())
 }
 
-/// A fault of atoms.
+/// Faults of atoms.
 pub fn check_atoms(
     context: &Context<'_, '_>,
     scope: &Scope<'_>,
     atoms: &[AtomText],
-) -> Result<Option<CheckFault>, AllocError>
-    ensures { IfOk result (Finds (AnyFails context.now (map Atom (map (λ a. record { variables = scope.now; atom = a }) atoms.now)))) }
+    found: &mut Findings,
+) -> Result<(), AllocError>
+    ensures { OnOk result (AddsAny (PassedOver context.now) (Fails context.now) (map Atom (map (λ a. record { variables = scope.now; atom = a }) atoms.now)) found.old found.new) }
 {
-    let mut found = None;
     for atom in atoms {
-        found = first_of(found, check_atom(context, scope, atom)?);
+        check_atom(context, scope, atom, found)?;
     }
-    Ok(found)
+    Ok(())
 }
 
-/// A fault of the atoms of effects.
+/// Faults of the atoms of effects.
 pub fn check_effects(
     context: &Context<'_, '_>,
     scope: &Scope<'_>,
     effects: &[LiteralText],
-) -> Result<Option<CheckFault>, AllocError>
-    ensures { IfOk result (Finds (AnyFails context.now (map Atom (map (λ l. record { variables = scope.now; atom = l.atom }) effects.now)))) }
+    found: &mut Findings,
+) -> Result<(), AllocError>
+    ensures { OnOk result (AddsAny (PassedOver context.now) (Fails context.now) (map Atom (map (λ l. record { variables = scope.now; atom = l.atom }) effects.now)) found.old found.new) }
 {
-    let mut found = None;
     for effect in effects {
-        found = first_of(found, check_atom(context, scope, &effect.atom)?);
+        check_atom(context, scope, &effect.atom, found)?;
     }
-    Ok(found)
+    Ok(())
 }
 
-/// A fault of the tasks of a network.
+/// Faults of the tasks of a network.
 pub fn check_tasks_used(
     context: &Context<'_, '_>,
     scope: &Scope<'_>,
     subtasks: &[SubtaskText],
-) -> Result<Option<CheckFault>, AllocError>
-    ensures { IfOk result (Finds (AnyFails context.now (map Subtask (map (λ s. record { variables = scope.now; atom = s.task }) subtasks.now)))) }
+    found: &mut Findings,
+) -> Result<(), AllocError>
+    ensures { OnOk result (AddsAny (PassedOver context.now) (Fails context.now) (map Subtask (map (λ s. record { variables = scope.now; atom = s.task }) subtasks.now)) found.old found.new) }
 {
-    let mut found = None;
     for subtask in subtasks {
-        found = first_of(found, check_subtask(context, scope, &subtask.task)?);
+        check_subtask(context, scope, &subtask.task, found)?;
     }
-    Ok(found)
+    Ok(())
 }
 
-/// A side of a constraint that isn't known.
+/// Sides of constraints that aren't known.
 pub fn check_constraints(
     context: &Context<'_, '_>,
     scope: &Scope<'_>,
     constraints: &[EqualityText],
-) -> Result<Option<CheckFault>, AllocError>
-    ensures { IfOk result (Finds (AnyFails context.now (map Side (flat_map (sides scope.now) constraints.now)))) }
+    found: &mut Findings,
+) -> Result<(), AllocError>
+    ensures { OnOk result (AddsAny (PassedOver context.now) (Fails context.now) (map Side (flat_map (sides scope.now) constraints.now)) found.old found.new) }
 {
-    let mut found = None;
     for constraint in constraints {
-        found = first_of(found, check_equality(context, scope, constraint)?);
+        check_equality(context, scope, constraint, found)?;
     }
-    Ok(found)
+    Ok(())
 }

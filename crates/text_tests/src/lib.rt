@@ -2,6 +2,8 @@
 #![tactic(auto)]
 
 #[cfg(test)]
+mod all_faults;
+#[cfg(test)]
 mod checks;
 #[cfg(test)]
 mod command_lines;
@@ -19,6 +21,8 @@ mod places;
 mod plan_texts;
 #[cfg(test)]
 mod reports;
+#[cfg(test)]
+mod sound;
 #[cfg(test)]
 mod texts;
 #[cfg(test)]

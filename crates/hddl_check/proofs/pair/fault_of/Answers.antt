@@ -1,16 +1,24 @@
-use Rattle.std.proofs.Common.{subst}
+use Rattle.std.proofs.Common.{◌⊎◌, ◌∙◌, IfSome, Option, ap, slice_get, subst, sym}
 use Rattle.hddl_tree.specs.declared.domain.DomainText.{DomainText}
-use Rattle.hddl_check.specs.Cycles.{IsCycleFault}
-use Rattle.hddl_scope.specs.Findings.{Finds}
-use Rattle.hddl_scope.proofs.Finding.{Finds-either}
-use Rattle.hddl_check.proofs.Cyclic.{finds_first}
+use Rattle.hddl_meaning.specs.declared.fault.CheckFault.{CheckFault}
+use Rattle.hddl_scope.specs.Findings.{Adds, Finds, Kept}
+use Rattle.hddl_uses.specs.Known.{AreKnown}
+use Rattle.hddl_check.specs.Faults.{IsFirst, PairFails}
+use Rattle.hddl_check.specs.TextParts.{PartPassed}
+use Rattle.hddl_check.proofs.Gathering.{first_comes_first, first_finds, some_of}
+use Rattle.hddl_check.proofs.Whole.{first_of}
 use Rattle.hddl_check.proofs.pair.fault_of.Goals as goal
-
-pub returns-then-is_first : goal.returns-then-is_first
-returns-then-is_first c =
-    finds_first c.args.domain.now c.args.problem.now c.in_ok-cycle.cycle (c.is_first.ensures c.if-is_first.true)
-    (subst (λ (d : DomainText). Finds (IsCycleFault d) c.in_ok-cycle.cycle) c.in_ok-types.ensures c.in_ok-cycle.ensures)
 
 pub returns : goal.returns
 returns c =
-    Finds-either (subst (λ (d : DomainText). Finds (IsCycleFault d) c.in_ok-cycle.cycle) c.in_ok-types.ensures c.in_ok-cycle.ensures) c.in_ok-fault.ensures c.first_of.ensures
+    let d = c.args.domain.now in
+    let p = c.args.problem.now in
+    let after = c.check_pair.new.found in
+    let adds = subst (λ (d : DomainText). Adds (PartPassed d p) (PairFails d p) c.first-found.result after) c.in_ok-types.ensures c.in_ok-check_pair.ensures.added in
+    let start = subst (λ (k : Kept). Adds (PartPassed d p) (PairFails d p) k after) c.first-found.ensures adds in
+    let known = subst (λ (d : DomainText). AreKnown d p ⊎ (AreKnown d p → ⊥)) c.in_ok-types.ensures c.in_ok-check_pair.ensures.known in
+    let is = c.copied.ensures ∙ c.first.ensures.value ∙ ap (λ l. slice_get l 0) c.faults.ensures in
+    record {
+      finds = subst (Finds (PairFails d p)) (sym is) (first_finds (PartPassed d p) (PairFails d p) after start);
+      first = subst (λ o. IfSome o (IsFirst d p)) (sym is) (some_of (slice_get after.faults 0) (λ f e. first_of d p known f (first_comes_first (PartPassed d p) (PairFails d p) after f e start)));
+    }

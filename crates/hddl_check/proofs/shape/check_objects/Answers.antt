@@ -1,34 +1,39 @@
-use Rattle.std.proofs.Common.{◌∙◌, ap, sym, subst, List}
+use Rattle.std.proofs.Common.{◌∙◌, [], ap, refl, sym, subst, List}
+use Rattle.std.specs.List.{flat_map}
 use Rattle.hddl_tree.specs.declared.term.NameGroup.{NameGroup}
-use Rattle.hddl_meaning.specs.Mentions.{Mention, mentions_of, typed_names}
+use Rattle.hddl_meaning.specs.Mentions.{Mention, mention_of, mentions_of, typed_names}
+use Rattle.hddl_meaning.specs.Names.{optional_mention}
 use Rattle.hddl_meaning.specs.declared.fault.Source.{Source}
+use Rattle.hddl_meaning.specs.declared.fault.Source.TheVariants as source
 use Rattle.hddl_meaning.specs.declared.fault.CheckFault.TheVariants.{TooMany}
 use Rattle.hddl_meaning.specs.Items as items
-use Rattle.hddl_scope.specs.Findings.{Finds}
+use Rattle.hddl_scope.specs.Findings.{Adds, Faulted, Finds}
 use Rattle.hddl_scope.specs.Repeats.{IsPastAfter}
-use Rattle.hddl_scope.proofs.Finding.{found_at, none_at}
+use Rattle.hddl_scope.proofs.Adding.{found_none, found_once}
+use Rattle.hddl_scope.proofs.Distinctness.{past_after_once}
 use Rattle.hddl_check.proofs.shape.check_objects.Goals as goal
-
-pub returns-in-Some : goal.returns-in-Some
-returns-in-Some c =
-    let d = c.args.context.now.domain.now in
-    let p = c.args.context.now.problem.now in
-    let mentions : List NameGroup → List Mention = λ gs. mentions_of (typed_names gs) in
-    let told = subst (λ ms. Finds (IsPastAfter (mentions d.constants) ms) c.in_ok-past.past) (c.deref-2.ensures.value ∙ c.in_ok-objects.ensures ∙ ap mentions c.as_slice-2.ensures)
-    (subst (λ ms. Finds (IsPastAfter ms c.deref-2.result.now) c.in_ok-past.past) (c.deref.ensures.value ∙ c.in_ok-constants.ensures ∙ ap mentions c.as_slice.ensures) c.in_ok-past.ensures) in
-    let placed =
-    subst (λ (s : Source). Finds (λ place. items.IsPastObjects d p (record { source = s; place = place })) c.in_ok-past.past) (sym c.requires) told in
-    found_at TooMany c.args.context.now.source c.at.result
-    (subst (Finds (λ place. items.IsPastObjects d p (record { source = c.args.context.now.source; place = place }))) c.in-Some.is placed) c.at.ensures
 
 pub returns : goal.returns
 returns c =
     let d = c.args.context.now.domain.now in
     let p = c.args.context.now.problem.now in
     let mentions : List NameGroup → List Mention = λ gs. mentions_of (typed_names gs) in
-    let told = subst (λ ms. Finds (IsPastAfter (mentions d.constants) ms) c.in_ok-past.past) (c.deref-2.ensures.value ∙ c.in_ok-objects.ensures ∙ ap mentions c.as_slice-2.ensures)
+    let ms : List Mention = mentions p.objects in
+    let found : Finds (IsPastAfter (mentions d.constants) ms) c.in_ok-past.past =
+    subst (λ ms. Finds (IsPastAfter (mentions d.constants) ms) c.in_ok-past.past) (c.deref-2.ensures.value ∙ c.in_ok-objects.ensures ∙ ap mentions c.as_slice-2.ensures)
     (subst (λ ms. Finds (IsPastAfter ms c.deref-2.result.now) c.in_ok-past.past) (c.deref.ensures.value ∙ c.in_ok-constants.ensures ∙ ap mentions c.as_slice.ensures) c.in_ok-past.ensures) in
-    let placed =
-    subst (λ (s : Source). Finds (λ place. items.IsPastObjects d p (record { source = s; place = place })) c.in_ok-past.past) (sym c.requires) told in
-    none_at TooMany c.args.context.now.source
-    (subst (Finds (λ place. items.IsPastObjects d p (record { source = c.args.context.now.source; place = place }))) c.in-None.is placed)
+    subst (λ (s : Source). Adds (λ _. ⊥) (Faulted TooMany s (λ place. items.IsPastObjects d p (record { source = s; place = place }))) c.args.found.now c.push.new.self) (sym c.requires)
+    (found_once TooMany source.Problem c.in-Some.place c.at.result found c.in-Some.is (past_after_once (mentions d.constants) ms) (c.at.ensures ∙ ap (λ (s : Source). record { source = s; place = c.in-Some.place }) c.requires)
+    c.in_ok-push.ensures)
+
+pub returns-in_default : goal.returns-in_default
+returns-in_default c =
+    let d = c.args.context.now.domain.now in
+    let p = c.args.context.now.problem.now in
+    let mentions : List NameGroup → List Mention = λ gs. mentions_of (typed_names gs) in
+    let ms : List Mention = mentions p.objects in
+    let found : Finds (IsPastAfter (mentions d.constants) ms) c.in_ok-past.past =
+    subst (λ ms. Finds (IsPastAfter (mentions d.constants) ms) c.in_ok-past.past) (c.deref-2.ensures.value ∙ c.in_ok-objects.ensures ∙ ap mentions c.as_slice-2.ensures)
+    (subst (λ ms. Finds (IsPastAfter ms c.deref-2.result.now) c.in_ok-past.past) (c.deref.ensures.value ∙ c.in_ok-constants.ensures ∙ ap mentions c.as_slice.ensures) c.in_ok-past.ensures) in
+    subst (λ (s : Source). Adds (λ _. ⊥) (Faulted TooMany s (λ place. items.IsPastObjects d p (record { source = s; place = place }))) c.args.found.now c.args.found.now) (sym c.requires)
+    (found_none TooMany source.Problem found c.in_default.is refl)

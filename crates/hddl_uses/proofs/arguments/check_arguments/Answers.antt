@@ -1,29 +1,36 @@
-use Rattle.std.proofs.Common.{◌≡◌, ◌<◌, ◌≤◌, length, arith}
+use Rattle.std.proofs.Common.{◌+◌, subst, sym, take}
 use Rattle.std.proofs.lemmas.List.{take_all}
-use Rattle.std.specs.List.{zip}
-use Rattle.hddl_uses.specs.Contexts.{ArgumentFails}
-use Rattle.hddl_scope.proofs.Finding.{Finds-list, Finds-nil}
-use Rattle.hddl_uses.proofs.Using.{Finds-item, zip_at, zip_short}
+use Rattle.hddl_scope.specs.Findings.{Adds, Kept}
+use Rattle.hddl_uses.specs.Contexts.{AnyArgumentFails}
+use Rattle.hddl_uses.proofs.Arguing.{next_placed, next_unplaced, no_arguments}
 use Rattle.hddl_uses.proofs.arguments.check_arguments.Goals as goal
+use Rattle.hddl_uses.proofs.arguments.check_arguments.Goals.{in-Some+in_ok-check_argument-in-Some, in-None+in_ok-check_term-in-None}
 
 pub loop-index-init : goal.loop-index-init
-loop-index-init c = Finds-nil (ArgumentFails c.args.context.now c.args.scope.now)
+loop-index-init c = no_arguments c.args.context.now c.args.scope.now c.args.places.now
 
 pub loop-index-preserved : goal.loop-index-preserved
 loop-index-preserved c =
-    let xs = c.args.arguments.now in
-    let ys = c.args.places.now in
+    let context = c.args.context.now in
+    let w = c.args.scope.now in
+    let terms = c.args.arguments.now in
+    let places = c.args.places.now in
     let k = c.loop-index.index in
-    let below : k < length xs = c.loop-index-test.true in
-    let many : length xs ≡ length ys = c.requires in
-    let (in', is) = zip_at xs ys k c.index-arguments-index.result c.index-places-index.result below (omega (arith, below, many)) c.index-arguments-index.is c.index-places-index.is in
-    Finds-item (ArgumentFails c.args.context.now c.args.scope.now) (zip xs ys) k (c.index-arguments-index.result, c.index-places-index.result) in' is c.loop-index.invariant
-    c.in_ok-here.ensures c.first_of-found.ensures
+    let x = c.index-arguments-index.result in
+    let Next = λ (kept : Kept). Adds (λ _. ⊥) (AnyArgumentFails context w (take (k + 1) terms) places) c.args.found.now kept in
+    elim c.match-get.branch [
+      | in-Some+in_ok-check_argument-in-Some b ↦
+          let looked = b.in-Some.ensures.lookup in
+          subst Next (sym b.found-is)
+          (next_placed context w terms places k x c.loop-index-test.true c.index-arguments-index.is b.in-Some.place.now looked.3.0 looked.1 c.loop-index.invariant
+          b.in_ok-check_argument-in-Some.ensures)
+      | in-None+in_ok-check_term-in-None b ↦
+          let looked = b.in-None.ensures.lookup in
+          subst Next (sym b.found-is)
+          (next_unplaced context w terms places k x c.loop-index-test.true c.index-arguments-index.is looked.3 c.loop-index.invariant b.in_ok-check_term-in-None.ensures)
+    ]
 
 pub returns : goal.returns
 returns c =
-    let xs = c.args.arguments.now in
-    let ys = c.args.places.now in
-    let short : length (zip xs ys) ≤ length xs = zip_short xs ys in
-    let past : length xs ≤ c.loop-index.index = c.loop-index-test.false in
-    Finds-list (ArgumentFails c.args.context.now c.args.scope.now) (take_all c.loop-index.index (zip xs ys) (omega (arith, short, past))) c.loop-index.invariant
+    subst (λ l. Adds (λ _. ⊥) (AnyArgumentFails c.args.context.now c.args.scope.now l c.args.places.now) c.args.found.now c.loop-index.found)
+    (take_all c.loop-index.index c.args.arguments.now c.loop-index-test.false) c.loop-index.invariant

@@ -1,7 +1,7 @@
 use Rattle.std.proofs.Common.{◌≡◌, take}
 use Rattle.std.specs.List.{flat_map}
-use Rattle.hddl_uses.specs.Contexts.{AnyFails}
-use Rattle.hddl_scope.specs.Findings.{Finds}
+use Rattle.hddl_uses.specs.Contexts.{Fails, PassedInside}
+use Rattle.hddl_scope.specs.Findings.{AddsAny}
 use Rattle.hddl_uses.specs.Conditions.{condition_parts}
 use Rattle.hddl_uses.proofs.conditions.+check_condition.Given as goal
 
@@ -10,6 +10,6 @@ decreases-check_condition l = goal.size-check_condition l
 
 abbrev pub invariant-loop-part : goal.invariant-loop-part
 invariant-loop-part l = record {
-  found : Finds (AnyFails l.context (flat_map (condition_parts l.initial.scope) (take l.part-index l.part-items))) l.found;
+  found : AddsAny (PassedInside l.context l.initial.scope) (Fails l.context) (flat_map (condition_parts l.initial.scope) (take l.part-index l.part-items)) l.initial.found l.found;
   kept : l.scope ≡ l.initial.scope;
 }

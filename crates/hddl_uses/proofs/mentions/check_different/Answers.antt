@@ -1,13 +1,11 @@
-use Rattle.std.proofs.Common.{subst}
-use Rattle.hddl_meaning.specs.declared.fault.CheckFault.TheVariants.{Duplicate}
-use Rattle.hddl_scope.specs.Findings.{Finds}
-use Rattle.hddl_scope.specs.Repeats.{IsRepeat}
-use Rattle.hddl_scope.proofs.Finding.{found_at, none_at}
+use Rattle.std.proofs.Common.{◌∙◌, List, ℕ, ap, map}
+use Rattle.std.specs.List.{fold}
+use Rattle.hddl_scope.specs.Findings.{keep}
+use Rattle.hddl_uses.specs.Contexts.{duplicate_at}
+use Rattle.hddl_uses.proofs.Duplicates.{repeats_added}
 use Rattle.hddl_uses.proofs.mentions.check_different.Goals as goal
 
-pub returns-in-Some : goal.returns-in-Some
-returns-in-Some c =
-    found_at Duplicate c.args.context.now.source c.at.result (subst (Finds (IsRepeat c.args.mentions.now)) c.in-Some.is c.in_ok-repeat.ensures) c.at.ensures
-
-pub returns-in-None : goal.returns-in-None
-returns-in-None c = none_at Duplicate c.args.context.now.source (subst (Finds (IsRepeat c.args.mentions.now)) c.in-None.is c.in_ok-repeat.ensures)
+pub returns : goal.returns
+returns c =
+    repeats_added c.args.context.now.source c.args.mentions.now c.in_ok-places.places.items c.in_ok-places.ensures.repeats c.in_ok-places.ensures.none
+    (c.in_ok-push_repeats.ensures ∙ ap (λ (l : List ℕ). fold keep c.args.found.now (map (duplicate_at c.args.context.now.source) l)) c.deref.ensures.value)

@@ -2,7 +2,7 @@ use Rattle.std.proofs.Common.{◌∙◌, List, subst}
 use Rattle.hddl_meaning.specs.Mentions.{Text}
 use Rattle.hddl_meaning.specs.Uses.{Use}
 use Rattle.hddl_meaning.specs.Items.{predicate_signatures}
-use Rattle.hddl_scope.specs.Findings.{Finds}
+use Rattle.hddl_scope.specs.Findings.{Adds}
 use Rattle.hddl_uses.specs.Parts.{UseFails}
 use Rattle.hddl_uses.proofs.Counting.{all_names, predicates_named}
 use Rattle.hddl_uses.proofs.uses.check_atom.Goals as goal
@@ -13,6 +13,6 @@ returns c =
     let d = context.domain.now in
     let all = predicate_signatures d in
     let u : Use = record { variables = c.args.scope.now; atom = c.args.atom.now } in
-    subst (λ (names : List Text). Finds (UseFails d context.problem.now context.source names all u) c.in_ok-found.found)
+    subst (λ (names : List Text). Adds (λ _. ⊥) (UseFails d context.problem.now context.source names all u) c.args.found.now c.check_use.new.found)
     (all_names all context.declared.now.predicates c.len.result context.known_declared.predicates c.len.ensures ∙ predicates_named d)
-    (c.in_ok-found.ensures all context.known_declared.predicates)
+    (c.in_ok-check_use.ensures all context.known_declared.predicates)

@@ -1,4 +1,4 @@
-use Rattle.std.proofs.Common.{◌≡◌, ◌↔◌, ◌<◌, arith, true, refl, sym, ap, inl, subst, length}
+use Rattle.std.proofs.Common.{◌≡◌, ◌↔◌, ◌<◌, true, refl, sym, ap, inl, subst, length}
 use Rattle.hddl_tree.specs.declared.domain.DomainText.{DomainText}
 use Rattle.hddl_meaning.specs.Names.{type_names}
 use Rattle.hddl_meaning.specs.Types.{IsBelow}
@@ -24,7 +24,7 @@ returns-in-Some c =
     let told = some-told d c.self.inside.names.now c.self.inside.parents c.self.inside.children c.self.inside.closure c.in-Some.closure c.in-Some.is c.self.invariant in
     let both = leads-below d c.in-Some.closure c.args.t c.args.u told
     (subst (λ (d : DomainText). c.args.t < length (type_names d)) (sym c.self.view_is) c.requires.t)
-    (subst (λ (d : DomainText). c.args.u < length (type_names d)) (sym c.self.view_is) c.requires.u) (let other = c.if-u-eq-OBJECT.false in omega (arith, other)) in
+    (subst (λ (d : DomainText). c.args.u < length (type_names d)) (sym c.self.view_is) c.requires.u) in
     subst (λ (d : DomainText). (c.leads_to.result ≡ true) ↔ IsBelow d (type_at d c.args.t) (type_at d c.args.u)) c.self.view_is
     (λ h. both.0 (c.leads_to.ensures.0 h), λ h. c.leads_to.ensures.1 (both.1 h))
 
