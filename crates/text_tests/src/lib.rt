@@ -22,8 +22,6 @@ mod plan_texts;
 #[cfg(test)]
 mod reports;
 #[cfg(test)]
-mod sound;
-#[cfg(test)]
 mod texts;
 #[cfg(test)]
 mod words;
