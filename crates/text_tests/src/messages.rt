@@ -1,9 +1,9 @@
 //! Tests of what is said of the faults of texts, and of nearest names.
 
-use diagnostics::{Diagnostic, Role, Source, text_report};
+use diagnostics::{Role, Source, text_report};
 use hddl_text::TextFault;
 use near_names::nearest;
-use std::alloc::AllocError;
+use std::alloc::{AllocError, Global};
 use std::test::Fail;
 use text_messages::text_diagnostic;
 use text_places::Lines;
@@ -19,6 +19,18 @@ const SAID: &[u8] =
 1 error, no warnings
 ";
 
+/// The report of one fault of a text.
+fn report<'a>(
+    alloc: Global,
+    source: &'a Source<'a>,
+    fault: TextFault,
+) -> Result<Vec<u8>, AllocError> {
+    let mut diagnostics = Vec::new(alloc);
+    let diagnostic = text_diagnostic(alloc, source, fault)?;
+    diagnostics.push(diagnostic)?;
+    text_report(alloc, diagnostics.as_slice(), &[], 0, false)
+}
+
 /// What is left out of the language, with what to write instead.
 #[test]
 fn a_word_that_is_left_out(rt: HostRuntime) -> Result<(), AllocError> {
@@ -27,10 +39,7 @@ fn a_word_that_is_left_out(rt: HostRuntime) -> Result<(), AllocError> {
         name: "t.hddl",
         lines: Lines::new(rt.alloc(), UNSUPPORTED)?,
     };
-    let mut diagnostics: Vec<Diagnostic<'_>> = Vec::new(rt.alloc());
-    let fault = TextFault::Unsupported(45);
-    diagnostics.push(text_diagnostic(rt.alloc(), &source, fault)?)?;
-    let report = text_report(rt.alloc(), diagnostics.as_slice(), &[], 0, false)?;
+    let report = report(rt.alloc(), &source, TextFault::Unsupported(45))?;
     assert!(rt; report.as_slice() == SAID, "the report");
     Ok(())
 }
