@@ -1,12 +1,12 @@
 -- The laws of bounds from below.
-use Rattle.std.proofs.Common.{◌≡◌, ℕ, ◌+◌, ◌≤◌, Bool, true, false, cond, List, [], ◌∷◌, length, max, Option, Some, None, refl, sym, ap, ◌∙◌, subst, arith, option_and_then}
+use Rattle.std.proofs.Common.{◌≡◌, ℕ, ◌+◌, ◌≤◌, Bool, true, false, cond, [], ◌∷◌, length, max, Option, Some, None, refl, sym, ap, ◌∙◌, subst, arith, option_and_then}
 use Rattle.htn_model.specs.Problem.{Problem}
 use Rattle.htn_model.specs.Machine.{Config, Choice, choose, result_of, IsDone}
-use Rattle.htn_model.specs.Exhaustion.{LeadsLive, is_dead, live_step}
+use Rattle.htn_model.specs.Exhaustion.{is_dead, live_step}
 use Rattle.htn_model.proofs.Splices.{length_splice}
 use Rattle.htn_model.proofs.Steps.{chosen}
 use Rattle.htn_model.proofs.Regrown.{choice_within}
-use Rattle.heuristic.specs.Heuristic.{AreDeadEnds, ConsistentIsAdmissible, DeadEndsAreConsistent, GreaterIsConsistent, GreaterIsEstimate, IsAdmissible, IsConsistent, NothingIsConsistent, OneIsTooMany, OpenNodesAreConsistent}
+use Rattle.heuristic.specs.Heuristic.{ConsistentIsAdmissible, DeadEndsAreConsistent, GreaterIsConsistent, GreaterIsEstimate, IsAdmissible, NothingIsConsistent, OneIsTooMany, OpenNodesAreConsistent}
 
 -- ## Live steps
 

@@ -1,5 +1,5 @@
 -- Sizes that were checked are a lower measure.
-use Rattle.std.proofs.Common.{◌≡◌, ℕ, zero, suc, ◌+◌, ◌≤◌, ◌<◌, Bool, true, false, cond, ◌&&◌, List, [], ◌∷◌, All, map, length, get_or, drop, slice_get, Option, Some, None, inl, inr, refl, sym, ap, ap₂, ◌∙◌, subst, arith, ◌⊎◌}
+use Rattle.std.proofs.Common.{◌≡◌, ℕ, ◌+◌, ◌≤◌, Bool, true, false, cond, List, [], ◌∷◌, get_or, drop, slice_get, Option, Some, None, inl, inr, refl, sym, ap, ap₂, ◌∙◌, subst, arith}
 use Rattle.std.specs.Prelude.{is_some}
 use Rattle.std.specs.List.{list_any, sum_by}
 use Rattle.std.proofs.lemmas.Bool.{and_parts, cases_lt}
@@ -8,10 +8,9 @@ use Rattle.std.proofs.lemmas.List.Sums.{get_or-le-sum_by, sum_by-cons}
 use Rattle.std.proofs.lemmas.Option.{slice_get_within, get_or_from_slice_get}
 use Rattle.htn_model.specs.Exhaustion.{is_dead}
 use Rattle.htn_model.specs.Grounding.{problem_of}
-use Rattle.htn_model.specs.Literal.{Literal}
 use Rattle.htn_model.specs.Problem.{Child, precondition, action, task, GroundTask, Network, Problem}
 use Rattle.htn_model.specs.Task.{Task}
-use Rattle.task_graph.specs.Barred.{is_barred, is_barred_node}
+use Rattle.task_graph.specs.Barred.{is_barred}
 use Rattle.task_graph.specs.Graph.{AreIds, IsGraph, id_of, is_barred_at, is_known_barred, nodes_of}
 use Rattle.task_graph.specs.declared.graph.TaskGraph.{TaskGraph}
 use Rattle.task_graph.specs.declared.node_id.NodeId.{NodeId}

@@ -1,5 +1,5 @@
 -- Bounds from below on the numbers that a word must still have, by a measure on the open nodes.
-use Rattle.std.specs.Prelude.{◌≡◌, ◌↔◌, ℕ, ◌+◌, ◌≤◌, Bool, true, false, not, cond, List, [], length, max, min, Some, slice_get}
+use Rattle.std.specs.Prelude.{◌≡◌, ◌↔◌, ℕ, ◌+◌, ◌≤◌, Bool, true, false, not, cond, List, length, max, min, Some, slice_get}
 use Rattle.std.specs.FinMap.{retain_keys}
 use Rattle.std.specs.List.{sum_by}
 use Rattle.htn_model.specs.Atom.{Atom}
