@@ -35,7 +35,7 @@ impl Model for Condensed {
     ghost view = { λ c. record { heads = c.heads.items; closure = c.closure } };
 }
 
-/// The head of a number: itself where none is kept.
+/// The head of a number: the number itself where the list has none.
 fn head_of(heads: &[usize], number: usize) -> usize
     ensures { result ≡ head_at heads.now number }
 {

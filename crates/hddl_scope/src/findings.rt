@@ -7,7 +7,8 @@ use hddl_meaning::CheckFault;
 use std::alloc::{AllocError, Global};
 use std::marker::Model;
 
-/// Faults that were found. Contracts see those that are kept, and whether all are.
+/// Faults that were found: all, or only the first in the texts. Contracts see those that are stored, and which of the
+/// two it is.
 #[derive(Drop)]
 pub struct Findings {
     keeps_all: bool,
@@ -21,7 +22,7 @@ impl Model for Findings {
 }
 
 impl Findings {
-    /// No faults, of which all will be kept.
+    /// No faults; all that are added will be stored.
     pub fn all(alloc: Global) -> Findings
         ensures { result ≡ record { keeps_all = true; faults = [] } }
     {
@@ -31,7 +32,7 @@ impl Findings {
         }
     }
 
-    /// No faults, of which the first in the texts will be kept.
+    /// No faults; of those that are added the first in the texts will be stored.
     pub fn first(alloc: Global) -> Findings
         ensures { result ≡ record { keeps_all = false; faults = [] } }
     {
@@ -41,7 +42,7 @@ impl Findings {
         }
     }
 
-    /// The faults that are kept.
+    /// The faults that are stored.
     pub fn faults(&self) -> &[CheckFault]
         ensures { result.now ≡ self.now.faults }
     {

@@ -101,9 +101,9 @@ fn said_of<'a>(
     }
 }
 
-/// The error that a fault of a text is told as. The text's role says whether it was read as a problem or as a domain.
-/// An error where memory was refused, and for the fault `OutOfMemory`, of which nothing is told. Takes time in the
-/// length of the text.
+/// The diagnostic of a fault of a text. The text's role says whether it was read as a problem or as a domain. An error
+/// where memory was refused, and for the fault `OutOfMemory`, which has no diagnostic. Takes time linear in the text:
+/// some thirty runs of the reader over at most half a megabyte, and one pass over the rest.
 pub fn text_diagnostic<'a>(
     alloc: Global,
     source: &'a Source<'a>,
