@@ -1,25 +1,40 @@
-# Completion for bash. A new command is a line of this table, and a new option a word of its line. Each option but
-# `--help` takes a number, for which nothing is offered.
+# Completion for bash. A new command is a line of the first table, and a new option a word of its line. An option that
+# takes one of some words is a line of the second table. `--help` and `--strict` take nothing, and every other option a
+# number, for which nothing is offered.
 _htnplan_table='
 plan --nodes --workers --piece --help
 verify --help
+check --format --limit --strict --color --help
 help
 '
+_htnplan_choices='
+--format text short json
+--color auto always never
+'
+
+# The words of the line of a table that begins with a word.
+_htnplan_line() {
+    local name rest
+    while read -r name rest; do
+        if [ "$name" = "$2" ]; then printf '%s' "$rest"; fi
+    done <<< "$1"
+}
 
 _htnplan() {
     local word=${COMP_WORDS[COMP_CWORD]} before=${COMP_WORDS[COMP_CWORD-1]} command=${COMP_WORDS[1]}
-    local name options commands='' words=''
-    while read -r name options; do
-        commands="$commands $name"
-        if [ "$name" = "$command" ]; then words=$options; fi
-    done <<< "$_htnplan_table"
+    local name rest commands='' words
+    while read -r name rest; do commands="$commands $name"; done <<< "$_htnplan_table"
+    words=$(_htnplan_line "$_htnplan_table" "$command")
+    # In `--format=short` the `=` is a word.
+    if [ "$word" = = ]; then word=; fi
+    if [ "$before" = = ]; then before=${COMP_WORDS[COMP_CWORD-2]}; fi
     COMPREPLY=()
     if [ "$COMP_CWORD" -eq 1 ]; then
         words="$commands --help --version"
     elif [ "$command" = help ]; then
         words=$commands
-    elif [[ $before == = || ( $before == -* && $before != --help ) ]]; then
-        words=
+    elif [[ $before == -* && $before != --help && $before != --strict ]]; then
+        words=$(_htnplan_line "$_htnplan_choices" "$before")
     elif [[ $word != -* ]]; then
         # An empty reply lets bash complete the name of a file.
         return

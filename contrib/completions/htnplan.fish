@@ -1,7 +1,8 @@
 # Completion for fish. A new command is a line of the list, a new option a `complete` line below.
 set -l commands \
     "plan\t'Prints the plan with the fewest nodes'" \
-    "verify\t'Prints whether a plan is valid'"
+    "verify\t'Prints whether a plan is valid'" \
+    "check\t'Says what is wrong with a domain and a problem'"
 
 # Whether the command is the given one; an empty word stands for none so far.
 function __htnplan_command_is
@@ -17,3 +18,8 @@ complete -c htnplan -s h -l help -d 'Prints help'
 complete -c htnplan -n '__htnplan_command_is plan' -l nodes -x -d 'Nodes of a plan, at most (100)'
 complete -c htnplan -n '__htnplan_command_is plan' -l workers -x -d 'Threads that search (1)'
 complete -c htnplan -n '__htnplan_command_is plan' -l piece -x -d 'For experiments: how work is cut (64)'
+
+complete -c htnplan -n '__htnplan_command_is check' -l format -x -a 'text short json' -d 'How it is printed (text)'
+complete -c htnplan -n '__htnplan_command_is check' -l limit -x -d 'Diagnostics that text shows; 0 is all (20)'
+complete -c htnplan -n '__htnplan_command_is check' -l strict -d 'A warning is status 1'
+complete -c htnplan -n '__htnplan_command_is check' -l color -x -a 'auto always never' -d 'Colours (auto)'

@@ -132,6 +132,36 @@ fn verdicts_and_lines(rt: HostRuntime) -> Result<(), Fail> {
     Ok(())
 }
 
+// A check tells all of a text on the standard output, and of the files that can't be read on the standard error.
+#[test]
+fn checks_and_lines(rt: HostRuntime) -> Result<(), Fail> {
+    let alloc = rt.alloc();
+    let rows = [
+        ("check x", "x||domain: cannot be read\n|5"),
+        ("check x p", "x||domain: cannot be read\n|5"),
+        ("check d x", "dx||problem: cannot be read\n|5"),
+        ("check -", "/dev/stdin||domain: cannot be read\n|5"),
+        ("check d -", "d/dev/stdin||problem: cannot be read\n|5"),
+        ("check full", "full||OutOfMemory\n|4"),
+        ("check d full", "dfull||OutOfMemory\n|4"),
+        ("check d p --format short", "dp|||0"),
+    ];
+    for (line, text) in rows {
+        let found = run(&rt, alloc, line, 10_000, 1_000)?;
+        assert_eq!(rt; found.as_str(), text, "{line}");
+    }
+    let exchanged = run(&rt, alloc, "check p d --format short", 10_000, 0)?;
+    assert!(rt;
+        exchanged.as_str().starts_with("pd|p:1:10: error: "),
+        "exchanged"
+    );
+    assert!(rt;
+        exchanged.as_str().ends_with(" [Expected]\n||3"),
+        "exchanged"
+    );
+    Ok(())
+}
+
 // A write to the standard error that fails changes no status.
 #[test]
 fn a_failed_error_output(rt: HostRuntime) -> Result<(), Fail> {
@@ -166,6 +196,13 @@ fn refused_command_lines(rt: HostRuntime) -> Result<(), Fail> {
         "verify d p",
         "verify d p f g",
         "verify d p f --nodes 8",
+        "check",
+        "check d p f",
+        "check d --format xml",
+        "check d --color red",
+        "check d --limit 1000001",
+        "check d --nodes 8",
+        "check - -",
         "verify --version",
         "paint",
     ];
@@ -180,7 +217,13 @@ fn refused_command_lines(rt: HostRuntime) -> Result<(), Fail> {
 #[test]
 fn help_goes_to_the_standard_output(rt: HostRuntime) -> Result<(), Fail> {
     let alloc = rt.alloc();
-    for line in ["--help", "plan --help", "verify --help", "help verify"] {
+    for line in [
+        "--help",
+        "plan --help",
+        "verify --help",
+        "help verify",
+        "check --help",
+    ] {
         let found = run(&rt, alloc, line, 10_000, 0)?;
         assert!(rt; found.as_str().contains("Usage: htnplan"), "{line}");
         assert!(rt; found.as_str().ends_with("||0"), "{line}");

@@ -1,3 +1,5 @@
 pub mod Adds
 pub mod Dress
 pub mod Joins
+pub mod Objects
+pub mod Seen

@@ -1,7 +1,9 @@
-//! Laws of outputs. All that is written of diagnostics are inks, of which these speak.
+//! Laws of outputs. Reports for people are inks, of which the laws on colour and tame bytes speak.
 
-ghost use Rattle.std.specs.Prelude.{◌≡◌, Bool, true, false, List};
+ghost use Rattle.std.specs.Prelude.{◌≡◌, Bool, true, false, List, [], codes};
 ghost use Rattle.diagnostics.specs.Ink.{Ink, written};
+ghost use Rattle.diagnostics.specs.declared.diagnostic.Diagnostic.{Diagnostic};
+ghost use Rattle.diagnostics.specs.Json.{json_bytes, IsOneLine};
 ghost use Rattle.diagnostics.specs.Tame.{IsTame, HasTameNames, plain};
 
 /// What is written has no control byte but tabs and line feeds and, in colour, the sequences of the styles, unless the
@@ -14,4 +16,14 @@ pub fn output_is_tame()
 /// file has a control byte.
 pub fn colour_is_dress()
     ensures { (inks : List Ink) → HasTameNames inks → plain false (written true inks) ≡ written false inks }
+{}
+
+/// A report as JSON has no byte below 32 but the line feed at its end, whatever the texts and the names of files have.
+pub fn json_is_one_line()
+    ensures { (ds : List Diagnostic) → IsOneLine (json_bytes ds) }
+{}
+
+/// The report on texts of which nothing is said.
+pub fn json_of_no_diagnostics()
+    ensures { json_bytes [] ≡ codes "{\"diagnostics\":[],\"errors\":0,\"format\":\"htnplan-check\",\"version\":1,\"warnings\":0}\n" }
 {}

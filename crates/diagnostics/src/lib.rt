@@ -1,7 +1,9 @@
 //! Diagnostics of texts as data, and how they are written.
 #![tactic(auto)]
 
+mod as_json;
 mod diagnostic;
+mod format;
 mod groups;
 mod ink;
 mod laws;
@@ -9,9 +11,11 @@ mod lines;
 mod report;
 mod text;
 
+pub use as_json::json_report;
 pub use diagnostic::{
     Diagnostic, Note, Part, Remark, RemarkKind, Role, Severity, Source, Spot, Where,
 };
+pub use format::Format;
 pub use ink::Style;
-pub use laws::{colour_is_dress, output_is_tame};
+pub use laws::{colour_is_dress, json_is_one_line, json_of_no_diagnostics, output_is_tame};
 pub use report::{short_report, text_report};

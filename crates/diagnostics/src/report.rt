@@ -141,7 +141,7 @@ fn is_error(severity: Severity) -> bool
 }
 
 /// How many of the diagnostics are errors.
-fn count_errors(diagnostics: &[Diagnostic<'_>]) -> usize
+pub(crate) fn count_errors(diagnostics: &[Diagnostic<'_>]) -> usize
     ensures { result ≡ count_by (λ d. spec.is_error d.severity) diagnostics.now }
 {
     diagnostics.iter().filter(|d| is_error(d.severity)).count()

@@ -22,4 +22,13 @@ examples_hold = record {
   no_plan = refl;
   two_plans = refl;
   version = refl;
+  by_default = record { domain = refl; problem = refl; format = refl; limit = refl; is_strict = refl; colour = refl; sound = refl };
+  by_options = record { domain = refl; problem = refl; format = refl; limit = refl; is_strict = refl; colour = refl; sound = refl };
+  no_format = refl;
+  no_colour = refl;
+  no_limit = refl;
+  two_inputs = refl;
+  no_domain = refl;
+  foreign_option = refl;
+  names_only = refl;
 }

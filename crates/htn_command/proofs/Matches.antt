@@ -1,17 +1,20 @@
 -- What the matches of a parse give.
-use Rattle.std.proofs.Common.{◌≡◌, ◌≢◌, ◌⊎◌, inl, inr, ◌∙◌, ◌<◌, ◌≤◌, ◌^◌, arith, true, false, ap, sym, subst, slice_index, ℕ, List, [], Option, Some, None, refl}
-use Rattle.std.specs.Prelude.{option_map, unwrap_or, Box, codes}
+use Rattle.std.proofs.Common.{◌≡◌, ◌≢◌, ◌⊎◌, inl, inr, ◌∙◌, ◌<◌, ◌≤◌, ◌^◌, arith, true, false, cond, ap, sym, subst, slice_index, ℕ, List, [], ◌∷◌, Option, Some, None, refl}
+use Rattle.std.specs.Prelude.{Bool, is_some, option_and_then, option_map, unwrap_or, Box, codes}
 use Rattle.std.specs.Box.{box_value}
 use Rattle.std.specs.Borrow.{Bor}
 use Rattle.std.specs.Str.Parse.{IsNumeral, digits_value, without_leading_plus}
 use Rattle.clap.specs.Faults.{fault_of, is_simple_and_free}
-use Rattle.clap.specs.Kinds.{HasKind, IsAmong, Kinds}
-use Rattle.clap.specs.Matches.{first_value, one_text}
+use Rattle.clap.specs.Kinds.{HasKind, IsAmong, Kinds, or_else}
+use Rattle.std.specs.Bool.{Decides}
+use Rattle.std.specs.Str.{bytes_eq}
+use Rattle.std.proofs.lemmas.Slice.Eq.{bytes_eq-Decides}
+use Rattle.clap.specs.Matches.{first_value, found_of, one_text, subcommand_name_of}
 use Rattle.clap.specs.Values.{kind_of}
 use Rattle.clap.specs.Simple.{App, HasMatchesOf, is_simple, subcommand_of, subcommand_rows, subcommand_rows_of}
 use Rattle.clap.specs.Walk.{Row, Text, first_of, one_of, rows_of}
 use Rattle.clap.specs.declared.parser.matches.ArgMatches.{ArgMatches}
-use Rattle.clap.specs.declared.parser.matches.ArgMatches.TheViews.{out-SubCommand}
+use Rattle.clap.specs.declared.parser.matches.ArgMatches.TheViews.{out-ArgMatches, out-SubCommand}
 use Rattle.clap.specs.declared.parser.matches.Found.{Found}
 use Rattle.clap.specs.declared.parser.matches.SubCommand.{SubCommand}
 use Rattle.clap.specs.declared.error.Error.{Error}
@@ -20,13 +23,17 @@ use Rattle.clap.specs.declared.error.kind.ErrorKind.TheVariants.{DisplayHelp, Di
 use Rattle.clap.proofs.WalkLemmas.{first_value-rows, one_text-rows}
 use Rattle.word_machine.specs.Bounds.{AreInRange}
 use Rattle.word_machine.specs.declared.bounds.Bounds.{Bounds}
-use Rattle.htn_command.specs.CommandLine.{HelpIsDue, IsNumber, VersionIsDue, faults, htnplan, read_by}
+use Rattle.htn_command.specs.CommandLine.{HelpIsDue, IsNumber, VersionIsDue, colour_named, faults, flag_named, format_named, check_fault, htnplan, own_fault, read_by}
 use Rattle.htn_command.specs.Help.{IsOfWords, IsPossible, RefusesWords}
+use Rattle.htn_command.specs.Misuse.{kinds_of}
 use Rattle.htn_command.specs.Request.{AskNothing, IsGiven, IsOf}
+use Rattle.diagnostics.specs.declared.format.Format.{Format}
+use Rattle.htn_command.specs.declared.choice.Colour.{Colour}
+use Rattle.htn_command.specs.declared.misuse.Misuse.{Misuse}
 use Rattle.htn_command.specs.declared.refusal.Refusal.{Refusal}
 use Rattle.htn_command.specs.declared.refusal.Refusal.TheVariants as refusal
 use Rattle.htn_command.specs.declared.request.Request.{Request}
-use Rattle.htn_command.specs.declared.request.Request.TheVariants.{Plan, Verify}
+use Rattle.htn_command.specs.declared.request.Request.TheVariants.{Plan, Verify, Check}
 use Rattle.htn_command.proofs.Building.{line_is_free, line_is_simple}
 
 -- a command's name and its rows
@@ -49,16 +56,72 @@ number_read f id n m same none value = go (one_text f id) refl
         cc
     go (Some t) e = let h = value t e in (t, sym (one_text-rows f id) ∙ e, h.0.0, sym h.1 ∙ sym same)
 
+-- and fits 64 bits
+pub number_fits : (f : Found) (id : Text) (n : ℕ) → (one_text f id ≡ None → Some n ≡ None)
+    → ((t : Text) → one_text f id ≡ Some t
+    → (IsNumeral 10 (without_leading_plus t) × (digits_value 10 (without_leading_plus t) < 2 ^ 64)) × (n ≡ digits_value 10 (without_leading_plus t)))
+    → n < 2 ^ 64
+number_fits f id n none value = go (one_text f id) refl
+  where
+    go : (t : Option Text) → one_text f id ≡ t → n < 2 ^ 64
+    go None e =
+        let bad = none e in
+        absurd cc
+    go (Some t) e = let h = value t e in subst (λ k. k < 2 ^ 64) (sym h.1) h.0.1
+
 -- a parse by the command line names the command that the words name
 pub parse_reads : (app : App) (words : List Text) (m : ArgMatches) → app ≡ htnplan → HasMatchesOf app words m → read_by words ≡ subcommand_rows_of m
 unfolding read_by
 parse_reads app words m is has =
     sym ((has (ap is_simple is ∙ line_is_simple)).1 ∙ ap (λ (a : App). subcommand_of a words) is)
 
--- words that it takes have no fault
-pub parse_is_sound : (app : App) (words : List Text) → app ≡ htnplan → (is_simple_and_free app ≡ true → fault_of app words ≡ []) → faults words ≡ []
+-- words that it takes have no fault but those of their own
+pub parse_is_sound : (app : App) (words : List Text) (m : ArgMatches) → app ≡ htnplan → (is_simple_and_free app ≡ true → fault_of app words ≡ [])
+    → HasMatchesOf app words m → faults words ≡ own_fault (subcommand_rows_of m)
 unfolding faults
-parse_is_sound app words is sound = ap (λ (a : App). fault_of a words) (sym is) ∙ sound (ap is_simple_and_free is ∙ line_is_free)
+parse_is_sound app words m is sound has =
+    let none : fault_of htnplan words ≡ [] = ap (λ (a : App). fault_of a words) (sym is) ∙ sound (ap is_simple_and_free is ∙ line_is_free) in
+    ap (λ ks. or_else ks (own_fault (read_by words))) none ∙ ap own_fault (parse_reads app words m is has)
+
+-- a command other than `check` has no fault of its own
+pub own_of_other : (m : ArgMatches) → (subcommand_name_of m ≡ Some (codes "check") → ⊥) → own_fault (subcommand_rows_of m) ≡ []
+own_of_other m other = by (out-ArgMatches m).subcommand other
+  where
+    decided : (name : Text) (rows : List Row) (b : Bool) → Decides b (name ≡ codes "check") → (Some name ≡ Some (codes "check") → ⊥) → cond b (check_fault rows) [] ≡ []
+    decided name rows true is isn't = absurd (isn't (ap (λ (t : Text). Some t) (is.0 refl)))
+    decided name rows false is isn't = refl
+
+    by : {Z : Type 0} → (sub : Option (Box SubCommand Z)) → (option_map (λ b. (out-SubCommand (box_value b)).name.now) sub ≡ Some (codes "check") → ⊥)
+        → own_fault (subcommand_rows sub) ≡ []
+    by None isn't = refl
+    by (Some b) isn't =
+        let s = out-SubCommand (box_value b) in
+        decided s.name.now (rows_of (found_of s.matches)) (bytes_eq s.name.now (codes "check")) (bytes_eq-Decides s.name.now (codes "check")) isn't
+
+-- none isn't some
+pub no_some : {X : Type 0} (o : Option X) → o ≡ None → is_some o ≡ true → ⊥
+no_some None is some = absurd cc
+no_some (Some x) is some = absurd cc
+
+-- what is refused of no misuse is nothing
+pub misuse_none : (found : Option Misuse) (kinds : Kinds) → kinds_of found ≡ kinds → ((m : Misuse) → found ≡ Some m → ⊥) → kinds ≡ []
+misuse_none None kinds is none = sym is
+misuse_none (Some m) kinds is none = absurd (none m refl)
+
+-- a kind among those of `clap` is among the faults
+among_first : (k : ErrorKind) (ks next : Kinds) → IsAmong k ks → IsAmong k (or_else ks next)
+among_first k [] next is = absurd is
+among_first k (x ∷ xs) next is = is
+
+-- the one kind of the faults is possible
+pub one_is_possible : (words : List Text) (k j : ErrorKind) → faults words ≡ k ∷ [] → j ≡ k → IsPossible words j
+one_is_possible words k j is same = inr (subst (λ (ks : Kinds). IsAmong j ks) (sym is) (inl same))
+
+-- words whose faults are one kind ask for nothing
+pub faulty_words_ask_nothing : (words : List Text) (k : ErrorKind) → faults words ≡ k ∷ [] → AskNothing words
+faulty_words_ask_nothing words k is request asked =
+    let bad : k ∷ [] ≡ [] = sym is ∙ asked.sound in
+    cc
 
 -- ---- words that ask for nothing
 
@@ -74,9 +137,9 @@ abbrev pub IsUnread : Found → Text → Type 0
 IsUnread f id = (t : Text) → one_text f id ≡ Some t
     → IsNumeral 10 (without_leading_plus t) × (digits_value 10 (without_leading_plus t) < 2 ^ 64) → ⊥
 
--- where an option isn't read as a number, the line gives no number in range for it
-no_number : (f : Found) (id : Text) (n : ℕ) → IsUnread f id → n ≤ 1000000 → IsNumber (one_of id (rows_of f)) n → ⊥
-no_number f id n unread le h =
+-- where an option isn't read as a number, the line gives no number of 64 bits for it
+no_number : (f : Found) (id : Text) (n : ℕ) → IsUnread f id → n < 2 ^ 64 → IsNumber (one_of id (rows_of f)) n → ⊥
+no_number f id n unread less h =
     let value = h.3 in
     let fits : digits_value 10 (without_leading_plus h.0) < 2 ^ 64 = omega arith in
     unread h.0 (one_text-rows f id ∙ h.1) (h.2, fits)
@@ -87,16 +150,33 @@ no_text f id text none has =
     let bad : None ≡ Some text = none ∙ first_value-rows f id ∙ has in
     cc
 
+-- where the first value of an option names nothing, the line gives nothing that it names
+no_named : {X : Type 0} → (f : Found) (id : Text) (named : Text → Option X) (x : X) → option_and_then named (first_value f id) ≡ None
+    → option_and_then named (first_of id (rows_of f)) ≡ Some x → ⊥
+no_named f id named x none has =
+    let bad : None ≡ Some x = sym none ∙ ap (option_and_then named) (first_value-rows f id) ∙ has in
+    cc
+
 -- a text spells one number at most
 pub one_number : (text : Option Text) (n m : ℕ) → IsNumber text n → IsNumber text m → n ≡ m
 one_number text n m h k =
     let same : h.0 ≡ k.0 = ap (λ o. unwrap_or o k.0) (sym h.1 ∙ k.1) in
     sym h.3 ∙ ap (λ t. digits_value 10 (without_leading_plus t)) same ∙ k.3
 
--- the two commands have different names
-pub commands_differ : {Z : Type 0} → codes "plan" ≡ codes "verify" → Z
-commands_differ same =
+-- the commands have different names
+pub plan_is_not_verify : {Z : Type 0} → codes "plan" ≡ codes "verify" → Z
+plan_is_not_verify same =
     let bad : ◌≡◌ {A = ℕ} 112 118 = ap (λ (t : Text). slice_index t 0) same in
+    absurd (omega arith)
+
+pub check_is_not_plan : {Z : Type 0} → codes "check" ≡ codes "plan" → Z
+check_is_not_plan same =
+    let bad : ◌≡◌ {A = ℕ} 99 112 = ap (λ (t : Text). slice_index t 0) same in
+    absurd (omega arith)
+
+pub check_is_not_verify : {Z : Type 0} → codes "check" ≡ codes "verify" → Z
+check_is_not_verify same =
+    let bad : ◌≡◌ {A = ℕ} 99 118 = ap (λ (t : Text). slice_index t 0) same in
     absurd (omega arith)
 
 -- a command with its rows is none of another name
@@ -111,7 +191,8 @@ module _ (f : Found) where
   -- a request for a plan, whose rows these are
   plan_of : {Z : Type 0} → (r : Request) → Planned r → ((domain problem : Bor Text) (bounds : Bounds) → IsGiven (rows_of f) (Plan domain problem bounds) → Z) → Z
   plan_of (Plan domain problem bounds) is use_it = use_it domain problem bounds (given_rows _ _ (Plan domain problem bounds) is refl)
-  plan_of (Verify domain problem plan) is use_it = other_command _ _ is.1 commands_differ
+  plan_of (Verify domain problem plan) is use_it = other_command _ _ is.1 plan_is_not_verify
+  plan_of (Check domain problem format limit is_strict colour) is use_it = other_command _ _ is.1 (λ same. check_is_not_plan (sym same))
 
   -- where the bound isn't read, no plan is asked for
   pub lacks_nodes : (r : Request) → IsUnread f (codes "nodes") → Planned r → ⊥
@@ -126,7 +207,7 @@ module _ (f : Found) where
   -- where the size of a piece isn't read, no plan is asked for
   pub lacks_piece : (r : Request) → IsUnread f (codes "piece") → Planned r → ⊥
   lacks_piece r unread is = plan_of r is (λ domain problem bounds h.
-      no_number f (codes "piece") bounds.piece unread h.5.piece_within h.4)
+      let within = h.5.piece_within in no_number f (codes "piece") bounds.piece unread (omega arith) h.4)
 
   -- where no domain is given, no plan is asked for
   pub lacks_domain : (r : Request) → None ≡ first_value f (codes "DOMAIN") → Planned r → ⊥
@@ -152,7 +233,8 @@ module _ (f : Found) where
   -- a request for a verdict lacks none of its files
   pub lacks_a_file : (r : Request) (id : Text) → None ≡ first_value f id → (id ≡ codes "DOMAIN") ⊎ ((id ≡ codes "PROBLEM") ⊎ (id ≡ codes "PLAN"))
       → Verified r → ⊥
-  lacks_a_file (Plan domain problem bounds) id none which is = other_command _ _ is.1 (λ same. commands_differ (sym same))
+  lacks_a_file (Plan domain problem bounds) id none which is = other_command _ _ is.1 (λ same. plan_is_not_verify (sym same))
+  lacks_a_file (Check domain problem format limit is_strict colour) id none which is = other_command _ _ is.1 (λ same. check_is_not_verify (sym same))
   lacks_a_file (Verify domain problem plan) id none which is =
       let h = given_rows _ _ (Verify domain problem plan) is refl in
       elim which [
@@ -163,6 +245,37 @@ module _ (f : Found) where
         ]
       ]
 
+  -- what `check` was given
+  abbrev pub Checked : Request → Type 0
+  Checked r = IsOf (Some (codes "check", rows_of f)) r
+
+  -- a request for a check, whose rows these are
+  pub check_of : {Z : Type 0} → (r : Request) → Checked r
+      → ((domain : Bor Text) (problem : Option (Bor Text)) (format : Format) (limit : ℕ) (is_strict : Bool) (colour : Colour)
+      → IsGiven (rows_of f) (Check domain problem format limit is_strict colour) → Z) → Z
+  check_of (Plan domain problem bounds) is use_it = other_command _ _ is.1 (λ same. check_is_not_plan same)
+  check_of (Verify domain problem plan) is use_it = other_command _ _ is.1 (λ same. check_is_not_verify same)
+  check_of (Check domain problem format limit is_strict colour) is use_it =
+      use_it domain problem format limit is_strict colour (given_rows _ _ (Check domain problem format limit is_strict colour) is refl)
+
+  -- where no domain is given, no check is asked for
+  pub lacks_checked_domain : (r : Request) → None ≡ first_value f (codes "DOMAIN") → Checked r → ⊥
+  lacks_checked_domain r none is = check_of r is (λ domain problem format limit is_strict colour h. no_text f (codes "DOMAIN") domain.now none h.0)
+
+  -- where the limit isn't read, no check is asked for
+  pub lacks_limit : (r : Request) → IsUnread f (codes "limit") → Checked r → ⊥
+  lacks_limit r unread is = check_of r is (λ domain problem format limit is_strict colour h. no_number f (codes "limit") limit unread h.4 h.3)
+
+  -- where a word that isn't there or names nothing is to name a format, a flag or a time, no check is asked for
+  pub lacks_format : (r : Request) → option_and_then format_named (first_value f (codes "format")) ≡ None → Checked r → ⊥
+  lacks_format r none is = check_of r is (λ domain problem format limit is_strict colour h. no_named f (codes "format") format_named format none h.2)
+
+  pub lacks_flag : (r : Request) → option_and_then flag_named (first_value f (codes "strict")) ≡ None → Checked r → ⊥
+  lacks_flag r none is = check_of r is (λ domain problem format limit is_strict colour h. no_named f (codes "strict") flag_named is_strict none h.5)
+
+  pub lacks_colour : (r : Request) → option_and_then colour_named (first_value f (codes "color")) ≡ None → Checked r → ⊥
+  lacks_colour r none is = check_of r is (λ domain problem format limit is_strict colour h. no_named f (codes "color") colour_named colour none h.6)
+
 -- words with a fault ask for nothing
 pub faulty_ask_nothing : (app : App) (words : List Text) (e : Error) → app ≡ htnplan
     → (is_simple_and_free app ≡ true → HasKind (fault_of app words) e) → kind_of e ≢ OutOfMemory → AskNothing words
@@ -170,8 +283,8 @@ unfolding faults
 faulty_ask_nothing app words e is kinds enough request asked = elim (kinds (ap is_simple_and_free is ∙ line_is_free)) [
   | inl memory ↦ enough memory
   | inr among ↦
-      let none : fault_of app words ≡ [] = ap (λ (a : App). fault_of a words) is ∙ asked.sound in
-      subst (λ (ks : Kinds). IsAmong (kind_of e) ks) none among
+      let there : IsAmong (kind_of e) (fault_of htnplan words) = subst (λ (a : App). IsAmong (kind_of e) (fault_of a words)) is among in
+      subst (λ (ks : Kinds). IsAmong (kind_of e) ks) asked.sound (among_first (kind_of e) _ (own_fault (read_by words)) there)
 ]
 
 -- the kind of an error is among those of the words, but for want of memory
@@ -182,7 +295,7 @@ among_faults app words e k is kinds is_kind other = elim (kinds (ap is_simple_an
   | inl memory ↦ absurd (other (sym is_kind ∙ memory))
   | inr among ↦
       let there : IsAmong k (fault_of app words) = subst (λ (k : ErrorKind). IsAmong k (fault_of app words)) is_kind among in
-      subst (λ (a : App). IsAmong k (fault_of a words)) is there
+      among_first k _ (own_fault (read_by words)) (subst (λ (a : App). IsAmong k (fault_of a words)) is there)
 ]
 
 -- help is due where the kind says so
@@ -201,7 +314,7 @@ pub kind_is_possible : (app : App) (words : List Text) (e : Error) → app ≡ h
 unfolding faults
 kind_is_possible app words e is kinds enough = elim (kinds (ap is_simple_and_free is ∙ line_is_free)) [
   | inl memory ↦ absurd (enough memory)
-  | inr among ↦ inr (subst (λ (a : App). IsAmong (kind_of e) (fault_of a words)) is among)
+  | inr among ↦ inr (among_first (kind_of e) _ (own_fault (read_by words)) (subst (λ (a : App). IsAmong (kind_of e) (fault_of a words)) is among))
 ]
 
 -- words that are refused as such are the reason

@@ -4,8 +4,8 @@ use Rattle.std.specs.Prelude.{option_map, unwrap_or}
 use Rattle.clap.specs.Walk.{Row, Text}
 use Rattle.htn_command.specs.Request.{AreAlike, IsGiven, RequestsAreUnique, command_of}
 use Rattle.htn_command.specs.declared.request.Request.{Request}
-use Rattle.htn_command.specs.declared.request.Request.TheVariants.{Plan, Verify}
-use Rattle.htn_command.proofs.Matches.{commands_differ, given_rows, one_number}
+use Rattle.htn_command.specs.declared.request.Request.TheVariants.{Plan, Verify, Check}
+use Rattle.htn_command.proofs.Matches.{check_is_not_plan, check_is_not_verify, given_rows, one_number, plan_is_not_verify}
 
 -- an option holds one value
 one_value : (text : Option Text) (a b : Text) → text ≡ Some a → text ≡ Some b → a ≡ b
@@ -15,6 +15,10 @@ one_value text a b is also = ap (λ o. unwrap_or o b) (sym is ∙ also)
 one_pair : (found : Option (Text × List Row)) (a b : Text × List Row) → found ≡ Some a → found ≡ Some b → a ≡ b
 one_pair found a b is also = ap (λ o. unwrap_or o b) (sym is ∙ also)
 
+-- a word names one thing
+one_named : {X : Type 0} → (named : Option X) (a b : X) → named ≡ Some a → named ≡ Some b → a ≡ b
+one_named named a b is also = ap (λ o. unwrap_or o b) (sym is ∙ also)
+
 -- a command's rows give one request
 rows_give_one : (rows : List Row) (request other : Request) → command_of request ≡ command_of other → IsGiven rows request → IsGiven rows other
     → AreAlike request other
@@ -22,8 +26,14 @@ rows_give_one rows (Plan domain problem bounds) (Plan other second limits) same 
     (one_value _ _ _ h.0 k.0, one_value _ _ _ h.1 k.1, one_number _ _ _ h.2 k.2, one_number _ _ _ h.3 k.3, one_number _ _ _ h.4 k.4)
 rows_give_one rows (Verify domain problem plan) (Verify other second third) same h k =
     (one_value _ _ _ h.0 k.0, one_value _ _ _ h.1 k.1, one_value _ _ _ h.2 k.2)
-rows_give_one rows (Plan domain problem bounds) (Verify other second third) same h k = commands_differ same
-rows_give_one rows (Verify domain problem plan) (Plan other second limits) same h k = commands_differ (sym same)
+rows_give_one rows (Check domain problem format limit is_strict colour) (Check other second form most strict when) same h k =
+    (one_value _ _ _ h.0 k.0, sym h.1 ∙ k.1, one_named _ _ _ h.2 k.2, one_number _ _ _ h.3 k.3, one_named _ _ _ h.5 k.5, one_named _ _ _ h.6 k.6)
+rows_give_one rows (Plan domain problem bounds) (Verify other second third) same h k = plan_is_not_verify same
+rows_give_one rows (Plan domain problem bounds) (Check other second form most strict when) same h k = check_is_not_plan (sym same)
+rows_give_one rows (Verify domain problem plan) (Plan other second limits) same h k = plan_is_not_verify (sym same)
+rows_give_one rows (Verify domain problem plan) (Check other second form most strict when) same h k = check_is_not_verify (sym same)
+rows_give_one rows (Check domain problem format limit is_strict colour) (Plan other second limits) same h k = check_is_not_plan same
+rows_give_one rows (Check domain problem format limit is_strict colour) (Verify other second third) same h k = check_is_not_verify same
 
 -- words ask for one request at most
 pub requests_are_unique : RequestsAreUnique

@@ -1,12 +1,18 @@
 -- The command line of `htnplan`, as `clap` reads it: what stands under each name, and which texts are refused.
-use Rattle.std.specs.Prelude.{◌≡◌, ℕ, true, List, [], ◌∷◌, Option, Some, codes}
+use Rattle.std.specs.Prelude.{◌≡◌, ◌&&◌, ℕ, Bool, true, false, List, [], ◌∷◌, Option, Some, None, codes, is_some, not, if◌then◌else◌}
+use Rattle.std.specs.Str.{bytes_eq}
 use Rattle.std.specs.Str.Parse.{IsNumeral, digits_value, without_leading_plus}
-use Rattle.clap.specs.Kinds.{IsAmong, Kinds}
+use Rattle.clap.specs.Kinds.{IsAmong, Kinds, or_else}
 use Rattle.clap.specs.Faults.{fault_of}
 use Rattle.clap.specs.Simple.{App, new_app, new_rule, on_top, subcommand_of, with_rule, with_subcommand}
-use Rattle.clap.specs.Walk.{Row, Rule, Text}
-use Rattle.clap.specs.declared.error.kind.ErrorKind.TheVariants.{DisplayHelp, DisplayVersion}
+use Rattle.clap.specs.Walk.{Row, Rule, Text, first_of}
+use Rattle.clap.specs.declared.builder.action.ArgAction.TheVariants.{SetTrue}
+use Rattle.clap.specs.declared.error.kind.ErrorKind.TheVariants.{ArgumentConflict, DisplayHelp, DisplayVersion, InvalidValue}
 use Rattle.clap.specs.declared.builder.value_parser.ValueParser.TheVariants.{Unsigned}
+use Rattle.diagnostics.specs.declared.format.Format.{Format}
+use Rattle.diagnostics.specs.declared.format.Format.TheVariants as format
+use Rattle.htn_command.specs.declared.choice.Colour.{Colour}
+use Rattle.htn_command.specs.declared.choice.Colour.TheVariants as colour
 
 -- a word that has to stand: the name of a file
 abbrev pub file : Text → Rule
@@ -20,6 +26,18 @@ number id default least most = record (new_rule id) {
   defaults = default ∷ [];
   parser = Some (Unsigned least most);
 }
+
+-- a word that may stand: the name of a file
+abbrev pub file_or_none : Text → Rule
+file_or_none id = new_rule id
+
+-- `--id WORD`, and the word that stands for it where it is left out
+abbrev pub choice : Text → Text → Rule
+choice id default = record (new_rule id) { long = Some id; value_names = 1; defaults = default ∷ [] }
+
+-- `--id` alone; `true` stands for it where it is there, and `false` where it is left out
+abbrev pub flag : Text → Rule
+flag id = record (new_rule id) { long = Some id; action = Some SetTrue }
 
 -- `plan DOMAIN PROBLEM [--nodes N] [--workers N] [--piece N]`
 abbrev pub plan : App
@@ -35,22 +53,81 @@ plan =
 abbrev pub verify : App
 verify = with_rule (with_rule (with_rule (new_app (codes "verify")) (file (codes "DOMAIN"))) (file (codes "PROBLEM"))) (file (codes "PLAN"))
 
+-- `check DOMAIN [PROBLEM] [--format FORMAT] [--limit N] [--strict] [--color WHEN]`
+abbrev pub check : App
+check =
+    with_rule
+    (with_rule
+    (with_rule
+    (with_rule (with_rule (with_rule (new_app (codes "check")) (file (codes "DOMAIN"))) (file_or_none (codes "PROBLEM")))
+    (choice (codes "format") (codes "text")))
+    (number (codes "limit") (codes "20") 0 1000000))
+    (flag (codes "strict")))
+    (choice (codes "color") (codes "auto"))
+
 -- the program's name, and then one of its commands, or a word that asks for the version
 unfoldable pub htnplan : App
 htnplan =
     with_subcommand
+    (with_subcommand
     (with_subcommand (on_top
     (λ s. record s { has_version = true; subcommand_required = true; arg_required_else_help = true })
     (new_app (codes "htnplan"))) plan.top)
-    verify.top
+    verify.top)
+    check.top
 
 -- the command that the words name, with what they give each of its names
 unfoldable pub read_by : List Text → Option (Text × List Row)
 read_by words = subcommand_of htnplan words
 
+-- the format that a word names
+abbrev pub format_named : Text → Option Format
+format_named word =
+    if bytes_eq word (codes "text") then Some format.Text
+    else (if bytes_eq word (codes "short") then Some format.Short
+    else (if bytes_eq word (codes "json") then Some format.Json else None))
+
+-- when colours are written, by a word
+abbrev pub colour_named : Text → Option Colour
+colour_named word =
+    if bytes_eq word (codes "auto") then Some colour.Auto
+    else (if bytes_eq word (codes "always") then Some colour.Always
+    else (if bytes_eq word (codes "never") then Some colour.Never else None))
+
+-- whether a flag is there, by the word that stands for it
+abbrev pub flag_named : Text → Option Bool
+flag_named word = if bytes_eq word (codes "true") then Some true else (if bytes_eq word (codes "false") then Some false else None)
+
+-- a word is there, and names nothing
+abbrev pub is_unknown : {X : Type 0} → (Text → Option X) → Option Text → Bool
+is_unknown named None = false
+is_unknown named (Some word) = not (is_some (named word))
+
+-- whether the word is `-`, the standard input
+abbrev pub is_input : Option Text → Bool
+is_input None = false
+is_input (Some word) = bytes_eq word (codes "-")
+
+-- the kind of what is refused: a word that names nothing, and else the standard input twice
+abbrev pub refused_kinds : Bool → Bool → Bool → Kinds
+refused_kinds no_format no_colour two_inputs =
+    if no_format then InvalidValue ∷ [] else (if no_colour then InvalidValue ∷ [] else (if two_inputs then ArgumentConflict ∷ [] else []))
+
+-- what `check` refuses of the words that `clap` takes: a word that names no format, one that names no time for colours,
+-- and the standard input twice
+abbrev pub check_fault : List Row → Kinds
+check_fault rows =
+    refused_kinds (is_unknown format_named (first_of (codes "format") rows)) (is_unknown colour_named (first_of (codes "color") rows))
+    (is_input (first_of (codes "DOMAIN") rows) && is_input (first_of (codes "PROBLEM") rows))
+
+-- what is refused of the words that `clap` takes
+abbrev pub own_fault : Option (Text × List Row) → Kinds
+own_fault None = []
+own_fault (Some found) = if bytes_eq found.0 (codes "check") then check_fault found.1 else []
+
 -- the faults of the words
 unfoldable pub faults : List Text → Kinds
-faults words = fault_of htnplan words
+faults words = or_else (fault_of htnplan words) (own_fault (read_by words))
 
 -- the words ask for help where `clap` shows it
 abbrev pub HelpIsDue : List Text → Type 0

@@ -1,7 +1,7 @@
 -- Command lines, read by the definitions.
-use Rattle.std.specs.Prelude.{◌≡◌, List, [], ◌∷◌, Option, Some, codes, option_and_then}
+use Rattle.std.specs.Prelude.{◌≡◌, List, [], ◌∷◌, Option, Some, None, codes, option_and_then}
 use Rattle.clap.specs.Walk.{Text, first_of}
-use Rattle.clap.specs.declared.error.kind.ErrorKind.TheVariants.{DisplayHelp, DisplayVersion, MissingRequiredArgument, UnknownArgument, ValueValidation}
+use Rattle.clap.specs.declared.error.kind.ErrorKind.TheVariants.{ArgumentConflict, DisplayHelp, DisplayVersion, InvalidValue, MissingRequiredArgument, UnknownArgument, ValueValidation}
 use Rattle.htn_command.specs.CommandLine.{faults, read_by}
 
 -- what the words give to a name
@@ -20,6 +20,25 @@ long = codes "htnplan" ∷ codes "plan" ∷ codes "--nodes=7" ∷ codes "d" ∷ 
 abbrev pub verifying : List Text
 verifying = codes "htnplan" ∷ codes "verify" ∷ codes "d" ∷ codes "p" ∷ codes "f" ∷ []
 
+-- a line that checks a domain, with defaults
+abbrev pub checking : List Text
+checking = codes "htnplan" ∷ codes "check" ∷ codes "d" ∷ []
+
+-- a line that checks the standard input and a problem, with all options
+abbrev pub checking_strictly : List Text
+checking_strictly =
+    codes "htnplan" ∷ codes "check" ∷ codes "-" ∷ codes "--strict" ∷ codes "--format=json" ∷ codes "p" ∷ codes "--limit" ∷ codes "0" ∷ codes "--color" ∷ codes "never" ∷ []
+
+-- what it gives the names of `check`
+pub record ChecksAsGiven (words : List Text) (d p form most strict when : Option Text) : Type 0 where
+  pub domain : given words (codes "DOMAIN") ≡ d
+  pub problem : given words (codes "PROBLEM") ≡ p
+  pub format : given words (codes "format") ≡ form
+  pub limit : given words (codes "limit") ≡ most
+  pub is_strict : given words (codes "strict") ≡ strict
+  pub colour : given words (codes "color") ≡ when
+  pub sound : faults words ≡ []
+
 -- what each of these lines gives each argument, and the requests that they ask for
 pub record ExamplesHold : Type 0 where
   pub domain : given short (codes "DOMAIN") ≡ Some (codes "d")
@@ -36,3 +55,12 @@ pub record ExamplesHold : Type 0 where
   pub no_plan : faults (codes "htnplan" ∷ codes "verify" ∷ codes "d" ∷ codes "p" ∷ []) ≡ MissingRequiredArgument ∷ []
   pub two_plans : faults (codes "htnplan" ∷ codes "verify" ∷ codes "d" ∷ codes "p" ∷ codes "f" ∷ codes "g" ∷ []) ≡ UnknownArgument ∷ []
   pub version : faults (codes "htnplan" ∷ codes "--version" ∷ []) ≡ DisplayVersion ∷ []
+  pub by_default : ChecksAsGiven checking (Some (codes "d")) None (Some (codes "text")) (Some (codes "20")) (Some (codes "false")) (Some (codes "auto"))
+  pub by_options : ChecksAsGiven checking_strictly (Some (codes "-")) (Some (codes "p")) (Some (codes "json")) (Some (codes "0")) (Some (codes "true")) (Some (codes "never"))
+  pub no_format : faults (codes "htnplan" ∷ codes "check" ∷ codes "d" ∷ codes "--format" ∷ codes "xml" ∷ []) ≡ InvalidValue ∷ []
+  pub no_colour : faults (codes "htnplan" ∷ codes "check" ∷ codes "d" ∷ codes "--color" ∷ codes "red" ∷ []) ≡ InvalidValue ∷ []
+  pub no_limit : faults (codes "htnplan" ∷ codes "check" ∷ codes "d" ∷ codes "--limit" ∷ codes "all" ∷ []) ≡ ValueValidation ∷ []
+  pub two_inputs : faults (codes "htnplan" ∷ codes "check" ∷ codes "-" ∷ codes "-" ∷ []) ≡ ArgumentConflict ∷ []
+  pub no_domain : faults (codes "htnplan" ∷ codes "check" ∷ []) ≡ MissingRequiredArgument ∷ []
+  pub foreign_option : faults (codes "htnplan" ∷ codes "check" ∷ codes "d" ∷ codes "--nodes" ∷ codes "5" ∷ []) ≡ UnknownArgument ∷ []
+  pub names_only : faults (codes "htnplan" ∷ codes "plan" ∷ codes "-" ∷ codes "-" ∷ []) ≡ []

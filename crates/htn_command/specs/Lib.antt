@@ -1,4 +1,5 @@
 pub mod CommandLine
 pub mod Examples
 pub mod Help
+pub mod Misuse
 pub mod Request

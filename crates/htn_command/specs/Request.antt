@@ -1,15 +1,16 @@
 -- What the words of a command line ask for.
-use Rattle.std.specs.Prelude.{◌≡◌, List, [], Option, Some, codes}
+use Rattle.std.specs.Prelude.{◌≡◌, ◌<◌, ◌^◌, List, [], Option, Some, codes, option_and_then, option_map}
 use Rattle.clap.specs.Walk.{Row, Text, first_of, one_of}
 use Rattle.word_machine.specs.Bounds.{AreInRange}
-use Rattle.htn_command.specs.CommandLine.{IsNumber, faults, read_by}
+use Rattle.htn_command.specs.CommandLine.{IsNumber, colour_named, faults, flag_named, format_named, read_by}
 use Rattle.htn_command.specs.declared.request.Request.{Request}
-use Rattle.htn_command.specs.declared.request.Request.TheVariants.{Plan, Verify}
+use Rattle.htn_command.specs.declared.request.Request.TheVariants.{Plan, Verify, Check}
 
 -- the command of a request
 abbrev pub command_of : Request → Text
 command_of (Plan domain problem bounds) = codes "plan"
 command_of (Verify domain problem plan) = codes "verify"
+command_of (Check domain problem format limit is_strict colour) = codes "check"
 
 -- what stands under the names of the command
 abbrev pub IsGiven : List Row → Request → Type 0
@@ -24,6 +25,14 @@ IsGiven rows (Verify domain problem plan) =
     (first_of (codes "DOMAIN") rows ≡ Some domain.now)
     × (first_of (codes "PROBLEM") rows ≡ Some problem.now)
     × (first_of (codes "PLAN") rows ≡ Some plan.now)
+IsGiven rows (Check domain problem format limit is_strict colour) =
+    (first_of (codes "DOMAIN") rows ≡ Some domain.now)
+    × (first_of (codes "PROBLEM") rows ≡ option_map (λ name. name.now) problem)
+    × (option_and_then format_named (first_of (codes "format") rows) ≡ Some format)
+    × IsNumber (one_of (codes "limit") rows) limit
+    × (limit < 2 ^ 64)
+    × (option_and_then flag_named (first_of (codes "strict") rows) ≡ Some is_strict)
+    × (option_and_then colour_named (first_of (codes "color") rows) ≡ Some colour)
 
 -- a command with what it was given is this request
 abbrev pub IsOf : Option (Text × List Row) → Request → Type 0
@@ -42,12 +51,15 @@ pub record IsAskedBy (words : List Text) (request : Request) : Type 0 where
 abbrev pub AskNothing : List Text → Type 0
 AskNothing words = (request : Request) → IsAskedBy words request → ⊥
 
--- the same command, over the same files, and for a plan within the same bounds
+-- the same command, over the same files, for a plan within the same bounds, for a check with the same options
 abbrev pub AreAlike : Request → Request → Type 0
 AreAlike (Plan domain problem bounds) (Plan other second limits) =
     (domain.now ≡ other.now) × (problem.now ≡ second.now)
     × (bounds.nodes ≡ limits.nodes) × (bounds.workers ≡ limits.workers) × (bounds.piece ≡ limits.piece)
 AreAlike (Verify domain problem plan) (Verify other second third) = (domain.now ≡ other.now) × (problem.now ≡ second.now) × (plan.now ≡ third.now)
+AreAlike (Check domain problem format limit is_strict colour) (Check other second form most strict when) =
+    (domain.now ≡ other.now) × (option_map (λ name. name.now) problem ≡ option_map (λ name. name.now) second)
+    × (format ≡ form) × (limit ≡ most) × (is_strict ≡ strict) × (colour ≡ when)
 AreAlike _ _ = ⊥
 
 -- words ask for one request at most

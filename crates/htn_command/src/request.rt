@@ -6,10 +6,13 @@ ghost use Rattle.htn_command.specs.CommandLine as line;
 ghost use Rattle.htn_command.specs.Help.{AreMistaken, HelpIsAsked, IsOfWords, IsPossible, RefusesWords, ShowsHelp, ShowsVersion, VersionIsAsked};
 ghost use Rattle.htn_command.specs.Request.{AskNothing, IsAskedBy, IsOf, IsOfNothing};
 
+use crate::choice::{Colour, colour_named, flag_named, format_named};
+use crate::misuse::Misuse;
 use crate::refusal::Refusal;
 use clap::builder::ValueParser;
 use clap::error::ErrorKind;
-use clap::{Arg, ArgMatches, Command, Error, value_parser};
+use clap::{Arg, ArgAction, ArgMatches, Command, Error, value_parser};
+use diagnostics::Format;
 use std::alloc::{AllocError, Global};
 use word_machine::Bounds;
 
@@ -28,6 +31,16 @@ pub enum Request<'a> {
         problem: &'a str,
         plan: &'a str,
     },
+    /// What is wrong with the domain, and with the problem if there is one. A file's name `-` is the standard input.
+    Check {
+        domain: &'a str,
+        problem: Option<&'a str>,
+        format: Format,
+        /// How many diagnostics are shown at most; 0 is all.
+        limit: u64,
+        is_strict: bool,
+        colour: Colour,
+    },
 }
 
 // The version of the program.
@@ -35,10 +48,11 @@ const VERSION: &str = "0.1.0";
 
 // What stands below the help of the program, and of each of its commands.
 const CALLS: &str = "Examples:
+  htnplan check domain.hddl problem.hddl
   htnplan plan domain.hddl problem.hddl --nodes 200 > plan.txt
   htnplan verify domain.hddl problem.hddl plan.txt
 
-Status: 0 yes (a plan, valid), 1 no (none, unsolvable, invalid), 2 command line, 3 a text is refused,
+Status: 0 yes (a plan, valid, no error), 1 no (none, unsolvable, invalid), 2 command line, 3 a text is refused,
 4 memory or threads, 5 files or output.";
 
 const NODES: &str =
@@ -65,6 +79,14 @@ After `invalid:` stands the first of these that holds:
 
 Status: 0 valid, 1 invalid, 2 command line, 3 a text is refused, 4 memory, 5 files or output.";
 
+const CHECK_CALL: &str = "Examples:
+  htnplan check domain.hddl
+  htnplan check domain.hddl problem.hddl --strict
+
+`short` prints FILE:LINE:COLUMN: error: MESSAGE [Code], which editors read. What each code means: docs/FAULTS.md.
+
+Status: 0 no error, 1 a warning with --strict, 2 command line, 3 a text is refused, 4 memory, 5 files or output.";
+
 /// Reads the words, of which the first is the program's name. Words that are refused ask for nothing. Help and the
 /// version are shown only where a word asks for them, and words whose one fault is that are not refused.
 pub fn parse<'a>(alloc: Global, words: &'a [String]) -> Result<Request<'a>, Refusal>
@@ -90,6 +112,9 @@ fn read<'a>(alloc: Global, words: &'a [String]) -> Result<Request<'a>, Error>
 {
     let command = command(alloc)?;
     let matches = command.try_get_matches_from(words)?;
+    if let Some(misuse) = Misuse::of(&matches) {
+        return Err(misuse.error(alloc)?);
+    }
     match read_words(&matches) {
         Some(request) => Ok(request),
         None => Err(unread(alloc)?),
@@ -97,18 +122,24 @@ fn read<'a>(alloc: Global, words: &'a [String]) -> Result<Request<'a>, Error>
 }
 
 // The command line that `clap` reads.
-fn command<'a>(alloc: Global) -> Result<Command<'a>, AllocError>
+pub(crate) fn command<'a>(alloc: Global) -> Result<Command<'a>, AllocError>
     ensures { IfOk result (λ c. app_of c ≡ line.htnplan) }
 {
     let plan = plan(alloc)?;
     let verify = verify(alloc)?;
+    let check = check(alloc)?;
     let program = Command::new(alloc, "htnplan")
         .version(VERSION)
-        .about("Plans hierarchical tasks (HDDL) and verifies plans; the program is proved")
+        .about(
+            "Plans hierarchical tasks (HDDL), verifies plans, and says what is wrong; the program is proved",
+        )
         .after_help(CALLS)
         .subcommand_required(true)
         .arg_required_else_help(true);
-    program.subcommand(plan)?.subcommand(verify)
+    program
+        .subcommand(plan)?
+        .subcommand(verify)?
+        .subcommand(check)
 }
 
 // The command `plan`.
@@ -145,6 +176,63 @@ fn verify<'a>(alloc: Global) -> Result<Command<'a>, AllocError>
         .arg(file(alloc, "PLAN", "The file of the plan, as `plan` prints it"))
 }
 
+// The command `check`.
+fn check<'a>(alloc: Global) -> Result<Command<'a>, AllocError>
+    ensures { IfOk result (λ c. (app_of c ≡ line.check) × ((fields_of c).has_globals ≡ false)) }
+{
+    let format = choice(alloc, "format", "FORMAT", "text");
+    let limit = number(
+        alloc,
+        "limit",
+        "20",
+        value_parser!(u64).range(0..=1_000_000),
+    );
+    let strict = flag(alloc, "strict");
+    let color = choice(alloc, "color", "WHEN", "auto");
+    Command::new(alloc, "check")
+        .about(
+            "Says what is wrong with a domain and a problem, with lines, and warns of what is never used",
+        )
+        .after_help(CHECK_CALL)
+        .arg(file(
+            alloc,
+            "DOMAIN",
+            "The file of the domain, in HDDL; - is standard input",
+        ))?
+        .arg(file_or_none(alloc, "PROBLEM", "The file of the problem"))?
+        .arg(format.help("How it is printed: text, short, json"))?
+        .arg(limit.help("Diagnostics that text shows; 0 is all"))?
+        .arg(strict.help("A warning is status 1"))?
+        .arg(color.help("Colours: auto, always, never"))
+}
+
+// An option with one of some words.
+fn choice<'a>(alloc: Global, id: &'a str, value_name: &'a str, default: &'a str) -> Arg<'a>
+    ensures rule { rule_of result ≡ line.choice id.now default.now }
+    ensures local { result.global ≡ false }
+{
+    Arg::new(alloc, id)
+        .long(id)
+        .value_name(value_name)
+        .default_value(default)
+}
+
+// An option without a value.
+fn flag<'a>(alloc: Global, id: &'a str) -> Arg<'a>
+    ensures rule { rule_of result ≡ line.flag id.now }
+    ensures local { result.global ≡ false }
+{
+    Arg::new(alloc, id).long(id).action(ArgAction::SetTrue)
+}
+
+// A word that may stand: the name of a file.
+fn file_or_none<'a>(alloc: Global, id: &'a str, help: &'a str) -> Arg<'a>
+    ensures rule { rule_of result ≡ line.file_or_none id.now }
+    ensures local { result.global ≡ false }
+{
+    Arg::new(alloc, id).help(help)
+}
+
 // A word that has to stand: the name of a file.
 fn file<'a>(alloc: Global, id: &'a str, help: &'a str) -> Arg<'a>
     ensures rule { rule_of result ≡ line.file id.now }
@@ -173,7 +261,10 @@ fn read_words<'a>(matches: &ArgMatches<'a>) -> Option<Request<'a>>
     if let Some(plan) = matches.subcommand_matches("plan") {
         return read_plan_words(plan);
     }
-    read_verify_words(matches.subcommand_matches("verify")?)
+    if let Some(verify) = matches.subcommand_matches("verify") {
+        return read_verify_words(verify);
+    }
+    read_check_words(matches.subcommand_matches("check")?)
 }
 
 // The request of what `plan` was given.
@@ -206,6 +297,27 @@ fn read_verify_words<'a>(verify: &ArgMatches<'a>) -> Option<Request<'a>>
         domain,
         problem,
         plan,
+    })
+}
+
+// The request of what `check` was given.
+fn read_check_words<'a>(check: &ArgMatches<'a>) -> Option<Request<'a>>
+    ensures some { IfSome result (IsOf (Some (codes "check", rows_of (found_of check.now)))) }
+    ensures none { IsNone result → IsOfNothing (Some (codes "check", rows_of (found_of check.now))) }
+{
+    let domain = check.get_str("DOMAIN")?;
+    let problem = check.get_str("PROBLEM");
+    let format = format_named(check.get_str("format")?)?;
+    let limit = check.get_one::<u64>("limit")?;
+    let is_strict = flag_named(check.get_str("strict")?)?;
+    let colour = colour_named(check.get_str("color")?)?;
+    Some(Request::Check {
+        domain,
+        problem,
+        format,
+        limit,
+        is_strict,
+        colour,
     })
 }
 

@@ -4,6 +4,7 @@ mod OneAnswer
 mod Exists
 mod Stopping
 mod FileReads
+mod Reporting
 mod Telling
 mod Decided
 mod DecidedLines

@@ -3,7 +3,7 @@ use Rattle.std.proofs.Common.{◌≡◌, ◌≢◌, ◌⊎◌, ℕ, Bool, true, 
 use Rattle.htn_command.specs.declared.request.Request.{Request}
 use Rattle.htn_command.specs.declared.request.Request.TheVariants as request
 use Rattle.htn_run.specs.Files.{File, MayGive}
-use Rattle.htn_run.specs.Requests.{HasFault, IsCutShort, LacksFile, LacksFileOf, Refuses}
+use Rattle.htn_run.specs.Requests.{HasFault, IsCutShort, LacksFile, LacksFileOf, Refuses, TellsFaults}
 use Rattle.htn_run.specs.Stops.{Stops, StopsByFault, status_of}
 use Rattle.htn_run.specs.declared.outcome.RunFault.{RunFault}
 use Rattle.htn_run.specs.declared.outcome.RunFault.TheVariants as fault
@@ -20,16 +20,16 @@ given file text bytes is read = subst (λ t. MayGive file t) (sym is) read
 
 -- a request that is refused, or whose answer is cut short
 pub stops_by : {O : Type 0} (contents : O → Option (List ℕ)) (has_failed : O → Bool) (files : List ℕ → File) (request : Request) (old new : O) (f : RunFault)
-    → (f ≢ fault.Output → Refuses files request f × (new ≡ old))
+    → TellsFaults request → (f ≢ fault.Output → Refuses files request f × (new ≡ old))
     → (f ≡ fault.Output → IsCutShort files (contents old) (contents new) request × (has_failed new ≡ true))
     → StopsByFault contents has_failed files request old new f
-stops_by contents has_failed files request old new fault.Output refused cut = cut refl
-stops_by contents has_failed files request old new (fault.Domain f) refused cut = refused (λ e. cc)
-stops_by contents has_failed files request old new (fault.Problem f) refused cut = refused (λ e. cc)
-stops_by contents has_failed files request old new (fault.Check f) refused cut = refused (λ e. cc)
-stops_by contents has_failed files request old new (fault.Plan f) refused cut = refused (λ e. cc)
-stops_by contents has_failed files request old new fault.OutOfMemory refused cut = (refused (λ e. cc)).1
-stops_by contents has_failed files request old new fault.NoThread refused cut = refused (λ e. cc)
+stops_by contents has_failed files request old new fault.Output tells refused cut = cut refl
+stops_by contents has_failed files request old new (fault.Domain f) tells refused cut = let h = refused (λ e. cc) in (tells, h.0, h.1)
+stops_by contents has_failed files request old new (fault.Problem f) tells refused cut = let h = refused (λ e. cc) in (tells, h.0, h.1)
+stops_by contents has_failed files request old new (fault.Check f) tells refused cut = let h = refused (λ e. cc) in (tells, h.0, h.1)
+stops_by contents has_failed files request old new (fault.Plan f) tells refused cut = let h = refused (λ e. cc) in (tells, h.0, h.1)
+stops_by contents has_failed files request old new fault.OutOfMemory tells refused cut = (refused (λ e. cc)).1
+stops_by contents has_failed files request old new fault.NoThread tells refused cut = let h = refused (λ e. cc) in (tells, h.0, h.1)
 
 -- ## A file that can't be read
 
@@ -41,6 +41,9 @@ lacks_file files (request.Plan domain problem bounds) text.Plan h = absurd h
 lacks_file files (request.Verify domain problem plan) text.Domain h = inl (inl h)
 lacks_file files (request.Verify domain problem plan) text.Problem h = inl (inr h)
 lacks_file files (request.Verify domain problem plan) text.Plan h = inr h
+lacks_file files (request.Check domain problem format limit is_strict colour) text.Domain h = inl h
+lacks_file files (request.Check domain problem format limit is_strict colour) text.Problem h = inr h
+lacks_file files (request.Check domain problem format limit is_strict colour) text.Plan h = absurd h
 
 -- ## The status of a stop
 
@@ -62,9 +65,9 @@ module _ {O : Type 0} (contents : O → Option (List ℕ)) (has_failed : O → B
     pub at_three : (stop : Stop) → Stops contents has_failed files request old new stop → status_of stop ≡ 3 → HasFault files request
     at_three (Unreadable text) h is = absurd (omega arith)
     at_three (Run fault.Output) h is = absurd (omega arith)
-    at_three (Run (fault.Domain f)) h is = (fault.Domain f, tt, h.0)
-    at_three (Run (fault.Problem f)) h is = (fault.Problem f, tt, h.0)
-    at_three (Run (fault.Check f)) h is = (fault.Check f, tt, h.0)
-    at_three (Run (fault.Plan f)) h is = (fault.Plan f, tt, h.0)
+    at_three (Run (fault.Domain f)) h is = (fault.Domain f, tt, h.1)
+    at_three (Run (fault.Problem f)) h is = (fault.Problem f, tt, h.1)
+    at_three (Run (fault.Check f)) h is = (fault.Check f, tt, h.1)
+    at_three (Run (fault.Plan f)) h is = (fault.Plan f, tt, h.1)
     at_three (Run fault.OutOfMemory) h is = absurd (omega arith)
     at_three (Run fault.NoThread) h is = absurd (omega arith)

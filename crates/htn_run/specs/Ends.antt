@@ -54,7 +54,7 @@ ReadsInOrder words old new = Notes old new [] ⊎ Asked words (λ r. NotesBeginn
 -- that of a fault which the texts of the request have
 abbrev pub TellsFault : {Z : Type 0} → List (String Z) → (List ℕ → File) → (List ℕ → Type 0) → Type 0
 TellsFault words files Gets =
-    Asked words (λ r. (fault : RunFault) × IsOfTexts fault × request.Refuses files r fault × Gets (line_of_fault fault))
+    Asked words (λ r. request.TellsFaults r × ((fault : RunFault) × IsOfTexts fault × request.Refuses files r fault × Gets (line_of_fault fault)))
 
 -- that of a want of memory, or of a thread where the request has more than one worker
 abbrev pub TellsWant : {Z : Type 0} → List (String Z) → (List ℕ → Type 0) → Type 0

@@ -1,10 +1,12 @@
 pub mod Ends
 pub mod Faults
 pub mod Files
+pub mod Checking
 pub mod Headline
 pub mod Judgement
 pub mod Laws
 pub mod Lines
 pub mod Process
+pub mod Reporting
 pub mod Requests
 pub mod Stops

@@ -3,6 +3,7 @@
 #![tactic(auto)]
 
 mod answer;
+mod check;
 mod fault_line;
 mod judge;
 mod laws;
@@ -17,6 +18,8 @@ mod texts;
 mod verdict;
 mod words;
 
+pub use check::run_check;
+pub use check_report::{Finding, Format, Input, Options};
 pub use fault_line::write_fault;
 pub use htn_plan::{Out, Sink, Verdict};
 pub use htn_search::{Bounds, Gate, NoGate};
@@ -26,7 +29,7 @@ pub use laws::{
     plans_are_valid, verdicts_are_unique, verdicts_exist,
 };
 pub use outcome::{Outcome, RunFault};
-pub use process::{ProcessFault, flush, words_of};
+pub use process::{ProcessFault, flush, wants_colour, words_of};
 pub use run::{run_plan, run_task};
 pub use source::{Disk, MAX_BYTES_READ, ReadFault, Source};
 pub use words::run_words;

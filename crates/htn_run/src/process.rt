@@ -5,7 +5,7 @@ ghost use Rattle.htn_run.specs.Lines.{GetsLine};
 use htn_plan::{Out, Sink, WriteFault, put_all};
 use std::alloc::{AllocError, Global};
 use std::env;
-use std::env::Env;
+use std::env::{Env, VarError};
 use std::io::{ErrorKind, Write};
 use thiserror::Error;
 
@@ -74,6 +74,22 @@ pub fn words_of<V: Env>(alloc: Global, env: &V) -> Result<Vec<String>, ProcessFa
         Ok(words) => Ok(words.collect(alloc)?),
         Err(error) if error.kind() == ErrorKind::InvalidData => Err(ProcessFault::NotText),
         Err(_) => Err(ProcessFault::OutOfMemory),
+    }
+}
+
+/// Whether the environment lets a terminal have colours: `NO_COLOR` isn't set, or to nothing, and `TERM` isn't `dumb`. No
+/// where memory is refused.
+pub fn wants_colour<V: Env>(alloc: Global, env: &V) -> bool {
+    let is_unwanted = match env::var(&(env, alloc), "NO_COLOR") {
+        Ok(value) => !value.is_empty(),
+        Err(fault) => !matches!(fault, VarError::NotPresent),
+    };
+    if is_unwanted {
+        return false;
+    }
+    match env::var(&(env, alloc), "TERM") {
+        Ok(name) => name.as_str() != "dumb",
+        Err(fault) => matches!(fault, VarError::NotPresent),
     }
 }
 

@@ -1,13 +1,17 @@
 //! The run of a command line.
-ghost use Rattle.std.specs.Prelude.{◌≡◌, ◌≤◌, ◌⊎◌, ℕ, List, [], ◌∷◌, true, IfOk, IfErr, OnOk};
+ghost use Rattle.std.specs.Prelude.{◌≡◌, ◌≤◌, ◌⊎◌, ℕ, List, [], ◌∷◌, None, Some, true, IfOk, IfErr, OnOk};
 ghost use Rattle.std.specs.Io.KnownBytes.{Appends};
 ghost use Rattle.htn_command.specs.Help.{AreMistaken};
+ghost use Rattle.htn_run.specs.Checking as spec;
+ghost use Rattle.htn_run.specs.Checking.{MayColour, files_of, name_of};
+ghost use Rattle.htn_run.specs.Reporting.{AddsReport, StopsReport};
 ghost use Rattle.htn_run.specs.Ends.{HasFault, IsCutShort, LacksFile, NothingIsAsked, PrintsAnswer, PrintsText, ReadsInOrder, TellsFault, TellsFile, TellsOutput, TellsWant};
 ghost use Rattle.htn_run.specs.Files.{MayFail, MayGive, Notes, NotesBeginning};
 ghost use Rattle.htn_run.specs.Lines.{GetsLine};
 ghost use Rattle.htn_run.specs.Requests.{AddsAnswer, LacksText, names_of};
 ghost use Rattle.htn_run.specs.Stops.{CutsShort, IsUnread, Stops};
 
+use crate::check::run_check;
 use crate::judge::run_verify;
 use crate::line::Line;
 use crate::outcome::RunFault;
@@ -15,8 +19,9 @@ use crate::reply::Reply;
 use crate::run::run_plan;
 use crate::source::{ReadFault, Source};
 use crate::stop::{Stop, Text};
+use check_report::{Input, Options};
 use clap::Error;
-use htn_command::{Refusal, Request, parse};
+use htn_command::{Colour, Refusal, Request, parse};
 use htn_plan::{Out, put_all};
 use htn_search::{Bounds, NoGate};
 use std::alloc::Global;
@@ -28,10 +33,10 @@ use std::thread::Threads;
 ///
 /// | Status | When | On `err` |
 /// |---|---|---|
-/// | 0 | a plan, or `valid`, or help or the version, which was asked for | nothing |
-/// | 1 | `none`, `unsolvable`, or `invalid: ` and why | nothing |
+/// | 0 | a plan, or `valid`, or a report without an error, or help or the version, which was asked for | nothing |
+/// | 1 | `none`, `unsolvable`, or `invalid: ` and why, or a report with a warning that counts | nothing |
 /// | 2 | the words are refused | the text of `clap` |
-/// | 3 | a text is refused | one line: which text, the fault and its place |
+/// | 3 | a text is refused | one line: which text, the fault and its place; after a report nothing |
 /// | 4 | want of memory, or no thread | one line |
 /// | 5 | a file can't be read, or the output can't be written | one line |
 ///
@@ -55,11 +60,13 @@ pub fn run_words<S: Source, O: Out, E: Out, R: Threads + Wait + Sync>(
     ensures refused { result ≡ 2 → NothingIsAsked words.now }
     ensures mistaken { result ≡ 2 → AreMistaken words.now }
     ensures faulty { result ≡ 3 → HasFault words.now (S.files files.old) }
-    ensures kept { 2 ≤ result → result ≤ 4 → out.new ≡ out.old }
+    ensures kept { 2 ≤ result → result ≤ 4 → (out.new ≡ out.old)
+        ⊎ (PrintsAnswer 3 words.now (S.files files.old) (O.contents out.old) (O.contents out.new) × (O.has_failed out.new ≡ O.has_failed out.old) × (result ≡ 3)) }
     ensures failed { result ≡ 5 → (LacksFile words.now (S.files files.old) × (out.new ≡ out.old))
         ⊎ (IsCutShort words.now (S.files files.old) (O.contents out.old) (O.contents out.new) × (O.has_failed out.new ≡ true)) }
     ensures reads { ReadsInOrder words.now (S.reads files.old) (S.reads files.new) }
-    ensures fault_line { result ≡ 3 → TellsFault words.now (S.files files.old) (GetsLine (E.contents err.old) (E.contents err.new) (E.has_failed err.new)) }
+    ensures fault_line { result ≡ 3 → (TellsFault words.now (S.files files.old) (GetsLine (E.contents err.old) (E.contents err.new) (E.has_failed err.new)) × (out.new ≡ out.old))
+        ⊎ (PrintsAnswer 3 words.now (S.files files.old) (O.contents out.old) (O.contents out.new) × (err.new ≡ err.old)) }
     ensures want_line { result ≡ 4 → TellsWant words.now (GetsLine (E.contents err.old) (E.contents err.new) (E.has_failed err.new)) }
     ensures file_line { result ≡ 5 → (TellsFile words.now (S.files files.old) (GetsLine (E.contents err.old) (E.contents err.new) (E.has_failed err.new)) × (out.new ≡ out.old))
         ⊎ (TellsOutput (GetsLine (E.contents err.old) (E.contents err.new) (E.has_failed err.new)) × (O.has_failed out.new ≡ true)) }
@@ -120,6 +127,33 @@ fn run_request<S: Source, O: Out, R: Threads + Wait + Sync>(
             problem,
             plan,
         } => verify_files(alloc, domain, problem, plan, files, out),
+        Request::Check {
+            domain,
+            problem,
+            format,
+            limit,
+            is_strict,
+            colour,
+        } => {
+            let options = Options {
+                format,
+                limit: limit as usize,
+                is_strict,
+                colour: has_colour(colour, out.takes_colour()),
+            };
+            check_files(alloc, domain, problem, options, files, out)
+        }
+    }
+}
+
+// Whether a report has colours, for an output that wants them or doesn't.
+fn has_colour(colour: Colour, is_wanted: bool) -> bool
+    ensures { MayColour colour result }
+{
+    match colour {
+        Colour::Auto => is_wanted,
+        Colour::Always => true,
+        Colour::Never => false,
     }
 }
 
@@ -175,6 +209,82 @@ fn verify_files<S: Source, O: Out>(
         out,
     )?;
     Ok(Reply::Verified(verdict))
+}
+
+// The run of a request for a check of a domain, and of a problem if one is named.
+fn check_files<S: Source, O: Out>(
+    alloc: Global,
+    domain: &str,
+    problem: Option<&str>,
+    options: Options,
+    files: &mut S,
+    out: &mut O,
+) -> Result<Reply, Stop>
+    ensures answered { IfOk result (AddsReport (S.files files.old) (O.contents out.old) (O.contents out.new) domain.entry.now (name_of problem.entry) options) }
+    ensures works { OnOk result (O.has_failed out.new ≡ O.has_failed out.old) }
+    ensures stopped { IfErr result (StopsReport O.contents O.has_failed (S.files files.old) domain.entry.now (name_of problem.entry) options out.old out.new) }
+    ensures reads { NotesBeginning (S.reads files.old) (S.reads files.new) (files_of domain.entry.now (name_of problem.entry)) }
+{
+    match problem {
+        Some(problem) => check_both(alloc, domain, problem, options, files, out),
+        None => check_alone(alloc, domain, options, files, out),
+    }
+}
+
+// The run of a request for a check of a domain alone.
+fn check_alone<S: Source, O: Out>(
+    alloc: Global,
+    domain: &str,
+    options: Options,
+    files: &mut S,
+    out: &mut O,
+) -> Result<Reply, Stop>
+    ensures answered { IfOk result (AddsReport (S.files files.old) (O.contents out.old) (O.contents out.new) domain.entry.now None options) }
+    ensures works { OnOk result (O.has_failed out.new ≡ O.has_failed out.old) }
+    ensures stopped { IfErr result (StopsReport O.contents O.has_failed (S.files files.old) domain.entry.now None options out.old out.new) }
+    ensures reads { NotesBeginning (S.reads files.old) (S.reads files.new) (files_of domain.entry.now None) }
+{
+    let text = read_file(alloc, files, Text::Domain, file_of(domain))?;
+    let domain = Input {
+        name: domain,
+        text: text.as_slice(),
+    };
+    let finding = run_check(alloc, domain, None, options, out)?;
+    Ok(Reply::Checked(finding))
+}
+
+// The run of a request for a check of a domain and a problem.
+fn check_both<S: Source, O: Out>(
+    alloc: Global,
+    domain: &str,
+    problem: &str,
+    options: Options,
+    files: &mut S,
+    out: &mut O,
+) -> Result<Reply, Stop>
+    ensures answered { IfOk result (AddsReport (S.files files.old) (O.contents out.old) (O.contents out.new) domain.entry.now (Some problem.entry.now) options) }
+    ensures works { OnOk result (O.has_failed out.new ≡ O.has_failed out.old) }
+    ensures stopped { IfErr result (StopsReport O.contents O.has_failed (S.files files.old) domain.entry.now (Some problem.entry.now) options out.old out.new) }
+    ensures reads { NotesBeginning (S.reads files.old) (S.reads files.new) (files_of domain.entry.now (Some problem.entry.now)) }
+{
+    let (first, second) = read_texts(alloc, files, file_of(domain), file_of(problem))?;
+    let domain = Input {
+        name: domain,
+        text: first.as_slice(),
+    };
+    let problem = Input {
+        name: problem,
+        text: second.as_slice(),
+    };
+    let finding = run_check(alloc, domain, Some(problem), options, out)?;
+    Ok(Reply::Checked(finding))
+}
+
+// The file of a name: the standard input for `-`.
+fn file_of(name: &str) -> &str
+    ensures { result.now ≡ spec.file_of name.now }
+{
+    if name == "-" { "/dev/stdin" } else { name }
 }
 
 // The bytes of the files of a domain and a problem.

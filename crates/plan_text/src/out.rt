@@ -23,6 +23,11 @@ pub trait Out {
         ensures works { IfSome result (λ n. has_failed self.new ≡ has_failed self.old) }
         ensures kept { IfNone result (Keeps (contents self.old) (contents self.new)) }
         ensures failed { IfNone result (has_failed self.new ≡ true) };
+
+    /// Whether what it takes may have colours: no, unless an output says so itself.
+    fn takes_colour(&self) -> bool {
+        false
+    }
 }
 
 /// An output over a writer of std. It fails where a write answers an error or takes no byte.
@@ -30,6 +35,7 @@ pub trait Out {
 pub struct Sink<W> {
     writer: W,
     failed: bool,
+    is_coloured: bool,
 }
 
 impl<W> Sink<W> {
@@ -43,6 +49,19 @@ impl<W> Sink<W> {
         Sink {
             writer,
             failed: false,
+            is_coloured: false,
+        }
+    }
+
+    /// The same over a writer to a terminal, which takes colours.
+    pub fn coloured(writer: W) -> Sink<W>
+        ensures writer { sink_writer result ≡ writer }
+        ensures works { sink_failed result ≡ false }
+    {
+        Sink {
+            writer,
+            failed: false,
+            is_coloured: true,
         }
     }
 
@@ -79,5 +98,9 @@ impl<W: Write> Out for Sink<W> {
             }
             Ok(count) => Some(count),
         }
+    }
+
+    fn takes_colour(&self) -> bool {
+        self.is_coloured
     }
 }

@@ -1,4 +1,4 @@
-use htn_command::{Refusal, Request, parse};
+use htn_command::{Colour, Format, Refusal, Request, parse};
 use std::alloc::{AllocError, Global};
 use std::process::Abort;
 use std::test::Fail;
@@ -103,6 +103,70 @@ fn refuses_fewer_files_and_more(rt: HostRuntime) -> Result<(), Fail> {
 }
 
 #[test]
+fn reads_a_check(rt: HostRuntime) -> Result<(), Fail> {
+    let words = words_of(rt.alloc(), "htnplan check d.hddl")?;
+    let Request::Check {
+        domain,
+        problem,
+        format,
+        limit,
+        is_strict,
+        colour,
+    } = request_of(rt.alloc(), words.as_slice())?
+    else {
+        return Err(Fail::new("another request"));
+    };
+    assert!(rt; domain == "d.hddl" && problem.is_none());
+    assert!(rt; format == Format::Text && limit == 20 && !is_strict && colour == Colour::Auto);
+    Ok(())
+}
+
+#[test]
+fn reads_the_options_of_a_check(rt: HostRuntime) -> Result<(), Fail> {
+    let line = "htnplan check - p.hddl --format json --limit=0 --strict --color never";
+    let words = words_of(rt.alloc(), line)?;
+    let Request::Check {
+        domain,
+        problem,
+        format,
+        limit,
+        is_strict,
+        colour,
+    } = request_of(rt.alloc(), words.as_slice())?
+    else {
+        return Err(Fail::new("another request"));
+    };
+    assert!(rt; domain == "-" && problem == Some("p.hddl"));
+    assert!(rt; format == Format::Json && limit == 0 && is_strict && colour == Colour::Never);
+    Ok(())
+}
+
+#[test]
+fn refuses_words_of_a_check(rt: HostRuntime) -> Result<(), Fail> {
+    let rows = [
+        (
+            "htnplan check d p --format short --color always --limit 1000000",
+            -1,
+        ),
+        ("htnplan check d -", -1),
+        ("htnplan check", 2),
+        ("htnplan check d p f", 2),
+        ("htnplan check d --format xml", 2),
+        ("htnplan check d --format=", 2),
+        ("htnplan check d --color red", 2),
+        ("htnplan check d --limit 1000001", 2),
+        ("htnplan check d --limit -1", 2),
+        ("htnplan check d --strict=yes", 2),
+        ("htnplan check - -", 2),
+        ("htnplan check d --nodes 5", 2),
+        ("htnplan plan d p --strict", 2),
+        ("htnplan plan - -", -1),
+        ("htnplan verify - - -", -1),
+    ];
+    expect_statuses(&rt, rt.alloc(), &rows)
+}
+
+#[test]
 fn shows_help_and_the_version(rt: HostRuntime) -> Result<(), Fail> {
     let rows = [
         ("htnplan --help", 0),
@@ -112,6 +176,9 @@ fn shows_help_and_the_version(rt: HostRuntime) -> Result<(), Fail> {
         ("htnplan verify --help", 0),
         ("htnplan verify d -h", 0),
         ("htnplan help verify", 0),
+        ("htnplan check --help", 0),
+        ("htnplan help check", 0),
+        ("htnplan check - - -h", 0),
         ("htnplan --version", 0),
         ("htnplan -V", 0),
         ("htnplan verify --version", 2),
@@ -132,13 +199,15 @@ fn shown(alloc: Global, line: &str) -> Result<String, Fail> {
     }
 }
 
-const HELP: &str = "Plans hierarchical tasks (HDDL) and verifies plans; the program is proved
+const HELP: &str =
+    "Plans hierarchical tasks (HDDL), verifies plans, and says what is wrong; the program is proved
 
 Usage: htnplan <COMMAND>
 
 Commands:
   plan    Prints the plan with the fewest nodes, or `none` (none so small), or `unsolvable`
   verify  Prints `valid`, or `invalid:` and the first cause
+  check   Says what is wrong with a domain and a problem, with lines, and warns of what is never used
   help    Print this message or the help of the given subcommand(s)
 
 Options:
@@ -146,10 +215,11 @@ Options:
   -V, --version  Print version
 
 Examples:
+  htnplan check domain.hddl problem.hddl
   htnplan plan domain.hddl problem.hddl --nodes 200 > plan.txt
   htnplan verify domain.hddl problem.hddl plan.txt
 
-Status: 0 yes (a plan, valid), 1 no (none, unsolvable, invalid), 2 command line, 3 a text is refused,
+Status: 0 yes (a plan, valid, no error), 1 no (none, unsolvable, invalid), 2 command line, 3 a text is refused,
 4 memory or threads, 5 files or output.
 ";
 
@@ -203,6 +273,54 @@ After `invalid:` stands the first of these that holds:
 Status: 0 valid, 1 invalid, 2 command line, 3 a text is refused, 4 memory, 5 files or output.
 ";
 
+const HELP_OF_CHECK: &str =
+    "Says what is wrong with a domain and a problem, with lines, and warns of what is never used
+
+Usage: htnplan check [OPTIONS] <DOMAIN> [PROBLEM]
+
+Arguments:
+  <DOMAIN>   The file of the domain, in HDDL; - is standard input
+  [PROBLEM]  The file of the problem
+
+Options:
+      --format <FORMAT>  How it is printed: text, short, json [default: text]
+      --limit <N>        Diagnostics that text shows; 0 is all [default: 20]
+      --strict           A warning is status 1
+      --color <WHEN>     Colours: auto, always, never [default: auto]
+  -h, --help             Print help
+
+Examples:
+  htnplan check domain.hddl
+  htnplan check domain.hddl problem.hddl --strict
+
+`short` prints FILE:LINE:COLUMN: error: MESSAGE [Code], which editors read. What each code means: docs/FAULTS.md.
+
+Status: 0 no error, 1 a warning with --strict, 2 command line, 3 a text is refused, 4 memory, 5 files or output.
+";
+
+const NO_FORMAT: &str = "error: invalid value for '--format <FORMAT>'
+  [possible values: text, short, json]
+
+Usage: htnplan <COMMAND>
+
+For more information, try '--help'.
+";
+
+const NO_COLOUR: &str = "error: invalid value for '--color <WHEN>'
+  [possible values: auto, always, never]
+
+Usage: htnplan <COMMAND>
+
+For more information, try '--help'.
+";
+
+const TWO_INPUTS: &str = "error: the standard input, `-`, cannot be both the domain and the problem
+
+Usage: htnplan <COMMAND>
+
+For more information, try '--help'.
+";
+
 #[test]
 fn texts(rt: HostRuntime) -> Result<(), Fail> {
     let alloc = rt.alloc();
@@ -211,6 +329,10 @@ fn texts(rt: HostRuntime) -> Result<(), Fail> {
         ("htnplan --help", HELP),
         ("htnplan plan --help", HELP_OF_PLAN),
         ("htnplan verify --help", HELP_OF_VERIFY),
+        ("htnplan check --help", HELP_OF_CHECK),
+        ("htnplan check d --format xml", NO_FORMAT),
+        ("htnplan check d --color red", NO_COLOUR),
+        ("htnplan check - -", TWO_INPUTS),
     ];
     for (line, text) in rows {
         let found = shown(alloc, line)?;

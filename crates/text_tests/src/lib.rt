@@ -1,4 +1,4 @@
-//! Tests of words, texts, places, names, checks, messages, plan texts, forests, reports and command lines.
+//! Tests of words, texts, places, names, checks, pairs, warnings, plan texts, forests, reports and command lines.
 #![tactic(auto)]
 
 #[cfg(test)]
@@ -16,6 +16,8 @@ mod messages;
 #[cfg(test)]
 mod names;
 #[cfg(test)]
+mod pairs;
+#[cfg(test)]
 mod places;
 #[cfg(test)]
 mod plan_texts;
@@ -23,5 +25,7 @@ mod plan_texts;
 mod reports;
 #[cfg(test)]
 mod texts;
+#[cfg(test)]
+mod warnings;
 #[cfg(test)]
 mod words;

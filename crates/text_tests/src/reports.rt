@@ -1,8 +1,8 @@
 //! Tests of reports.
 
 use diagnostics::{
-    Diagnostic, Note, Part, Remark, RemarkKind, Role, Severity, Source, Spot, Where, short_report,
-    text_report,
+    Diagnostic, Note, Part, Remark, RemarkKind, Role, Severity, Source, Spot, Where, json_report,
+    short_report, text_report,
 };
 use std::alloc::{AllocError, Global};
 use text_places::Lines;
@@ -133,5 +133,46 @@ fn warnings_without_a_place(rt: HostRuntime) -> Result<(), AllocError> {
     }
     let text = text_report(rt.alloc(), diagnostics.as_slice(), &[], 0, false)?;
     assert!(rt; text.as_slice() == NOTED, "the report");
+    Ok(())
+}
+
+const JSON: &[u8] = b"{\"diagnostics\":[\
+{\"byte\":6,\"code\":\"UnknownName\",\"column\":3,\"file\":\"p \\\"1\\\".hddl\",\"help\":[\"did you mean `p`\"],\
+\"length\":1,\"line\":2,\"message\":\"no predicate is named `q`\",\"notes\":[],\
+\"severity\":\"error\",\"text\":\"problem\"},\
+{\"byte\":null,\"code\":\"Many\",\"column\":null,\"file\":\"p \\\"1\\\".hddl\",\"help\":[],\
+\"length\":0,\"line\":null,\"message\":\"7 facts\",\
+\"notes\":[{\"byte\":1,\"column\":2,\"file\":\"p \\\"1\\\".hddl\",\"line\":1,\"message\":\"the first\",\"text\":\"problem\"}],\
+\"severity\":\"warning\",\"text\":\"problem\"}],\
+\"errors\":1,\"format\":\"htnplan-check\",\"version\":1,\"warnings\":1}
+";
+
+/// The report of an error and a warning of a text.
+fn json_of(alloc: Global, source: &Source<'_>) -> Result<Vec<u8>, AllocError> {
+    let word = Spot {
+        source,
+        place: 6,
+        word_len: 1,
+    };
+    let first = Spot {
+        source,
+        place: 1,
+        word_len: 1,
+    };
+    let mut diagnostics = Vec::new(alloc);
+    diagnostics.push(unknown(alloc, word)?)?;
+    diagnostics.push(counted(alloc, Where::Text(source), first)?)?;
+    json_report(alloc, diagnostics.as_slice())
+}
+
+#[test]
+fn an_error_and_a_warning_for_tools(rt: HostRuntime) -> Result<(), AllocError> {
+    let source = Source {
+        role: Role::Problem,
+        name: "p \"1\".hddl",
+        lines: Lines::new(rt.alloc(), TEXT)?,
+    };
+    let text = json_of(rt.alloc(), &source)?;
+    assert!(rt; text.as_slice() == JSON, "the report");
     Ok(())
 }

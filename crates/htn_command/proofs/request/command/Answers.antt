@@ -14,5 +14,6 @@ returns c =
     let program = made_strict _ _ _ _ told c.subcommand_required.ensures c.arg_required_else_help-program.ensures in
     let top = λ (a : App). a.top in
     let one = c.in_ok-subcommand.ensures.shape c.in_ok-plan.ensures.1 ∙ ap₂ with_subcommand program (ap top c.in_ok-plan.ensures.0) in
-    IfOk-weaker c.subcommand-2.result _ _
-    (λ r adds. adds.shape c.in_ok-verify.ensures.1 ∙ ap₂ with_subcommand one (ap top c.in_ok-verify.ensures.0)) c.subcommand-2.ensures
+    let two = c.in_ok-subcommand-2.ensures.shape c.in_ok-verify.ensures.1 ∙ ap₂ with_subcommand one (ap top c.in_ok-verify.ensures.0) in
+    IfOk-weaker c.subcommand-3.result _ _
+    (λ r adds. adds.shape c.in_ok-check.ensures.1 ∙ ap₂ with_subcommand two (ap top c.in_ok-check.ensures.0)) c.subcommand-3.ensures

@@ -1,5 +1,6 @@
 use Rattle.std.proofs.Common.{◌∙◌, inl, inr, sym}
 use Rattle.htn_run.specs.Lines.{GetsLine}
+use Rattle.htn_run.proofs.Reporting.{faulty_answer}
 use Rattle.htn_run.proofs.Stopping.{at_five, at_three}
 use Rattle.htn_run.proofs.Telling.{fault_told, file_told, want_told}
 use Rattle.htn_run.proofs.words.run_words.Goals as goal
@@ -11,6 +12,14 @@ returns-in-Ok-clause-faulty g c is = (
   at_three g.O.Out.contents g.O.Out.has_failed (g.S.Source.files c.args.files.now) c.in-Ok.request c.args.out.now c.run_request.new.out
       c.in-Err.stop c.in-Err.ensures.stopped (sym c.tell.ensures.status ∙ is),
 )
+
+pub returns-in-Ok-run_request-clause-faulty : goal.returns-in-Ok-run_request-clause-faulty
+returns-in-Ok-run_request-clause-faulty g c is =
+    let answered = c.in-Ok-run_request.ensures.answered in (
+      c.in-Ok.request,
+      c.in-Ok.ensures.asked,
+      faulty_answer (g.S.Source.files c.args.files.now) c.in-Ok.request c.in-Ok-run_request.reply answered.0 answered.1 (sym c.status.ensures ∙ is),
+    )
 
 pub returns-in-Ok-clause-failed : goal.returns-in-Ok-clause-failed
 returns-in-Ok-clause-failed g c is =
@@ -30,7 +39,7 @@ pub returns-in-Ok-clause-fault_line : goal.returns-in-Ok-clause-fault_line
 returns-in-Ok-clause-fault_line g c is =
     let told = fault_told (GetsLine (g.E.Out.contents c.args.err.now) (g.E.Out.contents c.tell.new.err) (g.E.Out.has_failed c.tell.new.err)) g.O.Out.contents g.O.Out.has_failed (g.S.Source.files c.args.files.now) c.in-Ok.request c.args.out.now c.run_request.new.out
     c.in-Err.stop c.in-Err.ensures.stopped c.tell.ensures.line (sym c.tell.ensures.status ∙ is) in
-    (c.in-Ok.request, c.in-Ok.ensures.asked, told)
+    inl ((c.in-Ok.request, c.in-Ok.ensures.asked, told.0), told.1)
 
 pub returns-in-Ok-clause-want_line : goal.returns-in-Ok-clause-want_line
 returns-in-Ok-clause-want_line g c is =

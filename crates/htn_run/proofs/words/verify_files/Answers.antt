@@ -15,7 +15,7 @@ returns-in_err-verdict-clause-stopped g c =
     let f = given _ _ _ c.as_slice-3.ensures.value read in
     rw (p.1, p.2)
     (stops_by g.O.Out.contents g.O.Out.has_failed (g.S.Source.files c.args.files.now) (Verify c.args.domain c.args.problem c.args.plan)
-    c.args.out.now c.run_verify.new.out c.in_err-verdict.field-0.0
+    c.args.out.now c.run_verify.new.out c.in_err-verdict.field-0.0 tt
     (λ other. let h = c.in_err-verdict.ensures.refused other in ((_, _, d, q, (_, f, h.0)), h.1))
     (λ output. let h = c.in_err-verdict.ensures.cut_short output in ((_, _, d, q, (_, f, h.0)), h.1)))
 

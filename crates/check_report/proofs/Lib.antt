@@ -1,0 +1,7 @@
+pub mod Refused
+mod Places
+mod Kept
+mod Own
+mod Warned
+mod Errors
+mod Reports

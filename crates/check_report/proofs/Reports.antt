@@ -1,0 +1,203 @@
+-- Reports of what is found of texts.
+use Rattle.std.proofs.Common.{◌≡◌, ◌≢◌, ◌∙◌, ◌<◌, arith, ℕ, List, [], ◌∷◌, ◌++◌, map, Option, Some, None, ap, refl, sym, subst}
+use Rattle.std.specs.Prelude.{IsSomeAnd, option_map}
+use Rattle.std.specs.Borrow.{Bor}
+use Rattle.std.specs.List.{Contains}
+use Rattle.std.specs.declared.alloc.Global.{Global}
+use Rattle.std.specs.declared.vec.Vec.{Vec}
+use Rattle.diagnostics.specs.declared.diagnostic.Diagnostic.{Diagnostic}
+use Rattle.diagnostics.specs.declared.diagnostic.Part.{Part}
+use Rattle.diagnostics.specs.declared.diagnostic.Source.{Source}
+use Rattle.diagnostics.specs.declared.diagnostic.Where.{Where}
+use Rattle.diagnostics.specs.declared.diagnostic.Where.TheVariants.{Text, Place}
+use Rattle.hddl_meaning.specs.declared.fault.CheckFault.{CheckFault}
+use Rattle.hddl_meaning.specs.declared.fault.Source.TheVariants as side
+use Rattle.hddl_text.specs.Grammar.{DerivesDomain, DerivesProblem}
+use Rattle.hddl_text.specs.Spelling.{Spells}
+use Rattle.hddl_tree.specs.declared.domain.DomainText.{DomainText}
+use Rattle.hddl_tree.specs.declared.problem.ProblemText.{ProblemText}
+use Rattle.hddl_warnings.specs.declared.warning.Warning.{Warning}
+use Rattle.hddl_words.specs.declared.fault.TextFault.{TextFault}
+use Rattle.hddl_words.specs.declared.fault.TextFault.TheVariants as spelling
+use Rattle.pair_messages.specs.Counts.{domain_counts, problem_counts}
+use Rattle.pair_messages.specs.declared.texts.PairTexts.{PairTexts}
+use Rattle.text_messages.specs.Messages as text
+use Rattle.check_report.specs.Alone.{no_problem}
+use Rattle.check_report.specs.Checks.{Checks}
+use Rattle.check_report.specs.Report.{IsReport, counts_in}
+use Rattle.check_report.specs.Texts.{AreOwnFaults, AreOwnWarnings, ArePairFaults, AreWarnings, IsFaulty, alone, both, first, of_domain, of_pair, of_problem, second, together, unread}
+use Rattle.check_report.specs.Told.{AreErrors, AreTold, IsAbout, IsError, TellsTrees, named, text_place}
+use Rattle.check_report.specs.declared.report.Checked.{Checked}
+use Rattle.check_report.specs.declared.report.Options.{Options}
+use Rattle.check_report.proofs.Errors.{are_told, are_warned, both_sides, one_side, own_side, standing, warned_side, warned_sides}
+
+-- ## The fault of a text
+
+-- a place is told as it is
+about_place : (s : Source) (place : ℕ) (w : Where) → text.IsPlace s place w → IsAbout (named s) (Some place) w
+about_place s place (Text source) h = absurd h
+about_place s place (Place spot) h = (ap named h.source, h.place)
+
+-- and so is a text
+about_whole : (s : Source) (w : Where) → text.IsText s w → IsAbout (named s) None w
+about_whole s (Text source) h = ap named h
+about_whole s (Place spot) h = absurd h
+
+-- what the fault of a text is about
+pub about_text : (s : Source) (f : TextFault) (w : Where) → text.IsAbout s f w → IsAbout (named s) (text_place f) w
+about_text s (spelling.NotAscii place) w h = about_place s place w h
+about_text s (spelling.BadWord place) w h = about_place s place w h
+about_text s (spelling.Unclosed place) w h = about_place s place w h
+about_text s (spelling.ExtraClose place) w h = about_place s place w h
+about_text s (spelling.TooDeep place) w h = about_place s place w h
+about_text s (spelling.Expected place) w h = about_place s place w h
+about_text s (spelling.Unsupported place) w h = about_place s place w h
+about_text s (spelling.TooLong place) w h = about_whole s w h
+about_text s spelling.OutOfMemory w h = about_whole s w h
+
+-- ## Warnings of a domain
+
+-- each stands in the domain
+own_warning : (d : DomainText) (faults : List CheckFault) (ws : List Warning) → AreOwnWarnings d faults ws → (w : Warning) → Contains ws w → w.at.source ≡ side.Domain
+own_warning d [] ws are w among = own_side d w (((are.of_domain refl).all w).0 among)
+own_warning d (f ∷ fs) ws are w among =
+    let none : Contains [] w = subst (λ ws. Contains ws w) (are.silent (λ e. absurd cc)) among in
+    let less = none.1 in
+    absurd (omega arith)
+
+-- ## Reports
+
+module _ (domain problem : Source) (o : Options) (c : Checked) (ds : List Diagnostic) (summary : List (Vec Part Global)) (report : IsReport o ds summary c) where
+  -- of two texts that both spell no tree
+  pub checks_both : (f g : TextFault) → IsFaulty DerivesDomain domain.lines f → IsFaulty DerivesProblem problem.lines g → (errors : List Diagnostic) (e : Diagnostic)
+      → AreErrors (named domain) f errors → IsError (named problem) (text.code_of g) (text_place g) e → ds ≡ errors ++ e ∷ [] → counts_in summary ≡ []
+      → Checks (named domain) (Some (named problem)) o c
+  checks_both f g bad worse errors e one two is counted =
+      let whole : ds ≡ one.0 ∷ e ∷ [] = is ∙ ap (λ xs. xs ++ e ∷ []) one.2 in
+      record {
+        faults = of_domain f ∷ of_problem g ∷ [];
+        warnings = [];
+        counts = [];
+        found = both bad worse;
+        warned = [];
+        are_warned = tt;
+        errors = ds;
+        are_told = subst (AreTold (named domain) (Some (named problem)) (of_domain f ∷ of_problem g ∷ [])) (sym whole) (one.1, (two, tt));
+        summary = summary;
+        counted = counted;
+        report = report;
+      }
+
+  -- of two texts of which the domain's spells none
+  pub checks_first : (f : TextFault) (p : ProblemText) → IsFaulty DerivesDomain domain.lines f → Spells DerivesProblem problem.lines p → AreErrors (named domain) f ds
+      → counts_in summary ≡ problem_counts p ∷ [] → Checks (named domain) (Some (named problem)) o c
+  checks_first f p bad spelled one counted =
+      record {
+        faults = of_domain f ∷ [];
+        warnings = [];
+        counts = problem_counts p ∷ [];
+        found = first bad spelled;
+        warned = [];
+        are_warned = tt;
+        errors = ds;
+        are_told = subst (AreTold (named domain) (Some (named problem)) (of_domain f ∷ [])) (sym one.2) (one.1, tt);
+        summary = summary;
+        counted = counted;
+        report = report;
+      }
+
+  -- of two texts of which the problem's spells none
+  pub checks_second : (g : TextFault) (d : DomainText) → Spells DerivesDomain domain.lines d → IsFaulty DerivesProblem problem.lines g → AreErrors (named problem) g ds
+      → counts_in summary ≡ domain_counts d ∷ [] → Checks (named domain) (Some (named problem)) o c
+  checks_second g d spelled bad one counted =
+      record {
+        faults = of_problem g ∷ [];
+        warnings = [];
+        counts = domain_counts d ∷ [];
+        found = second spelled bad;
+        warned = [];
+        are_warned = tt;
+        errors = ds;
+        are_told = subst (AreTold (named domain) (Some (named problem)) (of_problem g ∷ [])) (sym one.2) (one.1, tt);
+        summary = summary;
+        counted = counted;
+        report = report;
+      }
+
+  -- of a domain alone that spells none
+  pub checks_unread : (f : TextFault) → IsFaulty DerivesDomain domain.lines f → AreErrors (named domain) f ds → counts_in summary ≡ []
+      → Checks (named domain) None o c
+  checks_unread f bad one counted =
+      record {
+        faults = of_domain f ∷ [];
+        warnings = [];
+        counts = [];
+        found = unread bad;
+        warned = [];
+        are_warned = tt;
+        errors = ds;
+        are_told = subst (AreTold (named domain) None (of_domain f ∷ [])) (sym one.2) (one.1, tt);
+        summary = summary;
+        counted = counted;
+        report = report;
+      }
+
+module _ (texts : PairTexts) (o : Options) (c : Checked) (ds : List Diagnostic) (summary : List (Vec Part Global)) (report : IsReport o ds summary c)
+    (spelled : Spells DerivesDomain texts.domain.now.lines texts.domain_tree.now) where
+  -- of two trees, with their problem's text
+  checks_with : (problem : Source) → option_map (λ p. p.now) texts.problem ≡ Some problem → Spells DerivesProblem problem.lines texts.problem_tree.now
+      → TellsTrees texts (ArePairFaults texts.domain_tree.now texts.problem_tree.now) (AreWarnings texts.domain_tree.now texts.problem_tree.now) ds
+      → counts_in summary ≡ domain_counts texts.domain_tree.now ∷ problem_counts texts.problem_tree.now ∷ []
+      → Checks (named texts.domain.now) (Some (named problem)) o c
+  checks_with problem is other told counted =
+      record {
+        faults = map of_pair told.faults;
+        warnings = told.before.warnings;
+        counts = domain_counts texts.domain_tree.now ∷ problem_counts texts.problem_tree.now ∷ [];
+        found = together spelled other told.are told.before.are;
+        warned = told.before.warned;
+        are_warned = are_warned texts (Some (named problem)) told.before.warnings told.before.warned (λ w among. warned_sides texts problem w is) told.before.tell;
+        errors = told.errors;
+        are_told =
+            are_told texts (Some (named problem)) told.faults told.errors
+            (λ f among.
+            let at = standing texts.domain_tree.now texts.problem_tree.now f (told.are.all.sound f among) in (at.0, at.1, both_sides texts problem at.0.source is))
+            told.tell;
+        summary = summary;
+        counted = counted;
+        report = subst (λ ds. IsReport o ds summary c) told.before.whole report;
+      }
+
+  -- of two trees
+  pub checks_pair : IsSomeAnd (option_map (λ p. p.now) texts.problem) (λ p. Spells DerivesProblem p.lines texts.problem_tree.now)
+      → TellsTrees texts (ArePairFaults texts.domain_tree.now texts.problem_tree.now) (AreWarnings texts.domain_tree.now texts.problem_tree.now) ds
+      → counts_in summary ≡ domain_counts texts.domain_tree.now ∷ problem_counts texts.problem_tree.now ∷ []
+      → Checks (named texts.domain.now) (option_map (λ p. named p.now) texts.problem) o c
+  checks_pair other told counted = by texts.problem refl other
+    where
+      by : (problem : Option (Bor Source)) → texts.problem ≡ problem → IsSomeAnd (option_map (λ p. p.now) problem) (λ p. Spells DerivesProblem p.lines texts.problem_tree.now)
+          → Checks (named texts.domain.now) (option_map (λ p. named p.now) problem) o c
+      by None is spelled = absurd spelled
+      by (Some p) is spelled = checks_with p.now (ap (option_map (λ p. p.now)) is) spelled told counted
+
+  -- of a domain's tree
+  pub checks_alone : Spells DerivesProblem no_problem texts.problem_tree.now
+      → TellsTrees texts (AreOwnFaults texts.domain.now.lines texts.domain_tree.now texts.problem_tree.now) (AreOwnWarnings texts.domain_tree.now) ds
+      → counts_in summary ≡ domain_counts texts.domain_tree.now ∷ [] → Checks (named texts.domain.now) None o c
+  checks_alone other told counted =
+      record {
+        faults = map of_pair told.faults;
+        warnings = told.before.warnings;
+        counts = domain_counts texts.domain_tree.now ∷ [];
+        found = alone spelled other told.are told.before.are;
+        warned = told.before.warned;
+        are_warned =
+            are_warned texts None told.before.warnings told.before.warned
+            (λ w among. warned_side texts w (own_warning texts.domain_tree.now told.faults told.before.warnings told.before.are w among)) told.before.tell;
+        errors = told.errors;
+        are_told =
+            are_told texts None told.faults told.errors (λ f among. let at = (told.are.sound f among).1 in (at.0, at.1, one_side texts at.0.source at.2)) told.tell;
+        summary = summary;
+        counted = counted;
+        report = subst (λ ds. IsReport o ds summary c) told.before.whole report;
+      }

@@ -1,0 +1,113 @@
+-- Which faults a domain's text and a problem's text have, and when they have none.
+use Rattle.std.specs.Prelude.{◌≡◌, ◌≢◌, ◌⊎◌, ◌↔◌, ℕ, List, [], ◌∷◌, ◌++◌, map, slice_get, Option, Some, None, Contains, IfSome}
+use Rattle.std.specs.List.Sorted.{IsStrictlySortedBy}
+use Rattle.hddl_words.specs.Words.{Word}
+use Rattle.hddl_words.specs.declared.fault.TextFault.{TextFault}
+use Rattle.hddl_words.specs.declared.fault.TextFault.TheVariants as spelling
+use Rattle.hddl_tree.specs.declared.domain.DomainText.{DomainText}
+use Rattle.hddl_tree.specs.declared.problem.ProblemText.{ProblemText}
+use Rattle.hddl_text.specs.Grammar.{DerivesDomain, DerivesProblem}
+use Rattle.hddl_text.specs.Spelling.{Spells, FaultAt}
+use Rattle.hddl_meaning.specs.Items.{IsWellTypedPair, FailsAt}
+use Rattle.hddl_meaning.specs.declared.fault.CheckFault.{CheckFault}
+use Rattle.hddl_scope.specs.Ranks.{AreInOrder}
+use Rattle.hddl_check.specs.Faults.{IsFirst, IsLeftOut}
+use Rattle.hddl_meaning.specs.Mentions.{IsIn}
+use Rattle.hddl_warnings.specs.Order.{warning_cmp}
+use Rattle.hddl_warnings.specs.Warnings.{IsOtherDomain, IsWarning}
+use Rattle.hddl_warnings.specs.declared.warning.Warning.{Warning}
+use Rattle.pair_messages.specs.Counts.{domain_counts, problem_counts}
+use Rattle.check_report.specs.Alone.{Text, IsOwnFault, no_problem}
+
+-- a fault of the domain's text, of the problem's text, or of the two together
+pub data Fault : Type 0 where
+  of_domain : TextFault → Fault
+  of_problem : TextFault → Fault
+  of_pair : CheckFault → Fault
+
+-- no tree is spelled, and this fault stands in the text; want of memory is none
+pub record IsFaulty {Tree : Type 0} (Derives : List Word → Tree → Type 0) (text : Text) (f : TextFault) : Type 0 where
+  pub unspelled : (tree : Tree) → Spells Derives text tree → ⊥
+  pub other : f ≢ spelling.OutOfMemory
+  pub stands : FaultAt Derives text f
+
+-- ## One fault, and none
+
+-- Why two texts are refused: the domain's is read first, then the problem's, and then the two are checked. Without a
+-- problem the domain is checked by itself.
+abbrev pub IsRefused : Text → Option Text → Fault → Type 0
+IsRefused domain problem (of_domain f) = IsFaulty DerivesDomain domain f
+IsRefused domain None (of_problem f) = ⊥
+IsRefused domain (Some problem) (of_problem f) = (d : DomainText) × Spells DerivesDomain domain d × IsFaulty DerivesProblem problem f
+IsRefused domain None (of_pair f) = (d : DomainText) × (e : ProblemText) × Spells DerivesDomain domain d × Spells DerivesProblem no_problem e × IsOwnFault domain d e f
+IsRefused domain (Some problem) (of_pair f) =
+    (d : DomainText) × (p : ProblemText) × Spells DerivesDomain domain d × Spells DerivesProblem problem p × FailsAt d p f
+
+-- The texts spell trees that fit together. A domain alone spells a tree that has no fault of its own, but for those that
+-- aren't looked for.
+abbrev pub FitTogether : Text → Option Text → Type 0
+FitTogether domain None =
+    (d : DomainText) × (e : ProblemText) × Spells DerivesDomain domain d × Spells DerivesProblem no_problem e
+    × ((f : CheckFault) → IsOwnFault domain d e f → IsLeftOut d e f)
+FitTogether domain (Some problem) =
+    (d : DomainText) × (p : ProblemText) × Spells DerivesDomain domain d × Spells DerivesProblem problem p × IsWellTypedPair d p
+
+-- ## All faults and warnings
+
+-- the faults of a domain's tree and a problem's, in the order of the texts; each but those that aren't looked for
+pub record AreFaultsOf (Fails LeftOut : CheckFault → Type 0) (faults : List CheckFault) : Type 0 where
+  pub sound : (f : CheckFault) → Contains faults f → Fails f
+  pub complete : (f : CheckFault) → Fails f → Contains faults f ⊎ LeftOut f
+  pub order : AreInOrder faults
+
+-- all faults of two trees, none exactly where they fit together; the first is the one for which they are refused
+pub record ArePairFaults (d : DomainText) (p : ProblemText) (faults : List CheckFault) : Type 0 where
+  pub all : AreFaultsOf (FailsAt d p) (IsLeftOut d p) faults
+  pub none : (faults ≡ []) ↔ IsWellTypedPair d p
+  pub first : IfSome (slice_get faults 0) (IsFirst d p)
+
+-- the faults of a domain's tree by itself
+abbrev pub AreOwnFaults : Text → DomainText → ProblemText → List CheckFault → Type 0
+AreOwnFaults domain d e = AreFaultsOf (IsOwnFault domain d e) (IsLeftOut d e)
+
+-- the warnings with a property, each once, in the order of the texts
+pub record AreExactly (Holds : Warning → Type 0) (ws : List Warning) : Type 0 where
+  pub all : (w : Warning) → IsIn w ws ↔ Holds w
+  pub order : IsStrictlySortedBy warning_cmp ws
+
+-- the warnings of two trees: that of another domain first, and then the others, where the two fit together
+pub record AreWarnings (d : DomainText) (p : ProblemText) (faults : List CheckFault) (ws : List Warning) : Type 0 where
+  pub other : List Warning
+  pub others : List Warning
+  pub whole : ws ≡ other ++ others
+  pub of_domain : AreExactly (IsOtherDomain d p) other
+  pub of_both : faults ≡ [] → AreExactly (IsWarning d (Some p)) others
+  pub silent : faults ≢ [] → others ≡ []
+
+-- the warnings of a domain's tree, where it has no fault of its own
+pub record AreOwnWarnings (d : DomainText) (faults : List CheckFault) (ws : List Warning) : Type 0 where
+  pub of_domain : faults ≡ [] → AreExactly (IsWarning d None) ws
+  pub silent : faults ≢ [] → ws ≡ []
+
+-- What is found of two texts: faults, warnings, and the counts of the trees. Of a text that spells no tree its first
+-- fault, and of two trees all; the first of these is the one for which the two are refused.
+pub data PairFinds (domain problem : Text) : List Fault → List Warning → List (List ℕ) → Type 0 where
+  both : {f g : TextFault} → IsFaulty DerivesDomain domain f → IsFaulty DerivesProblem problem g
+      → PairFinds domain problem (of_domain f ∷ of_problem g ∷ []) [] []
+  first : {f : TextFault} {p : ProblemText} → IsFaulty DerivesDomain domain f → Spells DerivesProblem problem p
+      → PairFinds domain problem (of_domain f ∷ []) [] (problem_counts p ∷ [])
+  second : {g : TextFault} {d : DomainText} → Spells DerivesDomain domain d → IsFaulty DerivesProblem problem g
+      → PairFinds domain problem (of_problem g ∷ []) [] (domain_counts d ∷ [])
+  together : {d : DomainText} {p : ProblemText} {faults : List CheckFault} {ws : List Warning} → Spells DerivesDomain domain d → Spells DerivesProblem problem p
+      → ArePairFaults d p faults → AreWarnings d p faults ws → PairFinds domain problem (map of_pair faults) ws (domain_counts d ∷ problem_counts p ∷ [])
+
+-- what is found of a domain alone
+pub data DomainFinds (domain : Text) : List Fault → List Warning → List (List ℕ) → Type 0 where
+  unread : {f : TextFault} → IsFaulty DerivesDomain domain f → DomainFinds domain (of_domain f ∷ []) [] []
+  alone : {d : DomainText} {e : ProblemText} {faults : List CheckFault} {ws : List Warning} → Spells DerivesDomain domain d → Spells DerivesProblem no_problem e
+      → AreOwnFaults domain d e faults → AreOwnWarnings d faults ws → DomainFinds domain (map of_pair faults) ws (domain_counts d ∷ [])
+
+-- what is found of a domain, and of a problem if there is one
+abbrev pub Finds : Text → Option Text → List Fault → List Warning → List (List ℕ) → Type 0
+Finds domain None = DomainFinds domain
+Finds domain (Some problem) = PairFinds domain problem

@@ -1,0 +1,12 @@
+pub mod Members
+pub mod Knowing
+pub mod Telling
+pub mod Unlisted
+pub mod Joining
+pub mod Folding
+pub mod Schemas
+pub mod Opposed
+pub mod Again
+pub mod Sorting
+pub mod Examples
+pub mod Zips

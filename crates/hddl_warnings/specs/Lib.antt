@@ -1,0 +1,10 @@
+pub mod Order
+pub mod Laws
+pub mod Used
+pub mod Effects
+pub mod Warnings
+pub mod Known
+pub mod Parts
+pub mod Tells
+pub mod Examples
+pub mod Told

@@ -1,0 +1,59 @@
+//! Words of which an option takes one.
+ghost use Rattle.std.specs.Prelude.{◌≡◌};
+ghost use Rattle.htn_command.specs.CommandLine as line;
+
+use diagnostics::Format;
+
+/// When a report has colours.
+#[derive(Clone, Copy, Debug, PartialEq, Eq)]
+pub enum Colour {
+    /// Where the output is a terminal that wants them.
+    Auto,
+    Always,
+    Never,
+}
+
+/// The format that a word names.
+pub(crate) fn format_named(word: &str) -> Option<Format>
+    ensures { result ≡ line.format_named word.now }
+{
+    if word == "text" {
+        return Some(Format::Text);
+    }
+    if word == "short" {
+        return Some(Format::Short);
+    }
+    if word == "json" {
+        return Some(Format::Json);
+    }
+    None
+}
+
+/// When colours are written, by a word.
+pub(crate) fn colour_named(word: &str) -> Option<Colour>
+    ensures { result ≡ line.colour_named word.now }
+{
+    if word == "auto" {
+        return Some(Colour::Auto);
+    }
+    if word == "always" {
+        return Some(Colour::Always);
+    }
+    if word == "never" {
+        return Some(Colour::Never);
+    }
+    None
+}
+
+/// Whether a flag is there, by the word that stands for it.
+pub(crate) fn flag_named(word: &str) -> Option<bool>
+    ensures { result ≡ line.flag_named word.now }
+{
+    if word == "true" {
+        return Some(true);
+    }
+    if word == "false" {
+        return Some(false);
+    }
+    None
+}

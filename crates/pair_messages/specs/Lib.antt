@@ -1,0 +1,4 @@
+pub mod Heads
+pub mod Counts
+pub mod Sayings
+pub mod Offers

@@ -1,0 +1,31 @@
+//! What is said of the faults of a domain and a problem, and what the two declare, counted.
+#![tactic(auto)]
+
+mod arguments;
+mod circles;
+mod clashes;
+mod declared;
+mod duplicates;
+mod fits;
+mod index;
+mod limits;
+mod locate;
+mod names;
+mod near;
+mod objects;
+mod orders;
+mod pair;
+mod phrases;
+mod saying;
+mod stands;
+mod summary;
+mod texts;
+mod types;
+mod variables;
+mod walks;
+
+pub use hddl_meaning::{At, CheckFault};
+pub use index::PairIndex;
+pub use pair::pair_diagnostic;
+pub use summary::{domain_summary, problem_summary};
+pub use texts::PairTexts;

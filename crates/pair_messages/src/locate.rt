@@ -1,0 +1,178 @@
+//! What stands at a place of a tree. Each list of a tree is in the order of its text, so all is found by halving; a
+//! thing counts only if it stands at the very place.
+
+use hddl_tree::{
+    ActionText, AtomText, Condition, LiteralText, MethodText, Name, NameGroup, OrderingText,
+    PredicateText, SubtaskText, TaskText, Term, Variable, VariableGroup,
+};
+
+/// The place of a term.
+pub(crate) fn term_place(term: &Term) -> usize {
+    match term {
+        Term::Variable(variable) => variable.place(),
+        Term::Object(name) => name.place(),
+    }
+}
+
+/// The last of some things of which the first ones, as many as the number says, don't begin after a place.
+fn last_of<T>(things: &[T], count: usize) -> Option<&T> {
+    things.get(count.checked_sub(1)?)
+}
+
+/// The name at a place.
+pub(crate) fn name_at(names: &[Name], place: usize) -> Option<&Name> {
+    let name = last_of(names, names.partition_point(|x| x.place() <= place))?;
+    if name.place() == place {
+        Some(name)
+    } else {
+        None
+    }
+}
+
+/// The variable at a place.
+fn variable_at(variables: &[Variable], place: usize) -> Option<&Variable> {
+    let variable = last_of(variables, variables.partition_point(|x| x.place() <= place))?;
+    if variable.place() == place {
+        Some(variable)
+    } else {
+        None
+    }
+}
+
+/// Whether the names of a group begin after a place.
+fn names_begin_by(group: &NameGroup, place: usize) -> bool {
+    match group.names.as_slice().first() {
+        Some(name) => name.place() <= place,
+        None => true,
+    }
+}
+
+/// Whether the variables of a group begin after a place.
+fn variables_begin_by(group: &VariableGroup, place: usize) -> bool {
+    match group.variables.as_slice().first() {
+        Some(variable) => variable.place() <= place,
+        None => true,
+    }
+}
+
+/// The name of a typed list at a place.
+pub(crate) fn typed_name_at(groups: &[NameGroup], place: usize) -> Option<&Name> {
+    let group = last_of(groups, groups.partition_point(|g| names_begin_by(g, place)))?;
+    name_at(group.names.as_slice(), place)
+}
+
+/// The name or the type of a typed list at a place.
+pub(crate) fn typed_or_type_at(groups: &[NameGroup], place: usize) -> Option<&Name> {
+    let group = last_of(groups, groups.partition_point(|g| names_begin_by(g, place)))?;
+    match &group.of_type {
+        Some(name) if name.place() == place => Some(name),
+        _ => name_at(group.names.as_slice(), place),
+    }
+}
+
+/// The variable of a typed list at a place.
+pub(crate) fn typed_variable_at(groups: &[VariableGroup], place: usize) -> Option<&Variable> {
+    let group = last_of(
+        groups,
+        groups.partition_point(|g| variables_begin_by(g, place)),
+    )?;
+    variable_at(group.variables.as_slice(), place)
+}
+
+/// The last predicate whose name doesn't stand after a place.
+pub(crate) fn predicate_by(predicates: &[PredicateText], place: usize) -> Option<&PredicateText> {
+    last_of(
+        predicates,
+        predicates.partition_point(|x| x.name.place() <= place),
+    )
+}
+
+/// The last compound task whose name doesn't stand after a place.
+pub(crate) fn task_by(tasks: &[TaskText], place: usize) -> Option<&TaskText> {
+    last_of(tasks, tasks.partition_point(|x| x.name.place() <= place))
+}
+
+/// The last method whose bracket doesn't stand after a place.
+pub(crate) fn method_by(methods: &[MethodText], place: usize) -> Option<&MethodText> {
+    last_of(methods, methods.partition_point(|x| x.place <= place))
+}
+
+/// The last action whose name doesn't stand after a place.
+pub(crate) fn action_by(actions: &[ActionText], place: usize) -> Option<&ActionText> {
+    last_of(
+        actions,
+        actions.partition_point(|x| x.name.place() <= place),
+    )
+}
+
+/// The last subtask that doesn't begin after a place.
+pub(crate) fn subtask_by(subtasks: &[SubtaskText], place: usize) -> Option<&SubtaskText> {
+    last_of(subtasks, subtasks.partition_point(|x| x.place() <= place))
+}
+
+/// The last ordering that doesn't begin after a place.
+pub(crate) fn ordering_by(orderings: &[OrderingText], place: usize) -> Option<&OrderingText> {
+    last_of(
+        orderings,
+        orderings.partition_point(|x| x.before.place() <= place),
+    )
+}
+
+/// The last atom that doesn't begin after a place.
+pub(crate) fn atom_by(atoms: &[AtomText], place: usize) -> Option<&AtomText> {
+    last_of(atoms, atoms.partition_point(|x| x.name.place() <= place))
+}
+
+/// The last literal that doesn't begin after a place.
+pub(crate) fn literal_by(literals: &[LiteralText], place: usize) -> Option<&LiteralText> {
+    last_of(
+        literals,
+        literals.partition_point(|x| x.atom.name.place() <= place),
+    )
+}
+
+/// Whether the first word of a literal or an equality doesn't stand after a place.
+fn part_begins_by(part: &Condition, place: usize) -> bool {
+    match part {
+        Condition::Literal(literal) => literal.atom.name.place() <= place,
+        Condition::Equality(equality) => term_place(&equality.left) <= place,
+        Condition::Forall(_, _) => true,
+    }
+}
+
+/// Whether the first word of a condition doesn't stand after a place. A `forall` without variables counts as the first
+/// part of its body.
+fn begins_by(condition: &Condition, place: usize) -> bool {
+    match condition {
+        Condition::Forall(groups, body) => match groups.as_slice().first() {
+            Some(group) => variables_begin_by(group, place),
+            None => match body.as_slice().first() {
+                Some(first) => part_begins_by(first, place),
+                None => true,
+            },
+        },
+        _ => part_begins_by(condition, place),
+    }
+}
+
+/// The last condition that doesn't begin after a place.
+pub(crate) fn condition_by(conditions: &[Condition], place: usize) -> Option<&Condition> {
+    last_of(
+        conditions,
+        conditions.partition_point(|x| begins_by(x, place)),
+    )
+}
+
+/// The position of the argument at a place.
+pub(crate) fn argument_at(atom: &AtomText, place: usize) -> Option<usize> {
+    let terms = atom.terms.as_slice();
+    let position = terms
+        .partition_point(|x| term_place(x) <= place)
+        .checked_sub(1)?;
+    let term = terms.get(position)?;
+    if term_place(term) == place {
+        Some(position)
+    } else {
+        None
+    }
+}

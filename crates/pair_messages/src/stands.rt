@@ -1,0 +1,224 @@
+//! What stands at a place: a name or an argument of a use, or a side of an equality.
+
+use crate::locate::{
+    action_by, argument_at, atom_by, condition_by, literal_by, method_by, subtask_by, term_place,
+};
+use crate::phrases::Section;
+use hddl_meaning::{At, Source as Side};
+use hddl_tree::{
+    AtomText, Condition, DomainText, EqualityText, NetworkText, ProblemText, Term, VariableGroup,
+};
+use std::alloc::{AllocError, Global};
+
+/// As deep as brackets are open in a text, at most.
+const MOST_DEPTH: usize = 64;
+
+/// What a use names.
+#[derive(Clone, Copy, Debug, PartialEq, Eq)]
+pub(crate) enum Kind {
+    Predicate,
+    /// The task that a method decomposes.
+    Compound,
+    /// A subtask.
+    Task,
+}
+
+/// The variables in force: those of a section, and of each `forall` around, from the outermost.
+#[derive(Drop)]
+pub(crate) struct InForce<'a> {
+    pub(crate) section: Section<'a>,
+    pub(crate) quantified: Vec<&'a [VariableGroup]>,
+}
+
+/// An atom of a predicate or a task, with the variables in force.
+#[derive(Drop)]
+pub(crate) struct Use<'a> {
+    pub(crate) kind: Kind,
+    pub(crate) scope: InForce<'a>,
+    pub(crate) atom: &'a AtomText,
+}
+
+/// What stands at a place.
+#[derive(Drop)]
+pub(crate) enum Stand<'a> {
+    /// The name of a use.
+    Name(Use<'a>),
+    /// The argument of a use, by its position.
+    Argument(Use<'a>, usize),
+    /// A side of an equality.
+    Side(InForce<'a>, &'a Term),
+}
+
+/// A section's parameters alone.
+fn parameters_of<'a>(alloc: Global, section: Section<'a>) -> InForce<'a> {
+    InForce {
+        section,
+        quantified: Vec::new(alloc),
+    }
+}
+
+/// What stands at a place of an atom.
+fn in_atom<'a>(
+    scope: InForce<'a>,
+    kind: Kind,
+    atom: &'a AtomText,
+    place: usize,
+) -> Option<Stand<'a>> {
+    if atom.name.place() == place {
+        return Some(Stand::Name(Use { kind, scope, atom }));
+    }
+    let position = argument_at(atom, place)?;
+    Some(Stand::Argument(Use { kind, scope, atom }, position))
+}
+
+/// What stands at a place of an equality.
+fn in_equality<'a>(
+    scope: InForce<'a>,
+    equality: &'a EqualityText,
+    place: usize,
+) -> Option<Stand<'a>> {
+    if term_place(&equality.left) == place {
+        return Some(Stand::Side(scope, &equality.left));
+    }
+    if term_place(&equality.right) == place {
+        return Some(Stand::Side(scope, &equality.right));
+    }
+    None
+}
+
+/// What stands at a place of a condition.
+fn in_conditions<'a>(
+    alloc: Global,
+    section: Section<'a>,
+    conditions: &'a [Condition],
+    place: usize,
+) -> Result<Option<Stand<'a>>, AllocError> {
+    let mut scope = parameters_of(alloc, section);
+    let mut inner = conditions;
+    for _ in 0..MOST_DEPTH {
+        match condition_by(inner, place) {
+            Some(Condition::Literal(literal)) => {
+                return Ok(in_atom(scope, Kind::Predicate, &literal.atom, place));
+            }
+            Some(Condition::Equality(equality)) => return Ok(in_equality(scope, equality, place)),
+            Some(Condition::Forall(groups, body)) => {
+                scope.quantified.push(groups.as_slice())?;
+                inner = body.as_slice();
+            }
+            None => return Ok(None),
+        }
+    }
+    Ok(None)
+}
+
+/// What stands at a place of the constraints of a network.
+fn in_constraints<'a>(
+    alloc: Global,
+    section: Section<'a>,
+    constraints: &'a [EqualityText],
+    place: usize,
+) -> Option<Stand<'a>> {
+    let count = constraints.partition_point(|x| term_place(&x.left) <= place);
+    let equality = constraints.get(count.checked_sub(1)?)?;
+    in_equality(parameters_of(alloc, section), equality, place)
+}
+
+/// What stands at a place of a network.
+fn in_network<'a>(
+    alloc: Global,
+    section: Section<'a>,
+    network: &'a NetworkText,
+    place: usize,
+) -> Option<Stand<'a>> {
+    if let Some(subtask) = subtask_by(network.subtasks.as_slice(), place) {
+        let found = in_atom(
+            parameters_of(alloc, section),
+            Kind::Task,
+            &subtask.task,
+            place,
+        );
+        if found.is_some() {
+            return found;
+        }
+    }
+    in_constraints(alloc, section, network.constraints.as_slice(), place)
+}
+
+/// What stands at a place of a method.
+fn in_methods<'a>(
+    alloc: Global,
+    domain: &'a DomainText,
+    place: usize,
+) -> Result<Option<Stand<'a>>, AllocError> {
+    let Some(method) = method_by(domain.methods.as_slice(), place) else {
+        return Ok(None);
+    };
+    let section = Section::Method(method);
+    let scope = parameters_of(alloc, section);
+    if let Some(found) = in_atom(scope, Kind::Compound, &method.task, place) {
+        return Ok(Some(found));
+    }
+    if let Some(found) = in_network(alloc, section, &method.network, place) {
+        return Ok(Some(found));
+    }
+    let found = in_conditions(alloc, section, method.precondition.as_slice(), place)?;
+    Ok(found)
+}
+
+/// What stands at a place of an action.
+fn in_actions<'a>(
+    alloc: Global,
+    domain: &'a DomainText,
+    place: usize,
+) -> Result<Option<Stand<'a>>, AllocError> {
+    let Some(action) = action_by(domain.actions.as_slice(), place) else {
+        return Ok(None);
+    };
+    let section = Section::Action(action);
+    if let Some(literal) = literal_by(action.effect.as_slice(), place) {
+        let scope = parameters_of(alloc, section);
+        if let Some(found) = in_atom(scope, Kind::Predicate, &literal.atom, place) {
+            return Ok(Some(found));
+        }
+    }
+    let found = in_conditions(alloc, section, action.precondition.as_slice(), place)?;
+    Ok(found)
+}
+
+/// What stands at a place of a problem.
+fn in_problem<'a>(
+    alloc: Global,
+    problem: &'a ProblemText,
+    place: usize,
+) -> Result<Option<Stand<'a>>, AllocError> {
+    let htn = &problem.htn;
+    if let Some(found) = in_network(alloc, Section::Htn(htn), &htn.network, place) {
+        return Ok(Some(found));
+    }
+    if let Some(atom) = atom_by(problem.init.as_slice(), place) {
+        let scope = parameters_of(alloc, Section::States);
+        if let Some(found) = in_atom(scope, Kind::Predicate, atom, place) {
+            return Ok(Some(found));
+        }
+    }
+    let found = in_conditions(alloc, Section::States, problem.goal.as_slice(), place)?;
+    Ok(found)
+}
+
+/// What stands at a place of a pair, if it is a name, an argument or a side.
+pub(crate) fn stand_at<'a>(
+    alloc: Global,
+    domain: &'a DomainText,
+    problem: &'a ProblemText,
+    at: At,
+) -> Result<Option<Stand<'a>>, AllocError> {
+    match at.source {
+        Side::Domain => {
+            if let Some(found) = in_methods(alloc, domain, at.place)? {
+                return Ok(Some(found));
+            }
+            in_actions(alloc, domain, at.place)
+        }
+        Side::Problem => in_problem(alloc, problem, at.place),
+    }
+}
