@@ -21,3 +21,5 @@ pub mod Gathered
 pub mod Unshown
 pub mod Covered
 pub mod AtNumber
+pub mod NarrowedBy
+pub mod Marked

@@ -75,7 +75,7 @@ false_by true b h e = absurd (let yes : b ≡ true = h refl in cc)
 false_by false b h e = refl
 
 -- a plain literal holds where its atom is true
-positive_holds : (state : State) (positive : Bool) (a : Atom) → positive ≡ true → literal_holds state (atom positive a) ≡ contains state a
+pub positive_holds : (state : State) (positive : Bool) (a : Atom) → positive ≡ true → literal_holds state (atom positive a) ≡ contains state a
 positive_holds state true a e = refl
 positive_holds state false a e = absurd cc
 

@@ -9,4 +9,5 @@ pub mod Fixed
 pub mod Methods
 pub mod Distinct
 pub mod Shown
+pub mod Narrow
 pub mod Naming

@@ -1,9 +1,11 @@
 //! Which objects the true atoms of an unchanged literal leave to a parameter.
-ghost use Rattle.std.specs.Prelude.{◌≡◌, ◌≤◌, ◌<◌, ◌++◌, ◌∷◌, [], IfOk, IfSome, OnOk, length, true};
+ghost use Rattle.std.specs.Prelude.{◌≡◌, ◌≤◌, ◌<◌, ◌++◌, ◌∷◌, [], List, ℕ, IfOk, IfSome, OnOk, get_or, length, map, true};
 ghost use Rattle.std.specs.List.{All, AllWithin};
 ghost use Rattle.std.specs.List.Sorted.{IsStrictlySortedBy};
 ghost use Rattle.std.specs.Ordering.{is_lt, nat_cmp};
 ghost use Rattle.htn_model.specs.Atom.{atom_cmp};
+ghost use Rattle.htn_model.specs.Instances.{value_of};
+ghost use Rattle.htn_task.specs.Views.{terms_of};
 ghost use Rattle.htn_ground.specs.Candidates.{AgreesWith, Excludes, atom_of, is_excluded, is_left_out, moved_atom, moved_atoms, moved_last, rows_of};
 
 use crate::counts::count_assignments;
@@ -168,8 +170,9 @@ fn moved_atoms(
 }
 
 /// The last place of a parameter among terms.
-fn last_place(terms: &[Term], parameter: usize) -> Option<usize>
-    ensures { IfSome result (λ n. n < length terms.now) }
+pub(crate) fn last_place(terms: &[Term], parameter: usize) -> Option<usize>
+    ensures place { IfSome result (λ n. n < length terms.now) }
+    ensures at { IfSome result (λ n. (values : List ℕ) → get_or (map (value_of values) (terms_of terms.now)) n 0 ≡ get_or values parameter 0) }
 {
     let mut last = None;
     for (place, term) in terms.iter().enumerate() {

@@ -22,6 +22,7 @@ use crate::conditions::{Conditions, Place};
 use crate::distinct::distinct_assignments;
 use crate::fixed::FixedLiteral;
 use crate::literals::value_of;
+use crate::narrowed::narrow_domains;
 use crate::object_list::ObjectList;
 use crate::relation::{Relation, object_beside};
 use crate::search::live_assignments;
@@ -402,9 +403,10 @@ pub(crate) fn distinct_values(
     if !constants_hold(task, conditions) {
         return Ok(Vec::new(alloc));
     }
-    let lists = narrow_all(alloc, task, conditions)?;
-    let relations = relations_between(alloc, conditions.equalities())?;
+    let mut lists = narrow_all(alloc, task, conditions)?;
     let state = task.initial_atoms();
+    narrow_domains(alloc, literals, state, &mut lists)?;
+    let relations = relations_between(alloc, conditions.equalities())?;
     let found = distinct_assignments(alloc, &lists, &relations, literals, state, shown)?;
     Ok(found)
 }

@@ -16,6 +16,7 @@ mod instance;
 mod instances;
 mod literals;
 mod methods;
+mod narrowed;
 mod network;
 mod object_list;
 mod relation;

@@ -10,7 +10,7 @@ pub returns-clause-agrees : goal.returns-clause-agrees
 returns-clause-agrees c =
     let l = c.args.literal.now in
     let place = c.in-Some.place in
-    let inside : place < length l.arguments.items = subst (λ (ts : List Term). place < length ts) c.deref.ensures.value c.in-Some.ensures in
+    let inside : place < length l.arguments.items = subst (λ (ts : List Term). place < length ts) c.deref.ensures.value c.in-Some.ensures.place in
     let moved : c.in_ok-arguments-2.arguments.items ≡ moved_last place l.arguments.items = c.in_ok-arguments-2.ensures ∙ ap (λ (ts : List Term). moved_last place ts) c.deref-2.ensures.value in
     agrees_moved c.args.state.now l (record { depth = c.args.depth; predicate = l.predicate; arguments = c.in_ok-arguments-2.arguments; rows = Some c.in_ok-rows.rows }) place c.requires inside (ap (λ (s : State). Some s) c.in_ok-rows.ensures) refl
     (ap (λ (ts : List Term). map term_of ts) moved ∙ map-moved_last term_of place l.arguments.items)

@@ -27,7 +27,8 @@ distinct_assignments-requires c =
     let t = c.args.task.now in
     let s = c.args.conditions.now in
     let long : length s.parameters ≡ length c.deref.result.now =
-    sym (ap (λ (l : List (List ℕ)). length l) (c.deref.ensures.value ∙ c.in_ok-lists.ensures.lists)
+    sym (ap (λ (l : List (List ℕ)). length l) c.deref.ensures.value ∙ c.in_ok-narrow_domains.ensures.long
+    ∙ ap (λ (l : List (List ℕ)). length l) c.in_ok-lists.ensures.lists
     ∙ length-narrowed (singles_of t s) 0 (domains_of t s.parameters) ∙ length-map s.parameters (objects_of t)) in
     let related : c.deref-2.result.now ≡ all_relations s.equalities =
     c.deref-2.ensures.value ∙ c.in_ok-relations.ensures ∙ ap (λ (es : List EqualitySchema). all_relations es) c.equalities.ensures in
@@ -35,7 +36,7 @@ distinct_assignments-requires c =
       relations =
           subst (λ (rs : List Relation). AreRelationsOf rs (length c.deref.result.now)) (sym related)
           (subst (λ (n : ℕ). AreRelationsOf (all_relations s.equalities) n) long (relations_bound (length s.parameters) s.equalities c.requires.bound.equalities));
-      ascending = subst (λ (ls : List (List ℕ)). All (IsStrictlySortedBy nat_cmp) ls) (sym c.deref.ensures.value) c.in_ok-lists.ensures.ascending;
+      ascending = subst (λ (ls : List (List ℕ)). All (IsStrictlySortedBy nat_cmp) ls) (sym c.deref.ensures.value) c.in_ok-narrow_domains.ensures.ascending;
       long = c.requires.long ∙ long;
     }
 
@@ -46,8 +47,11 @@ returns c =
     let related : c.deref-2.result.now ≡ all_relations s.equalities =
     c.deref-2.ensures.value ∙ c.in_ok-relations.ensures ∙ ap (λ (es : List EqualitySchema). all_relations es) c.equalities.ensures in
     λ passes make ignores kept.
-    c.in_ok-found.ensures passes make (subst (λ (state : State). Ignores state c.args.literals.now c.args.shown.now passes make) (sym c.initial_atoms-state.ensures.value) ignores) kept
+    let here = subst (λ (state : State). Ignores state c.args.literals.now c.args.shown.now passes make) (sym c.initial_atoms-state.ensures.value) ignores in
+    c.in_ok-found.ensures passes make here kept
+    ∙ ap (λ (ds : List (List ℕ)). gathered passes make kept (matches ds c.deref-2.result.now)) c.deref.ensures.value
+    ∙ c.in_ok-narrow_domains.ensures.narrows c.deref-2.result.now c.args.shown.now passes make here kept
     ∙ ap (gathered passes make kept)
-    ((λ i. matches ((c.deref.ensures.value ∙ c.in_ok-lists.ensures.lists) i) (related i))
+    ((λ i. matches (c.in_ok-lists.ensures.lists i) (related i))
     ∙ ap (λ b. cond b (matches (narrowed (singles_of t s) 0 (domains_of t s.parameters)) (all_relations_of s)) []) c.if-not-constants_hold.ensures
     ∙ sym (instances_parts t s c.requires.bound))
