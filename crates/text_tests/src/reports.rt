@@ -147,18 +147,18 @@ const JSON: &[u8] = b"{\"diagnostics\":[\
 \"errors\":1,\"format\":\"htnplan-check\",\"version\":1,\"warnings\":1}
 ";
 
+/// A word of one byte at a place of a text, or at the end of a shorter one.
+fn byte_at<'a>(source: &'a Source<'a>, place: usize) -> Spot<'a> {
+    Spot {
+        source,
+        place: place.min(source.lines.text().len()),
+        word_len: 1,
+    }
+}
+
 /// The report of an error and a warning of a text.
 fn json_of(alloc: Global, source: &Source<'_>) -> Result<Vec<u8>, AllocError> {
-    let word = Spot {
-        source,
-        place: 6,
-        word_len: 1,
-    };
-    let first = Spot {
-        source,
-        place: 1,
-        word_len: 1,
-    };
+    let (first, word) = (byte_at(source, 1), byte_at(source, 6));
     let mut diagnostics = Vec::new(alloc);
     diagnostics.push(unknown(alloc, word)?)?;
     diagnostics.push(counted(alloc, Where::Text(source), first)?)?;
