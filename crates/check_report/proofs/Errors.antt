@@ -1,6 +1,6 @@
 -- Faults and warnings of a pair, and the diagnostics that tell them.
-use Rattle.std.proofs.Common.{◌≡◌, ◌<◌, ◌≤◌, inl, inr, arith, suc, ℕ, List, [], ◌∷◌, map, Option, Some, None, ap, refl, sym, subst}
-use Rattle.std.specs.Prelude.{option_map, length}
+use Rattle.std.proofs.Common.{◌≡◌, inl, inr, arith, suc, ℕ, false, true, List, [], ◌∷◌, map, Option, Some, None, ap, refl, sym, subst}
+use Rattle.std.specs.Prelude.{is_some, option_map}
 use Rattle.std.specs.Borrow.{Bor}
 use Rattle.std.specs.List.{AllZip, Contains}
 use Rattle.diagnostics.specs.declared.diagnostic.Diagnostic.{Diagnostic}
@@ -21,7 +21,8 @@ use Rattle.hddl_warnings.specs.Told as warning
 use Rattle.hddl_warnings.specs.Warnings.{IsWarning}
 use Rattle.hddl_warnings.specs.declared.warning.Warning.{Warning}
 use Rattle.check_report.specs.Texts.{of_pair}
-use Rattle.check_report.specs.Told.{AreTold, AreWarned, IsAbout, Named, TellsAt, TellsPair, WarnsPair, named, text_at}
+use Rattle.check_report.specs.Told.{AreTextsOf, AreTextsWarned, AreTold, Helps, IsAbout, Named, TellsAt, named, text_at}
+use Rattle.check_report.specs.Saying.{TellsPair, WarnsPair}
 
 -- ## Places
 
@@ -39,7 +40,7 @@ standing d p (fault.TooMany at) h = (at, refl)
 standing d p fault.OutOfMemory h = absurd h
 
 -- a place of a text is told as it is
-told_place : (texts : PairTexts) (at : At) (w : Where) → pair.IsAbout texts (Some at) w → IsAbout (named (pair.text_of texts at.source)) (Some at.place) w
+pub told_place : (texts : PairTexts) (at : At) (w : Where) → pair.IsAbout texts (Some at) w → IsAbout (named (pair.text_of texts at.source)) (Some at.place) w
 told_place texts at (Text source) h = absurd h
 told_place texts at (Place spot) h = (ap named h.0, h.1)
 
@@ -73,13 +74,30 @@ module _ (texts : PairTexts) (problem : Option Named) where
       let s = stand f (0, omega arith, refl) in
       (tells_one f d s.0 s.1 s.2 told.0, are_told fs ds (λ g among. stand g (suc among.0, omega (arith, among.1), among.2)) told.1)
 
+-- the errors of faults of two trees offer only names that may be meant, and their notes stand at declarations
+pub are_helpful : (domain : Named) (problem : Option Named) (texts : PairTexts) → AreTextsOf domain problem texts → (faults : List CheckFault)
+    (ds : List Diagnostic) → AllZip (TellsPair texts) faults ds → AllZip (Helps domain problem) (map of_pair faults) ds
+are_helpful domain problem texts these [] [] told = tt
+are_helpful domain problem texts these [] (d ∷ ds) told = absurd told
+are_helpful domain problem texts these (f ∷ fs) [] told = absurd told
+are_helpful domain problem texts these (f ∷ fs) (d ∷ ds) told =
+    ((texts, these, told.0.offers, told.0.notes), are_helpful domain problem texts these fs ds told.1)
+
 -- ## The text of a side
 
 -- the problem of texts that have one
-problem_is : (o : Option (Bor Source)) (domain problem : Source) → option_map (λ s. s.now) o ≡ Some problem
+pub problem_is : (o : Option (Bor Source)) (domain problem : Source) → option_map (λ s. s.now) o ≡ Some problem
     → elim o [ None ↦ domain | Some s ↦ s.now ] ≡ problem
 problem_is None domain problem is = absurd cc
 problem_is (Some s) domain problem is = cc
+
+-- by its name
+pub named_is : (o : Option (Bor Source)) (problem : Source) → option_map (λ s. s.now) o ≡ Some problem → option_map (λ s. named s.now) o ≡ Some (named problem)
+named_is None problem is = absurd (is_none (ap is_some is))
+  where
+    is_none : false ≡ true → ⊥
+    is_none e = cc
+named_is (Some s) problem is = ap (option_map named) is
 
 -- with a problem each side has its text
 pub both_sides : (texts : PairTexts) (problem : Source) (s : Side) → option_map (λ p. p.now) texts.problem ≡ Some problem
@@ -107,7 +125,7 @@ module _ (texts : PairTexts) (problem : Option Named) where
 
   -- the diagnostics of warnings tell them
   pub are_warned : (ws : List Warning) (ds : List Diagnostic) → ((w : Warning) → Contains ws w → WarnsIn w) → AllZip (WarnsPair texts) ws ds
-      → AreWarned (named texts.domain.now) problem ws ds
+      → AreTextsWarned (named texts.domain.now) problem ws ds
   are_warned [] [] stand told = tt
   are_warned [] (d ∷ ds) stand told = absurd told
   are_warned (w ∷ ws) [] stand told = absurd told

@@ -4,4 +4,5 @@ mod Kept
 mod Own
 mod Warned
 mod Errors
+mod Planned
 mod Reports

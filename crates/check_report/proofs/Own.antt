@@ -1,5 +1,5 @@
 -- The faults that are the domain's own, by tests.
-use Rattle.std.proofs.Common.{◌≡◌, ◌⊎◌, ◌∙◌, inl, inr, ℕ, Bool, true, false, ◌&&◌, not, List, [], ◌∷◌, Option, Some, None, ap, sym, refl}
+use Rattle.std.proofs.Common.{◌≡◌, ◌⊎◌, ◌∙◌, inl, inr, ℕ, Bool, true, false, ◌&&◌, not, List, Option, Some, None, ap, refl}
 use Rattle.std.specs.Prelude.{◌↔◌, filter}
 use Rattle.std.specs.List.{Contains}
 use Rattle.std.proofs.lemmas.List.Kept.{IsStrictlySortedBy-filter}

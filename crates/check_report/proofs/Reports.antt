@@ -1,8 +1,9 @@
 -- Reports of what is found of texts.
-use Rattle.std.proofs.Common.{◌≡◌, ◌≢◌, ◌∙◌, ◌<◌, arith, ℕ, List, [], ◌∷◌, ◌++◌, map, Option, Some, None, ap, refl, sym, subst}
+use Rattle.std.proofs.Common.{◌≡◌, ◌∙◌, arith, ℕ, List, [], ◌∷◌, ◌++◌, map, Option, Some, None, ap, refl, sym, subst}
 use Rattle.std.specs.Prelude.{IsSomeAnd, option_map}
 use Rattle.std.specs.Borrow.{Bor}
-use Rattle.std.specs.List.{Contains}
+use Rattle.std.specs.List.{AllZip, Contains}
+use Rattle.std.proofs.lemmas.List.Sorted.{IsPermutation-refl}
 use Rattle.std.specs.declared.alloc.Global.{Global}
 use Rattle.std.specs.declared.vec.Vec.{Vec}
 use Rattle.diagnostics.specs.declared.diagnostic.Diagnostic.{Diagnostic}
@@ -24,12 +25,18 @@ use Rattle.pair_messages.specs.declared.texts.PairTexts.{PairTexts}
 use Rattle.text_messages.specs.Messages as text
 use Rattle.check_report.specs.Alone.{no_problem}
 use Rattle.check_report.specs.Checks.{Checks}
+use Rattle.check_report.specs.Asked.{findings_of}
+use Rattle.check_report.specs.Reach.{AreReached, counts_of, reached_of}
 use Rattle.check_report.specs.Report.{IsReport, counts_in}
-use Rattle.check_report.specs.Texts.{AreOwnFaults, AreOwnWarnings, ArePairFaults, AreWarnings, IsFaulty, alone, both, first, of_domain, of_pair, of_problem, second, together, unread}
-use Rattle.check_report.specs.Told.{AreErrors, AreTold, IsAbout, IsError, TellsTrees, named, text_place}
+use Rattle.check_report.specs.Texts.{AreOwnFaults, AreOwnWarnings, ArePairFaults, IsFaulty, alone, both, first, no_warnings, of_domain, of_pair, of_problem, second, together, unread}
+use Rattle.check_report.specs.Told.{ArePairWarned, AreTold, Helps, IsAbout, IsError, named, text_place}
+use Rattle.check_report.specs.Saying.{AreErrors, TellsPairTrees, TellsTrees}
+use Rattle.check_report.specs.declared.reach.Reach.{Reach}
 use Rattle.check_report.specs.declared.report.Checked.{Checked}
 use Rattle.check_report.specs.declared.report.Options.{Options}
-use Rattle.check_report.proofs.Errors.{are_told, are_warned, both_sides, one_side, own_side, standing, warned_side, warned_sides}
+use Rattle.check_report.proofs.Errors.{are_helpful, are_told, are_warned, both_sides, named_is, one_side, own_side, standing, warned_side}
+use Rattle.check_report.proofs.Planned.{pair_warned}
+use Rattle.check_report.proofs.Refused.{no_cons}
 
 -- ## The fault of a text
 
@@ -61,13 +68,27 @@ about_text s spelling.OutOfMemory w h = about_whole s w h
 own_warning : (d : DomainText) (faults : List CheckFault) (ws : List Warning) → AreOwnWarnings d faults ws → (w : Warning) → Contains ws w → w.at.source ≡ side.Domain
 own_warning d [] ws are w among = own_side d w (((are.of_domain refl).all w).0 among)
 own_warning d (f ∷ fs) ws are w among =
-    let none : Contains [] w = subst (λ ws. Contains ws w) (are.silent (λ e. absurd cc)) among in
+    let none : Contains [] w = subst (λ ws. Contains ws w) (are.silent (no_cons f fs)) among in
     let less = none.1 in
     absurd (omega arith)
 
 -- ## Reports
 
-module _ (domain problem : Source) (o : Options) (c : Checked) (ds : List Diagnostic) (summary : List (Vec Part Global)) (report : IsReport o ds summary c) where
+module _ (domain problem : Source) (o : Options) (c : Checked) (ds : List Diagnostic) (summary : List (Vec Part Global)) (report : IsReport o ds summary None c) where
+  -- nothing that is warned of
+  silent : ArePairWarned (named domain) (named problem) no_warnings []
+  silent = record {
+    first = [];
+    texts = [];
+    plans = [];
+    others = [];
+    of_domain = tt;
+    of_texts = tt;
+    of_plans = tt;
+    by_place = record { same = IsPermutation-refl []; order = λ k d low high. absurd (omega arith) };
+    whole = refl;
+  }
+
   -- of two texts that both spell no tree
   pub checks_both : (f g : TextFault) → IsFaulty DerivesDomain domain.lines f → IsFaulty DerivesProblem problem.lines g → (errors : List Diagnostic) (e : Diagnostic)
       → AreErrors (named domain) f errors → IsError (named problem) (text.code_of g) (text_place g) e → ds ≡ errors ++ e ∷ [] → counts_in summary ≡ []
@@ -76,13 +97,15 @@ module _ (domain problem : Source) (o : Options) (c : Checked) (ds : List Diagno
       let whole : ds ≡ one.0 ∷ e ∷ [] = is ∙ ap (λ xs. xs ++ e ∷ []) one.2 in
       record {
         faults = of_domain f ∷ of_problem g ∷ [];
-        warnings = [];
+        warnings = no_warnings;
         counts = [];
+        reached = None;
         found = both bad worse;
         warned = [];
-        are_warned = tt;
+        are_warned = silent;
         errors = ds;
         are_told = subst (AreTold (named domain) (Some (named problem)) (of_domain f ∷ of_problem g ∷ [])) (sym whole) (one.1, (two, tt));
+        help = subst (AllZip (Helps (named domain) (Some (named problem))) (of_domain f ∷ of_problem g ∷ [])) (sym whole) (tt, (tt, tt));
         summary = summary;
         counted = counted;
         report = report;
@@ -94,13 +117,15 @@ module _ (domain problem : Source) (o : Options) (c : Checked) (ds : List Diagno
   checks_first f p bad spelled one counted =
       record {
         faults = of_domain f ∷ [];
-        warnings = [];
+        warnings = no_warnings;
         counts = problem_counts p ∷ [];
+        reached = None;
         found = first bad spelled;
         warned = [];
-        are_warned = tt;
+        are_warned = silent;
         errors = ds;
         are_told = subst (AreTold (named domain) (Some (named problem)) (of_domain f ∷ [])) (sym one.2) (one.1, tt);
+        help = subst (AllZip (Helps (named domain) (Some (named problem))) (of_domain f ∷ [])) (sym one.2) (tt, tt);
         summary = summary;
         counted = counted;
         report = report;
@@ -112,13 +137,15 @@ module _ (domain problem : Source) (o : Options) (c : Checked) (ds : List Diagno
   checks_second g d spelled bad one counted =
       record {
         faults = of_problem g ∷ [];
-        warnings = [];
+        warnings = no_warnings;
         counts = domain_counts d ∷ [];
+        reached = None;
         found = second spelled bad;
         warned = [];
-        are_warned = tt;
+        are_warned = silent;
         errors = ds;
         are_told = subst (AreTold (named domain) (Some (named problem)) (of_problem g ∷ [])) (sym one.2) (one.1, tt);
+        help = subst (AllZip (Helps (named domain) (Some (named problem))) (of_problem g ∷ [])) (sym one.2) (tt, tt);
         summary = summary;
         counted = counted;
         report = report;
@@ -130,65 +157,76 @@ module _ (domain problem : Source) (o : Options) (c : Checked) (ds : List Diagno
   checks_unread f bad one counted =
       record {
         faults = of_domain f ∷ [];
-        warnings = [];
+        warnings = no_warnings;
         counts = [];
+        reached = None;
         found = unread bad;
         warned = [];
         are_warned = tt;
         errors = ds;
         are_told = subst (AreTold (named domain) None (of_domain f ∷ [])) (sym one.2) (one.1, tt);
+        help = subst (AllZip (Helps (named domain) None) (of_domain f ∷ [])) (sym one.2) (tt, tt);
         summary = summary;
         counted = counted;
         report = report;
       }
 
-module _ (texts : PairTexts) (o : Options) (c : Checked) (ds : List Diagnostic) (summary : List (Vec Part Global)) (report : IsReport o ds summary c)
+module _ (texts : PairTexts) (o : Options) (c : Checked) (ds : List Diagnostic) (summary : List (Vec Part Global))
     (spelled : Spells DerivesDomain texts.domain.now.lines texts.domain_tree.now) where
   -- of two trees, with their problem's text
   checks_with : (problem : Source) → option_map (λ p. p.now) texts.problem ≡ Some problem → Spells DerivesProblem problem.lines texts.problem_tree.now
-      → TellsTrees texts (ArePairFaults texts.domain_tree.now texts.problem_tree.now) (AreWarnings texts.domain_tree.now texts.problem_tree.now) ds
-      → counts_in summary ≡ domain_counts texts.domain_tree.now ∷ problem_counts texts.problem_tree.now ∷ []
-      → Checks (named texts.domain.now) (Some (named problem)) o c
-  checks_with problem is other told counted =
+      → (faults : List CheckFault) → ArePairFaults texts.domain_tree.now texts.problem_tree.now faults
+      → (reach : Option Reach) → AreReached texts.domain_tree.now texts.problem_tree.now faults (findings_of reach) → TellsPairTrees texts faults reach ds
+      → counts_in summary ≡ (domain_counts texts.domain_tree.now ∷ problem_counts texts.problem_tree.now ∷ []) ++ counts_of (findings_of reach)
+      → IsReport o ds summary (reached_of (findings_of reach)) c → Checks (named texts.domain.now) (Some (named problem)) o c
+  checks_with problem is other faults are reach reached told counted report =
+      let warned = pair_warned texts problem is faults reach told.warned told.errors ds told.warns told.before in
       record {
-        faults = map of_pair told.faults;
-        warnings = told.before.warnings;
-        counts = domain_counts texts.domain_tree.now ∷ problem_counts texts.problem_tree.now ∷ [];
-        found = together spelled other told.are told.before.are;
-        warned = told.before.warned;
-        are_warned = are_warned texts (Some (named problem)) told.before.warnings told.before.warned (λ w among. warned_sides texts problem w is) told.before.tell;
+        faults = map of_pair faults;
+        warnings = warned.warnings;
+        counts = (domain_counts texts.domain_tree.now ∷ problem_counts texts.problem_tree.now ∷ []) ++ counts_of (findings_of reach);
+        reached = reached_of (findings_of reach);
+        found = together (findings_of reach) spelled other are reached warned.are;
+        warned = warned.warned;
+        are_warned = warned.tell;
         errors = told.errors;
         are_told =
-            are_told texts (Some (named problem)) told.faults told.errors
+            are_told texts (Some (named problem)) faults told.errors
             (λ f among.
-            let at = standing texts.domain_tree.now texts.problem_tree.now f (told.are.all.sound f among) in (at.0, at.1, both_sides texts problem at.0.source is))
+            let at = standing texts.domain_tree.now texts.problem_tree.now f (are.all.sound f among) in (at.0, at.1, both_sides texts problem at.0.source is))
             told.tell;
+        help =
+            are_helpful (named texts.domain.now) (Some (named problem)) texts
+            (record { is_domain = refl; is_problem = named_is texts.problem problem is; domain_spelled = spelled; problem_spelled = other })
+            faults told.errors told.tell;
         summary = summary;
         counted = counted;
-        report = subst (λ ds. IsReport o ds summary c) told.before.whole report;
+        report = subst (λ ds. IsReport o ds summary (reached_of (findings_of reach)) c) warned.whole report;
       }
 
   -- of two trees
   pub checks_pair : IsSomeAnd (option_map (λ p. p.now) texts.problem) (λ p. Spells DerivesProblem p.lines texts.problem_tree.now)
-      → TellsTrees texts (ArePairFaults texts.domain_tree.now texts.problem_tree.now) (AreWarnings texts.domain_tree.now texts.problem_tree.now) ds
-      → counts_in summary ≡ domain_counts texts.domain_tree.now ∷ problem_counts texts.problem_tree.now ∷ []
-      → Checks (named texts.domain.now) (option_map (λ p. named p.now) texts.problem) o c
-  checks_pair other told counted = by texts.problem refl other
+      → (faults : List CheckFault) → ArePairFaults texts.domain_tree.now texts.problem_tree.now faults
+      → (reach : Option Reach) → AreReached texts.domain_tree.now texts.problem_tree.now faults (findings_of reach) → TellsPairTrees texts faults reach ds
+      → counts_in summary ≡ (domain_counts texts.domain_tree.now ∷ problem_counts texts.problem_tree.now ∷ []) ++ counts_of (findings_of reach)
+      → IsReport o ds summary (reached_of (findings_of reach)) c → Checks (named texts.domain.now) (option_map (λ p. named p.now) texts.problem) o c
+  checks_pair other faults are reach reached told counted report = by texts.problem refl other
     where
       by : (problem : Option (Bor Source)) → texts.problem ≡ problem → IsSomeAnd (option_map (λ p. p.now) problem) (λ p. Spells DerivesProblem p.lines texts.problem_tree.now)
           → Checks (named texts.domain.now) (option_map (λ p. named p.now) problem) o c
       by None is spelled = absurd spelled
-      by (Some p) is spelled = checks_with p.now (ap (option_map (λ p. p.now)) is) spelled told counted
+      by (Some p) is spelled = checks_with p.now (ap (option_map (λ p. p.now)) is) spelled faults are reach reached told counted report
 
   -- of a domain's tree
-  pub checks_alone : Spells DerivesProblem no_problem texts.problem_tree.now
+  pub checks_alone : texts.problem ≡ None → Spells DerivesProblem no_problem texts.problem_tree.now
       → TellsTrees texts (AreOwnFaults texts.domain.now.lines texts.domain_tree.now texts.problem_tree.now) (AreOwnWarnings texts.domain_tree.now) ds
-      → counts_in summary ≡ domain_counts texts.domain_tree.now ∷ [] → Checks (named texts.domain.now) None o c
-  checks_alone other told counted =
+      → counts_in summary ≡ domain_counts texts.domain_tree.now ∷ [] → IsReport o ds summary None c → Checks (named texts.domain.now) None o c
+  checks_alone alone_is other told counted report =
       record {
         faults = map of_pair told.faults;
-        warnings = told.before.warnings;
+        warnings = record { other = []; of_texts = told.before.warnings; unplanned = [] };
         counts = domain_counts texts.domain_tree.now ∷ [];
+        reached = None;
         found = alone spelled other told.are told.before.are;
         warned = told.before.warned;
         are_warned =
@@ -197,7 +235,11 @@ module _ (texts : PairTexts) (o : Options) (c : Checked) (ds : List Diagnostic) 
         errors = told.errors;
         are_told =
             are_told texts None told.faults told.errors (λ f among. let at = (told.are.sound f among).1 in (at.0, at.1, one_side texts at.0.source at.2)) told.tell;
+        help =
+            are_helpful (named texts.domain.now) None texts
+            (record { is_domain = refl; is_problem = ap (option_map (λ p. named p.now)) alone_is; domain_spelled = spelled; problem_spelled = other })
+            told.faults told.errors told.tell;
         summary = summary;
         counted = counted;
-        report = subst (λ ds. IsReport o ds summary c) told.before.whole report;
+        report = subst (λ ds. IsReport o ds summary None c) told.before.whole report;
       }

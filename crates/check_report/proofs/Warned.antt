@@ -1,24 +1,22 @@
 -- Warnings of trees, and the diagnostics that tell them before errors.
-use Rattle.std.proofs.Common.{◌≡◌, ◌≢◌, ◌⊎◌, ◌∙◌, ◌<◌, inl, inr, arith, ℕ, Bool, true, false, List, [], ◌∷◌, ◌++◌, Option, Some, None, ap, refl, sym, subst}
-use Rattle.std.specs.Prelude.{option_map}
+use Rattle.std.proofs.Common.{◌≡◌, ◌≢◌, ◌∙◌, inl, inr, arith, Bool, true, false, List, [], ◌∷◌, ◌++◌, None, ap, refl, sym, subst}
 use Rattle.std.specs.List.{AllZip, Contains}
 use Rattle.std.specs.List.Sorted.{IsStrictlySortedBy}
 use Rattle.diagnostics.specs.declared.diagnostic.Diagnostic.{Diagnostic}
 use Rattle.hddl_meaning.specs.declared.fault.CheckFault.{CheckFault}
 use Rattle.hddl_tree.specs.declared.domain.DomainText.{DomainText}
 use Rattle.hddl_tree.specs.declared.problem.ProblemText.{ProblemText}
-use Rattle.hddl_warnings.specs.Order.{warning_cmp}
 use Rattle.hddl_warnings.specs.Warnings.{IsOtherDomain, IsWarning}
 use Rattle.hddl_warnings.specs.declared.warning.Warning.{Warning}
 use Rattle.pair_messages.specs.declared.texts.PairTexts.{PairTexts}
-use Rattle.check_report.specs.Texts.{AreExactly, AreOwnWarnings, AreWarnings}
-use Rattle.check_report.specs.Told.{TellsExactly, WarnsBefore, WarnsPair}
+use Rattle.check_report.specs.Texts.{AreExactly, AreOwnWarnings}
+use Rattle.check_report.specs.Saying.{TellsExactly, WarnsBefore}
 use Rattle.check_report.proofs.Kept.{contains_cases, contains_first}
 
 -- ## Lists whose elements are related one by one
 
 -- one list after another
-AllZip-append : {X Y : Type 0} (R : X → Y → Type 0) (xs : List X) (ys : List Y) (us : List X) (vs : List Y) → AllZip R xs ys → AllZip R us vs
+pub AllZip-append : {X Y : Type 0} (R : X → Y → Type 0) (xs : List X) (ys : List Y) (us : List X) (vs : List Y) → AllZip R xs ys → AllZip R us vs
     → AllZip R (xs ++ us) (ys ++ vs)
 AllZip-append R [] [] us vs one two = two
 AllZip-append R [] (b ∷ bs) us vs one two = absurd one
@@ -68,41 +66,5 @@ own_before texts d faults false warned errors all some none silent told whole =
       are = record { of_domain = λ empty. exactly.are; silent = λ any. absurd (any (none refl)) };
       warned = warned;
       tell = exactly.tell;
-      whole = whole;
-    }
-
--- the warnings of two trees
-pub pair_before : (texts : PairTexts) (d : DomainText) (p : ProblemText) (faults : List CheckFault) (b : Bool) (other warned errors all : List Diagnostic)
-    → (b ≡ true → faults ≢ []) → (b ≡ false → faults ≡ []) → TellsExactly texts (IsOtherDomain d p) other → (b ≡ true → warned ≡ [])
-    → (b ≡ false → TellsExactly texts (IsWarning d (Some p)) warned) → all ≡ (other ++ warned) ++ errors → WarnsBefore texts (AreWarnings d p faults) errors all
-pair_before texts d p faults true other warned errors all some none first silent told whole =
-    record {
-      warnings = first.warnings ++ [];
-      are = record {
-        other = first.warnings;
-        others = [];
-        whole = refl;
-        of_domain = first.are;
-        of_both = λ empty. absurd (some refl empty);
-        silent = λ any. refl;
-      };
-      warned = other ++ [];
-      tell = AllZip-append (WarnsPair texts) first.warnings other [] [] first.tell tt;
-      whole = whole ∙ ap (λ xs. (other ++ xs) ++ errors) (silent refl);
-    }
-pair_before texts d p faults false other warned errors all some none first silent told whole =
-    let exactly = told refl in
-    record {
-      warnings = first.warnings ++ exactly.warnings;
-      are = record {
-        other = first.warnings;
-        others = exactly.warnings;
-        whole = refl;
-        of_domain = first.are;
-        of_both = λ empty. exactly.are;
-        silent = λ any. absurd (any (none refl));
-      };
-      warned = other ++ warned;
-      tell = AllZip-append (WarnsPair texts) first.warnings other exactly.warnings warned first.tell exactly.tell;
       whole = whole;
     }

@@ -1,5 +1,9 @@
 pub mod Texts
 pub mod Told
 pub mod Alone
+pub mod Order
+pub mod Reach
+pub mod Asked
+pub mod Saying
 pub mod Report
 pub mod Checks

@@ -16,8 +16,11 @@ use Rattle.hddl_meaning.specs.Mentions.{IsIn}
 use Rattle.hddl_warnings.specs.Order.{warning_cmp}
 use Rattle.hddl_warnings.specs.Warnings.{IsOtherDomain, IsWarning}
 use Rattle.hddl_warnings.specs.declared.warning.Warning.{Warning}
+use Rattle.diagnostics.specs.declared.reached.Reached.{Reached}
 use Rattle.pair_messages.specs.Counts.{domain_counts, problem_counts}
+use Rattle.never_applied.specs.declared.answer.Findings.{Findings}
 use Rattle.check_report.specs.Alone.{Text, IsOwnFault, no_problem}
+use Rattle.check_report.specs.Reach.{AreReached, AreUnplanned, Unplanned, counts_of, found_in, reached_of}
 
 -- a fault of the domain's text, of the problem's text, or of the two together
 pub data Fault : Type 0 where
@@ -75,39 +78,51 @@ pub record AreExactly (Holds : Warning → Type 0) (ws : List Warning) : Type 0 
   pub all : (w : Warning) → IsIn w ws ↔ Holds w
   pub order : IsStrictlySortedBy warning_cmp ws
 
--- the warnings of two trees: that of another domain first, and then the others, where the two fit together
-pub record AreWarnings (d : DomainText) (p : ProblemText) (faults : List CheckFault) (ws : List Warning) : Type 0 where
+-- Warnings: that of another domain, those of what is never used or said twice, and those of what no plan uses.
+pub record AllWarnings : Type 0 where
   pub other : List Warning
-  pub others : List Warning
-  pub whole : ws ≡ other ++ others
-  pub of_domain : AreExactly (IsOtherDomain d p) other
-  pub of_both : faults ≡ [] → AreExactly (IsWarning d (Some p)) others
-  pub silent : faults ≢ [] → others ≡ []
+  pub of_texts : List Warning
+  pub unplanned : List Unplanned
+
+-- none
+abbrev pub no_warnings : AllWarnings
+no_warnings = record { other = []; of_texts = []; unplanned = [] }
+
+-- the warnings of two trees: that of another domain in any case, those of the texts where the two fit together, and those
+-- of what no plan uses where that was found
+pub record AreWarnings (d : DomainText) (p : ProblemText) (faults : List CheckFault) (findings : Option Findings) (ws : AllWarnings) : Type 0 where
+  pub of_domain : AreExactly (IsOtherDomain d p) ws.other
+  pub of_both : faults ≡ [] → AreExactly (IsWarning d (Some p)) ws.of_texts
+  pub silent : faults ≢ [] → ws.of_texts ≡ []
+  pub of_plans : AreUnplanned d findings ws.unplanned
 
 -- the warnings of a domain's tree, where it has no fault of its own
 pub record AreOwnWarnings (d : DomainText) (faults : List CheckFault) (ws : List Warning) : Type 0 where
   pub of_domain : faults ≡ [] → AreExactly (IsWarning d None) ws
   pub silent : faults ≢ [] → ws ≡ []
 
--- What is found of two texts: faults, warnings, and the counts of the trees. Of a text that spells no tree its first
--- fault, and of two trees all; the first of these is the one for which the two are refused.
-pub data PairFinds (domain problem : Text) : List Fault → List Warning → List (List ℕ) → Type 0 where
+-- What is found of two texts: faults, warnings, the counts of the trees, and how much a plan may use. Of a text that
+-- spells no tree its first fault, and of two trees all; the first of these is the one for which the two are refused. Of
+-- two trees without a fault what no plan of their task uses.
+pub data PairFinds (domain problem : Text) : List Fault → AllWarnings → List (List ℕ) → Option Reached → Type 0 where
   both : {f g : TextFault} → IsFaulty DerivesDomain domain f → IsFaulty DerivesProblem problem g
-      → PairFinds domain problem (of_domain f ∷ of_problem g ∷ []) [] []
+      → PairFinds domain problem (of_domain f ∷ of_problem g ∷ []) no_warnings [] None
   first : {f : TextFault} {p : ProblemText} → IsFaulty DerivesDomain domain f → Spells DerivesProblem problem p
-      → PairFinds domain problem (of_domain f ∷ []) [] (problem_counts p ∷ [])
+      → PairFinds domain problem (of_domain f ∷ []) no_warnings (problem_counts p ∷ []) None
   second : {g : TextFault} {d : DomainText} → Spells DerivesDomain domain d → IsFaulty DerivesProblem problem g
-      → PairFinds domain problem (of_problem g ∷ []) [] (domain_counts d ∷ [])
-  together : {d : DomainText} {p : ProblemText} {faults : List CheckFault} {ws : List Warning} → Spells DerivesDomain domain d → Spells DerivesProblem problem p
-      → ArePairFaults d p faults → AreWarnings d p faults ws → PairFinds domain problem (map of_pair faults) ws (domain_counts d ∷ problem_counts p ∷ [])
+      → PairFinds domain problem (of_problem g ∷ []) no_warnings (domain_counts d ∷ []) None
+  together : {d : DomainText} {p : ProblemText} {faults : List CheckFault} {ws : AllWarnings} (reach : Option (Option Findings)) → Spells DerivesDomain domain d
+      → Spells DerivesProblem problem p → ArePairFaults d p faults → AreReached d p faults reach → AreWarnings d p faults (found_in reach) ws
+      → PairFinds domain problem (map of_pair faults) ws ((domain_counts d ∷ problem_counts p ∷ []) ++ counts_of reach) (reached_of reach)
 
 -- what is found of a domain alone
-pub data DomainFinds (domain : Text) : List Fault → List Warning → List (List ℕ) → Type 0 where
-  unread : {f : TextFault} → IsFaulty DerivesDomain domain f → DomainFinds domain (of_domain f ∷ []) [] []
+pub data DomainFinds (domain : Text) : List Fault → AllWarnings → List (List ℕ) → Option Reached → Type 0 where
+  unread : {f : TextFault} → IsFaulty DerivesDomain domain f → DomainFinds domain (of_domain f ∷ []) no_warnings [] None
   alone : {d : DomainText} {e : ProblemText} {faults : List CheckFault} {ws : List Warning} → Spells DerivesDomain domain d → Spells DerivesProblem no_problem e
-      → AreOwnFaults domain d e faults → AreOwnWarnings d faults ws → DomainFinds domain (map of_pair faults) ws (domain_counts d ∷ [])
+      → AreOwnFaults domain d e faults → AreOwnWarnings d faults ws
+      → DomainFinds domain (map of_pair faults) (record { other = []; of_texts = ws; unplanned = [] }) (domain_counts d ∷ []) None
 
 -- what is found of a domain, and of a problem if there is one
-abbrev pub Finds : Text → Option Text → List Fault → List Warning → List (List ℕ) → Type 0
+abbrev pub Finds : Text → Option Text → List Fault → AllWarnings → List (List ℕ) → Option Reached → Type 0
 Finds domain None = DomainFinds domain
 Finds domain (Some problem) = PairFinds domain problem

@@ -1,12 +1,13 @@
 -- Faults, and the diagnostics that tell them.
 use Rattle.std.specs.Prelude.{◌≡◌, ℕ, min, length, List, [], ◌∷◌, ◌++◌, Option, Some, None, option_map}
-use Rattle.std.specs.List.{AllZip}
+use Rattle.std.specs.List.{All, AllZip}
 use Rattle.hddl_words.specs.declared.fault.TextFault.{TextFault}
 use Rattle.hddl_words.specs.declared.fault.TextFault.TheVariants as spelling
+use Rattle.hddl_text.specs.Grammar.{DerivesDomain, DerivesProblem}
+use Rattle.hddl_text.specs.Spelling.{Spells}
 use Rattle.hddl_meaning.specs.declared.fault.At.{At}
 use Rattle.hddl_meaning.specs.declared.fault.Source.{Source as Side}
 use Rattle.hddl_meaning.specs.declared.fault.Source.TheVariants as side
-use Rattle.hddl_meaning.specs.declared.fault.CheckFault.{CheckFault}
 use Rattle.diagnostics.specs.declared.diagnostic.Diagnostic.{Diagnostic}
 use Rattle.diagnostics.specs.declared.diagnostic.Role.{Role}
 use Rattle.diagnostics.specs.declared.diagnostic.Severity.{Severity}
@@ -17,9 +18,15 @@ use Rattle.diagnostics.specs.declared.diagnostic.Where.TheVariants.{Text, Place}
 use Rattle.hddl_warnings.specs.Told as warning
 use Rattle.hddl_warnings.specs.declared.warning.Warning.{Warning}
 use Rattle.pair_messages.specs.Heads as pair
+use Rattle.pair_messages.specs.Notes.{IsAtDeclaration}
+use Rattle.pair_messages.specs.Offers.{OffersMeant}
 use Rattle.pair_messages.specs.declared.texts.PairTexts.{PairTexts}
 use Rattle.text_messages.specs.Messages as text
-use Rattle.check_report.specs.Texts.{AreExactly, Fault, of_domain, of_problem, of_pair}
+use Rattle.reach_messages.specs.Reach.{never_applied_code, no_plan_code}
+use Rattle.check_report.specs.Alone.{Text as Bytes, no_problem}
+use Rattle.check_report.specs.Order.{AreByPlace}
+use Rattle.check_report.specs.Reach.{Unplanned, never_applied, no_plan}
+use Rattle.check_report.specs.Texts.{AllWarnings, Fault, of_domain, of_problem, of_pair}
 
 -- the place of a text's fault, but for that of a text that is too long
 abbrev pub text_place : TextFault → Option ℕ
@@ -81,6 +88,25 @@ Tells domain None (of_problem f) d = ⊥
 Tells domain (Some problem) (of_problem f) d = IsError problem (text.code_of f) (text_place f) d
 Tells domain problem (of_pair f) d = TellsAt domain problem (pair.code_of f) (pair.at_of f) d
 
+-- the bytes of a problem, or of one that declares nothing
+abbrev pub problem_bytes : Option Named → Bytes
+problem_bytes None = no_problem
+problem_bytes (Some problem) = problem.bytes
+
+-- these texts, with the trees that they spell
+pub record AreTextsOf (domain : Named) (problem : Option Named) (texts : PairTexts) : Type 0 where
+  pub is_domain : named texts.domain.now ≡ domain
+  pub is_problem : option_map (λ p. named p.now) texts.problem ≡ problem
+  pub domain_spelled : Spells DerivesDomain domain.bytes texts.domain_tree.now
+  pub problem_spelled : Spells DerivesProblem (problem_bytes problem) texts.problem_tree.now
+
+-- the error of a fault of two trees offers only names that may be meant, and its notes stand at declarations
+abbrev pub Helps : Named → Option Named → Fault → Diagnostic → Type 0
+Helps domain problem (of_domain f) d = Unit {0}
+Helps domain problem (of_problem f) d = Unit {0}
+Helps domain problem (of_pair f) d =
+    (texts : PairTexts) × AreTextsOf domain problem texts × OffersMeant texts f d.remarks.items × All (λ note. IsAtDeclaration texts note.spot) d.notes.items
+
 -- each fault has its diagnostic, in order
 abbrev pub AreTold : Named → Option Named → List Fault → List Diagnostic → Type 0
 AreTold domain problem [] [] = Unit {0}
@@ -91,44 +117,28 @@ AreTold domain problem _ _ = ⊥
 abbrev pub Warns : Named → Option Named → Warning → Diagnostic → Type 0
 Warns domain problem w d = (t : Named) × (text_at domain problem w.at.source ≡ Some t) × IsWarned t (warning.code_of w.kind) (Some w.at.place) d
 
--- each warning has its diagnostic, in order
-abbrev pub AreWarned : Named → Option Named → List Warning → List Diagnostic → Type 0
-AreWarned domain problem = AllZip (Warns domain problem)
+-- each warning of texts has its diagnostic, in order
+abbrev pub AreTextsWarned : Named → Option Named → List Warning → List Diagnostic → Type 0
+AreTextsWarned domain problem = AllZip (Warns domain problem)
 
--- ---- what the code computes
+-- the diagnostic tells what no plan uses: a method or an action by its name, or that the problem has no plan
+abbrev pub WarnsOfPlans : Named → Named → Unplanned → Diagnostic → Type 0
+WarnsOfPlans domain problem (never_applied place) d = IsWarned domain never_applied_code (Some place) d
+WarnsOfPlans domain problem (no_plan place) d = IsWarned problem no_plan_code (Some place) d
 
--- the error of a text's fault, alone
-abbrev pub AreErrors : Named → TextFault → List Diagnostic → Type 0
-AreErrors t f ds = (d : Diagnostic) × IsError t (text.code_of f) (text_place f) d × (ds ≡ d ∷ [])
+-- each warning of two texts has its diagnostic: that of another domain stands first, and all others by place
+pub record ArePairWarned (domain problem : Named) (ws : AllWarnings) (ds : List Diagnostic) : Type 0 where
+  pub first : List Diagnostic
+  pub texts : List Diagnostic
+  pub plans : List Diagnostic
+  pub others : List Diagnostic
+  pub of_domain : AreTextsWarned domain (Some problem) ws.other first
+  pub of_texts : AreTextsWarned domain (Some problem) ws.of_texts texts
+  pub of_plans : AllZip (WarnsOfPlans domain problem) ws.unplanned plans
+  pub by_place : AreByPlace texts plans others
+  pub whole : ds ≡ first ++ others
 
--- the error of a fault of a pair, as it is made
-pub record TellsPair (texts : PairTexts) (f : CheckFault) (d : Diagnostic) : Type 0 where
-  pub severity : d.severity ≡ severity.Error
-  pub code : d.code.now ≡ pair.code_of f
-  pub about : pair.IsAbout texts (pair.at_of f) d.about
-
--- the diagnostic of a warning of a pair, as it is made
-abbrev pub WarnsPair : PairTexts → Warning → Diagnostic → Type 0
-WarnsPair texts = warning.TellsWarning texts.domain.now (option_map (λ p. p.now) texts.problem)
-
--- the diagnostics tell exactly the warnings with a property
-pub record TellsExactly (texts : PairTexts) (Holds : Warning → Type 0) (told : List Diagnostic) : Type 0 where
-  pub warnings : List Warning
-  pub are : AreExactly Holds warnings
-  pub tell : AllZip (WarnsPair texts) warnings told
-
--- the diagnostics tell some warnings, and then the errors
-pub record WarnsBefore (texts : PairTexts) (Are : List Warning → Type 0) (errors told : List Diagnostic) : Type 0 where
-  pub warnings : List Warning
-  pub are : Are warnings
-  pub warned : List Diagnostic
-  pub tell : AllZip (WarnsPair texts) warnings warned
-  pub whole : told ≡ warned ++ errors
-
--- the diagnostics tell the warnings and the faults of trees
-pub record TellsTrees (texts : PairTexts) (Are : List CheckFault → Type 0) (Warn : List CheckFault → List Warning → Type 0) (told : List Diagnostic) : Type 0 where
-  pub faults : List CheckFault
-  pub are : Are faults
-  pub errors : List Diagnostic
-  pub tell : AllZip (TellsPair texts) faults errors
-  pub before : WarnsBefore texts (Warn faults) errors told
+-- each warning has its diagnostic; those of a domain alone in their order
+abbrev pub AreWarned : Named → Option Named → AllWarnings → List Diagnostic → Type 0
+AreWarned domain None ws = AreTextsWarned domain None ws.of_texts
+AreWarned domain (Some problem) ws = ArePairWarned domain problem ws

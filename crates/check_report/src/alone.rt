@@ -1,23 +1,24 @@
 //! The check of a domain alone.
-ghost use Rattle.std.specs.Prelude.{None, IfOk};
+ghost use Rattle.std.specs.Prelude.{◌≡◌, None, IfOk};
 ghost use Rattle.hddl_text.specs.Grammar.{DerivesDomain, DerivesProblem};
 ghost use Rattle.hddl_text.specs.Spelling.{Spells};
 ghost use Rattle.check_report.specs.Alone.{no_problem};
 ghost use Rattle.check_report.specs.Checks.{Checks};
 ghost use Rattle.check_report.specs.Texts.{AreOwnFaults, AreOwnWarnings};
-ghost use Rattle.check_report.specs.Told.{TellsTrees, WarnsBefore, named};
+ghost use Rattle.check_report.specs.Told.{named};
+ghost use Rattle.check_report.specs.Saying.{TellsTrees, WarnsBefore};
 
 use crate::arguments::{argument_places, is_own};
 use crate::read::{domain_of, empty_problem};
 use crate::report::{Checked, Options, report};
 use crate::summary::domain_lines;
-use crate::tell::{has_faults, pair_errors, text_errors};
+use crate::tell::{has_faults, text_errors, tree_errors};
 use crate::warnings::warn_unless;
 use diagnostics::{Diagnostic, Source};
 use hddl_check::all_faults;
 use hddl_meaning::CheckFault;
 use hddl_tree::{DomainText, ProblemText};
-use pair_messages::{PairIndex, PairTexts};
+use pair_messages::PairTexts;
 use std::alloc::{AllocError, Global};
 
 /// The report of a domain alone.
@@ -41,7 +42,7 @@ pub(crate) fn check_domain(
         }
         Err(fault) => {
             let told = text_errors(alloc, domain, fault)?;
-            let checked = report(alloc, told.as_slice(), &[], options)?;
+            let checked = report(alloc, told.as_slice(), &[], None, options)?;
             Ok(checked)
         }
     }
@@ -49,13 +50,14 @@ pub(crate) fn check_domain(
 
 /// The report of a domain's tree.
 fn check_tree(alloc: Global, texts: &PairTexts<'_>, options: Options) -> Result<Checked, AllocError>
+    requires alone { texts.now.problem ≡ None }
     requires domain_spelled { Spells DerivesDomain texts.now.domain.now.lines texts.now.domain_tree.now }
     requires problem_spelled { Spells DerivesProblem no_problem texts.now.problem_tree.now }
     ensures { IfOk result (Checks (named texts.now.domain.now) None options) }
 {
     let told = tell_tree(alloc, texts)?;
     let summary = domain_lines(alloc, texts.domain_tree)?;
-    let checked = report(alloc, told.as_slice(), summary.as_slice(), options)?;
+    let checked = report(alloc, told.as_slice(), summary.as_slice(), None, options)?;
     Ok(checked)
 }
 
@@ -66,8 +68,7 @@ fn tell_tree<'a>(alloc: Global, texts: &'a PairTexts<'a>) -> Result<Vec<Diagnost
 {
     let text = texts.domain.lines.text();
     let faults = own_faults(alloc, text, texts.domain_tree, texts.problem_tree)?;
-    let index = PairIndex::new(alloc, texts)?;
-    let errors = pair_errors(alloc, &index, faults.as_slice())?;
+    let errors = tree_errors(alloc, texts, faults.as_slice())?;
     let told = tell_own(alloc, texts, faults.as_slice(), errors)?;
     Ok(told)
 }

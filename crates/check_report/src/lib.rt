@@ -3,7 +3,9 @@
 
 mod alone;
 mod arguments;
+mod order;
 mod pair;
+mod reach;
 mod read;
 mod report;
 mod summary;

@@ -3,7 +3,9 @@ ghost use Rattle.std.specs.Prelude.{◌≡◌, IfOk};
 ghost use Rattle.std.specs.List.{list_any};
 ghost use Rattle.check_report.specs.Report as spec;
 
-use diagnostics::{Diagnostic, Format, Part, Severity, json_report, short_report, text_report};
+use diagnostics::{
+    Diagnostic, Format, Part, Reached, Severity, json_report, short_report, text_report,
+};
 use std::alloc::{AllocError, Global};
 
 /// What a check found.
@@ -66,32 +68,34 @@ fn finding_of(diagnostics: &[Diagnostic<'_>], is_strict: bool) -> Finding
     Finding::Sound
 }
 
-/// The bytes of some diagnostics and the lines of a summary.
+/// The bytes of some diagnostics, the lines of a summary, and what a plan may use.
 fn written(
     alloc: Global,
     diagnostics: &[Diagnostic<'_>],
     summary: &[Vec<Part<'_>>],
+    reached: Option<Reached>,
     options: Options,
 ) -> Result<Vec<u8>, AllocError>
-    ensures { IfOk result (λ text. text.items ≡ spec.report_bytes options diagnostics.now summary.now) }
+    ensures { IfOk result (λ text. text.items ≡ spec.report_bytes options diagnostics.now summary.now reached) }
 {
     match options.format {
         Format::Text => text_report(alloc, diagnostics, summary, options.limit, options.colour),
         Format::Short => short_report(alloc, diagnostics),
-        Format::Json => json_report(alloc, diagnostics),
+        Format::Json => json_report(alloc, diagnostics, reached),
     }
 }
 
-/// The report of some diagnostics and the lines of a summary.
+/// The report of some diagnostics, the lines of a summary, and what a plan may use, where that is known.
 pub(crate) fn report(
     alloc: Global,
     diagnostics: &[Diagnostic<'_>],
     summary: &[Vec<Part<'_>>],
+    reached: Option<Reached>,
     options: Options,
 ) -> Result<Checked, AllocError>
-    ensures { IfOk result (spec.IsReport options diagnostics.now summary.now) }
+    ensures { IfOk result (spec.IsReport options diagnostics.now summary.now reached) }
 {
-    let text = written(alloc, diagnostics, summary, options)?;
+    let text = written(alloc, diagnostics, summary, reached, options)?;
     let finding = finding_of(diagnostics, options.is_strict);
     Ok(Checked { finding, text })
 }

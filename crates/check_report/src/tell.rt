@@ -2,12 +2,13 @@
 ghost use Rattle.std.specs.Prelude.{◌≡◌, ◌≢◌, [], IfOk, true, false};
 ghost use Rattle.std.specs.List.{AllZip};
 ghost use Rattle.text_messages.specs.Messages.{code_of};
-ghost use Rattle.check_report.specs.Told.{AreErrors, IsError, TellsPair, named, text_place};
+ghost use Rattle.check_report.specs.Told.{IsError, named, text_place};
+ghost use Rattle.check_report.specs.Saying.{AreErrors, TellsPair};
 
 use diagnostics::{Diagnostic, Source};
 use hddl_meaning::CheckFault;
 use hddl_words::TextFault;
-use pair_messages::{PairIndex, pair_diagnostic};
+use pair_messages::{PairIndex, PairTexts, pair_diagnostic};
 use std::alloc::{AllocError, Global};
 use text_messages::text_diagnostic;
 
@@ -61,8 +62,21 @@ pub(crate) fn has_faults(faults: &[CheckFault]) -> bool
     }
 }
 
+/// The errors of the faults of two trees, in their order.
+pub(crate) fn tree_errors<'a>(
+    alloc: Global,
+    texts: &'a PairTexts<'a>,
+    faults: &[CheckFault],
+) -> Result<Vec<Diagnostic<'a>>, AllocError>
+    ensures { IfOk result (λ errors. AllZip (TellsPair texts.now) faults.now errors.items) }
+{
+    let index = PairIndex::new(alloc, texts)?;
+    let errors = pair_errors(alloc, &index, faults)?;
+    Ok(errors)
+}
+
 /// The errors of a pair's faults, in their order.
-pub(crate) fn pair_errors<'a>(
+fn pair_errors<'a>(
     alloc: Global,
     index: &PairIndex<'a>,
     faults: &[CheckFault],

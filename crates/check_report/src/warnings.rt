@@ -3,7 +3,7 @@ ghost use Rattle.std.specs.Prelude.{◌≡◌, [], IfOk, true, false, option_map
 ghost use Rattle.std.specs.List.{AllZip};
 ghost use Rattle.hddl_warnings.specs.Warnings.{IsOtherDomain, IsWarning};
 ghost use Rattle.check_report.specs.Texts.{AreExactly};
-ghost use Rattle.check_report.specs.Told.{TellsExactly, WarnsPair};
+ghost use Rattle.check_report.specs.Saying.{TellsExactly, WarnsPair};
 
 use diagnostics::Diagnostic;
 use hddl_tree::ProblemText;

@@ -1,5 +1,5 @@
 -- Messages are ASCII, and a report as JSON has no float and nests little.
-use Rattle.std.proofs.Common.{◌≡◌, ℕ, zero, suc, ◌-◌, ◌<◌, ◌≤◌, ◌||◌, ◌&&◌, Bool, true, false, not, nat_eq, nat_le, codes, subst, List, [], ◌∷◌, ◌++◌, map, filter, length, count_by, refl, sym, ap, ◌∙◌, ⊎_elim, Ordering, Less, Equal, Greater, arith, append-nil}
+use Rattle.std.proofs.Common.{◌≡◌, ℕ, zero, suc, ◌-◌, ◌<◌, ◌≤◌, ◌||◌, ◌&&◌, Bool, true, false, not, nat_eq, nat_le, codes, subst, Option, Some, None, List, [], ◌∷◌, ◌++◌, map, filter, length, count_by, refl, sym, ap, ◌∙◌, ⊎_elim, Ordering, Less, Equal, Greater, arith, append-nil}
 use Rattle.std.proofs.lemmas.Bool.{cases_Bool}
 use Rattle.std.proofs.lemmas.Bool.Decides.{nat_tests}
 use Rattle.std.proofs.lemmas.List.Sums.{fold-append}
@@ -19,10 +19,11 @@ use Rattle.diagnostics.specs.declared.diagnostic.Where.TheVariants.{Text, Place}
 use Rattle.diagnostics.specs.declared.diagnostic.Remark.{Remark}
 use Rattle.diagnostics.specs.declared.diagnostic.Note.{Note}
 use Rattle.diagnostics.specs.declared.diagnostic.Diagnostic.{Diagnostic}
+use Rattle.diagnostics.specs.declared.reached.Reached.{Reached}
 use Rattle.diagnostics.specs.Ink.{Ink, written, said}
 use Rattle.diagnostics.specs.Parts.{message_inks, part_inks}
 use Rattle.diagnostics.specs.Written.{is_error}
-use Rattle.diagnostics.specs.Json.{Named, with_members, object_of, array_of, count, message_json, severity_name, no_place, spot_members, where_members, is_help, remark_json, note_json, help_json, notes_json, diagnostic_json, report_json}
+use Rattle.diagnostics.specs.Json.{Named, with_members, object_of, array_of, count, message_json, severity_name, no_place, spot_members, where_members, is_help, remark_json, note_json, help_json, notes_json, diagnostic_json, reached_json, reached_members, report_json}
 use Rattle.diagnostics.proofs.Adds.{written-append}
 
 -- ---- messages
@@ -155,9 +156,17 @@ diagnostic_plain d =
     object_plain 2 ((codes "severity", string (severity_name d.severity)) ∷ (codes "code", string d.code.now) ∷ where_members d.about ++ last)
     (leaf 2, (leaf 2, where_plain 2 d.about last more))
 
-pub report_plain : (ds : List Diagnostic) → IsPlain 5 (report_json ds)
-report_plain ds =
+reached_plain : (r : Reached) → IsPlain 1 (reached_json r)
+reached_plain r =
+    object_plain 0 ((codes "actions", count r.actions) ∷ (codes "methods", count r.methods) ∷ (codes "facts", count r.facts) ∷ []) (leaf 0, (leaf 0, (leaf 0, tt)))
+
+known_plain : (o : Option Reached) → ArePlain 4 (reached_members o)
+known_plain None = tt
+known_plain (Some r) = (deeper 1 4 (reached_json r) (omega arith) (reached_plain r), (leaf 4, tt))
+
+pub report_plain : (ds : List Diagnostic) (reached : Option Reached) → IsPlain 5 (report_json ds reached)
+report_plain ds reached =
     let errors = count_by (λ (d : Diagnostic). is_error d.severity) ds in
     let ms : List Named = (codes "format", string (codes "htnplan-check")) ∷ (codes "version", count 1) ∷ (codes "errors", count errors)
-    ∷ (codes "warnings", count (length ds - errors)) ∷ (codes "diagnostics", array_of (map diagnostic_json ds)) ∷ [] in
-    object_plain 4 ms (leaf 4, (leaf 4, (leaf 4, (leaf 4, (array_plain 3 diagnostic_json diagnostic_plain ds, tt)))))
+    ∷ (codes "warnings", count (length ds - errors)) ∷ (codes "diagnostics", array_of (map diagnostic_json ds)) ∷ reached_members reached in
+    object_plain 4 ms (leaf 4, (leaf 4, (leaf 4, (leaf 4, (array_plain 3 diagnostic_json diagnostic_plain ds, known_plain reached)))))

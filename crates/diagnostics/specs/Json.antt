@@ -1,8 +1,8 @@
 -- Reports as JSON.
-use Rattle.std.specs.Prelude.{◌≡◌, ℕ, ◌-◌, nat_le, Some, Bool, true, false, not, List, [], ◌∷◌, ◌++◌, length, map, filter, fold, count_by, codes}
+use Rattle.std.specs.Prelude.{◌≡◌, ℕ, ◌-◌, nat_le, Option, Some, None, Bool, true, false, not, List, [], ◌∷◌, ◌++◌, length, map, filter, fold, count_by, codes}
 use Rattle.std.specs.List.{list_all}
 use Rattle.text_places.specs.Places.{position}
-use Rattle.serde_json.specs.Data.{Data, null, number, string, array, object, unsigned, Members, no_members, put}
+use Rattle.serde_json.specs.Data.{Data, null, boolean, number, string, array, object, unsigned, Members, no_members, put}
 use Rattle.serde_json.specs.Read.{read}
 use Rattle.serde_json.specs.View.{items_of}
 use Rattle.serde_json.specs.Written.{compact_text}
@@ -20,6 +20,7 @@ use Rattle.diagnostics.specs.declared.diagnostic.Remark.{Remark}
 use Rattle.diagnostics.specs.declared.diagnostic.Note.{Note}
 use Rattle.diagnostics.specs.declared.diagnostic.Part.{Part}
 use Rattle.diagnostics.specs.declared.diagnostic.Diagnostic.{Diagnostic}
+use Rattle.diagnostics.specs.declared.reached.Reached.{Reached}
 use Rattle.diagnostics.specs.Ink.{written}
 use Rattle.diagnostics.specs.Parts.{message_inks}
 use Rattle.diagnostics.specs.Written.{is_error}
@@ -97,15 +98,24 @@ diagnostic_json d =
     object_of ((codes "severity", string (severity_name d.severity)) ∷ (codes "code", string d.code.now) ∷ where_members d.about
     ++ (codes "message", message_json d.message.items) ∷ (codes "help", help_json d.remarks.items) ∷ (codes "notes", notes_json d) ∷ [])
 
-abbrev pub report_json : List Diagnostic → Data
-report_json ds =
+-- what a plan may use, counted
+abbrev pub reached_json : Reached → Data
+reached_json r = object_of ((codes "actions", count r.actions) ∷ (codes "methods", count r.methods) ∷ (codes "facts", count r.facts) ∷ [])
+
+-- what is known of plans, if anything is
+abbrev pub reached_members : Option Reached → List Named
+reached_members None = []
+reached_members (Some r) = (codes "reached", reached_json r) ∷ (codes "no_plan", boolean r.no_plan) ∷ []
+
+abbrev pub report_json : List Diagnostic → Option Reached → Data
+report_json ds reached =
     let errors = count_by (λ d. is_error d.severity) ds in
     object_of ((codes "format", string (codes "htnplan-check")) ∷ (codes "version", count 1) ∷ (codes "errors", count errors)
-    ∷ (codes "warnings", count (length ds - errors)) ∷ (codes "diagnostics", array_of (map diagnostic_json ds)) ∷ [])
+    ∷ (codes "warnings", count (length ds - errors)) ∷ (codes "diagnostics", array_of (map diagnostic_json ds)) ∷ reached_members reached)
 
 -- the text of its value, and a line feed
-abbrev pub json_bytes : List Diagnostic → List ℕ
-json_bytes ds = compact_text (report_json ds) ++ 10 ∷ []
+abbrev pub json_bytes : List Diagnostic → Option Reached → List ℕ
+json_bytes ds reached = compact_text (report_json ds reached) ++ 10 ∷ []
 
 -- one line: no byte below 32 but the line feed at its end
 abbrev pub IsOneLine : List ℕ → Type 0

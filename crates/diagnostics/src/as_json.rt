@@ -9,6 +9,7 @@ use crate::diagnostic::{
     Diagnostic, Note, Part, Remark, RemarkKind, Role, Severity, Source, Spot, Where,
 };
 use crate::lines::say_message;
+use crate::reached::Reached;
 use crate::report::count_errors;
 use serde_json::{Map, Value, put};
 use std::alloc::{AllocError, Global};
@@ -224,9 +225,42 @@ fn diagnostics_value(alloc: Global, diagnostics: &[Diagnostic<'_>]) -> Result<Va
     Ok(Value::Array(list))
 }
 
+/// What a plan may use, counted.
+fn reached_value(alloc: Global, reached: Reached) -> Result<Value, AllocError>
+    ensures { IfOk result (λ v. view v ≡ spec.reached_json reached) }
+{
+    let mut map = Map::new(alloc);
+    put(&mut map, alloc, "actions", Value::from(reached.actions))?;
+    put(&mut map, alloc, "methods", Value::from(reached.methods))?;
+    put(&mut map, alloc, "facts", Value::from(reached.facts))?;
+    Ok(Value::Object(map))
+}
+
+/// Adds what is known of plans, if anything is.
+fn put_reached(
+    map: &mut Map<String, Value>,
+    alloc: Global,
+    reached: Option<Reached>,
+) -> Result<(), AllocError>
+    ensures { OnOk result (members_view map.new.entries ≡ with_members (members_view map.old.entries) (spec.reached_members reached)) }
+{
+    match reached {
+        Some(known) => {
+            put(map, alloc, "reached", reached_value(alloc, known)?)?;
+            put(map, alloc, "no_plan", Value::from(known.no_plan))?;
+            Ok(())
+        }
+        None => Ok(()),
+    }
+}
+
 /// The whole report.
-fn report_value(alloc: Global, diagnostics: &[Diagnostic<'_>]) -> Result<Value, AllocError>
-    ensures { IfOk result (λ v. view v ≡ spec.report_json diagnostics.now) }
+fn report_value(
+    alloc: Global,
+    diagnostics: &[Diagnostic<'_>],
+    reached: Option<Reached>,
+) -> Result<Value, AllocError>
+    ensures { IfOk result (λ v. view v ≡ spec.report_json diagnostics.now reached) }
 {
     let errors = count_errors(diagnostics);
     let format = Value::try_from_str(alloc, "htnplan-check")?;
@@ -242,17 +276,23 @@ fn report_value(alloc: Global, diagnostics: &[Diagnostic<'_>]) -> Result<Value, 
         Value::from(diagnostics.len() - errors),
     )?;
     put(&mut map, alloc, "diagnostics", list)?;
+    put_reached(&mut map, alloc, reached)?;
     Ok(Value::Object(map))
 }
 
 /// Each diagnostic as tools read it: one object of JSON on one line, whose members stand in the order of their names.
-/// It is ASCII where codes and names of files are. An error where memory was refused.
-pub fn json_report(alloc: Global, diagnostics: &[Diagnostic<'_>]) -> Result<Vec<u8>, AllocError>
-    ensures bytes { IfOk result (λ text. text.items ≡ json_bytes diagnostics.now) }
+/// What a plan may use stands in it where that is known. It is ASCII where codes and names of files are. An error where
+/// memory was refused.
+pub fn json_report(
+    alloc: Global,
+    diagnostics: &[Diagnostic<'_>],
+    reached: Option<Reached>,
+) -> Result<Vec<u8>, AllocError>
+    ensures bytes { IfOk result (λ text. text.items ≡ json_bytes diagnostics.now reached) }
     ensures utf8 { IfOk result (λ text. IsUtf8 text.items) }
-    ensures reads_back { IfOk result (λ text. IsReadAs (spec.report_json diagnostics.now) text.items) }
+    ensures reads_back { IfOk result (λ text. IsReadAs (spec.report_json diagnostics.now reached) text.items) }
 {
-    let mut text = report_value(alloc, diagnostics)?.to_vec(alloc)?;
+    let mut text = report_value(alloc, diagnostics, reached)?.to_vec(alloc)?;
     text.push(b'\n')?;
     Ok(text)
 }

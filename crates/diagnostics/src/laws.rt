@@ -1,8 +1,9 @@
 //! Laws of outputs. Reports for people are inks, of which the laws on colour and tame bytes speak.
 
-ghost use Rattle.std.specs.Prelude.{◌≡◌, Bool, true, false, List, [], codes};
+ghost use Rattle.std.specs.Prelude.{◌≡◌, Bool, true, false, List, [], Option, None, codes};
 ghost use Rattle.diagnostics.specs.Ink.{Ink, written};
 ghost use Rattle.diagnostics.specs.declared.diagnostic.Diagnostic.{Diagnostic};
+ghost use Rattle.diagnostics.specs.declared.reached.Reached.{Reached};
 ghost use Rattle.diagnostics.specs.Json.{json_bytes, IsOneLine};
 ghost use Rattle.diagnostics.specs.Tame.{IsTame, HasTameNames, plain};
 
@@ -20,10 +21,10 @@ pub fn colour_is_dress()
 
 /// A report as JSON has no byte below 32 but the line feed at its end, whatever the texts and the names of files have.
 pub fn json_is_one_line()
-    ensures { (ds : List Diagnostic) → IsOneLine (json_bytes ds) }
+    ensures { (ds : List Diagnostic) (reached : Option Reached) → IsOneLine (json_bytes ds reached) }
 {}
 
 /// The report on texts of which nothing is said.
 pub fn json_of_no_diagnostics()
-    ensures { json_bytes [] ≡ codes "{\"diagnostics\":[],\"errors\":0,\"format\":\"htnplan-check\",\"version\":1,\"warnings\":0}\n" }
+    ensures { json_bytes [] None ≡ codes "{\"diagnostics\":[],\"errors\":0,\"format\":\"htnplan-check\",\"version\":1,\"warnings\":0}\n" }
 {}

@@ -8,6 +8,7 @@ mod groups;
 mod ink;
 mod laws;
 mod lines;
+mod reached;
 mod report;
 mod text;
 
@@ -18,4 +19,5 @@ pub use diagnostic::{
 pub use format::Format;
 pub use ink::Style;
 pub use laws::{colour_is_dress, json_is_one_line, json_of_no_diagnostics, output_is_tame};
+pub use reached::Reached;
 pub use report::{short_report, text_report};

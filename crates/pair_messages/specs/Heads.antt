@@ -1,5 +1,7 @@
 -- What a diagnostic of a fault is: its code, and the place that it is about.
-use Rattle.std.specs.Prelude.{◌≡◌, ℕ, min, List, length, Option, Some, None, codes}
+use Rattle.std.specs.Prelude.{◌≡◌, ℕ, min, List, drop, length, Option, Some, None, codes}
+use Rattle.std.specs.List.{take_while}
+use Rattle.hddl_words.specs.Word.{is_word_byte}
 use Rattle.hddl_meaning.specs.declared.fault.At.{At}
 use Rattle.hddl_meaning.specs.declared.fault.CheckFault.{CheckFault}
 use Rattle.hddl_meaning.specs.declared.fault.CheckFault.TheVariants as fault
@@ -56,3 +58,7 @@ IsAbout texts None (Text source) = source.now ≡ texts.domain.now
 IsAbout texts None (Place spot) = ⊥
 IsAbout texts (Some at) (Text source) = ⊥
 IsAbout texts (Some at) (Place spot) = IsSpotAt (text_of texts at.source) at.place spot
+
+-- the word that begins at a place of a text: none at a bracket, a blank or the end
+abbrev pub word_from : Source → ℕ → List ℕ
+word_from source place = take_while is_word_byte (drop place source.lines)

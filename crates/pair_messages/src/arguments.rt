@@ -1,5 +1,8 @@
 //! Wrong numbers of arguments.
 
+ghost use Rattle.std.specs.Prelude.{◌≡◌, [], IfOk};
+ghost use Rattle.pair_messages.specs.Offers.{offered};
+
 use crate::index::{Declaration, PairIndex};
 use crate::phrases::{declared_with, push_count};
 use crate::saying::Saying;
@@ -32,7 +35,9 @@ pub(crate) fn wrong_arity<'a>(
     alloc: Global,
     index: &PairIndex<'a>,
     used: &Use<'a>,
-) -> Result<Saying<'a>, AllocError> {
+) -> Result<Saying<'a>, AllocError>
+    ensures { IfOk result (λ s. offered s.remarks.items ≡ []) }
+{
     let mut message = vec![in alloc; Part::Name(used.atom.name.text()), Part::Words(" takes ")]?;
     let stand = used.atom.terms.len();
     let found = declaration_of(alloc, index, used)?;

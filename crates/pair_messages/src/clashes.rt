@@ -1,5 +1,8 @@
 //! Arguments that can't have the type of their place.
 
+ghost use Rattle.std.specs.Prelude.{◌≡◌, [], IfOk, OnOk};
+ghost use Rattle.pair_messages.specs.Offers.{offered, offered_by};
+
 use crate::arguments::declaration_of;
 use crate::fits::fits;
 use crate::index::PairIndex;
@@ -52,7 +55,9 @@ fn variable_clash<'a>(
     slot: Slot<'a>,
     bindings: &[Binding<'a>],
     variable: &'a Variable,
-) -> Result<Saying<'a>, AllocError> {
+) -> Result<Saying<'a>, AllocError>
+    ensures { IfOk result (λ s. offered s.remarks.items ≡ []) }
+{
     let mut message = vec![in alloc; Part::Name(variable.text())]?;
     let found = binding_in(bindings, variable.text());
     let Some(binding) = found else {
@@ -103,7 +108,9 @@ fn object_clash<'a>(
     index: &PairIndex<'a>,
     slot: Slot<'a>,
     name: &'a Name,
-) -> Result<Saying<'a>, AllocError> {
+) -> Result<Saying<'a>, AllocError>
+    ensures { IfOk result (λ s. offered s.remarks.items ≡ []) }
+{
     let mut message = vec![in alloc; Part::Name(name.text())]?;
     let key = fold(alloc, name.text())?;
     let Some(object) = index.typed.objects.get(key.as_slice()) else {
@@ -130,25 +137,26 @@ fn term_clash<'a>(
     slot: Slot<'a>,
     bindings: &[Binding<'a>],
     term: &'a Term,
-) -> Result<Saying<'a>, AllocError> {
+) -> Result<Saying<'a>, AllocError>
+    ensures { IfOk result (λ s. offered s.remarks.items ≡ []) }
+{
     match term {
         Term::Variable(variable) => variable_clash(alloc, index, side, slot, bindings, variable),
         Term::Object(name) => object_clash(alloc, index, slot, name),
     }
 }
 
-/// Adds which other argument fits in exchange, if one does.
-fn help_exchange<'a>(
+/// Which other argument fits in exchange, if one does.
+fn exchanged_with<'a>(
     alloc: Global,
     index: &PairIndex<'a>,
-    saying: &mut Saying<'a>,
     used: &'a [Term],
     bindings: &[Binding<'a>],
     places: &[Binding<'a>],
     position: usize,
-) -> Result<(), AllocError> {
+) -> Result<Option<usize>, AllocError> {
     let (Some(term), Some(place)) = (used.get(position), places.get(position)) else {
-        return Ok(());
+        return Ok(None);
     };
     for (other, (one, at)) in used
         .iter()
@@ -160,17 +168,39 @@ fn help_exchange<'a>(
             && fits(alloc, index, bindings, one, place.of_type)?
             && fits(alloc, index, bindings, term, at.of_type)?
         {
-            let parts = vec![in alloc;
-                Part::Words("arguments "),
-                ordinal(position.min(other)),
-                Part::Words(" and "),
-                ordinal(position.max(other)),
-                Part::Words(" fit exchanged"),
-            ]?;
-            saying.help(parts)?;
-            return Ok(());
+            return Ok(Some(other));
         }
     }
+    Ok(None)
+}
+
+/// That two arguments fit in exchange.
+fn fit_exchanged<'a>(alloc: Global, one: usize, other: usize) -> Result<Vec<Part<'a>>, AllocError>
+    ensures { IfOk result (λ parts. offered_by parts.items ≡ []) }
+{
+    Ok(vec![in alloc;
+        Part::Words("arguments "),
+        ordinal(one.min(other)),
+        Part::Words(" and "),
+        ordinal(one.max(other)),
+        Part::Words(" fit exchanged"),
+    ]?)
+}
+
+/// Adds which other argument fits in exchange, if one does.
+fn help_exchange<'a>(
+    alloc: Global,
+    saying: &mut Saying<'a>,
+    position: usize,
+    other: Option<usize>,
+) -> Result<(), AllocError>
+    ensures { OnOk result (offered saying.new.remarks.items ≡ offered saying.old.remarks.items) }
+{
+    let Some(other) = other else {
+        return Ok(());
+    };
+    let parts = fit_exchanged(alloc, position, other)?;
+    saying.help(parts)?;
     Ok(())
 }
 
@@ -180,7 +210,9 @@ fn note_place<'a>(
     index: &PairIndex<'a>,
     saying: &mut Saying<'a>,
     slot: Slot<'a>,
-) -> Result<(), AllocError> {
+) -> Result<(), AllocError>
+    ensures { OnOk result (offered saying.new.remarks.items ≡ offered saying.old.remarks.items) }
+{
     let parts = vec![in alloc;
         Part::Words("place "),
         ordinal(slot.position),
@@ -193,7 +225,9 @@ fn note_place<'a>(
 }
 
 /// An argument in a place that isn't looked at.
-fn far_clash<'a>(alloc: Global, used: &Use<'a>) -> Result<Saying<'a>, AllocError> {
+fn far_clash<'a>(alloc: Global, used: &Use<'a>) -> Result<Saying<'a>, AllocError>
+    ensures { IfOk result (λ s. offered s.remarks.items ≡ []) }
+{
     let message = vec![in alloc;
         Part::Words("this argument of "),
         Part::Name(used.atom.name.text()),
@@ -209,7 +243,9 @@ pub(crate) fn type_clash<'a>(
     side: Side,
     used: &Use<'a>,
     position: usize,
-) -> Result<Saying<'a>, AllocError> {
+) -> Result<Saying<'a>, AllocError>
+    ensures { IfOk result (λ s. offered s.remarks.items ≡ []) }
+{
     let places = match declaration_of(alloc, index, used)? {
         Some(declaration) => places_of(alloc, declaration.parameters)?,
         None => Vec::new(alloc),
@@ -226,14 +262,14 @@ pub(crate) fn type_clash<'a>(
     let bindings = bindings_of(alloc, &used.scope)?;
     let mut saying = term_clash(alloc, index, side, slot, bindings.as_slice(), term)?;
     note_place(alloc, index, &mut saying, slot)?;
-    help_exchange(
+    let other = exchanged_with(
         alloc,
         index,
-        &mut saying,
         terms,
         bindings.as_slice(),
         places.as_slice(),
         position,
     )?;
+    help_exchange(alloc, &mut saying, position, other)?;
     Ok(saying)
 }

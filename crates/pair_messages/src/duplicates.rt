@@ -1,5 +1,8 @@
 //! Names that stand twice.
 
+ghost use Rattle.std.specs.Prelude.{◌≡◌, [], IfOk};
+ghost use Rattle.pair_messages.specs.Offers.{offered};
+
 use crate::declared::{Declared, declared_at};
 use crate::index::{Declaration, PairIndex};
 use crate::phrases::{Section, push_section};
@@ -18,7 +21,9 @@ fn declared_twice<'a>(
     what: &'static str,
     word: &'a [u8],
     first: Option<usize>,
-) -> Result<Saying<'a>, AllocError> {
+) -> Result<Saying<'a>, AllocError>
+    ensures { IfOk result (λ s. offered s.remarks.items ≡ []) }
+{
     let message = vec![in alloc;
         Part::Words(what),
         Part::Name(word),
@@ -58,7 +63,9 @@ fn task_twice<'a>(
     index: &PairIndex<'a>,
     word: &'a [u8],
     text: &[u8],
-) -> Result<Saying<'a>, AllocError> {
+) -> Result<Saying<'a>, AllocError>
+    ensures { IfOk result (λ s. offered s.remarks.items ≡ []) }
+{
     let first = first_task(index, text);
     let mut saying = declared_twice(alloc, index, "the task or action ", word, first)?;
     saying.help(vec![in alloc; Part::Words("a task and an action can't have one name")]?)?;
@@ -82,7 +89,9 @@ fn stands_twice<'a>(
     word: &'a [u8],
     section: Section<'a>,
     first: Option<usize>,
-) -> Result<Saying<'a>, AllocError> {
+) -> Result<Saying<'a>, AllocError>
+    ensures { IfOk result (λ s. offered s.remarks.items ≡ []) }
+{
     let mut message = vec![in alloc; Part::Words(what), Part::Name(word), Part::Words(" of ")]?;
     push_section(&mut message, section)?;
     message.push(Part::Words(" stands twice"))?;
@@ -131,7 +140,9 @@ fn first_label(section: Section<'_>, word: &[u8]) -> Option<usize> {
 }
 
 /// A variable of a `forall` that is in force around it.
-fn bound_twice<'a>(alloc: Global, word: &'a [u8]) -> Result<Saying<'a>, AllocError> {
+fn bound_twice<'a>(alloc: Global, word: &'a [u8]) -> Result<Saying<'a>, AllocError>
+    ensures { IfOk result (λ s. offered s.remarks.items ≡ []) }
+{
     let message = vec![in alloc; Part::Name(word), Part::Words(" is in force already")]?;
     Ok(Saying::new(alloc, message))
 }
@@ -142,7 +153,9 @@ pub(crate) fn duplicate<'a>(
     index: &PairIndex<'a>,
     at: At,
     word: &'a [u8],
-) -> Result<Saying<'a>, AllocError> {
+) -> Result<Saying<'a>, AllocError>
+    ensures { IfOk result (λ s. offered s.remarks.items ≡ []) }
+{
     let key = fold(alloc, word)?;
     let text = key.as_slice();
     let texts = index.texts;

@@ -1,7 +1,10 @@
 //! The declarations of a pair, by name.
 
 ghost use Rattle.std.specs.Prelude.{◌≡◌, IfOk};
+ghost use Rattle.hddl_meaning.specs.Names.{object_names};
+ghost use Rattle.pair_messages.specs.Known.{known_types};
 
+use crate::known::{Known, known_names};
 use crate::texts::PairTexts;
 use hddl_meaning::Source;
 use hddl_names::fold_to_vec;
@@ -58,10 +61,13 @@ pub(crate) struct Called<'a> {
 #[derive(Drop)]
 pub struct PairIndex<'a> {
     pub(crate) texts: &'a PairTexts<'a>,
+    pub(crate) known: Known,
     pub(crate) typed: Typed<'a>,
     pub(crate) called: Called<'a>,
     /// How many bytes the declared names have in all, those of methods apart.
     pub(crate) names_len: usize,
+    ghost types: { known.types ≡ known_types texts.now.domain_tree.now },
+    ghost objects: { known.objects ≡ object_names texts.now.domain_tree.now texts.now.problem_tree.now },
 }
 
 /// How many variables a typed list has.
@@ -296,11 +302,13 @@ impl<'a> PairIndex<'a> {
     pub fn new(alloc: Global, texts: &'a PairTexts<'a>) -> Result<PairIndex<'a>, AllocError>
         ensures { IfOk result (λ index. index.texts.now ≡ texts.now) }
     {
+        let known = known_names(alloc, texts.domain_tree, texts.problem_tree)?;
         let typed = typed_of(alloc, texts.domain_tree, texts.problem_tree)?;
         let called = called_of(alloc, texts.domain_tree)?;
         let names_len = names_len(&typed, &called);
         Ok(PairIndex {
             texts,
+            known,
             typed,
             called,
             names_len,

@@ -1,5 +1,8 @@
 //! More of something than the limit.
 
+ghost use Rattle.std.specs.Prelude.{◌≡◌, [], IfOk};
+ghost use Rattle.pair_messages.specs.Offers.{offered};
+
 use crate::declared::{Declared, declared_at};
 use crate::index::PairIndex;
 use crate::saying::Saying;
@@ -42,7 +45,9 @@ pub(crate) fn too_many<'a>(
     alloc: Global,
     index: &PairIndex<'a>,
     at: At,
-) -> Result<Saying<'a>, AllocError> {
+) -> Result<Saying<'a>, AllocError>
+    ensures { IfOk result (λ s. offered s.remarks.items ≡ []) }
+{
     let texts = index.texts;
     let declared = declared_at(texts.domain_tree, texts.problem_tree, at);
     if let Some(Declared::Quantified(groups)) = declared

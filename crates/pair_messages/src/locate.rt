@@ -1,13 +1,20 @@
 //! What stands at a place of a tree. Each list of a tree is in the order of its text, so all is found by halving; a
 //! thing counts only if it stands at the very place.
 
+ghost use Rattle.std.specs.Prelude.{◌≡◌, ◌⊎◌, Contains, IfSome, Some, slice_get};
+ghost use Rattle.hddl_tree.specs.declared.term.Term.{Term};
+ghost use Rattle.pair_messages.specs.Notes.{DeclaresName, DeclaresVariable, WritesType};
+ghost use Rattle.pair_messages.specs.Stands.{term_place as place_of_term};
+
 use hddl_tree::{
-    ActionText, AtomText, Condition, LiteralText, MethodText, Name, NameGroup, OrderingText,
-    PredicateText, SubtaskText, TaskText, Term, Variable, VariableGroup,
+    ActionText, AtomText, Condition, EqualityText, LiteralText, MethodText, Name, NameGroup,
+    OrderingText, PredicateText, SubtaskText, TaskText, Term, Variable, VariableGroup,
 };
 
 /// The place of a term.
-pub(crate) fn term_place(term: &Term) -> usize {
+pub(crate) fn term_place(term: &Term) -> usize
+    ensures { result ≡ place_of_term term.now }
+{
     match term {
         Term::Variable(variable) => variable.place(),
         Term::Object(name) => name.place(),
@@ -15,12 +22,16 @@ pub(crate) fn term_place(term: &Term) -> usize {
 }
 
 /// The last of some things of which the first ones, as many as the number says, don't begin after a place.
-fn last_of<T>(things: &[T], count: usize) -> Option<&T> {
+fn last_of<T>(things: &[T], count: usize) -> Option<&T>
+    ensures { IfSome result (λ x. Contains things.now x.now) }
+{
     things.get(count.checked_sub(1)?)
 }
 
 /// The name at a place.
-pub(crate) fn name_at(names: &[Name], place: usize) -> Option<&Name> {
+pub(crate) fn name_at(names: &[Name], place: usize) -> Option<&Name>
+    ensures { IfSome result (λ x. Contains names.now x.now × (x.now.place ≡ place)) }
+{
     let name = last_of(names, names.partition_point(|x| x.place() <= place))?;
     if name.place() == place {
         Some(name)
@@ -30,7 +41,9 @@ pub(crate) fn name_at(names: &[Name], place: usize) -> Option<&Name> {
 }
 
 /// The variable at a place.
-fn variable_at(variables: &[Variable], place: usize) -> Option<&Variable> {
+fn variable_at(variables: &[Variable], place: usize) -> Option<&Variable>
+    ensures { IfSome result (λ x. Contains variables.now x.now × (x.now.place ≡ place)) }
+{
     let variable = last_of(variables, variables.partition_point(|x| x.place() <= place))?;
     if variable.place() == place {
         Some(variable)
@@ -56,13 +69,17 @@ fn variables_begin_by(group: &VariableGroup, place: usize) -> bool {
 }
 
 /// The name of a typed list at a place.
-pub(crate) fn typed_name_at(groups: &[NameGroup], place: usize) -> Option<&Name> {
+pub(crate) fn typed_name_at(groups: &[NameGroup], place: usize) -> Option<&Name>
+    ensures { IfSome result (λ x. DeclaresName groups.now place) }
+{
     let group = last_of(groups, groups.partition_point(|g| names_begin_by(g, place)))?;
     name_at(group.names.as_slice(), place)
 }
 
 /// The name or the type of a typed list at a place.
-pub(crate) fn typed_or_type_at(groups: &[NameGroup], place: usize) -> Option<&Name> {
+pub(crate) fn typed_or_type_at(groups: &[NameGroup], place: usize) -> Option<&Name>
+    ensures { IfSome result (λ x. DeclaresName groups.now place ⊎ WritesType groups.now place) }
+{
     let group = last_of(groups, groups.partition_point(|g| names_begin_by(g, place)))?;
     match &group.of_type {
         Some(name) if name.place() == place => Some(name),
@@ -71,7 +88,9 @@ pub(crate) fn typed_or_type_at(groups: &[NameGroup], place: usize) -> Option<&Na
 }
 
 /// The variable of a typed list at a place.
-pub(crate) fn typed_variable_at(groups: &[VariableGroup], place: usize) -> Option<&Variable> {
+pub(crate) fn typed_variable_at(groups: &[VariableGroup], place: usize) -> Option<&Variable>
+    ensures { IfSome result (λ x. DeclaresVariable groups.now place) }
+{
     let group = last_of(
         groups,
         groups.partition_point(|g| variables_begin_by(g, place)),
@@ -80,7 +99,9 @@ pub(crate) fn typed_variable_at(groups: &[VariableGroup], place: usize) -> Optio
 }
 
 /// The last predicate whose name doesn't stand after a place.
-pub(crate) fn predicate_by(predicates: &[PredicateText], place: usize) -> Option<&PredicateText> {
+pub(crate) fn predicate_by(predicates: &[PredicateText], place: usize) -> Option<&PredicateText>
+    ensures { IfSome result (λ x. Contains predicates.now x.now) }
+{
     last_of(
         predicates,
         predicates.partition_point(|x| x.name.place() <= place),
@@ -88,17 +109,23 @@ pub(crate) fn predicate_by(predicates: &[PredicateText], place: usize) -> Option
 }
 
 /// The last compound task whose name doesn't stand after a place.
-pub(crate) fn task_by(tasks: &[TaskText], place: usize) -> Option<&TaskText> {
+pub(crate) fn task_by(tasks: &[TaskText], place: usize) -> Option<&TaskText>
+    ensures { IfSome result (λ x. Contains tasks.now x.now) }
+{
     last_of(tasks, tasks.partition_point(|x| x.name.place() <= place))
 }
 
 /// The last method whose bracket doesn't stand after a place.
-pub(crate) fn method_by(methods: &[MethodText], place: usize) -> Option<&MethodText> {
+pub(crate) fn method_by(methods: &[MethodText], place: usize) -> Option<&MethodText>
+    ensures { IfSome result (λ x. Contains methods.now x.now) }
+{
     last_of(methods, methods.partition_point(|x| x.place <= place))
 }
 
 /// The last action whose name doesn't stand after a place.
-pub(crate) fn action_by(actions: &[ActionText], place: usize) -> Option<&ActionText> {
+pub(crate) fn action_by(actions: &[ActionText], place: usize) -> Option<&ActionText>
+    ensures { IfSome result (λ x. Contains actions.now x.now) }
+{
     last_of(
         actions,
         actions.partition_point(|x| x.name.place() <= place),
@@ -106,12 +133,16 @@ pub(crate) fn action_by(actions: &[ActionText], place: usize) -> Option<&ActionT
 }
 
 /// The last subtask that doesn't begin after a place.
-pub(crate) fn subtask_by(subtasks: &[SubtaskText], place: usize) -> Option<&SubtaskText> {
+pub(crate) fn subtask_by(subtasks: &[SubtaskText], place: usize) -> Option<&SubtaskText>
+    ensures { IfSome result (λ x. Contains subtasks.now x.now) }
+{
     last_of(subtasks, subtasks.partition_point(|x| x.place() <= place))
 }
 
 /// The last ordering that doesn't begin after a place.
-pub(crate) fn ordering_by(orderings: &[OrderingText], place: usize) -> Option<&OrderingText> {
+pub(crate) fn ordering_by(orderings: &[OrderingText], place: usize) -> Option<&OrderingText>
+    ensures { IfSome result (λ x. Contains orderings.now x.now) }
+{
     last_of(
         orderings,
         orderings.partition_point(|x| x.before.place() <= place),
@@ -119,12 +150,26 @@ pub(crate) fn ordering_by(orderings: &[OrderingText], place: usize) -> Option<&O
 }
 
 /// The last atom that doesn't begin after a place.
-pub(crate) fn atom_by(atoms: &[AtomText], place: usize) -> Option<&AtomText> {
+pub(crate) fn atom_by(atoms: &[AtomText], place: usize) -> Option<&AtomText>
+    ensures { IfSome result (λ x. Contains atoms.now x.now) }
+{
     last_of(atoms, atoms.partition_point(|x| x.name.place() <= place))
 }
 
+/// The last equality of which the left side doesn't stand after a place.
+pub(crate) fn equality_by(equalities: &[EqualityText], place: usize) -> Option<&EqualityText>
+    ensures { IfSome result (λ x. Contains equalities.now x.now) }
+{
+    last_of(
+        equalities,
+        equalities.partition_point(|x| term_place(&x.left) <= place),
+    )
+}
+
 /// The last literal that doesn't begin after a place.
-pub(crate) fn literal_by(literals: &[LiteralText], place: usize) -> Option<&LiteralText> {
+pub(crate) fn literal_by(literals: &[LiteralText], place: usize) -> Option<&LiteralText>
+    ensures { IfSome result (λ x. Contains literals.now x.now) }
+{
     last_of(
         literals,
         literals.partition_point(|x| x.atom.name.place() <= place),
@@ -156,7 +201,9 @@ fn begins_by(condition: &Condition, place: usize) -> bool {
 }
 
 /// The last condition that doesn't begin after a place.
-pub(crate) fn condition_by(conditions: &[Condition], place: usize) -> Option<&Condition> {
+pub(crate) fn condition_by(conditions: &[Condition], place: usize) -> Option<&Condition>
+    ensures { IfSome result (λ x. Contains conditions.now x.now) }
+{
     last_of(
         conditions,
         conditions.partition_point(|x| begins_by(x, place)),
@@ -164,7 +211,9 @@ pub(crate) fn condition_by(conditions: &[Condition], place: usize) -> Option<&Co
 }
 
 /// The position of the argument at a place.
-pub(crate) fn argument_at(atom: &AtomText, place: usize) -> Option<usize> {
+pub(crate) fn argument_at(atom: &AtomText, place: usize) -> Option<usize>
+    ensures { IfSome result (λ k. (t : Term) → slice_get atom.now.terms k ≡ Some t → place_of_term t ≡ place) }
+{
     let terms = atom.terms.as_slice();
     let position = terms
         .partition_point(|x| term_place(x) <= place)

@@ -1,13 +1,13 @@
 //! Predicates, tasks and actions that aren't declared.
 
-ghost use Rattle.std.specs.Prelude.{◌≡◌, ◌⊎◌, ◌∷◌, [], ◌++◌, IfOk, OnOk, map};
+ghost use Rattle.std.specs.Prelude.{◌≡◌, [], ◌++◌, IfOk, IfSome, OnOk};
+ghost use Rattle.std.specs.List.{All};
 ghost use Rattle.near_names.specs.Near.{names_of};
-ghost use Rattle.pair_messages.specs.Offers.{named, names_of_kind, nearest_in};
-ghost use Rattle.pair_messages.specs.Sayings.{messages};
+ghost use Rattle.pair_messages.specs.Offers.{declared_of_kind, offered, offered_by, IsNearest};
 
 use crate::index::{Declaration, PairIndex};
 use crate::near::{may_offer, near_of_kind};
-use crate::phrases::{declared_with, did_you_mean, plain};
+use crate::phrases::{declared_with, plain};
 use crate::saying::Saying;
 use crate::stands::Kind;
 use crate::texts::spot_at;
@@ -33,7 +33,9 @@ fn other_kind<'a>(
     kind: Kind,
     word: &'a [u8],
     text: &[u8],
-) -> Result<Option<Vec<Part<'a>>>, AllocError> {
+) -> Result<Option<Vec<Part<'a>>>, AllocError>
+    ensures { IfOk result (λ parts. IfSome parts (λ parts. offered_by parts.items ≡ [])) }
+{
     if kind == Kind::Predicate {
         return match no_predicate(index, text) {
             Some(is) => Ok(Some(vec![in alloc; Part::Name(word), Part::Words(is)]?)),
@@ -63,7 +65,9 @@ fn other_kind<'a>(
 }
 
 /// Where a name of a kind is declared.
-fn declare_it<'a>(alloc: Global, kind: Kind, word: &'a [u8]) -> Result<Vec<Part<'a>>, AllocError> {
+fn declare_it<'a>(alloc: Global, kind: Kind, word: &'a [u8]) -> Result<Vec<Part<'a>>, AllocError>
+    ensures { IfOk result (λ parts. offered_by parts.items ≡ []) }
+{
     if kind == Kind::Predicate {
         return Ok(vec![in alloc; Part::Words("declare it in `:predicates`")]?);
     }
@@ -72,6 +76,20 @@ fn declare_it<'a>(alloc: Global, kind: Kind, word: &'a [u8]) -> Result<Vec<Part<
         plain(word),
         Part::Words(" ..)`"),
     ]?)
+}
+
+/// Adds where a name of a kind is declared.
+fn help_declare<'a>(
+    alloc: Global,
+    saying: &mut Saying<'a>,
+    kind: Kind,
+    word: &'a [u8],
+) -> Result<(), AllocError>
+    ensures { OnOk result (offered saying.new.remarks.items ≡ offered saying.old.remarks.items) }
+{
+    let how = declare_it(alloc, kind, word)?;
+    saying.help(how)?;
+    Ok(())
 }
 
 /// What may stand there.
@@ -110,7 +128,7 @@ fn note_declaration<'a>(
     kind: Kind,
     name: &[u8],
 ) -> Result<(), AllocError>
-    ensures { OnOk result (messages saying.new.remarks.items ≡ messages saying.old.remarks.items) }
+    ensures { OnOk result (offered saying.new.remarks.items ≡ offered saying.old.remarks.items) }
 {
     if let Some(declaration) = declaration_of_kind(alloc, index, kind, name)? {
         saying.note(
@@ -129,17 +147,16 @@ fn offer<'a>(
     kind: Kind,
     near: &[&'a [u8]],
 ) -> Result<(), AllocError>
-    ensures { OnOk result (map named (messages saying.new.remarks.items) ≡ map named (messages saying.old.remarks.items) ++ names_of near.now ∷ []) }
+    ensures { OnOk result (offered saying.new.remarks.items ≡ offered saying.old.remarks.items ++ names_of near.now) }
 {
-    saying.help(did_you_mean(alloc, near)?)?;
+    saying.ask(alloc, near)?;
     for name in near {
         note_declaration(alloc, index, saying, kind, name)?;
     }
     Ok(())
 }
 
-/// A name of a predicate, a task or an action that isn't declared. Where places are noted, the one remark offers the
-/// nearest names of the kind. The rank is the number of faults before it.
+/// A name of a predicate, a task or an action that isn't declared. The rank is the number of faults before it.
 pub(crate) fn unknown_name<'a>(
     alloc: Global,
     index: &PairIndex<'a>,
@@ -147,13 +164,13 @@ pub(crate) fn unknown_name<'a>(
     kind: Kind,
     word: &'a [u8],
 ) -> Result<Saying<'a>, AllocError>
-    ensures { IfOk result (λ s. (s.notes.items ≡ [])
-        ⊎ (map named (messages s.remarks.items) ≡ nearest_in word.now (names_of_kind index.now.texts.now.domain_tree.now kind) ∷ [])) }
+    ensures { IfOk result (λ s. All (IsNearest word.now (declared_of_kind index.now.texts.now.domain_tree.now kind)) (offered s.remarks.items)) }
 {
     let text = fold(alloc, word)?;
     let message = vec![in alloc; Part::Words(kind_words(kind)), Part::Name(word)]?;
     let mut saying = Saying::new(alloc, message);
-    if let Some(other) = other_kind(alloc, index, kind, word, text.as_slice())? {
+    let found = other_kind(alloc, index, kind, word, text.as_slice())?;
+    if let Some(other) = found {
         saying.help(other)?;
         return Ok(saying);
     }
@@ -162,7 +179,7 @@ pub(crate) fn unknown_name<'a>(
     }
     let near = near_of_kind(alloc, index.texts.domain_tree, kind, word)?;
     if near.is_empty() {
-        saying.help(declare_it(alloc, kind, word)?)?;
+        help_declare(alloc, &mut saying, kind, word)?;
         return Ok(saying);
     }
     offer(alloc, index, &mut saying, kind, near.as_slice())?;

@@ -1,10 +1,13 @@
 //! The declared names that are nearest to one that isn't declared.
 
-ghost use Rattle.std.specs.Prelude.{◌≡◌, ◌++◌, IfOk, OnOk, filter_map, map, slice_get};
+ghost use Rattle.std.specs.Prelude.{◌≡◌, ◌++◌, IfOk, OnOk, filter_map, map, slice_get, true};
 ghost use Rattle.near_names.specs.Near.{names_of};
-ghost use Rattle.pair_messages.specs.Offers.{names_of_kind, nearest_in};
+ghost use Rattle.std.specs.List.{All};
+ghost use Rattle.hddl_meaning.specs.Mentions.{folded};
+ghost use Rattle.pair_messages.specs.Offers.{declared_of_kind, names_of_kind, nearest_in, IsNearest};
 
 use crate::stands::Kind;
+use hddl_names::fold;
 use hddl_tree::{ActionText, DomainText, PredicateText, TaskText};
 use near_names::nearest;
 use std::alloc::{AllocError, Global};
@@ -38,11 +41,14 @@ pub(crate) fn nearest_within<'a>(
     rank: usize,
     word: &[u8],
     names: &[&'a [u8]],
-) -> Result<Vec<&'a [u8]>, AllocError> {
+) -> Result<Vec<&'a [u8]>, AllocError>
+    ensures { IfOk result (λ near. All (IsNearest word.now (map folded (names_of names.now))) (names_of near.items)) }
+{
     if !may_offer(rank, word, total_len(names)) {
         return Ok(Vec::new(alloc));
     }
-    nearest_among(alloc, word, names)
+    let near = nearest_among(alloc, word, names)?;
+    Ok(near)
 }
 
 /// Some of the names, by their numbers; a number past the end has none.
@@ -73,6 +79,14 @@ pub(crate) fn nearest_among<'a>(
     let numbers = nearest(alloc, word, names)?;
     let near = picked(alloc, names, numbers.as_slice())?;
     Ok(near)
+}
+
+/// Whether a name is this text in lower case.
+pub(crate) fn folds_to(alloc: Global, name: &[u8], text: &[u8]) -> Result<bool, AllocError>
+    ensures { IfOk result (λ same. same ≡ true → folded name.now ≡ text.now) }
+{
+    let folded = fold(alloc, name)?;
+    Ok(folded.as_slice() == text)
 }
 
 /// Adds the names of predicates.
@@ -134,14 +148,14 @@ fn declared_of<'a>(
     }
 }
 
-/// The names of a kind that are nearest to a word.
+/// The names of a kind that are nearest to a word, as they are written.
 pub(crate) fn near_of_kind<'a>(
     alloc: Global,
     domain: &'a DomainText,
     kind: Kind,
     word: &[u8],
 ) -> Result<Vec<&'a [u8]>, AllocError>
-    ensures { IfOk result (λ near. names_of near.items ≡ nearest_in word.now (names_of_kind domain.now kind)) }
+    ensures { IfOk result (λ near. All (IsNearest word.now (declared_of_kind domain.now kind)) (names_of near.items)) }
 {
     let names = declared_of(alloc, domain, kind)?;
     let near = nearest_among(alloc, word, names.as_slice())?;

@@ -1,28 +1,36 @@
 //! Variables and objects that aren't declared.
 
+ghost use Rattle.std.specs.Prelude.{◌≡◌, ℕ, List, [], ◌∷◌, ◌++◌, IfOk, IfSome, OnOk, true};
+ghost use Rattle.std.specs.List.{All};
+ghost use Rattle.hddl_meaning.specs.Mentions.{folded, IsIn, Text};
+ghost use Rattle.hddl_meaning.specs.Names.{object_names};
+ghost use Rattle.near_names.specs.Near.{names_of};
+ghost use Rattle.pair_messages.specs.Offers.{offered, offered_by, variable_texts, AreNearest, AreWritten, IsNearest, IsVariableOf, MayBeObject};
+ghost use Rattle.pair_messages.specs.Stands.{in_force};
+
 use crate::index::{Object, PairIndex};
-use crate::near::{may_offer, nearest_within};
-use crate::phrases::{Section, declared_here, did_you_mean, push_section, push_typed};
+use crate::known::texts_in;
+use crate::near::{folds_to, may_offer, nearest_among, nearest_within};
+use crate::phrases::{Section, declared_here, push_section, push_typed};
 use crate::saying::Saying;
 use crate::stands::InForce;
 use crate::texts::{source_of, spot_at, spot_of};
-use crate::variables::{bindings_of, is_same};
+use crate::variables::{bindings_of, is_same, names_in_force};
 use diagnostics::Part;
 use hddl_meaning::{At, Source as Side};
-use near_names::nearest;
 use std::alloc::{AllocError, Global};
 
-/// The objects that are nearest to a word, by their numbers.
-fn near_objects(
+/// The objects that are nearest to a word, in lower case.
+fn near_objects<'i>(
     alloc: Global,
-    index: &PairIndex<'_>,
+    index: &'i PairIndex<'_>,
     word: &[u8],
-) -> Result<Vec<usize>, AllocError> {
-    let mut names = Vec::new(alloc);
-    for object in index.typed.objects.values() {
-        names.push(object.name.text())?;
-    }
-    nearest(alloc, word, names.as_slice())
+) -> Result<Vec<&'i [u8]>, AllocError>
+    ensures { IfOk result (λ near. AreNearest word.now (object_names index.now.texts.now.domain_tree.now index.now.texts.now.problem_tree.now) (names_of near.items)) }
+{
+    let names = texts_in(alloc, &index.known.objects)?;
+    let near = nearest_among(alloc, word, names.as_slice())?;
+    Ok(near)
 }
 
 /// Adds where an object is declared first.
@@ -31,7 +39,9 @@ fn note_object<'a>(
     index: &PairIndex<'a>,
     saying: &mut Saying<'a>,
     object: &Object<'a>,
-) -> Result<(), AllocError> {
+) -> Result<(), AllocError>
+    ensures { OnOk result (offered saying.new.remarks.items ≡ offered saying.old.remarks.items) }
+{
     let source = source_of(index.texts, object.source);
     saying.note(
         spot_at(source, object.name.place()),
@@ -39,32 +49,85 @@ fn note_object<'a>(
     )
 }
 
-/// Adds a question for the objects of these numbers, and where they stand.
+/// Adds an object to those that are offered, as it is written where it is declared first, and where that is.
+fn offer_object<'a>(
+    alloc: Global,
+    index: &PairIndex<'a>,
+    saying: &mut Saying<'a>,
+    names: &mut Vec<&'a [u8]>,
+    text: &[u8],
+) -> Result<(), AllocError>
+    ensures remarks { OnOk result (offered saying.new.remarks.items ≡ offered saying.old.remarks.items) }
+    ensures names { OnOk result ((all : List Text) → IsIn text.now all → AreWritten all (names_of names.old.items) → AreWritten all (names_of names.new.items)) }
+{
+    let Some(object) = index.typed.objects.get(text) else {
+        return Ok(());
+    };
+    let name: &'a [u8] = object.name.text();
+    let is_same = folds_to(alloc, name, text)?;
+    if !is_same {
+        return Ok(());
+    }
+    names.push(name)?;
+    note_object(alloc, index, saying, object)?;
+    Ok(())
+}
+
+/// Adds a question for objects in lower case, and where they stand.
 fn offer_objects<'a>(
     alloc: Global,
     index: &PairIndex<'a>,
     saying: &mut Saying<'a>,
-    near: &[usize],
-) -> Result<(), AllocError> {
+    near: &[&[u8]],
+) -> Result<(), AllocError>
+    ensures { OnOk result ((names : List (List ℕ)) × AreWritten (names_of near.now) names × (offered saying.new.remarks.items ≡ offered saying.old.remarks.items ++ names)) }
+{
     let mut names = Vec::new(alloc);
-    for number in near {
-        if let Some((_, object)) = index.typed.objects.get_index(*number) {
-            names.push(object.name.text())?;
-            note_object(alloc, index, saying, object)?;
-        }
+    for text in near {
+        offer_object(alloc, index, saying, &mut names, *text)?;
     }
-    if !names.is_empty() {
-        saying.help(did_you_mean(alloc, names.as_slice())?)?;
-    }
+    saying.ask(alloc, names.as_slice())?;
     Ok(())
 }
 
 /// Whether a variable has this name after its `?`.
-fn is_variable_of(variable: &[u8], word: &[u8]) -> bool {
+fn is_variable_of(variable: &[u8], word: &[u8]) -> bool
+    ensures { result ≡ true → folded variable.now ≡ 63 ∷ folded word.now }
+{
     match variable {
-        [_, name @ ..] => is_same(name, word),
-        [] => false,
+        [b'?', name @ ..] => is_same(name, word),
+        _ => false,
     }
+}
+
+/// The variable in force that has this name after its `?`, if there is one among those that are looked at.
+fn variable_named<'a>(
+    alloc: Global,
+    scope: &InForce<'a>,
+    word: &[u8],
+) -> Result<Option<&'a [u8]>, AllocError>
+    ensures { IfOk result (λ name. IfSome name (λ name. IsVariableOf (in_force scope.now) word.now name.now)) }
+{
+    let bindings = bindings_of(alloc, scope)?;
+    for binding in bindings.as_slice() {
+        let name = binding.variable.text();
+        if is_variable_of(name, word) {
+            return Ok(Some(name));
+        }
+    }
+    Ok(None)
+}
+
+/// A question for a variable.
+fn variable_meant<'a>(alloc: Global, name: &'a [u8]) -> Result<Vec<Part<'a>>, AllocError>
+    ensures { IfOk result (λ parts. offered_by parts.items ≡ name.now ∷ []) }
+{
+    let parts = vec![in alloc;
+        Part::Words("did you mean the variable "),
+        Part::Name(name),
+        Part::Words("?"),
+    ]?;
+    Ok(parts)
 }
 
 /// A constant or an object that isn't declared.
@@ -74,20 +137,16 @@ pub(crate) fn unknown_object<'a>(
     rank: usize,
     scope: &InForce<'a>,
     word: &'a [u8],
-) -> Result<Saying<'a>, AllocError> {
+) -> Result<Saying<'a>, AllocError>
+    ensures { IfOk result (λ s. All (MayBeObject index.now.texts.now.domain_tree.now index.now.texts.now.problem_tree.now (in_force scope.now) word.now) (offered s.remarks.items)) }
+{
     let message = vec![in alloc; Part::Words("no object is named "), Part::Name(word)]?;
     let mut saying = Saying::new(alloc, message);
-    let bindings = bindings_of(alloc, scope)?;
-    for binding in bindings.as_slice() {
-        if is_variable_of(binding.variable.text(), word) {
-            let parts = vec![in alloc;
-                Part::Words("did you mean the variable "),
-                Part::Name(binding.variable.text()),
-                Part::Words("?"),
-            ]?;
-            saying.help(parts)?;
-            return Ok(saying);
-        }
+    let found = variable_named(alloc, scope, word)?;
+    if let Some(variable) = found {
+        let question = variable_meant(alloc, variable)?;
+        saying.help(question)?;
+        return Ok(saying);
     }
     if !may_offer(rank, word, index.names_len) {
         return Ok(saying);
@@ -97,19 +156,21 @@ pub(crate) fn unknown_object<'a>(
     Ok(saying)
 }
 
-/// The variables in force that are nearest to a word.
+/// The variables in force that are nearest to a word, for the fault with this many faults before it.
 fn near_variables<'a>(
     alloc: Global,
     rank: usize,
     scope: &InForce<'a>,
     word: &[u8],
-) -> Result<Vec<&'a [u8]>, AllocError> {
-    let bindings = bindings_of(alloc, scope)?;
-    let mut names = Vec::new(alloc);
-    for binding in bindings.as_slice() {
-        names.push(binding.variable.text())?;
+) -> Result<Vec<&'a [u8]>, AllocError>
+    ensures { IfOk result (λ near. All (IsNearest word.now (variable_texts (in_force scope.now))) (names_of near.items)) }
+{
+    if !may_offer(rank, word, 0) {
+        return Ok(Vec::new(alloc));
     }
-    nearest_within(alloc, rank, word, names.as_slice())
+    let names = names_in_force(alloc, scope)?;
+    let near = nearest_within(alloc, rank, word, names.as_slice())?;
+    Ok(near)
 }
 
 /// Adds the parameters of a section, if it has a place.
@@ -119,7 +180,9 @@ fn note_parameters<'a>(
     saying: &mut Saying<'a>,
     side: Side,
     section: Section<'a>,
-) -> Result<(), AllocError> {
+) -> Result<(), AllocError>
+    ensures { OnOk result (offered saying.new.remarks.items ≡ offered saying.old.remarks.items) }
+{
     let Some(place) = section.place() else {
         return Ok(());
     };
@@ -135,6 +198,23 @@ fn note_parameters<'a>(
     saying.note(spot_of(index.texts, at), parts)
 }
 
+/// Adds where a variable is declared, if that is wanted and the section has a place.
+fn help_declare<'a>(
+    alloc: Global,
+    saying: &mut Saying<'a>,
+    section: Section<'a>,
+    is_wanted: bool,
+) -> Result<(), AllocError>
+    ensures { OnOk result (offered saying.new.remarks.items ≡ offered saying.old.remarks.items) }
+{
+    if !is_wanted || section.place().is_none() {
+        return Ok(());
+    }
+    let how = vec![in alloc; Part::Words("add it to `:parameters`")]?;
+    saying.help(how)?;
+    Ok(())
+}
+
 /// A variable that isn't in force.
 pub(crate) fn unknown_variable<'a>(
     alloc: Global,
@@ -143,17 +223,16 @@ pub(crate) fn unknown_variable<'a>(
     side: Side,
     scope: &InForce<'a>,
     word: &'a [u8],
-) -> Result<Saying<'a>, AllocError> {
+) -> Result<Saying<'a>, AllocError>
+    ensures { IfOk result (λ s. All (IsNearest word.now (variable_texts (in_force scope.now))) (offered s.remarks.items)) }
+{
     let section = scope.section;
     let mut message = vec![in alloc; Part::Name(word), Part::Words(" is no parameter of ")]?;
     push_section(&mut message, section)?;
     let mut saying = Saying::new(alloc, message);
     let near = near_variables(alloc, rank, scope, word)?;
-    if !near.is_empty() {
-        saying.help(did_you_mean(alloc, near.as_slice())?)?;
-    } else if section.place().is_some() {
-        saying.help(vec![in alloc; Part::Words("add it to `:parameters`")]?)?;
-    }
+    saying.ask(alloc, near.as_slice())?;
+    help_declare(alloc, &mut saying, section, near.is_empty())?;
     note_parameters(alloc, index, &mut saying, side, section)?;
     Ok(saying)
 }

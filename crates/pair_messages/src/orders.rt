@@ -1,12 +1,16 @@
 //! Orders of subtasks: cycles, and names that no subtask has.
 
-ghost use Rattle.std.specs.Prelude.{◌≡◌, ◌++◌, IfOk, OnOk};
+ghost use Rattle.std.specs.Prelude.{◌≡◌, [], ◌++◌, IfOk, IfSome, OnOk, codes, false, nat_eq};
+ghost use Rattle.std.specs.List.{All, starts_with};
+ghost use Rattle.hddl_meaning.specs.Items.{label_mentions, ordering_names};
+ghost use Rattle.hddl_meaning.specs.Mentions.{IsIn, texts};
 ghost use Rattle.near_names.specs.Near.{names_of};
-ghost use Rattle.pair_messages.specs.Offers.{label_text, label_texts};
+ghost use Rattle.pair_messages.specs.Offers.{label_text, label_texts, offered, offered_by, offered_if, IsForLabel, IsForOrdering, IsNearest};
+ghost use Rattle.pair_messages.specs.Stands.{IsNetworkIn, IsNetworkOf, IsSectionOf};
 
 use crate::circles::shortest_cycle;
 use crate::index::PairIndex;
-use crate::locate::method_by;
+use crate::locate::{method_by, ordering_by};
 use crate::near::nearest_within;
 use crate::phrases::{Section, did_you_mean, plain, push_names, push_section};
 use crate::saying::Saying;
@@ -22,7 +26,9 @@ use std::alloc::{AllocError, Global};
 const MOST_LISTED: usize = 8;
 
 /// The network of a section.
-fn network_of<'a>(section: Section<'a>) -> Option<&'a NetworkText> {
+fn network_of<'a>(section: Section<'a>) -> Option<&'a NetworkText>
+    ensures { IfSome result (λ n. IsNetworkOf section.entry n.now) }
+{
     match section {
         Section::Method(method) => Some(&method.network),
         Section::Htn(htn) => Some(&htn.network),
@@ -31,7 +37,9 @@ fn network_of<'a>(section: Section<'a>) -> Option<&'a NetworkText> {
 }
 
 /// The section whose network may stand around a place.
-fn section_by<'a>(index: &PairIndex<'a>, at: At) -> Option<Section<'a>> {
+fn section_by<'a>(index: &PairIndex<'a>, at: At) -> Option<Section<'a>>
+    ensures { IfSome result (IsSectionOf index.now.texts.now.domain_tree.now index.now.texts.now.problem_tree.now at.source) }
+{
     match at.source {
         Side::Domain => {
             let method = method_by(index.texts.domain_tree.methods.as_slice(), at.place)?;
@@ -39,6 +47,15 @@ fn section_by<'a>(index: &PairIndex<'a>, at: At) -> Option<Section<'a>> {
         }
         Side::Problem => Some(Section::Htn(&index.texts.problem_tree.htn)),
     }
+}
+
+/// The network that may stand around a place.
+fn network_by<'a>(index: &PairIndex<'a>, at: At) -> Option<&'a NetworkText>
+    ensures { IfSome result (λ n. IsNetworkIn index.now.texts.now.domain_tree.now index.now.texts.now.problem_tree.now at.source n.now) }
+{
+    let section = section_by(index, at)?;
+    let network = network_of(section)?;
+    Some(network)
 }
 
 /// The position of the subtask of each label.
@@ -121,7 +138,9 @@ fn say_pair<'a>(
     side: Side,
     network: &'a NetworkText,
     pair: Asked<'a>,
-) -> Result<(), AllocError> {
+) -> Result<(), AllocError>
+    ensures { OnOk result (offered saying.new.remarks.items ≡ offered saying.old.remarks.items) }
+{
     let (before, after) = (called(network, pair.before), called(network, pair.after));
     saying.label.push(Part::Words(" < "))?;
     saying.label.push(plain(after))?;
@@ -148,7 +167,9 @@ fn say_cycle<'a>(
     saying: &mut Saying<'a>,
     side: Side,
     network: &'a NetworkText,
-) -> Result<(), AllocError> {
+) -> Result<(), AllocError>
+    ensures { OnOk result (offered saying.new.remarks.items ≡ offered saying.old.remarks.items) }
+{
     let pairs = pairs_of(alloc, network)?;
     let mut plain_pairs = Vec::with_capacity(alloc, pairs.len())?;
     for pair in pairs.as_slice() {
@@ -171,16 +192,17 @@ pub(crate) fn order_cycle<'a>(
     alloc: Global,
     index: &PairIndex<'a>,
     at: At,
-) -> Result<Saying<'a>, AllocError> {
+) -> Result<Saying<'a>, AllocError>
+    ensures { IfOk result (λ s. offered s.remarks.items ≡ []) }
+{
     let mut message = vec![in alloc; Part::Words("the order of the subtasks of ")]?;
-    let section = section_by(index, at);
-    match section {
+    match section_by(index, at) {
         Some(section) => push_section(&mut message, section)?,
         None => message.push(Part::Words("a network"))?,
     }
     message.push(Part::Words(" has a cycle"))?;
     let mut saying = Saying::new(alloc, message);
-    let Some(network) = section.and_then(|section| network_of(section)) else {
+    let Some(network) = network_by(index, at) else {
         return Ok(saying);
     };
     if network.is_ordered {
@@ -218,7 +240,9 @@ fn write_label<'a>(
     alloc: Global,
     network: &'a NetworkText,
     word: &'a [u8],
-) -> Result<Vec<Part<'a>>, AllocError> {
+) -> Result<Vec<Part<'a>>, AllocError>
+    ensures { IfOk result (λ parts. offered_by parts.items ≡ []) }
+{
     let task: &'a [u8] = match network.subtasks.as_slice().first() {
         Some(subtask) => subtask.task.name.text(),
         None => b"go",
@@ -232,35 +256,112 @@ fn write_label<'a>(
     ]?)
 }
 
-/// Adds which labels there are.
-fn help_labels<'a>(
+/// The name in an ordering of a network that stands at a place.
+fn ordered_at<'a>(network: &'a NetworkText, place: usize) -> Option<&'a Name>
+    ensures { IfSome result (λ x. IsIn x.now (ordering_names network.now) × (x.now.place ≡ place)) }
+{
+    let ordering = ordering_by(network.orderings.as_slice(), place)?;
+    if ordering.before.place() == place {
+        return Some(&ordering.before);
+    }
+    if ordering.after.place() == place {
+        return Some(&ordering.after);
+    }
+    None
+}
+
+/// The words before a list of labels.
+fn label_words<'a>(count: usize) -> &'a str
+    ensures { starts_with nat_eq result.now (codes "did you mean ") ≡ false }
+{
+    if count == 1 {
+        "the label is "
+    } else {
+        "the labels are "
+    }
+}
+
+/// All labels.
+fn list_labels<'a>(alloc: Global, labels: &[&'a [u8]]) -> Result<Vec<Part<'a>>, AllocError>
+    ensures { IfOk result (λ parts. offered_by parts.items ≡ []) }
+{
+    let mut parts = vec![in alloc; Part::Words(label_words(labels.len()))]?;
+    push_names(&mut parts, labels, " and ")?;
+    Ok(parts)
+}
+
+/// What helps with a name that no subtask has: the nearest labels, or all of them if they are few.
+fn label_help<'a>(
     alloc: Global,
     rank: usize,
-    saying: &mut Saying<'a>,
     network: &'a NetworkText,
     word: &'a [u8],
-) -> Result<(), AllocError> {
+) -> Result<Option<Vec<Part<'a>>>, AllocError>
+    ensures { IfOk result (λ parts. IfSome parts (λ parts. All (IsNearest word.now (texts (label_mentions network.now))) (offered_by parts.items))) }
+{
     let labels = labels_in(alloc, network)?;
     if labels.is_empty() {
-        return saying.help(write_label(alloc, network, word)?);
+        let how = write_label(alloc, network, word)?;
+        return Ok(Some(how));
     }
-    let near = nearest_within(alloc, rank, word, labels.as_slice())?;
-    if !near.is_empty() {
-        return saying.help(did_you_mean(alloc, near.as_slice())?);
+    let all = labels.as_slice();
+    let near = nearest_within(alloc, rank, word, all)?;
+    let nearest = near.as_slice();
+    if !nearest.is_empty() {
+        let question = did_you_mean(alloc, nearest)?;
+        return Ok(Some(question));
     }
-    if labels.len() > MOST_LISTED {
-        return Ok(());
+    if all.len() > MOST_LISTED {
+        return Ok(None);
     }
-    let one = labels.len() == 1;
-    let mut parts = vec![in alloc;
-        Part::Words(if one {
-            "the label is "
-        } else {
-            "the labels are "
-        }),
-    ]?;
-    push_names(&mut parts, labels.as_slice(), " and ")?;
-    saying.help(parts)
+    let list = list_labels(alloc, all)?;
+    Ok(Some(list))
+}
+
+/// What helps with the name in an ordering that stands at a place.
+fn ordering_help<'a>(
+    alloc: Global,
+    rank: usize,
+    network: &'a NetworkText,
+    place: usize,
+) -> Result<Option<Vec<Part<'a>>>, AllocError>
+    ensures { IfOk result (λ parts. IfSome parts (λ parts. All (IsForOrdering network.now place) (offered_by parts.items))) }
+{
+    let Some(name) = ordered_at(network, place) else {
+        return Ok(None);
+    };
+    let word = name.text();
+    let help = label_help(alloc, rank, network, word)?;
+    Ok(help)
+}
+
+/// What helps with a name at a place, in an ordering that no subtask has.
+fn subtask_help<'a>(
+    alloc: Global,
+    index: &PairIndex<'a>,
+    rank: usize,
+    at: At,
+) -> Result<Option<Vec<Part<'a>>>, AllocError>
+    ensures { IfOk result (λ parts. IfSome parts (λ parts. All (IsForLabel index.now.texts.now.domain_tree.now index.now.texts.now.problem_tree.now at) (offered_by parts.items))) }
+{
+    let Some(network) = network_by(index, at) else {
+        return Ok(None);
+    };
+    let help = ordering_help(alloc, rank, network, at.place)?;
+    Ok(help)
+}
+
+/// Adds what helps, if anything does.
+fn add_help<'a>(saying: &mut Saying<'a>, help: Option<Vec<Part<'a>>>) -> Result<(), AllocError>
+    ensures { OnOk result (offered saying.new.remarks.items ≡ offered saying.old.remarks.items ++ offered_if help.entry) }
+{
+    match help {
+        Some(parts) => {
+            saying.help(parts)?;
+            Ok(())
+        }
+        None => Ok(()),
+    }
 }
 
 /// A name in an ordering that no subtask has.
@@ -270,18 +371,18 @@ pub(crate) fn unknown_subtask<'a>(
     rank: usize,
     at: At,
     word: &'a [u8],
-) -> Result<Saying<'a>, AllocError> {
+) -> Result<Saying<'a>, AllocError>
+    ensures { IfOk result (λ s. All (IsForLabel index.now.texts.now.domain_tree.now index.now.texts.now.problem_tree.now at) (offered s.remarks.items)) }
+{
     let mut message = vec![in alloc; Part::Words("no subtask of ")]?;
-    let section = section_by(index, at);
-    match section {
+    match section_by(index, at) {
         Some(section) => push_section(&mut message, section)?,
         None => message.push(Part::Words("the network"))?,
     }
     message.push(Part::Words(" has the label "))?;
     message.push(Part::Name(word))?;
     let mut saying = Saying::new(alloc, message);
-    if let Some(network) = section.and_then(|section| network_of(section)) {
-        help_labels(alloc, rank, &mut saying, network, word)?;
-    }
+    let help = subtask_help(alloc, index, rank, at)?;
+    add_help(&mut saying, help)?;
     Ok(saying)
 }

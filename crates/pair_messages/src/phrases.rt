@@ -1,9 +1,10 @@
 //! Parts of messages: lists of names, counts, typed lists and declarations.
 
-ghost use Rattle.std.specs.Prelude.{◌≡◌, ◌∷◌, [], ◌++◌, IfOk, OnOk};
+ghost use Rattle.std.specs.Prelude.{◌≡◌, ℕ, List, ◌∷◌, [], ◌++◌, IfOk, OnOk};
 ghost use Rattle.near_names.specs.Near.{names_of};
-ghost use Rattle.pair_messages.specs.Offers.{named};
+ghost use Rattle.pair_messages.specs.Offers.{named, offered_by, opening};
 ghost use Rattle.pair_messages.specs.Counts.{number_of, numbers_of};
+ghost use Rattle.pair_messages.specs.Stands.{section_parameters};
 
 use diagnostics::Part;
 use hddl_tree::{ActionText, HtnText, MethodText, Name, Variable, VariableGroup};
@@ -35,7 +36,9 @@ pub(crate) enum Section<'a> {
 
 impl<'a> Section<'a> {
     /// Its parameters.
-    pub(crate) fn parameters(self) -> &'a [VariableGroup] {
+    pub(crate) fn parameters(self) -> &'a [VariableGroup]
+        ensures { result.now ≡ section_parameters self.entry }
+    {
         match self {
             Section::Method(method) => method.parameters.as_slice(),
             Section::Action(action) => action.parameters.as_slice(),
@@ -83,13 +86,15 @@ pub(crate) fn push_section<'a>(
 }
 
 /// Adds what stands before a name of a list: nothing before the first one, and the word before the last one.
+#[tactic(auto, using(crate::proofs::Questions::opening_more))]
 fn push_separator<'a>(
     parts: &mut Vec<Part<'a>>,
     is_first: bool,
     is_last: bool,
     word: &'a str,
 ) -> Result<(), AllocError>
-    ensures { OnOk result (named parts.new.items ≡ named parts.old.items) }
+    ensures names { OnOk result (named parts.new.items ≡ named parts.old.items) }
+    ensures begin { OnOk result ((words : List ℕ) → opening parts.old.items ≡ Some words → opening parts.new.items ≡ Some words) }
 {
     if is_first {
         return Ok(());
@@ -99,12 +104,14 @@ fn push_separator<'a>(
 }
 
 /// Adds names, as `a`, `b` or `c`, where the word stands before the last one.
+#[tactic(auto, using(crate::proofs::Questions::opening_more))]
 pub(crate) fn push_names<'a>(
     parts: &mut Vec<Part<'a>>,
     names: &[&'a [u8]],
     word: &'a str,
 ) -> Result<(), AllocError>
-    ensures { OnOk result (named parts.new.items ≡ named parts.old.items ++ names_of names.now) }
+    ensures names { OnOk result (named parts.new.items ≡ named parts.old.items ++ names_of names.now) }
+    ensures begin { OnOk result ((words : List ℕ) → opening parts.old.items ≡ Some words → opening parts.new.items ≡ Some words) }
 {
     let count = names.len();
     let mut left = count;
@@ -116,8 +123,8 @@ pub(crate) fn push_names<'a>(
     Ok(())
 }
 
-/// Adds a number of things, as `1 type` and `2 types`.
-pub(crate) fn push_count<'a>(
+/// Adds a number of things, as `1 type` and `2 types`. An error where memory was refused.
+pub fn push_count<'a>(
     parts: &mut Vec<Part<'a>>,
     count: usize,
     one: &'a str,
@@ -196,7 +203,7 @@ pub(crate) fn did_you_mean<'a>(
     alloc: Global,
     names: &[&'a [u8]],
 ) -> Result<Vec<Part<'a>>, AllocError>
-    ensures { IfOk result (λ parts. named parts.items ≡ names_of names.now) }
+    ensures { IfOk result (λ parts. offered_by parts.items ≡ names_of names.now) }
 {
     let mut parts = vec![in alloc; Part::Words("did you mean ")]?;
     push_names(&mut parts, names, " or ")?;

@@ -1,8 +1,10 @@
 //! What is said of a fault, apart from its place and its code.
 
-ghost use Rattle.std.specs.Prelude.{◌≡◌, ◌∷◌, [], ◌++◌, OnOk};
-ghost use Rattle.pair_messages.specs.Sayings.{messages};
+ghost use Rattle.std.specs.Prelude.{◌≡◌, [], ◌++◌, OnOk};
+ghost use Rattle.near_names.specs.Near.{names_of};
+ghost use Rattle.pair_messages.specs.Offers.{offered, offered_by};
 
+use crate::phrases::did_you_mean;
 use diagnostics::{Note, Part, Remark, RemarkKind, Spot};
 use std::alloc::{AllocError, Global};
 
@@ -18,7 +20,7 @@ pub(crate) struct Saying<'a> {
 impl<'a> Saying<'a> {
     /// A message alone.
     pub(crate) fn new(alloc: Global, message: Vec<Part<'a>>) -> Saying<'a>
-        ensures remarks { messages result.remarks.items ≡ [] }
+        ensures offers { offered result.remarks.items ≡ [] }
         ensures notes { result.notes.items ≡ [] }
     {
         Saying {
@@ -30,8 +32,9 @@ impl<'a> Saying<'a> {
     }
 
     /// Adds what to do.
+    #[tactic(auto, using(crate::proofs::Offering::offered_more))]
     pub(crate) fn help(&mut self, message: Vec<Part<'a>>) -> Result<(), AllocError>
-        ensures remarks { OnOk result (messages self.new.remarks.items ≡ messages self.old.remarks.items ++ message.entry.items ∷ []) }
+        ensures offers { OnOk result (offered self.new.remarks.items ≡ offered self.old.remarks.items ++ offered_by message.entry.items) }
         ensures notes { OnOk result (self.new.notes.items ≡ self.old.notes.items) }
     {
         self.remarks.push(Remark {
@@ -42,7 +45,10 @@ impl<'a> Saying<'a> {
     }
 
     /// Adds what is so.
-    pub(crate) fn remark(&mut self, message: Vec<Part<'a>>) -> Result<(), AllocError> {
+    #[tactic(auto, using(crate::proofs::Offering::offered_more))]
+    pub(crate) fn remark(&mut self, message: Vec<Part<'a>>) -> Result<(), AllocError>
+        ensures { OnOk result (offered self.new.remarks.items ≡ offered self.old.remarks.items ++ offered_by message.entry.items) }
+    {
         self.remarks.push(Remark {
             kind: RemarkKind::Note,
             message,
@@ -50,9 +56,21 @@ impl<'a> Saying<'a> {
         Ok(())
     }
 
+    /// Adds a question for one of these names, if there are any.
+    pub(crate) fn ask(&mut self, alloc: Global, names: &[&'a [u8]]) -> Result<(), AllocError>
+        ensures { OnOk result (offered self.new.remarks.items ≡ offered self.old.remarks.items ++ names_of names.now) }
+    {
+        if names.is_empty() {
+            return Ok(());
+        }
+        let parts = did_you_mean(alloc, names)?;
+        self.help(parts)?;
+        Ok(())
+    }
+
     /// Adds a note with a place.
     pub(crate) fn note(&mut self, spot: Spot<'a>, message: Vec<Part<'a>>) -> Result<(), AllocError>
-        ensures { OnOk result (messages self.new.remarks.items ≡ messages self.old.remarks.items) }
+        ensures { OnOk result (offered self.new.remarks.items ≡ offered self.old.remarks.items) }
     {
         self.notes.push(Note { spot, message })?;
         Ok(())

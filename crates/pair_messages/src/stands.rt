@@ -1,7 +1,12 @@
 //! What stands at a place: a name or an argument of a use, or a side of an equality.
 
+ghost use Rattle.std.specs.Prelude.{◌≡◌, IfOk, IfSome};
+ghost use Rattle.hddl_meaning.specs.Uses as uses;
+ghost use Rattle.pair_messages.specs.Stands.{in_force, schema_of_atom, schema_of_conditions, schema_of_equality, schema_of_subtasks, section_parameters, StandsAt, StandsIn, StandsInDomain, StandsInProblem};
+
 use crate::locate::{
-    action_by, argument_at, atom_by, condition_by, literal_by, method_by, subtask_by, term_place,
+    action_by, argument_at, atom_by, condition_by, equality_by, literal_by, method_by, subtask_by,
+    term_place,
 };
 use crate::phrases::Section;
 use hddl_meaning::{At, Source as Side};
@@ -50,7 +55,9 @@ pub(crate) enum Stand<'a> {
 }
 
 /// A section's parameters alone.
-fn parameters_of<'a>(alloc: Global, section: Section<'a>) -> InForce<'a> {
+fn parameters_of<'a>(alloc: Global, section: Section<'a>) -> InForce<'a>
+    ensures { in_force result ≡ uses.parameters_of (section_parameters section.entry) }
+{
     InForce {
         section,
         quantified: Vec::new(alloc),
@@ -63,7 +70,9 @@ fn in_atom<'a>(
     kind: Kind,
     atom: &'a AtomText,
     place: usize,
-) -> Option<Stand<'a>> {
+) -> Option<Stand<'a>>
+    ensures { IfSome result (StandsIn (schema_of_atom kind (record { variables = in_force scope.entry; atom = atom.now })) place) }
+{
     if atom.name.place() == place {
         return Some(Stand::Name(Use { kind, scope, atom }));
     }
@@ -76,7 +85,9 @@ fn in_equality<'a>(
     scope: InForce<'a>,
     equality: &'a EqualityText,
     place: usize,
-) -> Option<Stand<'a>> {
+) -> Option<Stand<'a>>
+    ensures { IfSome result (StandsIn (schema_of_equality (in_force scope.entry) equality.now) place) }
+{
     if term_place(&equality.left) == place {
         return Some(Stand::Side(scope, &equality.left));
     }
@@ -92,20 +103,26 @@ fn in_conditions<'a>(
     section: Section<'a>,
     conditions: &'a [Condition],
     place: usize,
-) -> Result<Option<Stand<'a>>, AllocError> {
+) -> Result<Option<Stand<'a>>, AllocError>
+    ensures { IfOk result (λ found. IfSome found (StandsIn (schema_of_conditions (uses.parameters_of (section_parameters section.entry)) conditions.now) place)) }
+{
     let mut scope = parameters_of(alloc, section);
     let mut inner = conditions;
     for _ in 0..MOST_DEPTH {
-        match condition_by(inner, place) {
-            Some(Condition::Literal(literal)) => {
+        let Some(condition) = condition_by(inner, place) else {
+            return Ok(None);
+        };
+        match condition {
+            Condition::Literal(literal) => {
                 return Ok(in_atom(scope, Kind::Predicate, &literal.atom, place));
             }
-            Some(Condition::Equality(equality)) => return Ok(in_equality(scope, equality, place)),
-            Some(Condition::Forall(groups, body)) => {
-                scope.quantified.push(groups.as_slice())?;
-                inner = body.as_slice();
+            Condition::Equality(equality) => return Ok(in_equality(scope, equality, place)),
+            Condition::Forall(groups, body) => {
+                let own = groups.as_slice();
+                let parts = body.as_slice();
+                scope.quantified.push(own)?;
+                inner = parts;
             }
-            None => return Ok(None),
         }
     }
     Ok(None)
@@ -115,12 +132,27 @@ fn in_conditions<'a>(
 fn in_constraints<'a>(
     alloc: Global,
     section: Section<'a>,
-    constraints: &'a [EqualityText],
+    network: &'a NetworkText,
     place: usize,
-) -> Option<Stand<'a>> {
-    let count = constraints.partition_point(|x| term_place(&x.left) <= place);
-    let equality = constraints.get(count.checked_sub(1)?)?;
+) -> Option<Stand<'a>>
+    ensures { IfSome result (StandsIn (schema_of_subtasks (uses.parameters_of (section_parameters section.entry)) network.now) place) }
+{
+    let equality = equality_by(network.constraints.as_slice(), place)?;
     in_equality(parameters_of(alloc, section), equality, place)
+}
+
+/// What stands at a place of the subtasks of a network.
+fn in_subtasks<'a>(
+    alloc: Global,
+    section: Section<'a>,
+    network: &'a NetworkText,
+    place: usize,
+) -> Option<Stand<'a>>
+    ensures { IfSome result (StandsIn (schema_of_subtasks (uses.parameters_of (section_parameters section.entry)) network.now) place) }
+{
+    let subtask = subtask_by(network.subtasks.as_slice(), place)?;
+    let scope = parameters_of(alloc, section);
+    in_atom(scope, Kind::Task, &subtask.task, place)
 }
 
 /// What stands at a place of a network.
@@ -129,19 +161,13 @@ fn in_network<'a>(
     section: Section<'a>,
     network: &'a NetworkText,
     place: usize,
-) -> Option<Stand<'a>> {
-    if let Some(subtask) = subtask_by(network.subtasks.as_slice(), place) {
-        let found = in_atom(
-            parameters_of(alloc, section),
-            Kind::Task,
-            &subtask.task,
-            place,
-        );
-        if found.is_some() {
-            return found;
-        }
+) -> Option<Stand<'a>>
+    ensures { IfSome result (StandsIn (schema_of_subtasks (uses.parameters_of (section_parameters section.entry)) network.now) place) }
+{
+    match in_subtasks(alloc, section, network, place) {
+        Some(found) => Some(found),
+        None => in_constraints(alloc, section, network, place),
     }
-    in_constraints(alloc, section, network.constraints.as_slice(), place)
 }
 
 /// What stands at a place of a method.
@@ -149,7 +175,9 @@ fn in_methods<'a>(
     alloc: Global,
     domain: &'a DomainText,
     place: usize,
-) -> Result<Option<Stand<'a>>, AllocError> {
+) -> Result<Option<Stand<'a>>, AllocError>
+    ensures { IfOk result (λ found. IfSome found (StandsInDomain domain.now place)) }
+{
     let Some(method) = method_by(domain.methods.as_slice(), place) else {
         return Ok(None);
     };
@@ -170,7 +198,9 @@ fn in_actions<'a>(
     alloc: Global,
     domain: &'a DomainText,
     place: usize,
-) -> Result<Option<Stand<'a>>, AllocError> {
+) -> Result<Option<Stand<'a>>, AllocError>
+    ensures { IfOk result (λ found. IfSome found (StandsInDomain domain.now place)) }
+{
     let Some(action) = action_by(domain.actions.as_slice(), place) else {
         return Ok(None);
     };
@@ -185,12 +215,28 @@ fn in_actions<'a>(
     Ok(found)
 }
 
+/// What stands at a place of a domain.
+fn in_domain<'a>(
+    alloc: Global,
+    domain: &'a DomainText,
+    place: usize,
+) -> Result<Option<Stand<'a>>, AllocError>
+    ensures { IfOk result (λ found. IfSome found (StandsInDomain domain.now place)) }
+{
+    if let Some(found) = in_methods(alloc, domain, place)? {
+        return Ok(Some(found));
+    }
+    in_actions(alloc, domain, place)
+}
+
 /// What stands at a place of a problem.
 fn in_problem<'a>(
     alloc: Global,
     problem: &'a ProblemText,
     place: usize,
-) -> Result<Option<Stand<'a>>, AllocError> {
+) -> Result<Option<Stand<'a>>, AllocError>
+    ensures { IfOk result (λ found. IfSome found (StandsInProblem problem.now place)) }
+{
     let htn = &problem.htn;
     if let Some(found) = in_network(alloc, Section::Htn(htn), &htn.network, place) {
         return Ok(Some(found));
@@ -211,14 +257,11 @@ pub(crate) fn stand_at<'a>(
     domain: &'a DomainText,
     problem: &'a ProblemText,
     at: At,
-) -> Result<Option<Stand<'a>>, AllocError> {
+) -> Result<Option<Stand<'a>>, AllocError>
+    ensures { IfOk result (λ found. IfSome found (StandsAt domain.now problem.now at)) }
+{
     match at.source {
-        Side::Domain => {
-            if let Some(found) = in_methods(alloc, domain, at.place)? {
-                return Ok(Some(found));
-            }
-            in_actions(alloc, domain, at.place)
-        }
+        Side::Domain => in_domain(alloc, domain, at.place),
         Side::Problem => in_problem(alloc, problem, at.place),
     }
 }

@@ -22,7 +22,7 @@ fn add_name(alloc: Global, names: &mut Names, name: &Name) -> Result<(), AllocEr
 }
 
 /// Adds the names of a group.
-fn add_group(alloc: Global, names: &mut Names, group: &[Name]) -> Result<(), AllocError>
+pub(crate) fn add_group(alloc: Global, names: &mut Names, group: &[Name]) -> Result<(), AllocError>
     ensures { OnOk result (names.new ≡ fold with_name names.old (map (λ x. folded x.text) group.now)) }
 {
     for name in group {
@@ -53,7 +53,11 @@ fn add_parent(alloc: Global, names: &mut Names, parent: &Option<Name>) -> Result
 }
 
 /// Adds the types of a typed list, names and parents.
-fn add_types(alloc: Global, names: &mut Names, groups: &[NameGroup]) -> Result<(), AllocError>
+pub(crate) fn add_types(
+    alloc: Global,
+    names: &mut Names,
+    groups: &[NameGroup],
+) -> Result<(), AllocError>
     ensures { OnOk result (names.new ≡ fold with_name names.old (texts (mentions_in groups.now))) }
 {
     for group in groups {

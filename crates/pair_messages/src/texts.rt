@@ -1,7 +1,10 @@
 //! A domain and a problem, as texts and as trees.
 
-ghost use Rattle.std.specs.Prelude.{◌≡◌};
+ghost use Rattle.std.specs.Prelude.{◌≡◌, ◌≤◌, length};
+ghost use Rattle.std.specs.List.{prefix_len};
+ghost use Rattle.hddl_words.specs.Word.{is_word_byte as is_word};
 ghost use Rattle.pair_messages.specs.Heads as spec;
+ghost use Rattle.pair_messages.specs.Heads.{word_from};
 
 use diagnostics::{Source, Spot};
 use hddl_meaning::{At, CheckFault, Source as Side};
@@ -55,17 +58,31 @@ pub(crate) fn source_of<'a>(texts: &PairTexts<'a>, side: Side) -> &'a Source<'a>
 }
 
 /// A byte of a word other than a bracket.
-fn is_word_byte(byte: u8) -> bool {
-    33 <= byte && byte <= 126 && byte != b'(' && byte != b')' && byte != b';'
+fn is_word_byte(byte: u8) -> bool
+    ensures { result ≡ is_word byte }
+{
+    33 <= byte && byte <= 126 && !(byte == b'(' || byte == b')' || byte == b';')
+}
+
+/// How many bytes the word at the front has; none at a bracket or at the end.
+fn word_len(bytes: &[u8]) -> usize
+    ensures value { result ≡ prefix_len is_word bytes.now }
+    ensures within { result ≤ length bytes.now }
+{
+    let mut len = 0;
+    while len < bytes.len() && is_word_byte(bytes[len]) {
+        len += 1;
+    }
+    len
 }
 
 /// The word that begins at a place; of a bracket or at the end no bytes.
-pub(crate) fn word_at<'a>(source: &'a Source<'a>, place: usize) -> &'a [u8] {
-    let rest = source.lines.text().get(place..).unwrap_or(&[]);
-    match rest.iter().position(|byte| !is_word_byte(*byte)) {
-        Some(len) => rest.get(..len).unwrap_or(rest),
-        None => rest,
-    }
+pub(crate) fn word_at<'a>(source: &'a Source<'a>, place: usize) -> &'a [u8]
+    ensures { result.now ≡ word_from source.now place }
+{
+    let text = source.lines.text();
+    let rest = &text[place.min(text.len())..];
+    &rest[..word_len(rest)]
 }
 
 /// A place with the length of the word there, 1 at a bracket. What stands past the end of the text is its end.
@@ -80,8 +97,9 @@ pub(crate) fn spot_at<'a>(source: &'a Source<'a>, place: usize) -> Spot<'a>
     }
 }
 
-/// A place of a pair.
-pub(crate) fn spot_of<'a>(texts: &PairTexts<'a>, at: At) -> Spot<'a>
+/// A word of a pair that begins at a place; of a place past the end of the text the end. Without a problem the domain's
+/// text stands for its text.
+pub fn spot_of<'a>(texts: &PairTexts<'a>, at: At) -> Spot<'a>
     ensures { spec.IsSpotAt (spec.text_of texts.now at.source) at.place result }
 {
     spot_at(source_of(texts, at.source), at.place)

@@ -3,7 +3,8 @@ use Rattle.std.specs.Result.{MatchResult}
 use Rattle.hddl_text.specs.Grammar.{DerivesDomain}
 use Rattle.hddl_text.specs.Spelling.{Spells}
 use Rattle.check_report.specs.Texts.{IsFaulty}
-use Rattle.check_report.specs.Told.{AreErrors, named}
+use Rattle.check_report.specs.Told.{named}
+use Rattle.check_report.specs.Saying.{AreErrors}
 use Rattle.check_report.proofs.Reports.{checks_unread}
 use Rattle.check_report.proofs.alone.check_domain.Goals as goal
 

@@ -1,4 +1,3 @@
-use Rattle.std.proofs.Common.{◌∙◌, None}
 use Rattle.check_report.proofs.Warned.{own_before}
 use Rattle.check_report.proofs.alone.tell_own.Goals as goal
 

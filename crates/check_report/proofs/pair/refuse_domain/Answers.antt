@@ -4,7 +4,8 @@ use Rattle.hddl_text.specs.Grammar.{DerivesProblem}
 use Rattle.hddl_text.specs.Spelling.{Spells}
 use Rattle.check_report.specs.Report.{counts_in}
 use Rattle.check_report.specs.Texts.{IsFaulty}
-use Rattle.check_report.specs.Told.{AreErrors, named}
+use Rattle.check_report.specs.Told.{named}
+use Rattle.check_report.specs.Saying.{AreErrors}
 use Rattle.check_report.proofs.Reports.{checks_both, checks_first}
 use Rattle.check_report.proofs.pair.refuse_domain.Goals as goal
 

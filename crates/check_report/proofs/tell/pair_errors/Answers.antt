@@ -2,7 +2,7 @@ use Rattle.hddl_meaning.specs.declared.fault.CheckFault.{CheckFault}
 use Rattle.hddl_meaning.specs.declared.fault.CheckFault.TheVariants as fault
 use Rattle.hddl_meaning.specs.declared.fault.Source.TheVariants as source
 use Rattle.hddl_warnings.proofs.Zips.{zip_step}
-use Rattle.check_report.specs.Told.{TellsPair}
+use Rattle.check_report.specs.Saying.{TellsPair}
 use Rattle.check_report.proofs.tell.pair_errors.Goals as goal
 
 -- some fault

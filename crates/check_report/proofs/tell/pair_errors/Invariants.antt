@@ -1,6 +1,6 @@
 use Rattle.std.proofs.Common.{take}
 use Rattle.std.specs.List.{AllZip}
-use Rattle.check_report.specs.Told.{TellsPair}
+use Rattle.check_report.specs.Saying.{TellsPair}
 use Rattle.check_report.proofs.tell.pair_errors.Given as goal
 
 abbrev pub invariant-loop-fault : goal.invariant-loop-fault

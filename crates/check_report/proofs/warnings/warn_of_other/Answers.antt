@@ -1,6 +1,6 @@
 use Rattle.std.proofs.Common.{subst}
 use Rattle.std.specs.List.{AllZip}
-use Rattle.check_report.specs.Told.{WarnsPair}
+use Rattle.check_report.specs.Saying.{WarnsPair}
 use Rattle.check_report.proofs.warnings.warn_of_other.Goals as goal
 
 pub returns : goal.returns

@@ -19,13 +19,13 @@ feed_ascii (suc i) = omega arith
 pub returns-clause-bytes : goal.returns-clause-bytes
 returns-clause-bytes c =
     let is = c.in_ok-report_value.ensures in
-    let line = c.in_ok-text.ensures.text (ap has_float is ∙ (report_plain c.args.diagnostics.now).0) ∙ ap compact_text is in
+    let line = c.in_ok-text.ensures.text (ap has_float is ∙ (report_plain c.args.diagnostics.now c.args.reached).0) ∙ ap compact_text is in
     c.in_ok-push.ensures.items ∙ ap (λ (l : List ℕ). l ++ 10 ∷ []) line
 
 pub returns-clause-reads_back : goal.returns-clause-reads_back
 returns-clause-reads_back c =
     let is = c.in_ok-report_value.ensures in
-    let low = shallow (view c.in_ok-report_value.field-0) (report_json c.args.diagnostics.now) is (report_plain c.args.diagnostics.now).1 in
+    let low = shallow (view c.in_ok-report_value.field-0) (report_json c.args.diagnostics.now c.args.reached) is (report_plain c.args.diagnostics.now c.args.reached).1 in
     (c.in_ok-text.text.items, c.in_ok-push.ensures.items, c.in_ok-text.ensures.reads_back low ∙ ap Some is)
 
 pub returns-clause-utf8 : goal.returns-clause-utf8

@@ -5,4 +5,4 @@ use Rattle.diagnostics.proofs.Seen.{seen_text}
 use Rattle.diagnostics.proofs.laws.json_is_one_line.Goals as goal
 
 pub returns : goal.returns
-returns c ds = (compact_text (report_json ds), refl, seen_text (report_json ds))
+returns c ds reached = (compact_text (report_json ds reached), refl, seen_text (report_json ds reached))

@@ -1,0 +1,6 @@
+use Rattle.std.proofs.Common.{All, take}
+use Rattle.never_applied.specs.Fine.{IsTaskRight}
+use Rattle.never_applied.proofs.fine.Fine.are_tasks_right.Given as goal
+
+abbrev pub invariant-loop-goal : goal.invariant-loop-goal
+invariant-loop-goal l = All (IsTaskRight l.task l.self) (take l.goal-index l.goals)
