@@ -1,0 +1,11 @@
+pub mod Widths
+pub mod Grid
+pub mod Columns
+pub mod Layout
+pub mod Apart
+pub mod Measured
+pub mod Escape
+pub mod Shapes
+pub mod Style
+pub mod Svg
+pub mod OneLayout

@@ -1,0 +1,6 @@
+pub mod Writes
+pub mod Tamed
+mod Quotes
+mod TameGraphs
+mod Objects
+mod Forests

@@ -1,0 +1,8 @@
+use Rattle.std.proofs.Common.{refl}
+use Rattle.serde_json.specs.Written.{compact_text}
+use Rattle.diagnostics.proofs.Seen.{seen_text}
+use Rattle.picture_text.specs.Json.{picture_json}
+use Rattle.picture_text.proofs.laws.json_is_one_line.Goals as goal
+
+pub returns : goal.returns
+returns c caption picture = (compact_text (picture_json caption picture), refl, seen_text (picture_json caption picture))

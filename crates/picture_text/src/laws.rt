@@ -1,0 +1,45 @@
+//! Laws of written pictures.
+
+ghost use Rattle.std.specs.Prelude.{◌≡◌, ℕ, false, List, ◌++◌};
+ghost use Rattle.diagnostics.specs.Json.{IsOneLine};
+ghost use Rattle.diagnostics.specs.Tame.{is_tame};
+ghost use Rattle.picture_text.specs.declared.caption.Caption.{Caption};
+ghost use Rattle.plan_picture.specs.declared.picture.Picture.{Picture};
+ghost use Rattle.picture_text.specs.declared.as_text.Glyphs.{Glyphs};
+ghost use Rattle.picture_text.specs.Dot.{dot_bytes, label_rest, quoted_rest};
+ghost use Rattle.picture_text.specs.Json.{json_bytes};
+ghost use Rattle.picture_text.specs.Lines.{Line};
+ghost use Rattle.picture_text.specs.OneForest.{JsonShowsForests};
+ghost use Rattle.picture_text.specs.Tame.{AreTame, is_tame_in, past_quote};
+ghost use Rattle.picture_text.specs.Text.{text_bytes};
+
+/// A picture as text has no control byte but tabs and line feeds, and but for bytes of the tree's signs it is ASCII,
+/// whatever the names are.
+pub fn text_is_tame()
+    ensures { (glyphs : Glyphs) (caption : Caption) (picture : Picture) → AreTame (is_tame_in glyphs) (text_bytes glyphs caption picture) }
+{}
+
+/// A picture in the language of graphviz has no control byte but tabs and line feeds, and is ASCII, whatever the names
+/// are.
+pub fn graph_is_tame()
+    ensures { (caption : Caption) (picture : Picture) → AreTame is_tame (dot_bytes caption picture) }
+{}
+
+/// In the language of graphviz a label ends at its own last quote, whatever its words are: it is the first quote that
+/// stands after no backslash. So do the problem's words.
+pub fn labels_end_at_quotes()
+    ensures labels { (number : ℕ) (line : Line) (rest : List ℕ) → past_quote false (label_rest number line ++ rest) ≡ rest }
+    ensures words { (words rest : List ℕ) → past_quote false (quoted_rest words ++ rest) ≡ rest }
+{}
+
+/// A picture as JSON has no byte below 32 but the line feed at its end, whatever the names are.
+pub fn json_is_one_line()
+    ensures { (caption : Caption) (picture : Picture) → IsOneLine (json_bytes caption picture) }
+{}
+
+/// Two pictures with one value as JSON, which its text reads back as, have the same roots, the same lines in their rows
+/// and the same children of each, all by their ids. So two files with one picture as JSON have one forest, up to the
+/// order of siblings.
+pub fn json_shows_forests()
+    ensures { JsonShowsForests }
+{}

@@ -1,0 +1,20 @@
+//! Pictures of plan files as they are written: as text, for graphviz and as JSON.
+#![tactic(auto)]
+
+mod as_dot;
+mod as_json;
+mod as_text;
+mod caption;
+mod laws;
+mod line;
+mod words;
+
+pub use as_dot::{dot, words_of};
+pub use as_json::json;
+pub use as_text::{Glyphs, say_label, text, width_of};
+pub use caption::{Caption, Mark};
+pub use laws::{
+    graph_is_tame, json_is_one_line, json_shows_forests, labels_end_at_quotes, text_is_tame,
+};
+pub use line::{Line, line_at};
+pub use words::{is_marked, mark_of, say, say_number, say_task};

@@ -1,0 +1,9 @@
+pub mod Below
+pub mod Order
+pub mod Rows
+pub mod Firsts
+pub mod Outline
+pub mod Seen
+pub mod Picture
+pub mod Once
+pub mod Example
