@@ -7,7 +7,7 @@ use Rattle.std.proofs.lemmas.List.{drop_more, map-append, take-append-drop}
 use Rattle.htn_model.specs.Literal.{Literal, atom, equality, literal_holds, holds}
 use Rattle.htn_model.specs.Atom.{Atom}
 use Rattle.htn_model.specs.State.{State, contains}
-use Rattle.plan_run.specs.Turns.{IsNextGap, IsOnward, History, truth, literal_truth, literals_truth}
+use Rattle.plan_run.specs.Turns.{IsLastGap, IsNextGap, IsOnward, History, truth, literal_truth, literals_truth}
 
 -- ## Tests that say the same
 
@@ -135,3 +135,10 @@ pub parted : {X Y : Type 0} (f : X → Y) (xs : List X) (i : ℕ) (x : X) → i 
 parted f xs i x h is =
     ap (map f) (sym (take-append-drop i xs) ∙ ap (λ ys. take i xs ++ ys) (drop_more xs i x h ∙ ap (λ y. y ∷ drop (i + 1) xs) (sym is)))
     ∙ map-append f (take i xs) (x ∷ drop (i + 1) xs) ∙ sym (append_assoc (map f (take i xs)) (f x ∷ []) (map f (drop (i + 1) xs)))
+
+-- ## The last gap
+
+-- tests that are alike have one last gap
+pub last_alike : (f g : ℕ → Bool) (gap : ℕ) (r : Option ℕ) → ((k : ℕ) → f k ≡ g k) → IsLastGap f gap r → IsLastGap g gap r
+last_alike f g gap None same none = λ k h. sym (same k) ∙ none k h
+last_alike f g gap (Some last) same found = (found.0, sym (same last) ∙ found.1, (λ k h l. sym (same k) ∙ found.2 k h l))

@@ -4,7 +4,7 @@ use Rattle.std.specs.Bool.{beq}
 use Rattle.std.proofs.lemmas.Bool.{both_ways, cases_lt, lt-ltb, le-ltb}
 use Rattle.std.proofs.lemmas.List.{length-append, get_or_append_left, get_or_at, take_at}
 use Rattle.std.proofs.lemmas.Option.{slice_get-get_or, slice_get_past}
-use Rattle.plan_run.specs.Turns.{is_true_in, is_turned, IsRising, Splits, IsTurnedOver, IsNextGap}
+use Rattle.plan_run.specs.Turns.{is_true_in, is_turned, IsRising, Splits, IsTurnedOver, IsLastGap, IsNextGap}
 
 -- ## Turns passed
 
@@ -280,3 +280,71 @@ not_false false h = absurd cc
 pub not_true : (b : Bool) → not b ≡ true → b ≡ false
 not_true true h = absurd cc
 not_true false h = refl
+
+-- ## The last gap
+
+-- where it is so in the gap itself
+pub last_here : (first : Bool) (turns : List ℕ) (wanted : Bool) (gap passed : ℕ) → Splits turns gap passed → is_turned first passed ≡ wanted
+    → IsLastGap (λ k. beq (is_true_in first turns k) wanted) gap (Some gap)
+last_here first turns wanted gap passed s is = (omega arith, is_beq _ wanted (split_truth first turns gap passed s ∙ is), (λ k h l. absurd (omega arith)))
+
+-- where it isn't, and nothing has turned up to the gap
+pub never_before : (first : Bool) (turns : List ℕ) (wanted : Bool) (gap : ℕ) → Splits turns gap 0 → (is_turned first 0 ≡ wanted → ⊥)
+    → IsLastGap (λ k. beq (is_true_in first turns k) wanted) gap None
+never_before first turns wanted gap s other k h =
+    not_beq _ wanted (λ e. other (sym (split_truth first turns k 0 (record { low = λ i l. absurd (omega arith); high = λ i m l. (let b = s.high i m l in omega arith); within = s.within })) ∙ e))
+
+-- from the last turn up to the gap it isn't so
+since_turn : (first : Bool) (turns : List ℕ) (wanted : Bool) (gap passed last : ℕ) → IsRising last turns → Splits turns gap (suc passed)
+    → (is_turned first (suc passed) ≡ wanted → ⊥) → (k : ℕ) → get_or turns passed 0 ≤ k → k ≤ gap → beq (is_true_in first turns k) wanted ≡ false
+since_turn first turns wanted gap passed last rising s other k m h =
+    not_beq _ wanted (λ e. other (sym (split_truth first turns k (suc passed) (record {
+      low = λ i l. (let r = rising_up last turns rising i passed (omega arith) (let w = s.within in omega arith) in omega arith);
+      high = λ i n l. (let b = s.high i n l in omega arith);
+      within = s.within;
+    })) ∙ e))
+
+-- where it has turned in the first gap last, it never was so
+pub turned_first : (first : Bool) (turns : List ℕ) (wanted : Bool) (gap passed last : ℕ) → IsRising last turns → Splits turns gap (suc passed)
+    → (is_turned first (suc passed) ≡ wanted → ⊥) → get_or turns passed 0 ≡ 0 → IsLastGap (λ k. beq (is_true_in first turns k) wanted) gap None
+turned_first first turns wanted gap passed last rising s other z k h = since_turn first turns wanted gap passed last rising s other k (omega arith) h
+
+-- and else it was so right before the last turn
+pub before_last : (first : Bool) (turns : List ℕ) (wanted : Bool) (gap passed last before : ℕ) → IsRising last turns → Splits turns gap (suc passed)
+    → (is_turned first (suc passed) ≡ wanted → ⊥) → get_or turns passed 0 ≡ suc before → IsLastGap (λ k. beq (is_true_in first turns k) wanted) gap (Some before)
+before_last first turns wanted gap passed last before rising s other is =
+    let low = s.low passed (omega arith) in
+    let within = s.within in
+    let split : Splits turns before passed = record {
+      low = λ i l. (let r = rising.rising i passed l (omega arith) in omega arith);
+      high = λ i m l. (let r = rising_up last turns rising passed i m l in omega arith);
+      within = omega arith;
+    } in (
+      (omega arith),
+      subst (λ b. beq b wanted ≡ true) (sym (split_truth first turns before passed split)) (was (is_turned first passed) wanted (λ e. other (turned_more first passed ∙ e))),
+      (λ k h l. since_turn first turns wanted gap passed last rising s other k (omega arith) l),
+    )
+  where
+    was : (a b : Bool) → (not a ≡ b → ⊥) → beq a b ≡ true
+    was true true n = refl
+    was true false n = absurd (n refl)
+    was false true n = absurd (n refl)
+    was false false n = refl
+
+-- both by the number of turns that are passed
+pub first_turn : (first : Bool) (turns : List ℕ) (wanted : Bool) (gap passed last : ℕ) → IsRising last turns → Splits turns gap passed
+    → (is_turned first passed ≡ wanted → ⊥) → (passed ≡ 0 → ⊥) → get_or turns (passed - 1) 0 ≡ 0 → IsLastGap (λ k. beq (is_true_in first turns k) wanted) gap None
+first_turn first turns wanted gap zero last rising s other some z = absurd (some refl)
+first_turn first turns wanted gap (suc passed) last rising s other some z =
+    let same : suc passed - 1 ≡ passed = omega arith in
+    turned_first first turns wanted gap passed last rising s other (ap (λ p. get_or turns p 0) (sym same) ∙ z)
+
+pub later_turn : (first : Bool) (turns : List ℕ) (wanted : Bool) (gap passed last : ℕ) → IsRising last turns → Splits turns gap passed
+    → (is_turned first passed ≡ wanted → ⊥) → (passed ≡ 0 → ⊥) → (get_or turns (passed - 1) 0 ≡ 0 → ⊥)
+    → IsLastGap (λ k. beq (is_true_in first turns k) wanted) gap (Some (get_or turns (passed - 1) 0 - 1))
+later_turn first turns wanted gap zero last rising s other some z = absurd (some refl)
+later_turn first turns wanted gap (suc passed) last rising s other some z =
+    let same : suc passed - 1 ≡ passed = omega arith in
+    let turn : get_or turns (suc passed - 1) 0 ≡ get_or turns passed 0 = ap (λ p. get_or turns p 0) same in
+    subst (λ t. IsLastGap (λ k. beq (is_true_in first turns k) wanted) gap (Some (t - 1))) (sym turn)
+    (before_last first turns wanted gap passed last (get_or turns passed 0 - 1) rising s other (let other_turn : get_or turns passed 0 ≡ 0 → ⊥ = (λ e. z (turn ∙ e)) in omega arith))

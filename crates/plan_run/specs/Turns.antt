@@ -97,6 +97,11 @@ abbrev pub IsOnward : (ℕ → Bool) → (from last : ℕ) → Option ℕ → Ty
 IsOnward test from last None = (k : ℕ) → from ≤ k → k ≤ last → test k ≡ false
 IsOnward test from last (Some gap) = (from ≤ gap) × (gap ≤ last) × ((k : ℕ) → from ≤ k → k < gap → test k ≡ false) × (gap ≡ from → test from ≡ true)
 
+-- the last gap up to one that passes the test, if there is one
+abbrev pub IsLastGap : (ℕ → Bool) → (gap : ℕ) → Option ℕ → Type 0
+IsLastGap test gap None = (k : ℕ) → k ≤ gap → test k ≡ false
+IsLastGap test gap (Some last) = (last ≤ gap) × (test last ≡ true) × ((k : ℕ) → last < k → k ≤ gap → test k ≡ false)
+
 -- ## Steps
 
 -- the gaps before the last one are as they were

@@ -8,7 +8,7 @@ ghost use Rattle.htn_model.specs.Atom.{atom_cmp};
 ghost use Rattle.htn_model.specs.State.{atoms_of, contains};
 ghost use Rattle.htn_state.specs.Views.{literal_of, literals_of};
 ghost use Rattle.plan_run.specs.Turns as spec;
-ghost use Rattle.plan_run.specs.Turns.{AreTurned, IsApplied, IsEverTrue, IsHistory, IsNextGap, IsOnward, IsStart, IsRising, IsTurnedOver, Splits, is_true_in, literal_truth, literals_truth, truth, turns_of};
+ghost use Rattle.plan_run.specs.Turns.{AreTurned, IsApplied, IsEverTrue, IsHistory, IsLastGap, IsNextGap, IsOnward, IsStart, IsRising, IsTurnedOver, Splits, is_true_in, literal_truth, literals_truth, truth, turns_of};
 
 use htn_state::{Action, Atom, Literal, State};
 use indexmap::IndexSet;
@@ -77,6 +77,22 @@ fn next_wanted(
     }
     let turn = turns[passed];
     if last < turn { None } else { Some(turn) }
+}
+
+/// The last gap up to one in which something is as wanted that turns in these gaps, ascending.
+fn last_wanted(first: bool, turns: &[usize], wanted: bool, gap: usize) -> Option<usize>
+    requires { (end : ℕ) × IsRising end turns.now }
+    ensures { IsLastGap (λ k. beq (is_true_in first turns.now k) wanted) gap result }
+{
+    let passed = count_passed(turns, gap);
+    if is_turned(first, passed) == wanted {
+        return Some(gap);
+    }
+    if passed == 0 {
+        return None;
+    }
+    let turn = turns[passed - 1];
+    if turn == 0 { None } else { Some(turn - 1) }
 }
 
 /// Whether the last of the gaps is this one.
@@ -255,6 +271,29 @@ impl<'a> Turns<'a> {
             Literal::Negative(atom) => self.next_with(atom, false, from, last),
             Literal::Same(x, y) if x == y => Some(from),
             Literal::Different(x, y) if x != y => Some(from),
+            _ => None,
+        }
+    }
+
+    /// The last gap up to one in which an atom is true or false, as wanted.
+    fn last_with(&self, atom: &Atom, wanted: bool, gap: usize) -> Option<usize>
+        requires { IsHistory self.now }
+        ensures { IsLastGap (λ k. beq (truth self.now atom.now k) wanted) gap result }
+    {
+        let (first, turns) = self.course_of(atom);
+        last_wanted(first, turns, wanted, gap)
+    }
+
+    /// The last gap up to one in which a literal holds.
+    pub fn last_gap(&self, literal: &Literal, gap: usize) -> Option<usize>
+        requires { IsHistory self.now }
+        ensures { IsLastGap (literal_truth self.now (literal_of literal.now)) gap result }
+    {
+        match literal {
+            Literal::Positive(atom) => self.last_with(atom, true, gap),
+            Literal::Negative(atom) => self.last_with(atom, false, gap),
+            Literal::Same(x, y) if x == y => Some(gap),
+            Literal::Different(x, y) if x != y => Some(gap),
             _ => None,
         }
     }

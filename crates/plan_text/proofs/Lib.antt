@@ -16,3 +16,4 @@ pub mod RoundTrip
 pub mod Taken
 pub mod WrittenCuts
 pub mod WrittenLines
+pub mod Placed

@@ -10,3 +10,4 @@ pub mod Reading
 pub mod Seen
 pub mod Sink
 pub mod Written
+pub mod Places

@@ -29,7 +29,7 @@ fn is_marker(line: Piece<'_>, marker: &[u8]) -> bool
 }
 
 /// Skips the lines up to the start marker, and answers whether it is there.
-fn skip_start(lines: &mut Lines<'_>) -> bool
+pub(crate) fn skip_start(lines: &mut Lines<'_>) -> bool
     ensures { MatchBool result (after_start lines.old ≡ Some lines.new) (after_start lines.old ≡ None) }
 {
     while let Some(line) = lines.next() {
@@ -41,7 +41,7 @@ fn skip_start(lines: &mut Lines<'_>) -> bool
 }
 
 /// How many lines stand before the end marker.
-fn count_to_end(lines: &Lines<'_>) -> Option<usize>
+pub(crate) fn count_to_end(lines: &Lines<'_>) -> Option<usize>
     ensures { MatchOption result (before_end lines.now ≡ None) (λ count. before_end lines.now ≡ Some (take count lines.now)) }
 {
     let mut count = 0;

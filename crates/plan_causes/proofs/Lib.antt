@@ -1,0 +1,4 @@
+pub mod Standings
+pub mod Failing
+pub mod Sets
+pub mod Forests
