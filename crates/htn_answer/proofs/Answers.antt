@@ -1,7 +1,7 @@
 -- What a search over a problem's machine answers, said of the problem.
 use Rattle.std.proofs.Common.{◌≡◌, ℕ, suc, ◌<◌, List, [], ◌∷◌, length, refl, arith, Some, None}
 use Rattle.htn_model.specs.Problem.{Problem, IsGrounded}
-use Rattle.htn_model.specs.Answer.{IsLeastWord}
+use Rattle.htn_model.specs.Answer.{IsLeastWord, IsAnswer as IsAnswerFor}
 use Rattle.htn_model.specs.Exhaustion.{IsUnsolvable}
 use Rattle.htn_model.specs.Machine.{Finishes as FinishesIn}
 use Rattle.htn_model.proofs.OneToOne.{one_to_one}
@@ -40,12 +40,16 @@ module _ (problem : Problem) (bound : ℕ) where
     never : NeverFinishes (machine_of problem) → IsUnsolvable problem
     never none s solves = let code = (one_to_one problem grounded).code s solves in none code.0 (finishes_back problem code.0 code.3)
 
+    -- where no word within the bound finishes, no solution is within it
+    pub none_answered : NoneFinishes (machine_of problem) bound → IsAnswerFor problem bound None
+    none_answered none = (least_word_answers problem grounded).answer bound None None (no_word none) tt
+
     -- what answers for the machine answers for the problem
     answered_by : (found : Found) → IsAnswer (machine_of problem) bound found → IsAnswered problem bound found
     answered_by (Word word) least =
         let own = least_word word.items least in
         (own, λ s solves code. (least_word_answers problem grounded).answer bound (Some word.items) (Some s) own (solves, code))
-    answered_by NoWord none = ((least_word_answers problem grounded).answer bound None None (no_word none.0) tt, met_from problem bound none.1)
+    answered_by NoWord none = (none_answered none.0, met_from problem bound none.1)
     answered_by Unsolvable none = (never none.0, λ met. none.1 (met_back problem bound met))
 
     -- what is answered for the problem is exact: a plan, none, or unsolvable

@@ -234,7 +234,7 @@ module _ {C : Type 0} (m few : WordMachine C) (initial_of : ℕ → ℕ) (number
               ]
 
       -- where no word of ranks within the bound finishes, no numbers do
-      none_told : NoneFinishes few bound → NoneFinishes m bound
+      pub none_told : NoneFinishes few bound → NoneFinishes m bound
       none_told none v finish =
           let down = finishes_told v finish in
           subst (λ n. bound < n) (steps_told v down.0 finish down.1 down.2) (none down.0 down.1)

@@ -1,5 +1,5 @@
 -- Words of ranks that finish, and their numbers.
-use Rattle.std.proofs.Common.{◌≡◌, ℕ, ◌<◌, true, get_or, List, [], ◌∷◌, length, Option, Some, None, IsSome, slice_get, refl, sym, ap, ◌∙◌, subst, option_map, unwrap_or}
+use Rattle.std.proofs.Common.{◌≡◌, ℕ, zero, suc, ◌+◌, ◌<◌, ◌≤◌, arith, ◌-◌, IfSome, SomeIff, true, get_or, List, [], ◌∷◌, length, Option, Some, None, IsSome, slice_get, refl, sym, ap, ◌∙◌, subst, option_map, unwrap_or}
 use Rattle.std.proofs.lemmas.Option.{none-some, same_Some, slice_get-map, slice_get_within, get_or_from_slice_get}
 use Rattle.htn_model.specs.Grounding.{problem_of}
 use Rattle.htn_model.specs.Instance.{Instance}
@@ -8,23 +8,24 @@ use Rattle.htn_model.specs.Levels.{is_done}
 use Rattle.htn_model.specs.Machine.{Config, Choice, choose, result_of, start, step_by, FinishesFrom}
 use Rattle.htn_model.specs.Problem.{IsGrounded}
 use Rattle.htn_model.specs.Task.{Task}
-use Rattle.htn_model.specs.Tree.{Solution}
+use Rattle.htn_model.specs.Tree.{Solution, total_size}
 use Rattle.htn_model.specs.Answer.{IsAnswer as IsAnswerFor}
 use Rattle.htn_model.proofs.Answers.{least_word_answers}
 use Rattle.htn_ground.specs.Distinct.{distinct}
-use Rattle.word_machine.specs.Words.{Leads}
+use Rattle.word_machine.specs.Words.{Leads, step_count}
 use Rattle.word_machine.specs.Machine.{IsStep, IsFinishing}
-use Rattle.word_machine.specs.Answer.{IsAnswer, IsLeastFinishing}
+use Rattle.word_machine.specs.Answer.{IsAnswer, IsLeastFinishing, NoneFinishes, NoneFinishesBefore}
 use Rattle.word_machine.specs.declared.found.Found.{Found}
 use Rattle.word_machine.proofs.Answering.{live_finishes}
 use Rattle.htn_answer.specs.Machine.{IsOwn, machine_of}
 use Rattle.htn_answer.specs.Fewer.{FinishesLive, IsToldBy, numbers_from}
-use Rattle.htn_answer.proofs.Answers.{least_word}
-use Rattle.htn_answer.proofs.Fewer.{answer_told, least_told}
+use Rattle.htn_answer.proofs.Answers.{least_word, none_answered}
+use Rattle.htn_answer.proofs.Fewer.{answer_told, least_told, none_told}
 use Rattle.htn_answer.proofs.Lawful.{lawful}
 use Rattle.htn_answer.proofs.Words.{done_from, slice_get-map_back}
 use Rattle.htn_net.specs.Listed.{choose_listed, initial_of, listed_initials, listing_machine, number_of}
 use Rattle.htn_net.proofs.Listed.{distinct_initials, enough, listed_initial}
+use Rattle.htn_search.specs.Answer.{HasNoneBelow}
 use Rattle.htn_search.specs.Rebuilt.{IsSolutionOf}
 use Rattle.htn_search.specs.Told.{FinishesListed, told, told_word}
 
@@ -103,12 +104,38 @@ module _ (t : Task) (grounded : IsGrounded (problem_of t)) (bound : ℕ) where
       → IsAnswer (machine_of (problem_of t)) bound tells
   told_answer found tells answer is = answer_told (machine_of (problem_of t)) (listing_machine t) (initial_of t) (number_of t) (enough t) alive bound found tells answer is
 
+  -- where no word of ranks within the bound finishes, no solution is within it
+  pub told_none : NoneFinishes (listing_machine t) bound → IsAnswerFor (problem_of t) bound None
+  told_none none =
+      none_answered (problem_of t) bound grounded (none_told (machine_of (problem_of t)) (listing_machine t) (initial_of t) (number_of t) (enough t) alive bound none)
+
   -- the solution of the least word of ranks answers
   pub told_solution : (ranks : List ℕ) (s : Solution) → IsLeastFinishing (listing_machine t) bound ranks → IsSolutionOf (problem_of t) (told_word t ranks) s → IsAnswerFor (problem_of t) bound (Some s)
   told_solution ranks s least is =
       (least_word_answers (problem_of t) grounded).answer bound (Some (told_word t ranks)) (Some s)
       (least_word (problem_of t) bound (told_word t ranks) (least_told (machine_of (problem_of t)) (listing_machine t) (initial_of t) (number_of t) (enough t) alive bound ranks least))
       (is.solves, is.code)
+
+module _ (t : Task) (grounded : IsGrounded (problem_of t)) where
+  -- where no word of ranks finishes in fewer steps, no solution has at most one node fewer
+  pub none_within : (nodes : ℕ) → NoneFinishesBefore (listing_machine t) (nodes + 1) → IsAnswerFor (problem_of t) nodes None
+  none_within nodes none = told_none t grounded nodes (λ word finish. (let over : nodes + 1 ≤ step_count word = none word finish in omega arith))
+
+  -- the same where the number may be 0
+  pub none_known : (nodes : ℕ) (within : Option ℕ) → SomeIff within (1 ≤ nodes) (nodes - 1) → NoneFinishesBefore (listing_machine t) nodes
+      → IfSome within (λ n. IsAnswerFor (problem_of t) n None)
+  none_known nodes None is none = tt
+  none_known nodes (Some n) is none =
+      let same : nodes ≡ n + 1 = (let above : 1 ≤ nodes = is.0 in let less : n ≡ nodes - 1 = is.1 in omega arith) in
+      none_within n (subst (NoneFinishesBefore (listing_machine t)) same none)
+
+  -- and none has fewer nodes
+  pub none_below : (nodes : ℕ) → NoneFinishesBefore (listing_machine t) nodes → HasNoneBelow t nodes
+  none_below zero none s solves = omega arith
+  none_below (suc nodes) none s solves =
+      let same : suc nodes ≡ nodes + 1 = omega arith in
+      let over : nodes < total_size s.trees = none_within nodes (subst (NoneFinishesBefore (listing_machine t)) same none) s solves in
+      omega arith
 
 -- ## The instance of a word's first rank
 

@@ -12,3 +12,12 @@ pub enum Answer {
     /// There is no solution.
     Unsolvable,
 }
+
+/// What is known of a task once a watched search with a bound on the nodes has ended.
+#[derive(Drop)]
+pub enum Known {
+    /// The answer.
+    Answer(Answer),
+    /// The watch stopped the search: no solution has at most this number of nodes, if there is one.
+    Unknown { none_within: Option<u64> },
+}

@@ -11,7 +11,7 @@ mod solve;
 mod trail;
 mod walk;
 
-pub use answer::Answer;
+pub use answer::{Answer, Known};
 pub use solution::rebuild;
-pub use solve::{find_word, finishes, search, search_with_tables};
-pub use word_machine::{Bounds, Found, Gate, NoGate, SearchFault};
+pub use solve::{find_word, finishes, search, search_watched, search_with_tables};
+pub use word_machine::{Bounds, Found, Gate, News, NoGate, NoWatch, SearchFault, Watch};

@@ -1,15 +1,17 @@
 //! The search of a task.
-ghost use Rattle.std.specs.Prelude.{◌≡◌, ℕ, ◌-◌, ◌^◌, ◌<◌, ◌↔◌, IfErr, IfNone, IfOk, IfSome, IsTrue, false, true};
+ghost use Rattle.std.specs.Prelude.{◌≡◌, ℕ, ◌-◌, ◌^◌, ◌<◌, ◌↔◌, IfErr, IfNone, IfOk, IfSome, IsTrue, Option, false, true};
 ghost use Rattle.htn_answer.specs.Answered.{IsAnswered, IsExact};
 ghost use Rattle.htn_model.specs.Grounding.{problem_of};
 ghost use Rattle.htn_model.specs.Machine.{Finishes};
 ghost use Rattle.htn_net.specs.Listed.{listing_machine};
-ghost use Rattle.htn_search.specs.Answer.{Answers};
+ghost use Rattle.htn_search.specs.Answer.{Answers, HasNoneBelow, IsKnown};
+ghost use Rattle.htn_search.specs.declared.answer.Known.TheVariants.{Unknown};
 ghost use Rattle.task_machine.specs.Tables.{AreTables};
-ghost use Rattle.word_machine.specs.Answer.{IsAnswer};
+ghost use Rattle.word_machine.specs.Answer.{IsAnswer, IsEnding, NoneFinishesBefore};
+ghost use Rattle.word_machine.specs.declared.found.Ending.TheVariants.{GivenUp, Stopped};
 ghost use Rattle.word_machine.specs.declared.found.SearchFault.TheVariants.{NoThread};
 
-use crate::answer::Answer;
+use crate::answer::{Answer, Known};
 use crate::numbers::word_of_ranks;
 use crate::solution::rebuild_listed;
 use htn_ground::{goal_literals, initial_at};
@@ -20,7 +22,9 @@ use std::sync::Wait;
 use std::thread::Threads;
 use task_machine::{Tables, TaskMachine};
 use tree_sizes::enumerate;
-use word_machine::{Bounds, Effort, Found, Gate, Machine, SearchFault, find_word_in};
+use word_machine::{
+    Bounds, Effort, Ending, Found, Gate, Machine, NoWatch, SearchFault, Watch, find_word_watched,
+};
 
 // How much is listed at most to find sizes and needs, and how many configurations a search by these keeps at most,
 // before more is listed. To list as much as a stage does takes no longer than to keep some times as many
@@ -52,32 +56,46 @@ const LAST_STAGE: Stage = Stage {
     kept: usize::MAX,
 };
 
-/// What a search found, and the tables that it went by.
+/// How a search ended, and the tables that it went by.
 #[derive(Drop)]
 struct Searched<T> {
-    found: Found,
+    ending: Ending,
     tables: T,
 }
 
-/// What the search of a machine finds, with its tables; None where it is given up.
-fn search_by<M: Machine, G: Gate, R: Threads + Wait + Sync>(
+/// How the watched search of a machine ends, with its tables; no word finishes in fewer steps than `known`.
+fn search_by<M: Machine, G: Gate, W: Watch, R: Threads + Wait + Sync>(
     rt: &R,
     alloc: Global,
     machine: &M,
     effort: Effort,
     bounds: Bounds,
+    known: u64,
     gate: &G,
-) -> Result<Option<Searched<M::Tables>>, SearchFault>
-    ensures answer { IfOk result (λ o. IfSome o (λ s. IsAnswer (M.words machine.now) bounds.nodes s.found)) }
-    ensures own { IfOk result (λ o. IfSome o (λ s. M.owns machine.now s.tables)) }
-    ensures given_up { IfOk result (λ o. IfNone o (effort.most_kept < 2 ^ 64 - 1)) }
+    watch: &mut W,
+) -> Result<Searched<M::Tables>, SearchFault>
+    requires known { NoneFinishesBefore (M.words machine.now) known }
+    requires hears { (n : ℕ) → NoneFinishesBefore (M.words machine.now) n → W.may_hear watch.old n }
+    ensures ending { IfOk result (λ s. IsEnding (M.words machine.now) bounds.nodes s.ending) }
+    ensures own { IfOk result (λ s. M.owns machine.now s.tables) }
+    ensures given_up { IfOk result (λ s. (n : ℕ) → s.ending ≡ GivenUp n → effort.most_kept < 2 ^ 64 - 1) }
+    ensures stopped { IfOk result (λ s. (n : ℕ) → s.ending ≡ Stopped n → W.may_stop watch.old ≡ true) }
+    ensures becomes { W.becomes watch.old watch.new }
     ensures no_thread { IfErr result (λ e. e ≡ NoThread → 1 < bounds.workers) }
 {
     let mut tables = machine.new_tables()?;
-    match find_word_in(rt, alloc, machine, &mut tables, bounds, effort, gate)? {
-        Some(found) => Ok(Some(Searched { found, tables })),
-        None => Ok(None),
-    }
+    let ending = find_word_watched(
+        rt,
+        alloc,
+        machine,
+        &mut tables,
+        bounds,
+        effort,
+        known,
+        gate,
+        watch,
+    )?;
+    Ok(Searched { ending, tables })
 }
 
 /// The limits of the searches of a stage. Where more would not be listed with a greater limit, no search is given up.
@@ -100,49 +118,72 @@ fn effort_of(stage: Stage, is_cut: bool, bounds: Bounds) -> Effort
     }
 }
 
-/// The least finishing word of ranks of a task, or that there is none; None where it is given up, since more would be
-/// known if more was listed.
-fn search_stage<G: Gate, R: Threads + Wait + Sync>(
+/// How a stage of the search for the least finishing word of ranks of a task ends, with its tables. It is given up where
+/// more would be known if more was listed.
+fn search_stage<G: Gate, W: Watch, R: Threads + Wait + Sync>(
     rt: &R,
     alloc: Global,
     task: &Task,
     stage: Stage,
     bounds: Bounds,
+    known: u64,
     gate: &G,
-) -> Result<Option<Searched<Tables>>, SearchFault>
-    ensures answer { IfOk result (λ o. IfSome o (λ s. IsAnswer (listing_machine task.now) bounds.nodes s.found)) }
-    ensures tables { IfOk result (λ o. IfSome o (λ s. AreTables task.now s.tables)) }
-    ensures given_up { IfOk result (λ o. IfNone o (stage.kept < 2 ^ 64 - 1)) }
+    watch: &mut W,
+) -> Result<Searched<Tables>, SearchFault>
+    requires known { NoneFinishesBefore (listing_machine task.now) known }
+    requires hears { (n : ℕ) → NoneFinishesBefore (listing_machine task.now) n → W.may_hear watch.old n }
+    ensures ending { IfOk result (λ s. IsEnding (listing_machine task.now) bounds.nodes s.ending) }
+    ensures tables { IfOk result (λ s. AreTables task.now s.tables) }
+    ensures given_up { IfOk result (λ s. (n : ℕ) → s.ending ≡ GivenUp n → stage.kept < 2 ^ 64 - 1) }
+    ensures stopped { IfOk result (λ s. (n : ℕ) → s.ending ≡ Stopped n → W.may_stop watch.old ≡ true) }
+    ensures becomes { W.becomes watch.old watch.new }
     ensures no_thread { IfErr result (λ e. e ≡ NoThread → 1 < bounds.workers) }
 {
     let listed = enumerate(alloc, task, stage.listed)?;
     let effort = effort_of(stage, listed.is_cut(task), bounds);
     let machine = TaskMachine::new(alloc, task, listed)?;
-    search_by(rt, alloc, &machine, effort, bounds, gate)
+    search_by(rt, alloc, &machine, effort, bounds, known, gate, watch)
 }
 
-/// The least finishing word of ranks of a task, or that there is none.
-fn find_ranks<G: Gate, R: Threads + Wait + Sync>(
+/// The number of steps below which no word finishes, where a search was given up.
+fn given_up(ending: &Ending) -> Option<u64>
+    ensures some { IfSome result (λ n. ending.now ≡ GivenUp n) }
+    ensures none { IfNone result ((n : ℕ) → ending.now ≡ GivenUp n → ⊥) }
+{
+    match ending {
+        Ending::GivenUp { none_below } => Some(*none_below),
+        Ending::Answer(_) | Ending::Stopped { .. } => None,
+    }
+}
+
+/// How the search for the least finishing word of ranks of a task ends, with the tables of its last stage. Each stage
+/// knows the number of steps below which the stages before it found that no word finishes.
+fn find_ranks<G: Gate, W: Watch, R: Threads + Wait + Sync>(
     rt: &R,
     alloc: Global,
     task: &Task,
     bounds: Bounds,
     gate: &G,
+    watch: &mut W,
 ) -> Result<Searched<Tables>, SearchFault>
-    ensures answer { IfOk result (λ s. IsAnswer (listing_machine task.now) bounds.nodes s.found) }
+    requires hears { (n : ℕ) → NoneFinishesBefore (listing_machine task.now) n → W.may_hear watch.old n }
+    ensures ending { IfOk result (λ s. IsEnding (listing_machine task.now) bounds.nodes s.ending) }
     ensures tables { IfOk result (λ s. AreTables task.now s.tables) }
+    ensures ended { IfOk result (λ s. (n : ℕ) → s.ending ≡ GivenUp n → ⊥) }
+    ensures stopped { IfOk result (λ s. (n : ℕ) → s.ending ≡ Stopped n → W.may_stop watch.old ≡ true) }
+    ensures becomes { W.becomes watch.old watch.new }
     ensures no_thread { IfErr result (λ e. e ≡ NoThread → 1 < bounds.workers) }
 {
+    let mut known = 0;
     for stage in FIRST_STAGES {
-        if let Some(searched) = search_stage(rt, alloc, task, stage, bounds, gate)? {
-            return Ok(searched);
+        let searched = search_stage(rt, alloc, task, stage, bounds, known, gate, watch)?;
+        match given_up(&searched.ending) {
+            Some(none_below) => known = none_below,
+            None => return Ok(searched),
         }
     }
-    match search_stage(rt, alloc, task, LAST_STAGE, bounds, gate)? {
-        Some(searched) => Ok(searched),
-        // It is never given up, since no list holds more.
-        None => unreachable!(),
-    }
+    // It is never given up, since no list holds more.
+    search_stage(rt, alloc, task, LAST_STAGE, bounds, known, gate, watch)
 }
 
 /// The least finishing word of a task, by its steps and then by its numbers; or that no solution is
@@ -161,7 +202,11 @@ pub fn find_word<G: Gate, R: Threads + Wait + Sync>(
     ensures no_thread { IfErr result (λ e. e ≡ NoThread → 1 < bounds.workers) }
 {
     let _typed = task.objects();
-    let Searched { found, tables: _ } = find_ranks(rt, alloc, task, bounds, gate)?;
+    let Searched { ending, tables: _ } = find_ranks(rt, alloc, task, bounds, gate, &mut NoWatch)?;
+    let Ending::Answer(found) = ending else {
+        // It is never given up, and that watch stops nothing.
+        unreachable!()
+    };
     match found {
         Found::Word(ranks) => Ok(Found::Word(word_of_ranks(alloc, task, &ranks)?)),
         Found::None => Ok(Found::None),
@@ -173,28 +218,75 @@ pub fn find_word<G: Gate, R: Threads + Wait + Sync>(
 fn answer_from(
     alloc: Global,
     task: &Task,
-    searched: &Searched<Tables>,
+    tables: &Tables,
+    found: &Found,
 ) -> Result<Answer, AllocError>
-    requires own { AreTables task.now searched.now.tables }
-    requires found { (bound : ℕ) × IsAnswer (listing_machine task.now) bound searched.now.found }
-    ensures { IfOk result (λ answer. (bound : ℕ) → IsAnswer (listing_machine task.now) bound searched.now.found
+    requires own { AreTables task.now tables.now }
+    requires found { (bound : ℕ) × IsAnswer (listing_machine task.now) bound found.now }
+    ensures { IfOk result (λ answer. (bound : ℕ) → IsAnswer (listing_machine task.now) bound found.now
         → Answers task.now bound answer) }
 {
     let _typed = task.objects();
-    match &searched.found {
-        Found::Word(ranks) => Ok(Answer::Plan(rebuild_listed(
-            alloc,
-            task,
-            &searched.tables,
-            ranks,
-        )?)),
+    match found {
+        Found::Word(ranks) => Ok(Answer::Plan(rebuild_listed(alloc, task, tables, ranks)?)),
         Found::None => Ok(Answer::None),
         Found::Unsolvable => Ok(Answer::Unsolvable),
     }
 }
 
-/// The answer of `search`, and the tables of all that the search numbered. To free these takes up to a tenth of a long
-/// search: a process that ends after it may leave them to its end.
+/// What is known once a search has ended.
+fn known_from(
+    alloc: Global,
+    task: &Task,
+    searched: &Searched<Tables>,
+    bound: u64,
+) -> Result<Known, AllocError>
+    requires own { AreTables task.now searched.now.tables }
+    requires ending { IsEnding (listing_machine task.now) bound searched.now.ending }
+    requires ended { (n : ℕ) → searched.now.ending ≡ GivenUp n → ⊥ }
+    ensures known { IfOk result (IsKnown task.now bound) }
+    ensures stopped { IfOk result (λ known. (none : Option ℕ) → known ≡ Unknown none
+        → (n : ℕ) × (searched.now.ending ≡ Stopped n)) }
+{
+    let _typed = task.objects();
+    match &searched.ending {
+        Ending::Answer(found) => {
+            let answer = answer_from(alloc, task, &searched.tables, found)?;
+            Ok(Known::Answer(answer))
+        }
+        Ending::Stopped { none_below } => Ok(Known::Unknown {
+            none_within: none_below.checked_sub(1),
+        }),
+        Ending::GivenUp { .. } => unreachable!(),
+    }
+}
+
+/// The answer of `search`, or what is known where the watch stopped the search, and the tables of all that the search
+/// numbered. To free these takes up to a tenth of a long search: a process that ends after it may leave them to its
+/// end. The watch is given a number of nodes below which the task has no solution.
+pub fn search_watched<G: Gate, W: Watch, R: Threads + Wait + Sync>(
+    rt: &R,
+    alloc: Global,
+    task: &Task,
+    bounds: Bounds,
+    gate: &G,
+    watch: &mut W,
+) -> Result<(Known, Tables), SearchFault>
+    requires hears { (n : ℕ) → HasNoneBelow task.now n → W.may_hear watch.old n }
+    ensures known { IfOk result (λ r. IsKnown task.now bounds.nodes r.0) }
+    ensures stopped { IfOk result (λ r. (none : Option ℕ) → r.0 ≡ Unknown none → W.may_stop watch.old ≡ true) }
+    ensures tables { IfOk result (λ r. AreTables task.now r.1) }
+    ensures becomes { W.becomes watch.old watch.new }
+    ensures no_thread { IfErr result (λ e. e ≡ NoThread → 1 < bounds.workers) }
+{
+    let _typed = task.objects();
+    let searched = find_ranks(rt, alloc, task, bounds, gate, watch)?;
+    let known = known_from(alloc, task, &searched, bounds.nodes)?;
+    Ok((known, searched.tables))
+}
+
+/// The answer of `search`, and the tables of all that the search numbered, which a process that ends after it may leave
+/// to its end.
 pub fn search_with_tables<G: Gate, R: Threads + Wait + Sync>(
     rt: &R,
     alloc: Global,
@@ -206,9 +298,12 @@ pub fn search_with_tables<G: Gate, R: Threads + Wait + Sync>(
     ensures tables { IfOk result (λ r. AreTables task.now r.1) }
     ensures no_thread { IfErr result (λ e. e ≡ NoThread → 1 < bounds.workers) }
 {
-    let searched = find_ranks(rt, alloc, task, bounds, gate)?;
-    let answer = answer_from(alloc, task, &searched)?;
-    Ok((answer, searched.tables))
+    let (known, tables) = search_watched(rt, alloc, task, bounds, gate, &mut NoWatch)?;
+    match known {
+        Known::Answer(answer) => Ok((answer, tables)),
+        // That watch stops nothing.
+        Known::Unknown { .. } => unreachable!(),
+    }
 }
 
 /// The solution of fewest nodes and then of least code; or that none is within the bound, or none

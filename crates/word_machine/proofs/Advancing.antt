@@ -1,11 +1,11 @@
 -- The ranks of a level, expanded block by block.
-use Rattle.std.proofs.Common.{◌≡◌, ℕ, suc, zero, ◌+◌, ◌-◌, ◌<◌, ◌≤◌, Bool, true, false, if◌then◌else◌, List, [], ◌∷◌, ◌++◌, length, refl, sym, ap, subst, ◌∙◌, inl, inr, arith, slice_get, Some, get_or, All, map, take, drop}
+use Rattle.std.proofs.Common.{◌≡◌, ℕ, suc, zero, ◌-◌, ◌<◌, ◌≤◌, Bool, true, false, if◌then◌else◌, List, [], ◌∷◌, ◌++◌, length, refl, sym, ap, subst, ◌∙◌, inl, inr, arith, slice_get, get_or, All, map, take, drop}
 use Rattle.std.specs.Prelude.{nat_le}
 use Rattle.std.proofs.lemmas.List.{take-append-drop, length-take-le, map-append, length-map, get_or_append_left}
 use Rattle.std.proofs.lemmas.List.Sums.{fold-append}
 use Rattle.std.proofs.lemmas.List.Elements.{All-append, All-cons, All-nil, All-head, All-tail}
 use Rattle.std.proofs.lemmas.Bool.{cases_lt}
-use Rattle.std.proofs.lemmas.Option.{slice_get-get_or, slice_get_within}
+use Rattle.std.proofs.lemmas.Option.{slice_get-get_or}
 use Rattle.word_machine.specs.declared.closed.Measured.{Measured}
 use Rattle.word_machine.specs.declared.closed.Successor.{Successor}
 use Rattle.word_machine.specs.declared.closed.Origin.{Origin}
@@ -15,14 +15,25 @@ use Rattle.word_machine.specs.Expansion.{IsExpansion, IsFirstDone}
 use Rattle.word_machine.specs.Meaning.{Meaning, IsGrown, successor_at, successors_of, contents_at}
 use Rattle.word_machine.specs.Advance.{HasAdvanced}
 use Rattle.word_machine.specs.Ranks.{IsOwned, IsExpandedBy}
-use Rattle.std.specs.Prelude.{Vec}
-use Rattle.std.specs.declared.alloc.Global.{Global}
+use Rattle.word_machine.specs.declared.advance.Advanced.{Advanced}
+use Rattle.word_machine.specs.declared.advance.Advanced.TheVariants as advanced
+use Rattle.word_machine.specs.declared.advance.FirstDone.{FirstDone}
 use Rattle.htn_level.specs.declared.level.ExpandedLevel.{ExpandedLevel}
 use Rattle.htn_level.specs.declared.level.ExpandedLevel.TheVariants.{Whole, Done}
-use Rattle.word_machine.proofs.Meanings.{all_at, all_map, same_points, known_still, owned_still}
+use Rattle.word_machine.proofs.Meanings.{all_at, all_map, same_points, owned_still}
 use Rattle.word_machine.proofs.Expanding.{IsExpansion-none, IsExpansion-append}
 use Rattle.word_machine.proofs.Offering.{offered_still}
 use Rattle.word_machine.proofs.ReadingBack.{more_words, length-words_of, add_word}
+
+-- the rank at which the expansion of a level ended, if it ended with a done successor
+abbrev done_of : FirstDone → Advanced → FirstDone
+done_of other advanced.Whole = other
+done_of other (advanced.Done first) = first
+done_of other advanced.Stopped = other
+
+-- there is one such rank
+pub same_done : (f d : FirstDone) → advanced.Done f ≡ advanced.Done d → f ≡ d
+same_done f d same = ap (done_of f) same
 
 -- a place in the first of two lists
 pub slice_get-first : {X : Type 0} (xs ys : List X) (i : ℕ) → i < length xs → slice_get xs i ≡ slice_get (xs ++ ys) i

@@ -4,18 +4,16 @@ use Rattle.std.specs.Prelude.{IfSome, max}
 use Rattle.std.proofs.Math.Nat.{max-le}
 use Rattle.std.proofs.lemmas.Bool.{cases_lt}
 use Rattle.std.proofs.lemmas.Option.{slice_get_within, slice_get-get_or, get_or_from_slice_get}
-use Rattle.word_machine.specs.declared.closed.Origin.TheVariants.{Step as Stepped}
-use Rattle.word_machine.specs.declared.closed.Successor.{Successor}
 use Rattle.word_machine.specs.Words.{Precedes, MeetsBound, Leads, Reaches, Finishes, step_count}
 use Rattle.word_machine.specs.Machine.{WordMachine, IsLawful, IsStep, IsDone, IsLiveStep, IsFinishing, IsLowerBound}
-use Rattle.word_machine.specs.Contents.{Contents, words_of, IsOriginWithin}
+use Rattle.word_machine.specs.Contents.{Contents, words_of}
 use Rattle.word_machine.specs.Closed.{Search, search_by, IsAt, IsClosedTo}
-use Rattle.word_machine.specs.Expansion.{IsFirstDone, IsExpansion}
+use Rattle.word_machine.specs.Expansion.{IsFirstDone}
 use Rattle.word_machine.specs.declared.measure.Measure.{Measure}
 use Rattle.word_machine.specs.declared.measure.Measure.TheVariants.{OpenNodes, LowerBound}
 use Rattle.word_machine.specs.declared.found.Outcome.{Outcome}
-use Rattle.word_machine.specs.declared.found.Outcome.TheVariants.{Finished, Past, Exhausted, GivenUp}
-use Rattle.word_machine.specs.Answer.{IsAnswer, IsOutcome, found_of, measure_of, IsLeastFinishing, NoneFinishes, NoneFinishesBefore, NeverFinishes}
+use Rattle.word_machine.specs.declared.found.Outcome.TheVariants.{Finished, Past, Exhausted, GivenUp, Stopped}
+use Rattle.word_machine.specs.Answer.{IsAnswer, IsEnding, IsOutcome, ending_of, found_of, measure_of, IsLeastFinishing, NoneFinishes, NoneFinishesBefore, NeverFinishes}
 use Rattle.word_machine.proofs.Meanings.{all_at}
 use Rattle.word_machine.proofs.Order.{open_len-leads, IsAtMost-length, step_count-reached}
 use Rattle.word_machine.specs.Dive.{AreKeptBelow}
@@ -228,9 +226,22 @@ none_before_more m bound next none before word finish =
     let later : next ≤ step_count word = before word finish in
     max-le later (omega arith)
 
--- what became of a search by the open nodes is an answer, unless it was given up
+-- the greater of two numbers of steps below which none finishes is one
+pub none_before_both : {C : Type 0} (m : WordMachine C) (a b : ℕ) → NoneFinishesBefore m a → NoneFinishesBefore m b → NoneFinishesBefore m (max a b)
+none_before_both m a b first second word finish = max-le (first word finish) (second word finish)
+
+-- what became of a search by the open nodes is an ending
+pub ending_is : {C : Type 0} (m : WordMachine C) (bound none_below : ℕ) (o : Outcome) → IsOutcome m m.open_len bound o → NoneFinishesBefore m none_below → IsEnding m bound (ending_of none_below o)
+ending_is m bound none_below (Finished word) told none = told
+ending_is m bound none_below (Past least wide) told none = (told.0, told.1)
+ending_is m bound none_below Exhausted told none = told
+ending_is m bound none_below GivenUp told none = none
+ending_is m bound none_below Stopped told none = none
+
+-- what became of a search by the open nodes is an answer, unless it was given up or stopped
 pub answer_of : {C : Type 0} (m : WordMachine C) (bound : ℕ) (o : Outcome) → IsOutcome m m.open_len bound o → IfSome (found_of o) (IsAnswer m bound)
 answer_of m bound (Finished word) told = told
 answer_of m bound (Past least wide) told = (told.0, told.1)
 answer_of m bound Exhausted told = told
 answer_of m bound GivenUp told = tt
+answer_of m bound Stopped told = tt

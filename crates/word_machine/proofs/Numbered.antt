@@ -4,7 +4,7 @@ use Rattle.std.proofs.lemmas.List.{length-map}
 use Rattle.std.proofs.lemmas.Option.{slice_get-get_or}
 use Rattle.word_machine.specs.declared.closed.Successor.{Successor}
 use Rattle.word_machine.specs.declared.found.Outcome.{Outcome}
-use Rattle.word_machine.specs.declared.found.Outcome.TheVariants.{Finished, Past, Exhausted, GivenUp}
+use Rattle.word_machine.specs.declared.found.Outcome.TheVariants.{Finished, Past, Exhausted, GivenUp, Stopped}
 use Rattle.word_machine.specs.Machine.{WordMachine, IsLawful, IsLiveStep, IsDone}
 use Rattle.word_machine.specs.Meaning.{Meaning, IsGrown, IsOneToOne, successor_at, contents_at}
 use Rattle.word_machine.specs.Contents.{Contents, AreOffered, offer_all, initial_successors, words_of}
@@ -28,6 +28,7 @@ least_of (Past least wide) = least
 least_of (Finished word) = 0
 least_of Exhausted = 0
 least_of GivenUp = 0
+least_of Stopped = 0
 
 -- whether something was left out
 abbrev is_past : Outcome → Bool
@@ -35,6 +36,7 @@ is_past (Past least wide) = true
 is_past (Finished word) = false
 is_past Exhausted = false
 is_past GivenUp = false
+is_past Stopped = false
 
 module _ {C R P : Type 0} (m : WordMachine P) (belongs : P → Type 0) (laws : IsLawful m belongs) (measure : P → ℕ) (bound : ℕ) (counts : CountsOpen (search_by m measure bound)) where
   -- the closed list in the middle of a search, by what its numbers stand for

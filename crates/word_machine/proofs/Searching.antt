@@ -1,5 +1,5 @@
 -- The closed list from the start on, level by level, as the merges leave it.
-use Rattle.std.proofs.Common.{◌≡◌, ℕ, ◌+◌, true≢false, List, [], ◌∷◌, length, refl, sym, subst, arith, slice_get, Some}
+use Rattle.std.proofs.Common.{◌≡◌, ℕ, ◌+◌, true≢false, List, [], ◌∷◌, length, refl, sym, arith, slice_get, Some}
 use Rattle.std.proofs.lemmas.Option.{none-some}
 use Rattle.word_machine.specs.declared.closed.Successor.{Successor}
 use Rattle.word_machine.specs.Contents.{Contents, AreOffered, initial_successors, words_of}

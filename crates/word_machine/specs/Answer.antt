@@ -3,10 +3,12 @@ use Rattle.std.specs.Prelude.{◌≡◌, ℕ, ◌<◌, ◌≤◌, List, Option}
 use Rattle.std.specs.declared.option.Option.TheVariants as option
 use Rattle.word_machine.specs.Words.{Precedes, MeetsBound, step_count}
 use Rattle.word_machine.specs.Machine.{WordMachine, IsFinishing, IsLiveStep, IsMet}
+use Rattle.word_machine.specs.declared.found.Ending.{Ending}
+use Rattle.word_machine.specs.declared.found.Ending.TheVariants as ending
 use Rattle.word_machine.specs.declared.found.Found.{Found}
 use Rattle.word_machine.specs.declared.found.Found.TheVariants.{Word, None, Unsolvable}
 use Rattle.word_machine.specs.declared.found.Outcome.{Outcome}
-use Rattle.word_machine.specs.declared.found.Outcome.TheVariants.{Finished, Past, Exhausted, GivenUp}
+use Rattle.word_machine.specs.declared.found.Outcome.TheVariants.{Finished, Past, Exhausted, GivenUp, Stopped}
 use Rattle.word_machine.specs.declared.measure.Horizon.{Horizon}
 use Rattle.word_machine.specs.declared.measure.Measure.{Measure}
 use Rattle.word_machine.specs.declared.measure.Measure.TheVariants.{OpenNodes, LowerBound}
@@ -36,12 +38,20 @@ module _ {Configuration : Type 0} (m : WordMachine Configuration) where
   IsAnswer bound None = NoneFinishes bound × IsMet m bound
   IsAnswer bound Unsolvable = NeverFinishes × (IsMet m bound → ⊥)
 
-  -- the same by a measure of what is left, in the place of the open nodes; nothing is said where it was given up
+  -- an answer; or the search was given up or stopped, and no word finishes with fewer steps than it names
+  abbrev pub IsEnding : ℕ → Ending → Type 0
+  IsEnding bound (ending.Answer found) = IsAnswer bound found
+  IsEnding bound (ending.GivenUp none_below) = NoneFinishesBefore none_below
+  IsEnding bound (ending.Stopped none_below) = NoneFinishesBefore none_below
+
+  -- the same by a measure of what is left, in the place of the open nodes; nothing is said where it was given up or
+  -- stopped
   abbrev pub IsOutcome : (Configuration → ℕ) → ℕ → Outcome → Type 0
   IsOutcome measure bound (Finished word) = IsLeastFinishing bound word.items
   IsOutcome measure bound (Past least wide) = NoneFinishes bound × MeetsBound (IsLiveStep m) measure m.initials bound × NoneFinishesBefore least
   IsOutcome measure bound Exhausted = NeverFinishes × (MeetsBound (IsLiveStep m) measure m.initials bound → ⊥)
   IsOutcome measure bound GivenUp = Unit {0}
+  IsOutcome measure bound Stopped = Unit {0}
 
   -- what is left at least of a configuration, by the measure
   abbrev pub measure_of : (Configuration → ℕ) → Measure → Configuration → ℕ
@@ -52,9 +62,18 @@ module _ {Configuration : Type 0} (m : WordMachine Configuration) where
   abbrev pub IsBeyond : (Configuration → ℕ) → Horizon → Configuration → Type 0
   IsBeyond lower_bound horizon c = (most : ℕ) × (horizon.most_left ≡ option.Some most) × (most < measure_of lower_bound horizon.measure c)
 
--- an outcome by the open nodes, as an answer, unless it was given up
+-- an outcome by the open nodes, as an answer, unless it was given up or stopped
 abbrev pub found_of : Outcome → Option Found
 found_of (Finished word) = option.Some (Word word)
 found_of (Past least wide) = option.Some None
 found_of Exhausted = option.Some Unsolvable
 found_of GivenUp = option.None
+found_of Stopped = option.None
+
+-- the same as an ending, where no word finishes with fewer steps than these
+abbrev pub ending_of : ℕ → Outcome → Ending
+ending_of none_below (Finished word) = ending.Answer (Word word)
+ending_of none_below (Past least wide) = ending.Answer None
+ending_of none_below Exhausted = ending.Answer Unsolvable
+ending_of none_below GivenUp = ending.GivenUp none_below
+ending_of none_below Stopped = ending.Stopped none_below

@@ -1,13 +1,15 @@
 //! The step from one level to the next: its ranks are expanded block by block, and what a block reaches is offered to
 //! the closed list before the next one is expanded, so that no more than a block's successors are held at once. A block
 //! has whole pieces, which are numbered through the level.
-ghost use Rattle.std.specs.Prelude.{◌≡◌, ◌*◌, ◌/◌, ◌<◌, ◌≤◌, ◌++◌, List, length, map, All, IfOk, IfErr, IfSome, IfNone, OnOk};
+ghost use Rattle.std.specs.Prelude.{◌≡◌, ◌*◌, ◌/◌, ◌<◌, ◌≤◌, ◌++◌, List, length, map, All, true, IfOk, IfErr, IfSome, IfNone, OnOk};
 ghost use Rattle.word_machine.specs.Machine.{IsDone, IsLiveStep};
 ghost use Rattle.word_machine.specs.Answer.{IsBeyond, measure_of};
 ghost use Rattle.word_machine.specs.Advance.{HasAdvanced};
 ghost use Rattle.word_machine.specs.Expansion.{IsFirstDone};
 ghost use Rattle.word_machine.specs.Meaning.{IsGrown, contents_at};
 ghost use Rattle.word_machine.specs.Ranks.{IsOwned};
+ghost use Rattle.word_machine.specs.declared.advance.FirstDone.{FirstDone};
+ghost use Rattle.word_machine.specs.declared.advance.Advanced.TheVariants.{Whole, Done, Stopped};
 ghost use Rattle.word_machine.specs.declared.closed.Origin.{Origin};
 ghost use Rattle.word_machine.specs.declared.found.SearchFault.TheVariants.{NoThread};
 
@@ -16,8 +18,9 @@ use crate::closed::Closed;
 use crate::expand::{expand_ranks, prepare_ranks};
 use crate::found::SearchFault;
 use crate::machine::Machine;
-use crate::measure::Horizon;
+use crate::measure::{Horizon, Limits};
 use crate::merge::merge;
+use crate::watch::{Watch, goes_on_if};
 use htn_level::{ExpandedLevel, Gate};
 use std::alloc::Global;
 use std::sync::Wait;
@@ -45,6 +48,17 @@ fn block_len(piece: usize) -> usize
 pub struct FirstDone {
     pub rank: usize,
     pub number: u64,
+}
+
+/// How the expansion of a level ended.
+#[derive(Clone, Copy, Debug)]
+pub enum Advanced {
+    /// All was expanded, and no successor is done.
+    Whole,
+    /// A rank has a done successor.
+    Done(FirstDone),
+    /// The watch stopped it.
+    Stopped,
 }
 
 /// Expands the ranks from `from` up to `to`, of the level that begins at `low`, and offers their successors to the
@@ -99,8 +113,9 @@ pub fn advance_block<M: Machine, G: Gate, R: Threads + Wait + Sync>(
 }
 
 /// Expands the level that begins at rank `low`, block by block, and offers the successors to the closed list; `room` is
-/// how many steps may still follow a successor. It stops at the block of the first rank with a done successor.
-pub fn advance<M: Machine, G: Gate, R: Threads + Wait + Sync>(
+/// how many steps may still follow a successor. It stops at the block of the first rank with a done successor. The watch
+/// is asked before each block but the first.
+pub fn advance<M: Machine, G: Gate, W: Watch, R: Threads + Wait + Sync>(
     rt: &R,
     alloc: Global,
     machine: &M,
@@ -109,32 +124,41 @@ pub fn advance<M: Machine, G: Gate, R: Threads + Wait + Sync>(
     low: usize,
     horizon: Horizon,
     room: u64,
-    bounds: Bounds,
+    limits: Limits,
     gate: &G,
-) -> Result<Option<FirstDone>, SearchFault>
+    watch: &mut W,
+) -> Result<Advanced, SearchFault>
     requires ordered { low ≤ length closed.old.keys }
     requires own { M.owns machine.now tables.old }
     requires known { All (IsOwned (M.meaning machine.now tables.old) (M.belongs machine.now)) closed.old.keys }
+    requires hears { W.may_hear watch.old limits.none_below }
     ensures owned { OnOk result (M.owns machine.now tables.new) }
     ensures grown { OnOk result (IsGrown (M.meaning machine.now tables.old) (M.meaning machine.now tables.new)) }
     ensures known { OnOk result (All (IsOwned (M.meaning machine.now tables.new) (M.belongs machine.now)) closed.new.keys) }
-    ensures whole { IfOk result (λ done. IfNone done (HasAdvanced (M.words machine.now) (IsBeyond (M.words machine.now) (M.estimate machine.now) horizon) (measure_of (M.words machine.now) (M.estimate machine.now) horizon.measure) room (map (M.meaning machine.now tables.new).point closed.old.keys) low (length closed.old.keys) (contents_at (M.meaning machine.now tables.new).point closed.old) (contents_at (M.meaning machine.now tables.new).point closed.new))) }
-    ensures done { IfOk result (λ done. IfSome done (λ first. IsFirstDone (IsLiveStep (M.words machine.now)) (IsDone (M.words machine.now)) (map (M.meaning machine.now tables.new).point closed.old.keys) low (length closed.old.keys) first.rank first.number)) }
+    ensures whole { IfOk result (λ o. o ≡ Whole → (HasAdvanced (M.words machine.now) (IsBeyond (M.words machine.now) (M.estimate machine.now) horizon) (measure_of (M.words machine.now) (M.estimate machine.now) horizon.measure) room (map (M.meaning machine.now tables.new).point closed.old.keys) low (length closed.old.keys) (contents_at (M.meaning machine.now tables.new).point closed.old) (contents_at (M.meaning machine.now tables.new).point closed.new))) }
+    ensures done { IfOk result (λ o. (first : FirstDone) → o ≡ Done first → (IsFirstDone (IsLiveStep (M.words machine.now)) (IsDone (M.words machine.now)) (map (M.meaning machine.now tables.new).point closed.old.keys) low (length closed.old.keys) first.rank first.number)) }
     ensures keys { OnOk result ((more : List M.Configuration) × (closed.new.keys ≡ closed.old.keys ++ more)) }
     ensures origins { OnOk result ((more : List Origin) × (closed.new.origins ≡ closed.old.origins ++ more)) }
-    ensures no_thread { IfErr result (λ e. e ≡ NoThread → 1 < bounds.workers) }
+    ensures no_thread { IfErr result (λ e. e ≡ NoThread → 1 < limits.bounds.workers) }
+    ensures stopped { IfOk result (λ o. o ≡ Stopped → W.may_stop watch.old ≡ true) }
+    ensures becomes { W.becomes watch.old watch.new }
 {
+    let bounds = limits.bounds;
     let high = closed.configurations().len();
     let block = block_len(bounds.piece as usize);
     let mut from = low;
     while from < high {
+        let count = closed.configurations().len();
+        if !goes_on_if(watch, from > low, limits.news(count)) {
+            return Ok(Advanced::Stopped);
+        }
         let to = from.saturating_add(block).min(high);
         if let Some(done) = advance_block(
             rt, alloc, machine, tables, closed, low, from, to, horizon, room, bounds, gate,
         )? {
-            return Ok(Some(done));
+            return Ok(Advanced::Done(done));
         }
         from = to;
     }
-    Ok(None)
+    Ok(Advanced::Whole)
 }

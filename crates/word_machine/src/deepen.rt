@@ -1,25 +1,28 @@
 //! The search with growing bounds: breadth-first iterative-deepening A* (R. Zhou and E. Hansen, Breadth-first heuristic
 //! search, Artificial Intelligence 170, 2006), whose bound grows as in R. Korf's IDA* (1985).
-ghost use Rattle.std.specs.Prelude.{◌≡◌, ◌-◌, ◌^◌, ◌<◌, ◌≤◌, All, map, IfOk, IfErr, IfSome, IfNone, OnOk};
-ghost use Rattle.word_machine.specs.Answer.{IsAnswer, NoneFinishes};
+ghost use Rattle.std.specs.Prelude.{◌≡◌, ℕ, ◌-◌, ◌^◌, ◌<◌, ◌≤◌, true, All, map, IfOk, IfErr, IfSome, IfNone, OnOk};
+ghost use Rattle.word_machine.specs.Answer.{IsAnswer, IsEnding, NoneFinishes, NoneFinishesBefore};
 ghost use Rattle.word_machine.specs.Dive.{AreAllBelow};
 ghost use Rattle.word_machine.specs.Ranks.{IsOwned};
+ghost use Rattle.word_machine.specs.declared.found.Ending.TheVariants.{GivenUp, Stopped};
 ghost use Rattle.word_machine.specs.declared.found.SearchFault.TheVariants.{NoThread};
+ghost use Rattle.word_machine.specs.declared.measure.Measure.TheVariants.{OpenNodes};
 
 use crate::bounds::Bounds;
 use crate::closed::Closed;
 use crate::dive::dive;
-use crate::found::{Found, Outcome, SearchFault};
+use crate::found::{Ending, Found, Outcome, SearchFault};
 use crate::growth::Growth;
 use crate::machine::Machine;
 use crate::measure::{Limits, Measure};
 use crate::search::search;
+use crate::watch::{NoWatch, Watch};
 use htn_level::Gate;
 use std::alloc::Global;
 use std::sync::Wait;
 use std::thread::Threads;
 
-/// The limits of the searches that `find_word_in` makes.
+/// The limits of the searches that `find_word_watched` makes.
 #[derive(Clone, Copy, Debug)]
 pub struct Effort {
     /// A search whose closed list has more configurations is given up.
@@ -42,11 +45,11 @@ fn least_bound<M: Machine>(machine: &M, tables: &M::Tables, initials: &[M::Confi
     least
 }
 
-// The answer where no word finishes within the bound, nor in fewer steps than `least`: `none` if some configuration
-// can't finish within the bound by its open nodes alone (the bound is met), and `unsolvable` else. A dive among what
-// the last search pruned looks for such a configuration; where it finds none, a search by the open nodes decides. Both
-// use the tables of the searches before, in which most networks are numbered and expanded.
-fn none_or_unsolvable<M: Machine, G: Gate, R: Threads + Wait + Sync>(
+// The ending where no word finishes within the bound, nor in fewer steps than `least`: the answer `none` if some
+// configuration can't finish within the bound by its open nodes alone (the bound is met), and `unsolvable` else. A dive
+// among what the last search pruned looks for such a configuration; where it finds none, a search by the open nodes
+// decides. Both use the tables of the searches before, in which most networks are numbered and expanded.
+fn none_or_unsolvable<M: Machine, G: Gate, W: Watch, R: Threads + Wait + Sync>(
     rt: &R,
     alloc: Global,
     machine: &M,
@@ -54,42 +57,105 @@ fn none_or_unsolvable<M: Machine, G: Gate, R: Threads + Wait + Sync>(
     initials: &[M::Configuration],
     closed: &mut Closed<M::Configuration>,
     least: u64,
-    bounds: Bounds,
-    most_kept: usize,
+    limits: Limits,
     gate: &G,
-) -> Result<Option<Found>, SearchFault>
+    watch: &mut W,
+) -> Result<Ending, SearchFault>
     requires own { M.owns machine.now tables.old }
     requires known { All (M.meaning machine.now tables.old).knows initials.now }
     requires initials { map (M.meaning machine.now tables.old).point initials.now ≡ (M.words machine.now).initials }
     requires below { AreAllBelow (M.words machine.now) (M.belongs machine.now) (M.estimate machine.now)
         (M.meaning machine.now tables.old) least closed.old.keys }
-    requires none { NoneFinishes (M.words machine.now) bounds.nodes }
+    requires none { NoneFinishes (M.words machine.now) limits.bounds.nodes }
+    requires before { NoneFinishesBefore (M.words machine.now) limits.none_below }
+    requires measure { limits.measure ≡ OpenNodes }
+    requires hears { W.may_hear watch.old limits.none_below }
     ensures owned { OnOk result (M.owns machine.now tables.new) }
-    ensures answer { IfOk result (λ o. IfSome o (IsAnswer (M.words machine.now) bounds.nodes)) }
-    ensures given_up { IfOk result (λ o. IfNone o (most_kept < 2 ^ 64 - 1)) }
-    ensures no_thread { IfErr result (λ e. e ≡ NoThread → 1 < bounds.workers) }
+    ensures ending { IfOk result (IsEnding (M.words machine.now) limits.bounds.nodes) }
+    ensures given_up { IfOk result (λ e. (n : ℕ) → e ≡ GivenUp n → limits.most_kept < 2 ^ 64 - 1) }
+    ensures stopped { IfOk result (λ e. (n : ℕ) → e ≡ Stopped n → W.may_stop watch.old ≡ true) }
+    ensures becomes { W.becomes watch.old watch.new }
+    ensures no_thread { IfErr result (λ e. e ≡ NoThread → 1 < limits.bounds.workers) }
 {
-    let bound = bounds.nodes;
-    if dive(rt, alloc, machine, tables, initials, closed, least, bound)? {
-        return Ok(Some(Found::None));
+    if dive(
+        rt, alloc, machine, tables, initials, closed, least, limits, watch,
+    )? {
+        return Ok(Ending::Answer(Found::None));
     }
     let initials = machine.initials(tables)?;
-    let limits = Limits {
-        bounds,
-        measure: Measure::OpenNodes,
-        none_within: true,
-        most_kept,
-    };
-    let outcome = search(rt, alloc, machine, tables, &initials, closed, limits, gate)?;
-    Ok(outcome.found())
+    let outcome = search(
+        rt, alloc, machine, tables, &initials, closed, limits, gate, watch,
+    )?;
+    Ok(outcome.ending(limits.none_below))
 }
 
 /// The answer of `find_word`, over the caller's tables, which hold all that was numbered afterwards. The searches use
 /// the machine's own bound from below, within bounds that grow from that of the initial configurations, or from
 /// `effort.first_bound`: each next bound admits about as many more configurations, or, where few were pruned near the
 /// bound, grows by increasing steps. Only where these find no word, `none` and `unsolvable` are told apart by the open
-/// nodes. None where it is given up, once the closed list of a search has more than `effort.most_kept` configurations;
-/// never where that is the greatest number.
+/// nodes. It is given up once the closed list of a search has more than `effort.most_kept` configurations, and never
+/// where that is the greatest number. The watch may stop it; it is given the steps below which no word finishes as far
+/// as is known, `known` at least.
+pub fn find_word_watched<M: Machine, G: Gate, W: Watch, R: Threads + Wait + Sync>(
+    rt: &R,
+    alloc: Global,
+    machine: &M,
+    tables: &mut M::Tables,
+    bounds: Bounds,
+    effort: Effort,
+    known: u64,
+    gate: &G,
+    watch: &mut W,
+) -> Result<Ending, SearchFault>
+    requires own { M.owns machine.now tables.old }
+    requires known { NoneFinishesBefore (M.words machine.now) known }
+    requires hears { (n : ℕ) → NoneFinishesBefore (M.words machine.now) n → W.may_hear watch.old n }
+    ensures owned { OnOk result (M.owns machine.now tables.new) }
+    ensures ending { IfOk result (IsEnding (M.words machine.now) bounds.nodes) }
+    ensures given_up { IfOk result (λ e. (n : ℕ) → e ≡ GivenUp n → effort.most_kept < 2 ^ 64 - 1) }
+    ensures stopped { IfOk result (λ e. (n : ℕ) → e ≡ Stopped n → W.may_stop watch.old ≡ true) }
+    ensures becomes { W.becomes watch.old watch.new }
+    ensures no_thread { IfErr result (λ e. e ≡ NoThread → 1 < bounds.workers) }
+{
+    let starts = machine.initials(tables)?;
+    let mut growth = Growth::from(least_bound(machine, tables, &starts), effort.first_bound);
+    let mut kept = Closed::new(alloc, bounds.workers as usize)?;
+    while growth.least <= bounds.nodes {
+        let within = bounds.within(growth.nodes.min(bounds.nodes));
+        let none_below = growth.least.max(known);
+        let limits = Limits {
+            bounds: within,
+            measure: Measure::LowerBound,
+            none_within: false,
+            most_kept: effort.most_kept,
+            none_below,
+        };
+        let outcome = search(
+            rt, alloc, machine, tables, &starts, &mut kept, limits, gate, watch,
+        )?;
+        match outcome {
+            Outcome::Finished(word) => return Ok(Ending::Answer(Found::Word(word))),
+            Outcome::Exhausted => return Ok(Ending::Answer(Found::Unsolvable)),
+            Outcome::GivenUp => return Ok(Ending::GivenUp { none_below }),
+            Outcome::Stopped => return Ok(Ending::Stopped { none_below }),
+            Outcome::Past { least, wide } => growth = growth.after(within.nodes, least, wide),
+        }
+    }
+    let least = growth.least;
+    let limits = Limits {
+        bounds,
+        measure: Measure::OpenNodes,
+        none_within: true,
+        most_kept: effort.most_kept,
+        none_below: least.max(known),
+    };
+    none_or_unsolvable(
+        rt, alloc, machine, tables, &starts, &mut kept, least, limits, gate, watch,
+    )
+}
+
+/// The answer of `find_word`, by `find_word_watched` with no watch. None where it is given up, once the closed list of a
+/// search has more than `effort.most_kept` configurations; never where that is the greatest number.
 pub fn find_word_in<M: Machine, G: Gate, R: Threads + Wait + Sync>(
     rt: &R,
     alloc: Global,
@@ -105,37 +171,23 @@ pub fn find_word_in<M: Machine, G: Gate, R: Threads + Wait + Sync>(
     ensures given_up { IfOk result (λ o. IfNone o (effort.most_kept < 2 ^ 64 - 1)) }
     ensures no_thread { IfErr result (λ e. e ≡ NoThread → 1 < bounds.workers) }
 {
-    let starts = machine.initials(tables)?;
-    let mut growth = Growth::from(least_bound(machine, tables, &starts), effort.first_bound);
-    let mut kept = Closed::new(alloc, bounds.workers as usize)?;
-    while growth.least <= bounds.nodes {
-        let within = bounds.within(growth.nodes.min(bounds.nodes));
-        let limits = Limits {
-            bounds: within,
-            measure: Measure::LowerBound,
-            none_within: false,
-            most_kept: effort.most_kept,
-        };
-        let outcome = search(rt, alloc, machine, tables, &starts, &mut kept, limits, gate)?;
-        match outcome {
-            Outcome::Finished(word) => return Ok(Some(Found::Word(word))),
-            Outcome::Exhausted => return Ok(Some(Found::Unsolvable)),
-            Outcome::GivenUp => return Ok(None),
-            Outcome::Past { least, wide } => growth = growth.after(within.nodes, least, wide),
-        }
-    }
-    none_or_unsolvable(
+    let ending = find_word_watched(
         rt,
         alloc,
         machine,
         tables,
-        &starts,
-        &mut kept,
-        growth.least,
         bounds,
-        effort.most_kept,
+        effort,
+        0,
         gate,
-    )
+        &mut NoWatch,
+    )?;
+    match ending {
+        Ending::Answer(found) => Ok(Some(found)),
+        Ending::GivenUp { .. } => Ok(None),
+        // That watch stops nothing.
+        Ending::Stopped { .. } => unreachable!(),
+    }
 }
 
 /// The answer of `find_word`, found by `find_word_in` in tables of its own.

@@ -9,7 +9,8 @@ ghost use Rattle.word_machine.specs.Ranks.{IsOwned};
 
 use crate::closed::{Closed, Measured};
 use crate::machine::Machine;
-use crate::measure::{Horizon, Measure};
+use crate::measure::{Horizon, Limits, Measure};
+use crate::watch::{Watch, goes_on_if};
 use indexmap::IndexSet;
 use std::alloc::{AllocError, Global};
 use std::collections::BinaryHeap;
@@ -19,6 +20,9 @@ use std::thread::Threads;
 // A dive that succeeds mostly needs some hundreds of configurations. It gives up once it has this number, and half as
 // many as the search before it.
 const LEAST_KEPT: usize = 1_000;
+
+// A dive asks its watch each time that it has expanded this number of configurations.
+const TURNS: usize = 256;
 
 // The configurations that a dive reached, none of them twice, and those that are not expanded yet.
 #[derive(Drop)]
@@ -202,8 +206,9 @@ fn expand<M: Machine, R: Threads + Sync>(
 }
 
 /// Whether a configuration was found that no word reaches with its steps and its open nodes within the bound. The dive
-/// starts at the parents of configurations that a search pruned, expands the greatest extent first, and may give up.
-pub fn dive<M: Machine, R: Threads + Sync>(
+/// starts at the parents of configurations that a search pruned, expands the greatest extent first, and may give up, as
+/// where its watch stops it.
+pub fn dive<M: Machine, W: Watch, R: Threads + Sync>(
     rt: &R,
     alloc: Global,
     machine: &M,
@@ -211,20 +216,28 @@ pub fn dive<M: Machine, R: Threads + Sync>(
     initials: &[M::Configuration],
     closed: &Closed<M::Configuration>,
     least: u64,
-    bound: u64,
+    limits: Limits,
+    watch: &mut W,
 ) -> Result<bool, AllocError>
     requires own { M.owns machine.now tables.old }
     requires known { All (M.meaning machine.now tables.old).knows initials.now }
     requires initials { map (M.meaning machine.now tables.old).point initials.now ≡ (M.words machine.now).initials }
     requires below { AreAllBelow (M.words machine.now) (M.belongs machine.now) (M.estimate machine.now)
         (M.meaning machine.now tables.old) least closed.now.keys }
+    requires hears { W.may_hear watch.old limits.none_below }
     ensures owned { OnOk result (M.owns machine.now tables.new) }
-    ensures met { IfOk result (λ is_met. is_met ≡ true → IsMet (M.words machine.now) bound) }
+    ensures met { IfOk result (λ is_met. is_met ≡ true → IsMet (M.words machine.now) limits.bounds.nodes) }
+    ensures becomes { W.becomes watch.old watch.new }
 {
+    let bound = limits.bounds.nodes;
     let mut frontier = Frontier::new(alloc);
     keep_starts(machine, tables, &mut frontier, initials, closed, least)?;
     let most_kept = LEAST_KEPT.max(closed.configurations().len() / 2);
-    for _turn in 0..most_kept {
+    for turn in 0..most_kept {
+        let count = frontier.kept.len();
+        if !goes_on_if(watch, turn % TURNS == 0, limits.news(count)) {
+            return Ok(false);
+        }
         let Some(from) = frontier.pop() else {
             return Ok(false);
         };

@@ -1,7 +1,7 @@
 //! What a search answers, and why it may not.
 
 ghost use Rattle.std.specs.Prelude.{◌≡◌, None};
-ghost use Rattle.word_machine.specs.Answer.{found_of};
+ghost use Rattle.word_machine.specs.Answer.{ending_of, found_of};
 ghost use Rattle.word_machine.specs.declared.found.Outcome.TheVariants.{Past};
 
 use htn_level::LevelFault;
@@ -20,6 +20,17 @@ pub enum Found {
     Unsolvable,
 }
 
+/// How a watched search ended.
+#[derive(Debug, Drop)]
+pub enum Ending {
+    /// It has an answer.
+    Answer(Found),
+    /// It was given up. No word finishes in fewer steps than these.
+    GivenUp { none_below: u64 },
+    /// Its watch stopped it. No word finishes in fewer steps than these.
+    Stopped { none_below: u64 },
+}
+
 /// How a search within a bound ended, by some measure of the steps that are left.
 #[derive(Drop)]
 pub enum Outcome {
@@ -33,6 +44,8 @@ pub enum Outcome {
     Exhausted,
     /// The search was given up.
     GivenUp,
+    /// The watch stopped it.
+    Stopped,
 }
 
 impl Outcome {
@@ -46,7 +59,7 @@ impl Outcome {
         }
     }
 
-    /// The answer, where the measure is the number of open nodes; None if the search was given up.
+    /// The answer, where the measure is the number of open nodes; None if the search was given up or stopped.
     pub fn found(self) -> Option<Found>
         ensures { result ≡ found_of self }
     {
@@ -54,7 +67,20 @@ impl Outcome {
             Outcome::Finished(word) => Some(Found::Word(word)),
             Outcome::Past { .. } => Some(Found::None),
             Outcome::Exhausted => Some(Found::Unsolvable),
-            Outcome::GivenUp => None,
+            Outcome::GivenUp | Outcome::Stopped => None,
+        }
+    }
+
+    /// The ending of a search by the open nodes, where no word finishes in fewer steps than `none_below`.
+    pub fn ending(self, none_below: u64) -> Ending
+        ensures { result ≡ ending_of none_below self }
+    {
+        match self {
+            Outcome::Finished(word) => Ending::Answer(Found::Word(word)),
+            Outcome::Past { .. } => Ending::Answer(Found::None),
+            Outcome::Exhausted => Ending::Answer(Found::Unsolvable),
+            Outcome::GivenUp => Ending::GivenUp { none_below },
+            Outcome::Stopped => Ending::Stopped { none_below },
         }
     }
 }

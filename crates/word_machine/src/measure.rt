@@ -5,6 +5,7 @@ ghost use Rattle.word_machine.specs.Ranks.{IsOwned};
 
 use crate::bounds::Bounds;
 use crate::machine::Machine;
+use crate::watch::News;
 
 /// The bound from below that a search uses.
 #[derive(Clone, Copy, Debug)]
@@ -31,6 +32,21 @@ pub struct Limits {
     pub none_within: bool,
     /// The search is given up once its closed list has more configurations.
     pub most_kept: usize,
+    /// No word finishes in fewer steps than these. It is for the watch of the search alone.
+    pub none_below: u64,
+}
+
+impl Limits {
+    /// What a watch is given of a search with this number of configurations.
+    pub fn news(&self, configurations: usize) -> News
+        ensures { result ≡ record { bound = self.now.bounds.nodes; configurations = configurations; none_below = self.now.none_below } }
+    {
+        News {
+            bound: self.bounds.nodes,
+            configurations,
+            none_below: self.none_below,
+        }
+    }
 }
 
 /// How many steps are left at least, by this measure.

@@ -6,15 +6,16 @@ ghost use Rattle.word_machine.specs.Ranks.{IsOwned};
 ghost use Rattle.word_machine.specs.Dive.{AreAllBelow};
 ghost use Rattle.word_machine.specs.Answer.{IsAnswer, IsOutcome, NoneFinishes, measure_of};
 ghost use Rattle.word_machine.specs.declared.found.SearchFault.TheVariants.{NoThread};
-ghost use Rattle.word_machine.specs.declared.found.Outcome.TheVariants.{Past, Exhausted, GivenUp};
+ghost use Rattle.word_machine.specs.declared.found.Outcome.TheVariants.{Past, Exhausted, GivenUp, Stopped};
 
-use crate::advance::advance;
+use crate::advance::{Advanced, advance};
 use crate::bounds::Bounds;
 use crate::closed::Closed;
 use crate::found::{Found, Outcome, SearchFault};
 use crate::machine::Machine;
 use crate::measure::{Horizon, Limits, Measure};
 use crate::merge::offer_initials;
+use crate::watch::{NoWatch, Watch};
 use crate::word::read_word;
 use htn_level::Gate;
 use std::alloc::{AllocError, Global};
@@ -53,8 +54,9 @@ fn word_of_one(alloc: Global, number: u64) -> Result<Vec<u64>, AllocError>
 /// The least finishing word within the bound: a breadth-first search that prunes by the measure what can't finish
 /// within the bound. Where it is known that no word finishes within it, the search ends with the level in which the
 /// first configuration is pruned. It is given up before a level at which the closed list is longer than the limit, and
-/// never where the limit is the greatest number. The closed list is emptied first, and its room used again.
-pub fn search<M: Machine, G: Gate, R: Threads + Wait + Sync>(
+/// never where the limit is the greatest number. The watch is asked before each level, and may stop it. The closed list
+/// is emptied first, and its room used again.
+pub fn search<M: Machine, G: Gate, W: Watch, R: Threads + Wait + Sync>(
     rt: &R,
     alloc: Global,
     machine: &M,
@@ -63,10 +65,12 @@ pub fn search<M: Machine, G: Gate, R: Threads + Wait + Sync>(
     closed: &mut Closed<M::Configuration>,
     limits: Limits,
     gate: &G,
+    watch: &mut W,
 ) -> Result<Outcome, SearchFault>
     requires own { M.owns machine.now tables.old }
     requires known { All (M.meaning machine.now tables.old).knows initials.now }
     requires initials { map (M.meaning machine.now tables.old).point initials.now ≡ (M.words machine.now).initials }
+    requires hears { W.may_hear watch.old limits.none_below }
     requires none { limits.none_within ≡ true → NoneFinishes (M.words machine.now) limits.bounds.nodes }
     ensures owned { OnOk result (M.owns machine.now tables.new) }
     ensures grown { OnOk result (IsGrown (M.meaning machine.now tables.old) (M.meaning machine.now tables.new)) }
@@ -75,14 +79,15 @@ pub fn search<M: Machine, G: Gate, R: Threads + Wait + Sync>(
         → AreAllBelow (M.words machine.now) (M.belongs machine.now) (measure_of (M.words machine.now) (M.estimate machine.now) limits.measure)
         (M.meaning machine.now tables.new) (max steps (limits.bounds.nodes + 1)) closed.new.keys) }
     ensures given_up { IfOk result (λ o. o ≡ GivenUp → (limits.most_kept < length closed.new.keys) × (limits.most_kept < 2 ^ 64 - 1)) }
+    ensures stopped { IfOk result (λ o. o ≡ Stopped → W.may_stop watch.old ≡ true) }
+    ensures becomes { W.becomes watch.old watch.new }
     ensures no_thread { IfErr result (λ e. e ≡ NoThread → 1 < limits.bounds.workers) }
 {
     if let Some(initial) = first_done(machine, tables, initials) {
         return Ok(Outcome::Finished(word_of_one(alloc, initial)?));
     }
-    let bounds = limits.bounds;
     let measure = limits.measure;
-    let bound = bounds.nodes;
+    let bound = limits.bounds.nodes;
     closed.restart()?;
     offer_initials(rt, alloc, machine, tables, closed, initials, measure, bound)?;
     let mut low = 0;
@@ -97,16 +102,23 @@ pub fn search<M: Machine, G: Gate, R: Threads + Wait + Sync>(
         if high > limits.most_kept {
             return Ok(Outcome::GivenUp);
         }
+        if !watch.goes_on(limits.news(high)) {
+            return Ok(Outcome::Stopped);
+        }
         let room = bound - level - 1;
         let most_left = closed.most_left(room);
         let horizon = Horizon { measure, most_left };
-        if let Some(done) = advance(
-            rt, alloc, machine, tables, closed, low, horizon, room, bounds, gate,
-        )? {
-            let word = read_word(alloc, closed, done.rank, done.number)?;
-            return Ok(Outcome::Finished(word));
+        let advanced = advance(
+            rt, alloc, machine, tables, closed, low, horizon, room, limits, gate, watch,
+        )?;
+        match advanced {
+            Advanced::Whole => low = high,
+            Advanced::Done(done) => {
+                let word = read_word(alloc, closed, done.rank, done.number)?;
+                return Ok(Outcome::Finished(word));
+            }
+            Advanced::Stopped => return Ok(Outcome::Stopped),
         }
-        low = high;
     }
     Ok(exhausted(closed, bound))
 }
@@ -124,6 +136,7 @@ fn exhausted<C: Eq + Hash + Copy + Drop + Send + Sync>(closed: &Closed<C>, bound
     ensures cut { closed.now.cut.any ≡ true → (least : ℕ) × (wide : Option ℕ) × (result ≡ Past least wide) × (least ≤ bound + closed.now.cut.past) }
     ensures uncut { closed.now.cut.any ≡ false → result ≡ Exhausted }
     ensures ended { result ≡ GivenUp → ⊥ }
+    ensures whole { result ≡ Stopped → ⊥ }
 {
     if closed.was_cut() {
         Outcome::Past {
@@ -154,6 +167,7 @@ pub fn find_word<M: Machine, G: Gate, R: Threads + Wait + Sync>(
         measure: Measure::OpenNodes,
         none_within: false,
         most_kept: usize::MAX,
+        none_below: 0,
     };
     let mut closed = Closed::new(alloc, bounds.workers as usize)?;
     let outcome = search(
@@ -165,10 +179,11 @@ pub fn find_word<M: Machine, G: Gate, R: Threads + Wait + Sync>(
         &mut closed,
         limits,
         gate,
+        &mut NoWatch,
     )?;
     match outcome.found() {
         Some(found) => Ok(found),
-        // No list is longer than the greatest number, so the search is never given up.
+        // No list is longer than the greatest number, so the search is never given up, nor is it stopped.
         None => unreachable!(),
     }
 }

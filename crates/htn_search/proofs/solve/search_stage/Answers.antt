@@ -1,10 +1,9 @@
 use denote.Param.Send.{arg_sync, param_sync, recorded_sync, shr_sync, struct_sync}
-use Rattle.std.proofs.Common.{◌≡◌, ℕ, Bool, true, false, ◌<◌, ◌^◌, ◌-◌, refl, subst, arith}
-use Rattle.std.specs.Prelude.{IfNone, IfOk, IfSome}
-use Rattle.std.proofs.lemmas.Option.{IfSome_then}
+use Rattle.std.proofs.Common.{◌≡◌, ℕ, Bool, true, false, ◌<◌, ◌^◌, ◌-◌, refl, sym, subst, arith}
+use Rattle.std.specs.Prelude.{IfOk}
 use Rattle.std.proofs.lemmas.Result.{IfOk-weaker}
-use Rattle.word_machine.proofs.Meanings.{IfNone-weaker}
-use Rattle.word_machine.specs.Answer.{IsAnswer}
+use Rattle.word_machine.specs.Answer.{IsEnding, NoneFinishesBefore}
+use Rattle.word_machine.specs.declared.found.Ending.TheVariants.{GivenUp}
 use Rattle.htn_net.specs.Listed.{listing_machine}
 use Rattle.task_machine.specs.Owned.{AreOwned}
 use Rattle.task_machine.specs.Tables.{AreTables}
@@ -20,22 +19,30 @@ less false most_kept kept cut whole l = omega (arith, whole refl)
 pub search_by-requires-sync-M : goal.search_by-requires-sync-M
 search_by-requires-sync-M g c κs within = search (both, tt, param_sync, arg_sync, recorded_sync, struct_sync, shr_sync, task_sync, beside) depth 60 fits 20000
 
-pub returns-clause-answer : goal.returns-clause-answer
-returns-clause-answer g c =
-    subst (λ t. IfOk c.search_by.result (λ o. IfSome o (λ s. IsAnswer (listing_machine t) c.args.bounds.nodes s.found))) c.in_ok-machine.ensures c.search_by.ensures.answer
+pub search_by-requires-clause-known : goal.search_by-requires-clause-known
+search_by-requires-clause-known g c = λ _ _.
+    subst (λ t. NoneFinishesBefore (listing_machine t) c.args.known) (sym c.in_ok-machine.ensures) c.requires.known
+
+pub search_by-requires-clause-hears : goal.search_by-requires-clause-hears
+search_by-requires-clause-hears g c = λ _ _.
+    λ n none. c.requires.hears n (subst (λ t. NoneFinishesBefore (listing_machine t) n) c.in_ok-machine.ensures none)
+
+pub returns-clause-ending : goal.returns-clause-ending
+returns-clause-ending g c =
+    subst (λ t. IfOk c.search_by.result (λ s. IsEnding (listing_machine t) c.args.bounds.nodes s.ending)) c.in_ok-machine.ensures c.search_by.ensures.ending
 
 pub returns-clause-tables : goal.returns-clause-tables
 returns-clause-tables g c =
     let machine = c.in_ok-machine.machine in
-    IfOk-weaker c.search_by.result (λ o. IfSome o (λ s. AreOwned machine.task.now machine.sizes machine.prospects s.tables)) (λ o. IfSome o (λ s. AreTables c.args.task.now s.tables))
-    (λ o h. IfSome_then o h (λ s own. subst (λ t. AreTables t s.tables) c.in_ok-machine.ensures own.tables))
+    IfOk-weaker c.search_by.result (λ s. AreOwned machine.task.now machine.sizes machine.prospects s.tables) (λ s. AreTables c.args.task.now s.tables)
+    (λ s own. subst (λ t. AreTables t s.tables) c.in_ok-machine.ensures own.tables)
     c.search_by.ensures.own
 
 pub returns-clause-given_up : goal.returns-clause-given_up
 returns-clause-given_up g c =
     let limit = c.effort_of-effort.result.most_kept in
-    IfOk-weaker c.search_by.result (λ o. IfNone o (limit < 2 ^ 64 - 1)) (λ o. IfNone o (c.args.stage.kept < 2 ^ 64 - 1))
-    (λ o h. IfNone-weaker o (less c.is_cut.result limit c.args.stage.kept c.effort_of-effort.ensures.cut c.effort_of-effort.ensures.whole) h)
+    IfOk-weaker c.search_by.result (λ s. (n : ℕ) → s.ending ≡ GivenUp n → limit < 2 ^ 64 - 1) (λ s. (n : ℕ) → s.ending ≡ GivenUp n → c.args.stage.kept < 2 ^ 64 - 1)
+    (λ s h n is. less c.is_cut.result limit c.args.stage.kept c.effort_of-effort.ensures.cut c.effort_of-effort.ensures.whole (h n is))
     c.search_by.ensures.given_up
 
 pub returns-clause-no_thread : goal.returns-clause-no_thread

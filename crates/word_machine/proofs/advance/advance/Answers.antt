@@ -1,11 +1,14 @@
 use Rattle.std.proofs.Common.{◌≡◌, ◌≤◌, ◌++◌, [], length, map, ap, subst, sym, ◌∙◌, arith, append_assoc, length-append}
 use Rattle.std.proofs.lemmas.List.{append-nil}
 use Rattle.std.proofs.lemmas.Option.{MatchOption-at_some, MatchOption-at_none}
+use Rattle.word_machine.specs.declared.advance.FirstDone.{FirstDone}
 use Rattle.word_machine.specs.Answer.{IsBeyond, measure_of}
+use Rattle.word_machine.specs.Expansion.{IsFirstDone}
+use Rattle.word_machine.specs.Machine.{IsDone, IsLiveStep}
 use Rattle.word_machine.specs.Advance.{HasAdvanced}
 use Rattle.word_machine.specs.Meaning.{contents_at}
 use Rattle.word_machine.proofs.Meanings.{grown_more, grown_none, known_still}
-use Rattle.word_machine.proofs.Advancing.{advanced_none, advanced_more, advanced_done, owned_known}
+use Rattle.word_machine.proofs.Advancing.{advanced_none, advanced_more, advanced_done, owned_known, same_done}
 use Rattle.word_machine.proofs.advance.advance.Goals as goal
 
 pub loop-from-init : goal.loop-from-init
@@ -25,6 +28,7 @@ loop-from-init g c =
       advanced = advanced_none m (IsBeyond m (g.M.Machine.estimate machine) c.args.horizon) (measure_of m (g.M.Machine.estimate machine) c.args.horizon.measure) c.args.room (map old.point closed.keys) c.args.low (contents_at old.point closed);
       keys = ([], sym (append-nil closed.keys));
       origins = ([], sym (append-nil closed.origins));
+      becomes = g.met.W.Watch.stays c.args.watch.now;
     }
 
 pub advance_block-requires-clause-within : goal.advance_block-requires-clause-within
@@ -47,19 +51,20 @@ returns-in-Some-clause-grown g c =
     c.loop-from.invariant.grown c.in_ok-done.ensures.grown
 
 pub returns-in-Some-clause-done : goal.returns-in-Some-clause-done
-returns-in-Some-clause-done g c =
+returns-in-Some-clause-done g c = λ first told.
     let machine = c.args.machine.now in
     let m = g.M.Machine.words machine in
-    let first = g.M.Machine.meaning machine c.args.tables.now in
+    let start = g.M.Machine.meaning machine c.args.tables.now in
     let old = g.M.Machine.meaning machine c.loop-from.tables in
     let new = g.M.Machine.meaning machine c.advance_block.new.tables in
     let closed = c.args.closed.now in
     let i = c.loop-from.invariant in
     let many : length c.configurations-high.result.now ≡ length closed.keys = ap length c.configurations-high.ensures in
-    advanced_done m (IsBeyond m (g.M.Machine.estimate machine) c.args.horizon) (measure_of m (g.M.Machine.estimate machine) c.args.horizon.measure) c.args.room
+    subst (λ (f : FirstDone). IsFirstDone (IsLiveStep m) (IsDone m) (map new.point closed.keys) c.args.low (length closed.keys) f.rank f.number) (same_done c.in-Some.done first told)
+    (advanced_done m (IsBeyond m (g.M.Machine.estimate machine) c.args.horizon) (measure_of m (g.M.Machine.estimate machine) c.args.horizon.measure) c.args.room
     old new c.in_ok-done.ensures.grown closed c.loop-from.closed i.keys.0 c.args.low c.loop-from.from c.min-to.result c.in-Some.done.rank c.in-Some.done.number
-    (known_still first old i.grown closed.keys (owned_known first (g.M.Machine.belongs machine) closed.keys c.requires.known))
-    i.keys.1 i.late (omega arith) i.advanced (MatchOption-at_some _ _ _ c.in-Some.is c.in_ok-done.ensures.done)
+    (known_still start old i.grown closed.keys (owned_known start (g.M.Machine.belongs machine) closed.keys c.requires.known))
+    i.keys.1 i.late (omega arith) i.advanced (MatchOption-at_some _ _ _ c.in-Some.is c.in_ok-done.ensures.done))
 
 pub returns-in-Some-clause-keys : goal.returns-in-Some-clause-keys
 returns-in-Some-clause-keys g c =
@@ -100,6 +105,7 @@ loop-from-preserved g c =
           i.keys.1 i.late (omega arith) (omega arith) i.advanced (MatchOption-at_none _ _ c.in_default.is c.in_ok-done.ensures.whole);
       keys = (i.keys.0 ++ keys.0, keys.1 ∙ ap (λ l. l ++ keys.0) i.keys.1 ∙ append_assoc closed.keys i.keys.0 keys.0);
       origins = (i.origins.0 ++ origins.0, origins.1 ∙ ap (λ l. l ++ origins.0) i.origins.1 ∙ append_assoc closed.origins i.origins.0 origins.0);
+      becomes = g.met.W.Watch.joins c.args.watch.now c.loop-from.watch c.goes_on_if.new.watch i.becomes c.goes_on_if.ensures.becomes;
     }
 
 pub returns-clause-owned : goal.returns-clause-owned
@@ -112,7 +118,7 @@ pub returns-clause-known : goal.returns-clause-known
 returns-clause-known g c = c.loop-from.invariant.known
 
 pub returns-clause-whole : goal.returns-clause-whole
-returns-clause-whole g c =
+returns-clause-whole g c = λ _.
     let machine = c.args.machine.now in
     let m = g.M.Machine.words machine in
     let new = g.M.Machine.meaning machine c.loop-from.tables in

@@ -21,6 +21,7 @@ invariant-loop-from g l =
       advanced : HasAdvanced m (IsBeyond m (g.M.Machine.estimate l.machine) l.horizon) (measure_of m (g.M.Machine.estimate l.machine) l.horizon.measure) l.room (map new.point old.keys) l.low l.from (contents_at new.point old) (contents_at new.point l.closed);
       keys : (more : List g.row.M-Configuration.Denot) × (l.closed.keys ≡ old.keys ++ more);
       origins : (more : List Origin) × (l.closed.origins ≡ old.origins ++ more);
+      becomes : g.W.Watch.becomes l.fn.watch l.watch;
     }
 
 abbrev pub decreases-loop-from : goal.decreases-loop-from

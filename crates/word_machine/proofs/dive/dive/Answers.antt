@@ -24,7 +24,7 @@ returns-then-not-contains-clause-met g c = λ _.
     let next = c.in-Some.ensures.next in
     let visited = all_at (IsVisited m (g.M.Machine.belongs machine) meaning) c.loop-turn.frontier.kept.keys c.loop-turn.invariant.kept next.0 c.in-Some.from next.1 in
     let told : c.extent.result ≡ min (extent m lower c.args.least (meaning.point c.in-Some.from)) 18446744073709551615 = c.extent.ensures in
-    let past : c.args.bound < extent m lower c.args.least (meaning.point c.in-Some.from) = omega arith in
+    let past : c.args.limits.bounds.nodes < extent m lower c.args.least (meaning.point c.in-Some.from) = omega arith in
     let old = g.M.Machine.meaning machine c.args.tables.now in
     let keys = c.args.closed.now.keys in
     let met = g.met.M.Machine g.world.𝓛 g.world.𝓜 g.world.𝓡 ((λ s x. x), (λ x. x), (λ x. x), λ x. x) in
@@ -33,7 +33,13 @@ returns-then-not-contains-clause-met g c = λ _.
     (met.one_to_one machine c.loop-turn.tables c.loop-turn.invariant.own) keys
     (all_by (IsVisited m (g.M.Machine.belongs machine) old) old.knows (λ k v. v.0.0) keys c.requires.below.0)
     c.in-Some.from visited.0.0 (search rules) in
-    met_by m lower c.args.least (map old.point keys) c.requires.below.1 c.args.bound (meaning.point c.in-Some.from) visited.1 apart past
+    met_by m lower c.args.least (map old.point keys) c.requires.below.1 c.args.limits.bounds.nodes (meaning.point c.in-Some.from) visited.1 apart past
+
+pub extent-requires-clause-owned : goal.extent-requires-clause-owned
+extent-requires-clause-owned g c = λ _ _.
+    let machine = c.args.machine.now in
+    let next = c.in-Some.ensures.next in
+    (all_at (IsVisited (g.M.Machine.words machine) (g.M.Machine.belongs machine) (g.M.Machine.meaning machine c.loop-turn.tables)) c.loop-turn.frontier.kept.keys c.loop-turn.invariant.kept next.0 c.in-Some.from next.1).0
 
 pub expand-requires-clause-kept : goal.expand-requires-clause-kept
 expand-requires-clause-kept g c = λ _ _.
@@ -51,6 +57,7 @@ loop-turn-init g c = record {
   own = c.requires.own;
   grown = grown_none (g.M.Machine.meaning c.args.machine.now c.args.tables.now);
   kept = c.in_ok-keep_starts.ensures;
+  becomes = g.met.W.Watch.stays c.args.watch.now;
 }
 
 pub loop-turn-preserved : goal.loop-turn-preserved
@@ -61,4 +68,5 @@ loop-turn-preserved g c =
       grown = grown_more (g.M.Machine.meaning machine c.args.tables.now) (g.M.Machine.meaning machine c.loop-turn.tables) (g.M.Machine.meaning machine c.expand.new.tables)
           c.loop-turn.invariant.grown c.in_ok-expand.ensures.grown;
       kept = c.in_ok-expand.ensures.kept;
+      becomes = g.met.W.Watch.joins c.args.watch.now c.loop-turn.watch c.goes_on_if.new.watch c.loop-turn.invariant.becomes c.goes_on_if.ensures.becomes;
     }
