@@ -13,10 +13,14 @@ examples_hold = record {
   default_nodes = refl;
   nodes = refl;
   workers = refl;
+  unwatched = (refl, refl);
+  watch = (refl, refl);
   checked = (refl, refl);
   plan = refl;
-  sound = (refl, refl, refl);
+  sound = (refl, refl, refl, refl);
   no_worker = refl;
+  no_time_left = refl;
+  too_long = refl;
   no_problem = refl;
   help = refl;
   no_plan = refl;
@@ -30,5 +34,11 @@ examples_hold = record {
   two_inputs = refl;
   no_domain = refl;
   foreign_option = refl;
+  drawn_by_default = record { domain = refl; problem = refl; plan = refl; format = refl; colour = refl; sound = refl };
+  drawn_by_options = record { domain = refl; problem = refl; plan = refl; format = refl; colour = refl; sound = refl };
+  no_drawing = refl;
+  no_time = refl;
+  input_twice = refl;
+  undrawn = refl;
   names_only = refl;
 }

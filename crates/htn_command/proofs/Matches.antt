@@ -1,6 +1,6 @@
 -- What the matches of a parse give.
-use Rattle.std.proofs.Common.{◌≡◌, ◌≢◌, ◌⊎◌, inl, inr, ◌∙◌, ◌<◌, ◌≤◌, ◌^◌, arith, true, false, cond, ap, sym, subst, slice_index, ℕ, List, [], ◌∷◌, Option, Some, None, refl}
-use Rattle.std.specs.Prelude.{Bool, is_some, option_and_then, option_map, unwrap_or, Box, codes}
+use Rattle.std.proofs.Common.{◌≡◌, ◌≢◌, ◌⊎◌, inl, inr, ◌∙◌, ◌<◌, ◌^◌, arith, true, false, cond, ap, sym, subst, slice_get, slice_index, ℕ, List, [], ◌∷◌, Option, Some, None, refl}
+use Rattle.std.specs.Prelude.{Bool, find, is_some, option_and_then, option_map, unwrap_or, Box, codes}
 use Rattle.std.specs.Box.{box_value}
 use Rattle.std.specs.Borrow.{Bor}
 use Rattle.std.specs.Str.Parse.{IsNumeral, digits_value, without_leading_plus}
@@ -10,9 +10,9 @@ use Rattle.std.specs.Bool.{Decides}
 use Rattle.std.specs.Str.{bytes_eq}
 use Rattle.std.proofs.lemmas.Slice.Eq.{bytes_eq-Decides}
 use Rattle.clap.specs.Matches.{first_value, found_of, one_text, subcommand_name_of}
-use Rattle.clap.specs.Values.{kind_of}
+use Rattle.clap.specs.Values.{kind_of, read_as}
 use Rattle.clap.specs.Simple.{App, HasMatchesOf, is_simple, subcommand_of, subcommand_rows, subcommand_rows_of}
-use Rattle.clap.specs.Walk.{Row, Text, first_of, one_of, rows_of}
+use Rattle.clap.specs.Walk.{Row, Text, first_of, one_of, row_text, rows_of}
 use Rattle.clap.specs.declared.parser.matches.ArgMatches.{ArgMatches}
 use Rattle.clap.specs.declared.parser.matches.ArgMatches.TheViews.{out-ArgMatches, out-SubCommand}
 use Rattle.clap.specs.declared.parser.matches.Found.{Found}
@@ -23,17 +23,18 @@ use Rattle.clap.specs.declared.error.kind.ErrorKind.TheVariants.{DisplayHelp, Di
 use Rattle.clap.proofs.WalkLemmas.{first_value-rows, one_text-rows}
 use Rattle.word_machine.specs.Bounds.{AreInRange}
 use Rattle.word_machine.specs.declared.bounds.Bounds.{Bounds}
-use Rattle.htn_command.specs.CommandLine.{HelpIsDue, IsNumber, VersionIsDue, colour_named, faults, flag_named, format_named, check_fault, htnplan, own_fault, read_by}
+use Rattle.htn_command.specs.CommandLine.{HelpIsDue, IsNumber, IsNumberIfAny, VersionIsDue, colour_named, drawing_named, faults, flag_named, format_named, check_fault, htnplan, own_fault, read_by, tree_fault}
 use Rattle.htn_command.specs.Help.{IsOfWords, IsPossible, RefusesWords}
 use Rattle.htn_command.specs.Misuse.{kinds_of}
 use Rattle.htn_command.specs.Request.{AskNothing, IsGiven, IsOf}
 use Rattle.diagnostics.specs.declared.format.Format.{Format}
 use Rattle.htn_command.specs.declared.choice.Colour.{Colour}
+use Rattle.htn_command.specs.declared.choice.Drawing.{Drawing}
 use Rattle.htn_command.specs.declared.misuse.Misuse.{Misuse}
 use Rattle.htn_command.specs.declared.refusal.Refusal.{Refusal}
 use Rattle.htn_command.specs.declared.refusal.Refusal.TheVariants as refusal
 use Rattle.htn_command.specs.declared.request.Request.{Request}
-use Rattle.htn_command.specs.declared.request.Request.TheVariants.{Plan, Verify, Check}
+use Rattle.htn_command.specs.declared.request.Request.TheVariants.{Plan, Verify, Check, Tree}
 use Rattle.htn_command.proofs.Building.{line_is_free, line_is_simple}
 
 -- a command's name and its rows
@@ -83,20 +84,24 @@ parse_is_sound app words m is sound has =
     let none : fault_of htnplan words ≡ [] = ap (λ (a : App). fault_of a words) (sym is) ∙ sound (ap is_simple_and_free is ∙ line_is_free) in
     ap (λ ks. or_else ks (own_fault (read_by words))) none ∙ ap own_fault (parse_reads app words m is has)
 
--- a command other than `check` has no fault of its own
-pub own_of_other : (m : ArgMatches) → (subcommand_name_of m ≡ Some (codes "check") → ⊥) → own_fault (subcommand_rows_of m) ≡ []
-own_of_other m other = by (out-ArgMatches m).subcommand other
+-- a command other than `check` and `tree` has no fault of its own
+pub own_of_other : (m : ArgMatches) → (subcommand_name_of m ≡ Some (codes "check") → ⊥) → (subcommand_name_of m ≡ Some (codes "tree") → ⊥)
+    → own_fault (subcommand_rows_of m) ≡ []
+own_of_other m no_check no_tree = by (out-ArgMatches m).subcommand no_check no_tree
   where
-    decided : (name : Text) (rows : List Row) (b : Bool) → Decides b (name ≡ codes "check") → (Some name ≡ Some (codes "check") → ⊥) → cond b (check_fault rows) [] ≡ []
-    decided name rows true is isn't = absurd (isn't (ap (λ (t : Text). Some t) (is.0 refl)))
-    decided name rows false is isn't = refl
+    decided : (name other : Text) (kinds rest : Kinds) (b : Bool) → Decides b (name ≡ other) → (Some name ≡ Some other → ⊥) → cond b kinds rest ≡ rest
+    decided name other kinds rest true is isn't = absurd (isn't (ap (λ (t : Text). Some t) (is.0 refl)))
+    decided name other kinds rest false is isn't = refl
 
     by : {Z : Type 0} → (sub : Option (Box SubCommand Z)) → (option_map (λ b. (out-SubCommand (box_value b)).name.now) sub ≡ Some (codes "check") → ⊥)
-        → own_fault (subcommand_rows sub) ≡ []
-    by None isn't = refl
-    by (Some b) isn't =
+        → (option_map (λ b. (out-SubCommand (box_value b)).name.now) sub ≡ Some (codes "tree") → ⊥) → own_fault (subcommand_rows sub) ≡ []
+    by None isn't nor = refl
+    by (Some b) isn't nor =
         let s = out-SubCommand (box_value b) in
-        decided s.name.now (rows_of (found_of s.matches)) (bytes_eq s.name.now (codes "check")) (bytes_eq-Decides s.name.now (codes "check")) isn't
+        let rows = rows_of (found_of s.matches) in
+        let is_tree = bytes_eq s.name.now (codes "tree") in
+        decided s.name.now (codes "check") (check_fault rows) (cond is_tree (tree_fault rows) []) (bytes_eq s.name.now (codes "check")) (bytes_eq-Decides s.name.now (codes "check")) isn't
+        ∙ decided s.name.now (codes "tree") (tree_fault rows) [] is_tree (bytes_eq-Decides s.name.now (codes "tree")) nor
 
 -- none isn't some
 pub no_some : {X : Type 0} (o : Option X) → o ≡ None → is_some o ≡ true → ⊥
@@ -163,6 +168,33 @@ one_number text n m h k =
     let same : h.0 ≡ k.0 = ap (λ o. unwrap_or o k.0) (sym h.1 ∙ k.1) in
     sym h.3 ∙ ap (λ t. digits_value 10 (without_leading_plus t)) same ∙ k.3
 
+-- and one number at most where it may be left out
+pub one_if_any : (text : Option Text) (n m : Option ℕ) → IsNumberIfAny text n → IsNumberIfAny text m → n ≡ m
+one_if_any text None None h k = refl
+one_if_any text None (Some m) h k = let bad : None ≡ Some k.0.0 = sym h ∙ k.0.1 in cc
+one_if_any text (Some n) None h k = let bad : None ≡ Some h.0.0 = sym k ∙ h.0.1 in cc
+one_if_any text (Some n) (Some m) h k = ap Some (one_number text n m h.0 k.0)
+
+-- an option without a first value has no text
+pub no_first : (f : Found) (id : Text) → first_value f id ≡ None → one_of id (rows_of f) ≡ None
+no_first f id none = by (find (λ r. bytes_eq r.id id) (rows_of f)) (sym (first_value-rows f id) ∙ none)
+  where
+    by : (o : Option Row) → option_and_then (λ r. slice_get r.values 0) o ≡ None → option_and_then row_text o ≡ None
+    by None h = refl
+    by (Some r) h = ap (option_map (read_as r.reading)) h
+
+-- and one without a text has no first value
+no_first_back : (f : Found) (id : Text) → one_of id (rows_of f) ≡ None → first_value f id ≡ None
+no_first_back f id none = first_value-rows f id ∙ by (find (λ r. bytes_eq r.id id) (rows_of f)) none
+  where
+    unmapped : (g : Text → Text) (o : Option Text) → option_map g o ≡ None → o ≡ None
+    unmapped g None h = refl
+    unmapped g (Some t) h = absurd cc
+
+    by : (o : Option Row) → option_and_then row_text o ≡ None → option_and_then (λ r. slice_get r.values 0) o ≡ None
+    by None h = refl
+    by (Some r) h = unmapped (read_as r.reading) (slice_get r.values 0) h
+
 -- the commands have different names
 pub plan_is_not_verify : {Z : Type 0} → codes "plan" ≡ codes "verify" → Z
 plan_is_not_verify same =
@@ -179,6 +211,26 @@ check_is_not_verify same =
     let bad : ◌≡◌ {A = ℕ} 99 118 = ap (λ (t : Text). slice_index t 0) same in
     absurd (omega arith)
 
+pub plan_is_not_tree : {Z : Type 0} → codes "plan" ≡ codes "tree" → Z
+plan_is_not_tree same =
+    let bad : ◌≡◌ {A = ℕ} 112 116 = ap (λ (t : Text). slice_index t 0) same in
+    absurd (omega arith)
+
+pub verify_is_not_tree : {Z : Type 0} → codes "verify" ≡ codes "tree" → Z
+verify_is_not_tree same =
+    let bad : ◌≡◌ {A = ℕ} 118 116 = ap (λ (t : Text). slice_index t 0) same in
+    absurd (omega arith)
+
+pub check_is_not_tree : {Z : Type 0} → codes "check" ≡ codes "tree" → Z
+check_is_not_tree same =
+    let bad : ◌≡◌ {A = ℕ} 99 116 = ap (λ (t : Text). slice_index t 0) same in
+    absurd (omega arith)
+
+-- where an option has a value that isn't read as a number, the line gives no number for it, and not none
+pub unread_number : (f : Found) (id text : Text) → Some text ≡ first_value f id → IsUnread f id → (n : Option ℕ) → IsNumberIfAny (one_of id (rows_of f)) n → ⊥
+unread_number f id text has unread None is = let bad : Some text ≡ None = has ∙ no_first_back f id is in absurd cc
+unread_number f id text has unread (Some n) is = no_number f id n unread is.1 is.0
+
 -- a command with its rows is none of another name
 other_command : {Z : Type 0} → (row : Text × List Row) (other : Text × List Row) → Some row ≡ Some other → (row.0 ≡ other.0 → Z) → Z
 other_command row other same differ = differ (ap (λ o. (unwrap_or o row).0) same)
@@ -189,39 +241,49 @@ module _ (f : Found) where
   Planned r = IsOf (Some (codes "plan", rows_of f)) r
 
   -- a request for a plan, whose rows these are
-  plan_of : {Z : Type 0} → (r : Request) → Planned r → ((domain problem : Bor Text) (bounds : Bounds) → IsGiven (rows_of f) (Plan domain problem bounds) → Z) → Z
-  plan_of (Plan domain problem bounds) is use_it = use_it domain problem bounds (given_rows _ _ (Plan domain problem bounds) is refl)
+  plan_of : {Z : Type 0} → (r : Request) → Planned r
+      → ((domain problem : Bor Text) (bounds : Bounds) (seconds : Option ℕ) (has_progress : Bool) → IsGiven (rows_of f) (Plan domain problem bounds seconds has_progress) → Z) → Z
+  plan_of (Plan domain problem bounds seconds has_progress) is use_it = use_it domain problem bounds seconds has_progress (given_rows _ _ (Plan domain problem bounds seconds has_progress) is refl)
   plan_of (Verify domain problem plan) is use_it = other_command _ _ is.1 plan_is_not_verify
   plan_of (Check domain problem format limit is_strict colour) is use_it = other_command _ _ is.1 (λ same. check_is_not_plan (sym same))
+  plan_of (Tree domain problem plan drawing colour) is use_it = other_command _ _ is.1 plan_is_not_tree
 
   -- where the bound isn't read, no plan is asked for
   pub lacks_nodes : (r : Request) → IsUnread f (codes "nodes") → Planned r → ⊥
-  lacks_nodes r unread is = plan_of r is (λ domain problem bounds h.
+  lacks_nodes r unread is = plan_of r is (λ domain problem bounds seconds has_progress h.
       let within = h.5.nodes_within in no_number f (codes "nodes") bounds.nodes unread (omega arith) h.2)
 
   -- where the number of workers isn't read, no plan is asked for
   pub lacks_workers : (r : Request) → IsUnread f (codes "workers") → Planned r → ⊥
-  lacks_workers r unread is = plan_of r is (λ domain problem bounds h.
+  lacks_workers r unread is = plan_of r is (λ domain problem bounds seconds has_progress h.
       let within = h.5.workers_within in no_number f (codes "workers") bounds.workers unread (omega arith) h.3)
 
   -- where the size of a piece isn't read, no plan is asked for
   pub lacks_piece : (r : Request) → IsUnread f (codes "piece") → Planned r → ⊥
-  lacks_piece r unread is = plan_of r is (λ domain problem bounds h.
+  lacks_piece r unread is = plan_of r is (λ domain problem bounds seconds has_progress h.
       let within = h.5.piece_within in no_number f (codes "piece") bounds.piece unread (omega arith) h.4)
 
   -- where no domain is given, no plan is asked for
   pub lacks_domain : (r : Request) → None ≡ first_value f (codes "DOMAIN") → Planned r → ⊥
-  lacks_domain r none is = plan_of r is (λ domain problem bounds h. no_text f (codes "DOMAIN") domain.now none h.0)
+  lacks_domain r none is = plan_of r is (λ domain problem bounds seconds has_progress h. no_text f (codes "DOMAIN") domain.now none h.0)
 
   -- where no problem is given, no plan is asked for
   pub lacks_problem : (r : Request) → None ≡ first_value f (codes "PROBLEM") → Planned r → ⊥
-  lacks_problem r none is = plan_of r is (λ domain problem bounds h. no_text f (codes "PROBLEM") problem.now none h.1)
+  lacks_problem r none is = plan_of r is (λ domain problem bounds seconds has_progress h. no_text f (codes "PROBLEM") problem.now none h.1)
+
+  -- where the seconds can't be read, no plan is asked for
+  pub lacks_seconds : (r : Request) → ((n : Option ℕ) → IsNumberIfAny (one_of (codes "seconds") (rows_of f)) n → ⊥) → Planned r → ⊥
+  lacks_seconds r unread is = plan_of r is (λ domain problem bounds seconds has_progress h. unread seconds h.6)
+
+  -- where a word that isn't there or names nothing is to name whether progress is shown, no plan is asked for
+  pub lacks_progress : (r : Request) → option_and_then flag_named (first_value f (codes "progress")) ≡ None → Planned r → ⊥
+  lacks_progress r none is = plan_of r is (λ domain problem bounds seconds has_progress h. no_named f (codes "progress") flag_named has_progress none h.7)
 
   -- numbers out of range are not those of a request
   pub out_of_range : (nodes workers piece : ℕ) (r : Request) → IsNumber (one_of (codes "nodes") (rows_of f)) nodes
       → IsNumber (one_of (codes "workers") (rows_of f)) workers → IsNumber (one_of (codes "piece") (rows_of f)) piece
       → (AreInRange nodes workers piece → false ≡ true) → Planned r → ⊥
-  out_of_range nodes workers piece r n w p never is = plan_of r is (λ domain problem bounds h.
+  out_of_range nodes workers piece r n w p never is = plan_of r is (λ domain problem bounds seconds has_progress h.
       let in_range : AreInRange nodes workers piece = rw (one_number _ _ _ n h.2, one_number _ _ _ w h.3, one_number _ _ _ p h.4) h.5 in
       let bad = never in_range in
       cc)
@@ -233,8 +295,9 @@ module _ (f : Found) where
   -- a request for a verdict lacks none of its files
   pub lacks_a_file : (r : Request) (id : Text) → None ≡ first_value f id → (id ≡ codes "DOMAIN") ⊎ ((id ≡ codes "PROBLEM") ⊎ (id ≡ codes "PLAN"))
       → Verified r → ⊥
-  lacks_a_file (Plan domain problem bounds) id none which is = other_command _ _ is.1 (λ same. plan_is_not_verify (sym same))
+  lacks_a_file (Plan domain problem bounds seconds has_progress) id none which is = other_command _ _ is.1 (λ same. plan_is_not_verify (sym same))
   lacks_a_file (Check domain problem format limit is_strict colour) id none which is = other_command _ _ is.1 (λ same. check_is_not_verify (sym same))
+  lacks_a_file (Tree domain problem plan drawing colour) id none which is = other_command _ _ is.1 verify_is_not_tree
   lacks_a_file (Verify domain problem plan) id none which is =
       let h = given_rows _ _ (Verify domain problem plan) is refl in
       elim which [
@@ -253,8 +316,9 @@ module _ (f : Found) where
   pub check_of : {Z : Type 0} → (r : Request) → Checked r
       → ((domain : Bor Text) (problem : Option (Bor Text)) (format : Format) (limit : ℕ) (is_strict : Bool) (colour : Colour)
       → IsGiven (rows_of f) (Check domain problem format limit is_strict colour) → Z) → Z
-  check_of (Plan domain problem bounds) is use_it = other_command _ _ is.1 (λ same. check_is_not_plan same)
+  check_of (Plan domain problem bounds seconds has_progress) is use_it = other_command _ _ is.1 (λ same. check_is_not_plan same)
   check_of (Verify domain problem plan) is use_it = other_command _ _ is.1 (λ same. check_is_not_verify same)
+  check_of (Tree domain problem plan drawing colour) is use_it = other_command _ _ is.1 (λ same. check_is_not_tree same)
   check_of (Check domain problem format limit is_strict colour) is use_it =
       use_it domain problem format limit is_strict colour (given_rows _ _ (Check domain problem format limit is_strict colour) is refl)
 
@@ -275,6 +339,36 @@ module _ (f : Found) where
 
   pub lacks_colour : (r : Request) → option_and_then colour_named (first_value f (codes "color")) ≡ None → Checked r → ⊥
   lacks_colour r none is = check_of r is (λ domain problem format limit is_strict colour h. no_named f (codes "color") colour_named colour none h.6)
+
+  -- what `tree` was given
+  abbrev pub Drawn : Request → Type 0
+  Drawn r = IsOf (Some (codes "tree", rows_of f)) r
+
+  -- a request for a tree, whose rows these are
+  pub tree_of : {Z : Type 0} → (r : Request) → Drawn r
+      → ((domain problem plan : Bor Text) (drawing : Drawing) (colour : Colour) → IsGiven (rows_of f) (Tree domain problem plan drawing colour) → Z) → Z
+  tree_of (Plan domain problem bounds seconds has_progress) is use_it = other_command _ _ is.1 (λ same. plan_is_not_tree (sym same))
+  tree_of (Verify domain problem plan) is use_it = other_command _ _ is.1 (λ same. verify_is_not_tree (sym same))
+  tree_of (Check domain problem format limit is_strict colour) is use_it = other_command _ _ is.1 (λ same. check_is_not_tree (sym same))
+  tree_of (Tree domain problem plan drawing colour) is use_it =
+      use_it domain problem plan drawing colour (given_rows _ _ (Tree domain problem plan drawing colour) is refl)
+
+  -- where a file isn't given, no tree is asked for
+  pub lacks_drawn_domain : (r : Request) → None ≡ first_value f (codes "DOMAIN") → Drawn r → ⊥
+  lacks_drawn_domain r none is = tree_of r is (λ domain problem plan drawing colour h. no_text f (codes "DOMAIN") domain.now none h.0)
+
+  pub lacks_drawn_problem : (r : Request) → None ≡ first_value f (codes "PROBLEM") → Drawn r → ⊥
+  lacks_drawn_problem r none is = tree_of r is (λ domain problem plan drawing colour h. no_text f (codes "PROBLEM") problem.now none h.1)
+
+  pub lacks_drawn_plan : (r : Request) → None ≡ first_value f (codes "PLAN") → Drawn r → ⊥
+  lacks_drawn_plan r none is = tree_of r is (λ domain problem plan drawing colour h. no_text f (codes "PLAN") plan.now none h.2)
+
+  -- where a word that isn't there or names nothing is to name a drawing or a time, no tree is asked for
+  pub lacks_drawing : (r : Request) → option_and_then drawing_named (first_value f (codes "format")) ≡ None → Drawn r → ⊥
+  lacks_drawing r none is = tree_of r is (λ domain problem plan drawing colour h. no_named f (codes "format") drawing_named drawing none h.3)
+
+  pub lacks_time : (r : Request) → option_and_then colour_named (first_value f (codes "color")) ≡ None → Drawn r → ⊥
+  lacks_time r none is = tree_of r is (λ domain problem plan drawing colour h. no_named f (codes "color") colour_named colour none h.4)
 
 -- words with a fault ask for nothing
 pub faulty_ask_nothing : (app : App) (words : List Text) (e : Error) → app ≡ htnplan

@@ -1,5 +1,5 @@
 -- The command line of `htnplan`, as `clap` reads it: what stands under each name, and which texts are refused.
-use Rattle.std.specs.Prelude.{◌≡◌, ◌&&◌, ℕ, Bool, true, false, List, [], ◌∷◌, Option, Some, None, codes, is_some, not, if◌then◌else◌}
+use Rattle.std.specs.Prelude.{◌≡◌, ◌<◌, ◌^◌, ◌&&◌, ◌||◌, ℕ, Bool, true, false, List, [], ◌∷◌, Option, Some, None, codes, is_some, not, if◌then◌else◌}
 use Rattle.std.specs.Str.{bytes_eq}
 use Rattle.std.specs.Str.Parse.{IsNumeral, digits_value, without_leading_plus}
 use Rattle.clap.specs.Kinds.{IsAmong, Kinds, or_else}
@@ -13,6 +13,8 @@ use Rattle.diagnostics.specs.declared.format.Format.{Format}
 use Rattle.diagnostics.specs.declared.format.Format.TheVariants as format
 use Rattle.htn_command.specs.declared.choice.Colour.{Colour}
 use Rattle.htn_command.specs.declared.choice.Colour.TheVariants as colour
+use Rattle.htn_command.specs.declared.choice.Drawing.{Drawing}
+use Rattle.htn_command.specs.declared.choice.Drawing.TheVariants as drawing
 
 -- a word that has to stand: the name of a file
 abbrev pub file : Text → Rule
@@ -27,6 +29,10 @@ number id default least most = record (new_rule id) {
   parser = Some (Unsigned least most);
 }
 
+-- `--id N` that may be left out, with N from least to most
+abbrev pub number_or_none : Text → ℕ → ℕ → Rule
+number_or_none id least most = record (new_rule id) { long = Some id; value_names = 1; parser = Some (Unsigned least most) }
+
 -- a word that may stand: the name of a file
 abbrev pub file_or_none : Text → Rule
 file_or_none id = new_rule id
@@ -39,15 +45,19 @@ choice id default = record (new_rule id) { long = Some id; value_names = 1; defa
 abbrev pub flag : Text → Rule
 flag id = record (new_rule id) { long = Some id; action = Some SetTrue }
 
--- `plan DOMAIN PROBLEM [--nodes N] [--workers N] [--piece N]`
+-- `plan DOMAIN PROBLEM [--nodes N] [--workers N] [--piece N] [--progress] [--seconds N]`
 abbrev pub plan : App
 plan =
     with_rule
     (with_rule
+    (with_rule
+    (with_rule
     (with_rule (with_rule (with_rule (new_app (codes "plan")) (file (codes "DOMAIN"))) (file (codes "PROBLEM")))
     (number (codes "nodes") (codes "100") 0 10000))
     (number (codes "workers") (codes "1") 1 64))
-    (number (codes "piece") (codes "64") 1 1000000)
+    (number (codes "piece") (codes "64") 1 1000000))
+    (flag (codes "progress")))
+    (number_or_none (codes "seconds") 1 31536000)
 
 -- `verify DOMAIN PROBLEM PLAN`
 abbrev pub verify : App
@@ -65,16 +75,27 @@ check =
     (flag (codes "strict")))
     (choice (codes "color") (codes "auto"))
 
+-- `tree DOMAIN PROBLEM PLAN [--format FORMAT] [--color WHEN]`
+abbrev pub tree : App
+tree =
+    with_rule
+    (with_rule
+    (with_rule (with_rule (with_rule (new_app (codes "tree")) (file (codes "DOMAIN"))) (file (codes "PROBLEM"))) (file (codes "PLAN")))
+    (choice (codes "format") (codes "text")))
+    (choice (codes "color") (codes "auto"))
+
 -- the program's name, and then one of its commands, or a word that asks for the version
 unfoldable pub htnplan : App
 htnplan =
     with_subcommand
     (with_subcommand
+    (with_subcommand
     (with_subcommand (on_top
     (λ s. record s { has_version = true; subcommand_required = true; arg_required_else_help = true })
     (new_app (codes "htnplan"))) plan.top)
     verify.top)
-    check.top
+    check.top)
+    tree.top
 
 -- the command that the words name, with what they give each of its names
 unfoldable pub read_by : List Text → Option (Text × List Row)
@@ -86,6 +107,15 @@ format_named word =
     if bytes_eq word (codes "text") then Some format.Text
     else (if bytes_eq word (codes "short") then Some format.Short
     else (if bytes_eq word (codes "json") then Some format.Json else None))
+
+-- the drawing that a word names
+abbrev pub drawing_named : Text → Option Drawing
+drawing_named word =
+    if bytes_eq word (codes "text") then Some drawing.Text
+    else (if bytes_eq word (codes "ascii") then Some drawing.Ascii
+    else (if bytes_eq word (codes "json") then Some drawing.Json
+    else (if bytes_eq word (codes "dot") then Some drawing.Dot
+    else (if bytes_eq word (codes "svg") then Some drawing.Svg else None))))
 
 -- when colours are written, by a word
 abbrev pub colour_named : Text → Option Colour
@@ -120,10 +150,22 @@ check_fault rows =
     refused_kinds (is_unknown format_named (first_of (codes "format") rows)) (is_unknown colour_named (first_of (codes "color") rows))
     (is_input (first_of (codes "DOMAIN") rows) && is_input (first_of (codes "PROBLEM") rows))
 
+-- two of three are so
+abbrev pub are_two : Bool → Bool → Bool → Bool
+are_two a b c = (a && b) || ((a || b) && c)
+
+-- what `tree` refuses of the words that `clap` takes: a word that names no drawing, one that names no time for colours,
+-- and the standard input twice
+abbrev pub tree_fault : List Row → Kinds
+tree_fault rows =
+    refused_kinds (is_unknown drawing_named (first_of (codes "format") rows)) (is_unknown colour_named (first_of (codes "color") rows))
+    (are_two (is_input (first_of (codes "DOMAIN") rows)) (is_input (first_of (codes "PROBLEM") rows)) (is_input (first_of (codes "PLAN") rows)))
+
 -- what is refused of the words that `clap` takes
 abbrev pub own_fault : Option (Text × List Row) → Kinds
 own_fault None = []
-own_fault (Some found) = if bytes_eq found.0 (codes "check") then check_fault found.1 else []
+own_fault (Some found) =
+    if bytes_eq found.0 (codes "check") then check_fault found.1 else (if bytes_eq found.0 (codes "tree") then tree_fault found.1 else [])
 
 -- the faults of the words
 unfoldable pub faults : List Text → Kinds
@@ -141,3 +183,8 @@ VersionIsDue words = IsAmong DisplayVersion (faults words)
 abbrev pub IsNumber : Option Text → ℕ → Type 0
 IsNumber text n =
     (digits : Text) × (text ≡ Some digits) × IsNumeral 10 (without_leading_plus digits) × (digits_value 10 (without_leading_plus digits) ≡ n)
+
+-- no text, and no number; or a number of 64 bits
+abbrev pub IsNumberIfAny : Option Text → Option ℕ → Type 0
+IsNumberIfAny text None = text ≡ None
+IsNumberIfAny text (Some n) = IsNumber text n × (n < 2 ^ 64)

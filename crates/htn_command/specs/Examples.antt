@@ -16,6 +16,10 @@ short = codes "htnplan" ∷ codes "plan" ∷ codes "d" ∷ codes "p" ∷ []
 abbrev pub long : List Text
 long = codes "htnplan" ∷ codes "plan" ∷ codes "--nodes=7" ∷ codes "d" ∷ codes "--workers" ∷ codes "2" ∷ codes "p" ∷ []
 
+-- a line that plans for ten seconds, and shows how the search gets on
+abbrev pub watched : List Text
+watched = codes "htnplan" ∷ codes "plan" ∷ codes "d" ∷ codes "--seconds" ∷ codes "10" ∷ codes "p" ∷ codes "--progress" ∷ []
+
 -- a line that verifies
 abbrev pub verifying : List Text
 verifying = codes "htnplan" ∷ codes "verify" ∷ codes "d" ∷ codes "p" ∷ codes "f" ∷ []
@@ -28,6 +32,23 @@ checking = codes "htnplan" ∷ codes "check" ∷ codes "d" ∷ []
 abbrev pub checking_strictly : List Text
 checking_strictly =
     codes "htnplan" ∷ codes "check" ∷ codes "-" ∷ codes "--strict" ∷ codes "--format=json" ∷ codes "p" ∷ codes "--limit" ∷ codes "0" ∷ codes "--color" ∷ codes "never" ∷ []
+
+-- a line that draws, with defaults
+abbrev pub drawing : List Text
+drawing = codes "htnplan" ∷ codes "tree" ∷ codes "d" ∷ codes "p" ∷ codes "f" ∷ []
+
+-- a line that draws the plan of the standard input, with all options
+abbrev pub drawing_dots : List Text
+drawing_dots = codes "htnplan" ∷ codes "tree" ∷ codes "--color=always" ∷ codes "d" ∷ codes "p" ∷ codes "--format" ∷ codes "dot" ∷ codes "-" ∷ []
+
+-- what it gives the names of `tree`
+pub record DrawsAsGiven (words : List Text) (d p f form when : Option Text) : Type 0 where
+  pub domain : given words (codes "DOMAIN") ≡ d
+  pub problem : given words (codes "PROBLEM") ≡ p
+  pub plan : given words (codes "PLAN") ≡ f
+  pub format : given words (codes "format") ≡ form
+  pub colour : given words (codes "color") ≡ when
+  pub sound : faults words ≡ []
 
 -- what it gives the names of `check`
 pub record ChecksAsGiven (words : List Text) (d p form most strict when : Option Text) : Type 0 where
@@ -46,10 +67,14 @@ pub record ExamplesHold : Type 0 where
   pub default_nodes : given short (codes "nodes") ≡ Some (codes "100")
   pub nodes : given long (codes "nodes") ≡ Some (codes "7")
   pub workers : given long (codes "workers") ≡ Some (codes "2")
+  pub unwatched : (given short (codes "seconds") ≡ None) × (given short (codes "progress") ≡ Some (codes "false"))
+  pub watch : (given watched (codes "seconds") ≡ Some (codes "10")) × (given watched (codes "progress") ≡ Some (codes "true"))
   pub checked : (given verifying (codes "DOMAIN") ≡ Some (codes "d")) × (given verifying (codes "PROBLEM") ≡ Some (codes "p"))
   pub plan : given verifying (codes "PLAN") ≡ Some (codes "f")
-  pub sound : (faults short ≡ []) × (faults long ≡ []) × (faults verifying ≡ [])
+  pub sound : (faults short ≡ []) × (faults long ≡ []) × (faults verifying ≡ []) × (faults watched ≡ [])
   pub no_worker : faults (codes "htnplan" ∷ codes "plan" ∷ codes "d" ∷ codes "p" ∷ codes "--workers" ∷ codes "0" ∷ []) ≡ ValueValidation ∷ []
+  pub no_time_left : faults (codes "htnplan" ∷ codes "plan" ∷ codes "d" ∷ codes "p" ∷ codes "--seconds" ∷ codes "0" ∷ []) ≡ ValueValidation ∷ []
+  pub too_long : faults (codes "htnplan" ∷ codes "plan" ∷ codes "d" ∷ codes "p" ∷ codes "--seconds=31536001" ∷ []) ≡ ValueValidation ∷ []
   pub no_problem : faults (codes "htnplan" ∷ codes "plan" ∷ codes "d" ∷ []) ≡ MissingRequiredArgument ∷ []
   pub help : faults (codes "htnplan" ∷ codes "plan" ∷ codes "-h" ∷ []) ≡ DisplayHelp ∷ []
   pub no_plan : faults (codes "htnplan" ∷ codes "verify" ∷ codes "d" ∷ codes "p" ∷ []) ≡ MissingRequiredArgument ∷ []
@@ -63,4 +88,10 @@ pub record ExamplesHold : Type 0 where
   pub two_inputs : faults (codes "htnplan" ∷ codes "check" ∷ codes "-" ∷ codes "-" ∷ []) ≡ ArgumentConflict ∷ []
   pub no_domain : faults (codes "htnplan" ∷ codes "check" ∷ []) ≡ MissingRequiredArgument ∷ []
   pub foreign_option : faults (codes "htnplan" ∷ codes "check" ∷ codes "d" ∷ codes "--nodes" ∷ codes "5" ∷ []) ≡ UnknownArgument ∷ []
+  pub drawn_by_default : DrawsAsGiven drawing (Some (codes "d")) (Some (codes "p")) (Some (codes "f")) (Some (codes "text")) (Some (codes "auto"))
+  pub drawn_by_options : DrawsAsGiven drawing_dots (Some (codes "d")) (Some (codes "p")) (Some (codes "-")) (Some (codes "dot")) (Some (codes "always"))
+  pub no_drawing : faults (codes "htnplan" ∷ codes "tree" ∷ codes "d" ∷ codes "p" ∷ codes "f" ∷ codes "--format" ∷ codes "short" ∷ []) ≡ InvalidValue ∷ []
+  pub no_time : faults (codes "htnplan" ∷ codes "tree" ∷ codes "d" ∷ codes "p" ∷ codes "f" ∷ codes "--color" ∷ codes "red" ∷ []) ≡ InvalidValue ∷ []
+  pub input_twice : faults (codes "htnplan" ∷ codes "tree" ∷ codes "d" ∷ codes "-" ∷ codes "-" ∷ []) ≡ ArgumentConflict ∷ []
+  pub undrawn : faults (codes "htnplan" ∷ codes "tree" ∷ codes "d" ∷ codes "p" ∷ []) ≡ MissingRequiredArgument ∷ []
   pub names_only : faults (codes "htnplan" ∷ codes "plan" ∷ codes "-" ∷ codes "-" ∷ []) ≡ []

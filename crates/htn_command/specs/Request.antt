@@ -2,25 +2,28 @@
 use Rattle.std.specs.Prelude.{◌≡◌, ◌<◌, ◌^◌, List, [], Option, Some, codes, option_and_then, option_map}
 use Rattle.clap.specs.Walk.{Row, Text, first_of, one_of}
 use Rattle.word_machine.specs.Bounds.{AreInRange}
-use Rattle.htn_command.specs.CommandLine.{IsNumber, colour_named, faults, flag_named, format_named, read_by}
+use Rattle.htn_command.specs.CommandLine.{IsNumber, IsNumberIfAny, colour_named, drawing_named, faults, flag_named, format_named, read_by}
 use Rattle.htn_command.specs.declared.request.Request.{Request}
-use Rattle.htn_command.specs.declared.request.Request.TheVariants.{Plan, Verify, Check}
+use Rattle.htn_command.specs.declared.request.Request.TheVariants.{Plan, Verify, Check, Tree}
 
 -- the command of a request
 abbrev pub command_of : Request → Text
-command_of (Plan domain problem bounds) = codes "plan"
+command_of (Plan domain problem bounds seconds has_progress) = codes "plan"
 command_of (Verify domain problem plan) = codes "verify"
 command_of (Check domain problem format limit is_strict colour) = codes "check"
+command_of (Tree domain problem plan drawing colour) = codes "tree"
 
 -- what stands under the names of the command
 abbrev pub IsGiven : List Row → Request → Type 0
-IsGiven rows (Plan domain problem bounds) =
+IsGiven rows (Plan domain problem bounds seconds has_progress) =
     (first_of (codes "DOMAIN") rows ≡ Some domain.now)
     × (first_of (codes "PROBLEM") rows ≡ Some problem.now)
     × IsNumber (one_of (codes "nodes") rows) bounds.nodes
     × IsNumber (one_of (codes "workers") rows) bounds.workers
     × IsNumber (one_of (codes "piece") rows) bounds.piece
     × AreInRange bounds.nodes bounds.workers bounds.piece
+    × IsNumberIfAny (one_of (codes "seconds") rows) seconds
+    × (option_and_then flag_named (first_of (codes "progress") rows) ≡ Some has_progress)
 IsGiven rows (Verify domain problem plan) =
     (first_of (codes "DOMAIN") rows ≡ Some domain.now)
     × (first_of (codes "PROBLEM") rows ≡ Some problem.now)
@@ -32,6 +35,12 @@ IsGiven rows (Check domain problem format limit is_strict colour) =
     × IsNumber (one_of (codes "limit") rows) limit
     × (limit < 2 ^ 64)
     × (option_and_then flag_named (first_of (codes "strict") rows) ≡ Some is_strict)
+    × (option_and_then colour_named (first_of (codes "color") rows) ≡ Some colour)
+IsGiven rows (Tree domain problem plan drawing colour) =
+    (first_of (codes "DOMAIN") rows ≡ Some domain.now)
+    × (first_of (codes "PROBLEM") rows ≡ Some problem.now)
+    × (first_of (codes "PLAN") rows ≡ Some plan.now)
+    × (option_and_then drawing_named (first_of (codes "format") rows) ≡ Some drawing)
     × (option_and_then colour_named (first_of (codes "color") rows) ≡ Some colour)
 
 -- a command with what it was given is this request
@@ -51,15 +60,18 @@ pub record IsAskedBy (words : List Text) (request : Request) : Type 0 where
 abbrev pub AskNothing : List Text → Type 0
 AskNothing words = (request : Request) → IsAskedBy words request → ⊥
 
--- the same command, over the same files, for a plan within the same bounds, for a check with the same options
+-- the same command, over the same files, for a plan within the same bounds, with the same options
 abbrev pub AreAlike : Request → Request → Type 0
-AreAlike (Plan domain problem bounds) (Plan other second limits) =
+AreAlike (Plan domain problem bounds seconds has_progress) (Plan other second limits time is_shown) =
     (domain.now ≡ other.now) × (problem.now ≡ second.now)
     × (bounds.nodes ≡ limits.nodes) × (bounds.workers ≡ limits.workers) × (bounds.piece ≡ limits.piece)
+    × (seconds ≡ time) × (has_progress ≡ is_shown)
 AreAlike (Verify domain problem plan) (Verify other second third) = (domain.now ≡ other.now) × (problem.now ≡ second.now) × (plan.now ≡ third.now)
 AreAlike (Check domain problem format limit is_strict colour) (Check other second form most strict when) =
     (domain.now ≡ other.now) × (option_map (λ name. name.now) problem ≡ option_map (λ name. name.now) second)
     × (format ≡ form) × (limit ≡ most) × (is_strict ≡ strict) × (colour ≡ when)
+AreAlike (Tree domain problem plan drawing colour) (Tree other second third drawn when) =
+    (domain.now ≡ other.now) × (problem.now ≡ second.now) × (plan.now ≡ third.now) × (drawing ≡ drawn) × (colour ≡ when)
 AreAlike _ _ = ⊥
 
 -- words ask for one request at most

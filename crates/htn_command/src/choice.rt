@@ -4,6 +4,21 @@ ghost use Rattle.htn_command.specs.CommandLine as line;
 
 use diagnostics::Format;
 
+/// How the picture of a plan is drawn.
+#[derive(Clone, Copy, Debug, PartialEq, Eq)]
+pub enum Drawing {
+    /// As text, with the signs of trees.
+    Text,
+    /// As text in ASCII.
+    Ascii,
+    /// As one object of JSON.
+    Json,
+    /// In the language of graphviz.
+    Dot,
+    /// As SVG.
+    Svg,
+}
+
 /// When a report has colours.
 #[derive(Clone, Copy, Debug, PartialEq, Eq)]
 pub enum Colour {
@@ -25,6 +40,28 @@ pub(crate) fn format_named(word: &str) -> Option<Format>
     }
     if word == "json" {
         return Some(Format::Json);
+    }
+    None
+}
+
+/// The drawing that a word names.
+pub(crate) fn drawing_named(word: &str) -> Option<Drawing>
+    ensures { result ≡ line.drawing_named word.now }
+{
+    if word == "text" {
+        return Some(Drawing::Text);
+    }
+    if word == "ascii" {
+        return Some(Drawing::Ascii);
+    }
+    if word == "json" {
+        return Some(Drawing::Json);
+    }
+    if word == "dot" {
+        return Some(Drawing::Dot);
+    }
+    if word == "svg" {
+        return Some(Drawing::Svg);
     }
     None
 }

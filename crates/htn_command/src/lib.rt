@@ -7,7 +7,7 @@ mod misuse;
 mod refusal;
 mod request;
 
-pub use choice::Colour;
+pub use choice::{Colour, Drawing};
 pub use diagnostics::Format;
 pub use laws::{requests_are_unique, worked_lines_hold};
 pub use refusal::Refusal;

@@ -1,10 +1,10 @@
 //! What is refused of words that `clap` takes.
-ghost use Rattle.std.specs.Prelude.{◌≡◌, ◌&&◌, IfOk, option_map};
-ghost use Rattle.clap.specs.Words.{found_of, kind_of, rows_of, subcommand_rows_of};
+ghost use Rattle.std.specs.Prelude.{◌≡◌, ◌≢◌, ◌&&◌, Some, IfOk, codes, option_map};
+ghost use Rattle.clap.specs.Words.{found_of, kind_of, rows_of, subcommand_name_of, subcommand_rows_of};
 ghost use Rattle.htn_command.specs.CommandLine as line;
 ghost use Rattle.htn_command.specs.Misuse as spec;
 
-use crate::choice::{colour_named, format_named};
+use crate::choice::{colour_named, drawing_named, format_named};
 use crate::request::command;
 use clap::error::ErrorKind;
 use clap::{ArgMatches, Error};
@@ -19,6 +19,10 @@ pub(crate) enum Misuse {
     Colour,
     /// The standard input, twice.
     Inputs,
+    /// A word of `--format` that names no drawing.
+    Drawing,
+    /// The standard input, for two files of a tree.
+    InputTwice,
 }
 
 impl Misuse {
@@ -28,6 +32,16 @@ impl Misuse {
     {
         match matches.subcommand_matches("check") {
             Some(check) => Misuse::of_check(check),
+            None => Misuse::of_other(matches),
+        }
+    }
+
+    // The same of a command that isn't `check`.
+    fn of_other(matches: &ArgMatches<'_>) -> Option<Misuse>
+        ensures { subcommand_name_of matches.now ≢ Some (codes "check") → spec.kinds_of result ≡ line.own_fault (subcommand_rows_of matches.now) }
+    {
+        match matches.subcommand_matches("tree") {
+            Some(tree) => Misuse::of_tree(tree),
             None => None,
         }
     }
@@ -42,7 +56,35 @@ impl Misuse {
         Misuse::first(no_format, no_colour, two_inputs)
     }
 
-    // The first of them that is so.
+    // The first of them that the words of `tree` have.
+    fn of_tree(tree: &ArgMatches<'_>) -> Option<Misuse>
+        ensures { spec.kinds_of result ≡ line.tree_fault (rows_of (found_of tree.now)) }
+    {
+        let no_drawing = is_no_drawing(tree.get_str("format"));
+        let no_colour = is_no_colour(tree.get_str("color"));
+        let domain = is_input(tree.get_str("DOMAIN"));
+        let problem = is_input(tree.get_str("PROBLEM"));
+        let plan = is_input(tree.get_str("PLAN"));
+        Misuse::first_of_tree(no_drawing, no_colour, are_two(domain, problem, plan))
+    }
+
+    // The first of those of `tree` that is so.
+    fn first_of_tree(no_drawing: bool, no_colour: bool, input_twice: bool) -> Option<Misuse>
+        ensures { spec.kinds_of result ≡ line.refused_kinds no_drawing no_colour input_twice }
+    {
+        if no_drawing {
+            return Some(Misuse::Drawing);
+        }
+        if no_colour {
+            return Some(Misuse::Colour);
+        }
+        if input_twice {
+            return Some(Misuse::InputTwice);
+        }
+        None
+    }
+
+    // The first of those of `check` that is so.
     fn first(no_format: bool, no_colour: bool, two_inputs: bool) -> Option<Misuse>
         ensures { spec.kinds_of result ≡ line.refused_kinds no_format no_colour two_inputs }
     {
@@ -67,6 +109,8 @@ impl Misuse {
             Misuse::Format => command.error(ErrorKind::InvalidValue, FORMATS),
             Misuse::Colour => command.error(ErrorKind::InvalidValue, COLOURS),
             Misuse::Inputs => command.error(ErrorKind::ArgumentConflict, INPUTS),
+            Misuse::Drawing => command.error(ErrorKind::InvalidValue, DRAWINGS),
+            Misuse::InputTwice => command.error(ErrorKind::ArgumentConflict, INPUT_TWICE),
         }
     }
 }
@@ -79,12 +123,27 @@ const COLOURS: &str = "invalid value for '--color <WHEN>'
 
 const INPUTS: &str = "the standard input, `-`, cannot be both the domain and the problem";
 
+const DRAWINGS: &str = "invalid value for '--format <FORMAT>'
+  [possible values: text, ascii, json, dot, svg]";
+
+const INPUT_TWICE: &str = "the standard input, `-`, cannot be two of the files";
+
 // Whether a word is there, and names no format.
 fn is_no_format(word: Option<&str>) -> bool
     ensures { result ≡ line.is_unknown line.format_named (option_map (λ w. w.now) word.entry) }
 {
     match word {
         Some(word) => format_named(word).is_none(),
+        None => false,
+    }
+}
+
+// Whether a word is there, and names no drawing.
+fn is_no_drawing(word: Option<&str>) -> bool
+    ensures { result ≡ line.is_unknown line.drawing_named (option_map (λ w. w.now) word.entry) }
+{
+    match word {
+        Some(word) => drawing_named(word).is_none(),
         None => false,
     }
 }
@@ -107,6 +166,13 @@ fn is_input(word: Option<&str>) -> bool
         Some(word) => word == "-",
         None => false,
     }
+}
+
+// Whether two of three are so.
+fn are_two(a: bool, b: bool, c: bool) -> bool
+    ensures { result ≡ line.are_two a b c }
+{
+    (a && b) || ((a || b) && c)
 }
 
 // Whether both words are `-`.

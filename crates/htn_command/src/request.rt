@@ -1,12 +1,13 @@
 //! The words of the command line, read with `clap`.
-ghost use Rattle.std.specs.Prelude.{◌≡◌, ◌≢◌, false, Some, IfOk, IfErr, IfSome, IsNone, codes, map, string_bytes};
+ghost use Rattle.std.specs.Prelude.{◌≡◌, ◌≢◌, ℕ, Option, false, Some, IfOk, IfErr, IfSome, IsNone, codes, map, string_bytes};
 ghost use Rattle.clap.specs.Words.{app_of, found_of, kind_of, rows_of, rule_of, subcommand_rows_of};
+ghost use Rattle.clap.specs.Walk.{one_of};
 ghost use Rattle.clap.specs.declared.builder.command.Command.TheViews.{out-Command as fields_of};
 ghost use Rattle.htn_command.specs.CommandLine as line;
 ghost use Rattle.htn_command.specs.Help.{AreMistaken, HelpIsAsked, IsOfWords, IsPossible, RefusesWords, ShowsHelp, ShowsVersion, VersionIsAsked};
 ghost use Rattle.htn_command.specs.Request.{AskNothing, IsAskedBy, IsOf, IsOfNothing};
 
-use crate::choice::{Colour, colour_named, flag_named, format_named};
+use crate::choice::{Colour, Drawing, colour_named, drawing_named, flag_named, format_named};
 use crate::misuse::Misuse;
 use crate::refusal::Refusal;
 use clap::builder::ValueParser;
@@ -24,6 +25,10 @@ pub enum Request<'a> {
         domain: &'a str,
         problem: &'a str,
         bounds: Bounds,
+        /// After how many seconds the search is stopped, if it is.
+        seconds: Option<u64>,
+        /// Whether lines say how the search gets on.
+        has_progress: bool,
     },
     /// The verdict on the plan in the last of these files, for the domain and the problem in the others.
     Verify {
@@ -41,6 +46,15 @@ pub enum Request<'a> {
         is_strict: bool,
         colour: Colour,
     },
+    /// The picture of the plan in the last of these files, for the domain and the problem in the others. A file's name
+    /// `-` is the standard input.
+    Tree {
+        domain: &'a str,
+        problem: &'a str,
+        plan: &'a str,
+        drawing: Drawing,
+        colour: Colour,
+    },
 }
 
 // The version of the program.
@@ -51,9 +65,10 @@ const CALLS: &str = "Examples:
   htnplan check domain.hddl problem.hddl
   htnplan plan domain.hddl problem.hddl --nodes 200 > plan.txt
   htnplan verify domain.hddl problem.hddl plan.txt
+  htnplan tree domain.hddl problem.hddl plan.txt
 
 Status: 0 yes (a plan, valid, no error), 1 no (none, unsolvable, invalid), 2 command line, 3 a text is refused,
-4 memory or threads, 5 files or output.";
+4 memory or threads, 5 files or output, 6 `plan --seconds` stopped the search.";
 
 const NODES: &str =
     "Nodes of a plan, at most: tasks, actions, precondition steps; after `none` try more";
@@ -62,9 +77,10 @@ const PLAN_CALL: &str = "Example:
   htnplan plan domain.hddl problem.hddl --nodes 200 > plan.txt
 
 `none`: no plan has at most N nodes, and a greater N may help. `unsolvable`: there is no plan of any size.
+`unknown: none within B`: the time of --seconds is over, and no plan has at most B nodes.
 
 Status: 0 a plan, 1 none or unsolvable, 2 command line, 3 a text is refused, 4 memory or threads,
-5 files or output.";
+5 files or output, 6 unknown.";
 
 const VERIFY_CALL: &str = "Examples:
   htnplan verify domain.hddl problem.hddl plan.txt
@@ -86,6 +102,17 @@ const CHECK_CALL: &str = "Examples:
 `short` prints FILE:LINE:COLUMN: error: MESSAGE [Code], which editors read. What each code means: docs/FAULTS.md.
 
 Status: 0 no error, 1 a warning with --strict, 2 command line, 3 a text is refused, 4 memory, 5 files or output.";
+
+const TREE_CALL: &str = "Examples:
+  htnplan tree domain.hddl problem.hddl plan.txt
+  htnplan plan domain.hddl problem.hddl | htnplan tree domain.hddl problem.hddl -
+  htnplan tree domain.hddl problem.hddl plan.txt --format svg > plan.svg
+  htnplan tree domain.hddl problem.hddl plan.txt --format dot | dot -Tpng > plan.png
+
+The first line has the verdict of `verify`, and the line of the plan that it names is marked. The numbers left of the
+tree are the places of the actions in the plan. Lines that are no forest (`invalid: Structure`) have no picture.
+
+Status: 0 valid, 1 invalid, 2 command line, 3 a text is refused, 4 memory, 5 files or output.";
 
 /// Reads the words, of which the first is the program's name. Words that are refused ask for nothing. Help and the
 /// version are shown only where a word asks for them, and words whose one fault is that are not refused.
@@ -128,6 +155,7 @@ pub(crate) fn command<'a>(alloc: Global) -> Result<Command<'a>, AllocError>
     let plan = plan(alloc)?;
     let verify = verify(alloc)?;
     let check = check(alloc)?;
+    let tree = tree(alloc)?;
     let program = Command::new(alloc, "htnplan")
         .version(VERSION)
         .about(
@@ -139,7 +167,8 @@ pub(crate) fn command<'a>(alloc: Global) -> Result<Command<'a>, AllocError>
     program
         .subcommand(plan)?
         .subcommand(verify)?
-        .subcommand(check)
+        .subcommand(check)?
+        .subcommand(tree)
 }
 
 // The command `plan`.
@@ -154,6 +183,8 @@ fn plan<'a>(alloc: Global) -> Result<Command<'a>, AllocError>
         "64",
         value_parser!(u64).range(1..=1_000_000),
     );
+    let progress = flag(alloc, "progress");
+    let seconds = number_or_none(alloc, "seconds", value_parser!(u64).range(1..=31_536_000));
     Command::new(alloc, "plan")
         .about("Prints the plan with the fewest nodes, or `none` (none so small), or `unsolvable`")
         .after_help(PLAN_CALL)
@@ -161,7 +192,9 @@ fn plan<'a>(alloc: Global) -> Result<Command<'a>, AllocError>
         .arg(file(alloc, "PROBLEM", "The file of the problem, in HDDL"))?
         .arg(nodes.help(NODES))?
         .arg(workers.help("Threads that search; changes no answer"))?
-        .arg(piece.help("For experiments: how work is cut; changes no answer"))
+        .arg(piece.help("For experiments: how work is cut; changes no answer"))?
+        .arg(progress.help("Lines on standard error that say how the search gets on"))?
+        .arg(seconds.help("Stops the search after about N seconds"))
 }
 
 // The command `verify`.
@@ -204,6 +237,26 @@ fn check<'a>(alloc: Global) -> Result<Command<'a>, AllocError>
         .arg(limit.help("Diagnostics that text shows; 0 is all"))?
         .arg(strict.help("A warning is status 1"))?
         .arg(color.help("Colours: auto, always, never"))
+}
+
+// The command `tree`.
+fn tree<'a>(alloc: Global) -> Result<Command<'a>, AllocError>
+    ensures { IfOk result (λ c. (app_of c ≡ line.tree) × ((fields_of c).has_globals ≡ false)) }
+{
+    let format = choice(alloc, "format", "FORMAT", "text");
+    let color = choice(alloc, "color", "WHEN", "auto");
+    Command::new(alloc, "tree")
+        .about("Draws the decomposition tree of a plan: text, ascii, json, dot, svg")
+        .after_help(TREE_CALL)
+        .arg(file(
+            alloc,
+            "DOMAIN",
+            "The file of the domain, in HDDL; - is standard input",
+        ))?
+        .arg(file(alloc, "PROBLEM", "The file of the problem, in HDDL"))?
+        .arg(file(alloc, "PLAN", "The file of the plan, as `plan` prints it"))?
+        .arg(format.help("How it is drawn: text, ascii, json, dot, svg"))?
+        .arg(color.help("Colours of what is wrong with a text: auto, always, never"))
 }
 
 // An option with one of some words.
@@ -253,6 +306,29 @@ fn number<'a>(alloc: Global, id: &'a str, default: &'a str, parser: ValueParser<
         .value_parser(parser)
 }
 
+// An option with a number, that may be left out.
+fn number_or_none<'a>(alloc: Global, id: &'a str, parser: ValueParser<'a>) -> Arg<'a>
+    ensures rule { rule_of result ≡ record (line.number_or_none id.now 0 0) { parser = Some parser.entry } }
+    ensures local { result.global ≡ false }
+{
+    Arg::new(alloc, id)
+        .long(id)
+        .value_name("N")
+        .value_parser(parser)
+}
+
+// The number of an option that may be left out; None where a text stands there that is no number of 64 bits.
+fn number_if_any(matches: &ArgMatches<'_>, id: &str) -> Option<Option<u64>>
+    ensures some { IfSome result (line.IsNumberIfAny (one_of id.now (rows_of (found_of matches.now)))) }
+    ensures none { IsNone result → (number : Option ℕ) → line.IsNumberIfAny (one_of id.now (rows_of (found_of matches.now))) number → ⊥ }
+{
+    let Some(_text) = matches.get_str(id) else {
+        return Some(None);
+    };
+    let number = matches.get_one::<u64>(id)?;
+    Some(Some(number))
+}
+
 // None where the matches lack a word or a number of a command, which `clap` doesn't let pass.
 fn read_words<'a>(matches: &ArgMatches<'a>) -> Option<Request<'a>>
     ensures some { IfSome result (IsOf (subcommand_rows_of matches.now)) }
@@ -264,7 +340,10 @@ fn read_words<'a>(matches: &ArgMatches<'a>) -> Option<Request<'a>>
     if let Some(verify) = matches.subcommand_matches("verify") {
         return read_verify_words(verify);
     }
-    read_check_words(matches.subcommand_matches("check")?)
+    if let Some(check) = matches.subcommand_matches("check") {
+        return read_check_words(check);
+    }
+    read_tree_words(matches.subcommand_matches("tree")?)
 }
 
 // The request of what `plan` was given.
@@ -278,10 +357,14 @@ fn read_plan_words<'a>(plan: &ArgMatches<'a>) -> Option<Request<'a>>
     let domain = plan.get_str("DOMAIN")?;
     let problem = plan.get_str("PROBLEM")?;
     let bounds = Bounds::new(nodes, workers, piece)?;
+    let seconds = number_if_any(plan, "seconds")?;
+    let has_progress = flag_named(plan.get_str("progress")?)?;
     Some(Request::Plan {
         domain,
         problem,
         bounds,
+        seconds,
+        has_progress,
     })
 }
 
@@ -317,6 +400,25 @@ fn read_check_words<'a>(check: &ArgMatches<'a>) -> Option<Request<'a>>
         format,
         limit,
         is_strict,
+        colour,
+    })
+}
+
+// The request of what `tree` was given.
+fn read_tree_words<'a>(tree: &ArgMatches<'a>) -> Option<Request<'a>>
+    ensures some { IfSome result (IsOf (Some (codes "tree", rows_of (found_of tree.now)))) }
+    ensures none { IsNone result → IsOfNothing (Some (codes "tree", rows_of (found_of tree.now))) }
+{
+    let domain = tree.get_str("DOMAIN")?;
+    let problem = tree.get_str("PROBLEM")?;
+    let plan = tree.get_str("PLAN")?;
+    let drawing = drawing_named(tree.get_str("format")?)?;
+    let colour = colour_named(tree.get_str("color")?)?;
+    Some(Request::Tree {
+        domain,
+        problem,
+        plan,
+        drawing,
         colour,
     })
 }

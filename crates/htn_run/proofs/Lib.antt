@@ -16,3 +16,8 @@ mod NamedTasks
 mod OneVerdict
 mod ValidPlans
 mod Judging
+mod Sighting
+mod ShownWords
+mod After
+mod Watching
+pub mod Unasked

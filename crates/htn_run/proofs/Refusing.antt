@@ -15,6 +15,11 @@ pub ok_more : {T E : Type 0} (P Q : T → Type 0) (r : Result T E) → ((t : T) 
 ok_more P Q (Ok t) more h = more t h
 ok_more P Q (Err e) more h = tt
 
+-- what follows of two things that an answer has follows of a result that may be one
+pub ok_both : {T E : Type 0} (P Q R : T → Type 0) (r : Result T E) → ((t : T) → P t → Q t → R t) → IfOk r P → IfOk r Q → IfOk r R
+ok_both P Q R (Ok t) more h k = more t h k
+ok_both P Q R (Err e) more h k = tt
+
 -- what follows of a fault follows of a result that may be one
 pub err_more : {T E : Type 0} (P Q : E → Type 0) (r : Result T E) → ((e : E) → P e → Q e) → IfErr r P → IfErr r Q
 err_more P Q (Ok t) more h = tt

@@ -18,14 +18,17 @@ use Rattle.htn_run.specs.Checking.{AreOptions, IsReportCutShort, OfTexts, Refuse
 use Rattle.htn_run.specs.Files.{File, MayGive}
 use Rattle.htn_run.specs.Laws.{IsOfTexts}
 use Rattle.htn_run.specs.Reporting.{AddsReport, StopsByFault, StopsReport}
-use Rattle.htn_run.specs.Requests.{AddsAnswer, Answers, HasFault, status_of}
+use Rattle.htn_run.specs.Requests.{AddsAnswer, AddsBeside, Answers, HasFault, status_of}
 use Rattle.htn_run.specs.Stops.{Stops}
-use Rattle.htn_run.specs.declared.outcome.Outcome.{Outcome}
+use Rattle.htn_run.specs.Trees.{is_of_pair}
 use Rattle.htn_run.specs.declared.outcome.Outcome.TheVariants as outcome
+use Rattle.htn_run.specs.declared.outcome.Watched.{Watched}
+use Rattle.htn_run.specs.declared.outcome.Watched.TheVariants as watched
 use Rattle.htn_run.specs.declared.outcome.RunFault.{RunFault}
 use Rattle.htn_run.specs.declared.outcome.RunFault.TheVariants as fault
 use Rattle.htn_run.specs.declared.reply.Reply.{Reply}
-use Rattle.htn_run.specs.declared.reply.Reply.TheVariants.{Planned, Verified, Checked}
+use Rattle.htn_run.specs.declared.tree.Drawn.TheVariants.{Judged, Refused}
+use Rattle.htn_run.specs.declared.reply.Reply.TheVariants.{Planned, Verified, Checked, Drawn}
 use Rattle.htn_run.specs.declared.stop.Stop.{Stop}
 use Rattle.htn_run.specs.declared.stop.Stop.TheVariants.{Unreadable, Run}
 use Rattle.htn_run.proofs.Stopping.{given}
@@ -81,6 +84,7 @@ module _ (files : List ℕ → File) (domain : Bor (List ℕ)) (problem : Option
       → AddsReport files old new domain.now (name_of problem) o reply → AddsAnswer files old new reply asked
   report_answers old new o (Planned ended) options h = absurd h
   report_answers old new o (Verified ended) options h = absurd h
+  report_answers old new o (Drawn came) options h = absurd h
   report_answers old new o (Checked finding) options h =
       (h.0, of_texts_more files domain.now (name_of problem) _ _ (λ d p reports. (o, options, reports)) h.1, h.2)
 
@@ -109,11 +113,12 @@ report_is_of_fault : (d : Named) (p : Option Named) (o : Options) (text : List �
     → (r : RunFault) × IsOfTexts r × RefusesCheck d p r
 report_is_of_fault d p o text h = let refused = faulty_is_refused d p o h.0 h.1 h.2 in run_fault d p refused.0 refused.1
 
--- a search ends with 0 or 1
-plan_ends : (ended : Outcome) → status_of (Planned ended) ≡ 3 → ⊥
-plan_ends outcome.Found is = omega arith
-plan_ends outcome.NoPlan is = omega arith
-plan_ends outcome.Unsolvable is = omega arith
+-- a search ends with 0, 1 or 6
+plan_ends : (ended : Watched) → status_of (Planned ended) ≡ 3 → ⊥
+plan_ends (watched.Known outcome.Found) is = omega arith
+plan_ends (watched.Known outcome.NoPlan) is = omega arith
+plan_ends (watched.Known outcome.Unsolvable) is = omega arith
+plan_ends (watched.Unknown none_within) is = omega arith
 
 -- so does a verdict
 verdict_ends : (ended : Verdict) → status_of (Verified ended) ≡ 3 → ⊥
@@ -124,16 +129,45 @@ verdict_ends verdict.GoalFails is = omega arith
 verdict_ends verdict.NoArrangement is = omega arith
 verdict_ends verdict.Valid is = omega arith
 
+-- and so does a picture
+picture_ends : (ended : Verdict) → status_of (Drawn (Judged ended)) ≡ 3 → ⊥
+picture_ends verdict.Structure is = omega arith
+picture_ends (verdict.NoInstance line) is = omega arith
+picture_ends (verdict.NotExecutable id) is = omega arith
+picture_ends verdict.GoalFails is = omega arith
+picture_ends verdict.NoArrangement is = omega arith
+picture_ends verdict.Valid is = omega arith
+
+-- a fault of the pair is one of texts
+of_pair_is_of_texts : (f : RunFault) → is_of_pair f ≡ true → IsOfTexts f
+of_pair_is_of_texts (fault.Domain f) is = tt
+of_pair_is_of_texts (fault.Problem f) is = tt
+of_pair_is_of_texts (fault.Check f) is = tt
+of_pair_is_of_texts (fault.Plan f) is = tt
+of_pair_is_of_texts fault.OutOfMemory is = absurd cc
+of_pair_is_of_texts fault.NoThread is = absurd cc
+of_pair_is_of_texts fault.Output is = absurd cc
+
 -- a request that is answered with an error has a fault
 pub faulty_answer : (files : List ℕ → File) (r : Request) (reply : Reply) (text : List ℕ) → Answers files r reply text → status_of reply ≡ 3 → HasFault files r
-faulty_answer files (request.Plan domain problem bounds) (Planned ended) text h is = absurd (plan_ends ended is)
-faulty_answer files (request.Plan domain problem bounds) (Verified ended) text h is = absurd h
-faulty_answer files (request.Plan domain problem bounds) (Checked ended) text h is = absurd h
+faulty_answer files (request.Plan domain problem bounds seconds has_progress) (Planned ended) text h is = absurd (plan_ends ended is)
+faulty_answer files (request.Plan domain problem bounds seconds has_progress) (Verified ended) text h is = absurd h
+faulty_answer files (request.Plan domain problem bounds seconds has_progress) (Checked ended) text h is = absurd h
+faulty_answer files (request.Plan domain problem bounds seconds has_progress) (Drawn came) text h is = absurd h
 faulty_answer files (request.Verify domain problem plan) (Planned ended) text h is = absurd h
 faulty_answer files (request.Verify domain problem plan) (Verified ended) text h is = absurd (verdict_ends ended is)
 faulty_answer files (request.Verify domain problem plan) (Checked ended) text h is = absurd h
+faulty_answer files (request.Verify domain problem plan) (Drawn came) text h is = absurd h
+faulty_answer files (request.Tree domain problem plan drawing colour) (Planned ended) text h is = absurd h
+faulty_answer files (request.Tree domain problem plan drawing colour) (Verified ended) text h is = absurd h
+faulty_answer files (request.Tree domain problem plan drawing colour) (Checked ended) text h is = absurd h
+faulty_answer files (request.Tree domain problem plan drawing colour) (Drawn (Judged ended)) text h is = absurd (picture_ends ended is)
+faulty_answer files (request.Tree domain problem plan drawing colour) (Drawn (Refused report)) text h is =
+    let refusal = h.4.2.2.0 in
+    (refusal.cause, of_pair_is_of_texts refusal.cause refusal.of_pair, (h.0, h.1, h.2, h.3, (h.4.0, h.4.1, refusal.refuses)))
 faulty_answer files (request.Check domain problem format limit is_strict colour) (Planned ended) text h is = absurd h
 faulty_answer files (request.Check domain problem format limit is_strict colour) (Verified ended) text h is = absurd h
+faulty_answer files (request.Check domain problem format limit is_strict colour) (Drawn came) text h is = absurd h
 faulty_answer files (request.Check domain problem format limit is_strict colour) (Checked Sound) text h is = absurd (omega arith)
 faulty_answer files (request.Check domain problem format limit is_strict colour) (Checked Warned) text h is = absurd (omega arith)
 faulty_answer files (request.Check domain problem format limit is_strict colour) (Checked Faulty) text h is =
@@ -147,10 +181,11 @@ faulty_answer files (request.Check domain problem format limit is_strict colour)
     )
 
 -- the statuses of answers
-pub answer_ends : (reply : Reply) → (status_of reply ≡ 2 → ⊥) × (status_of reply ≡ 4 → ⊥) × (status_of reply ≡ 5 → ⊥) × (status_of reply ≤ 5)
-answer_ends (Planned outcome.Found) = (λ is. omega arith, λ is. omega arith, λ is. omega arith, omega arith)
-answer_ends (Planned outcome.NoPlan) = (λ is. omega arith, λ is. omega arith, λ is. omega arith, omega arith)
-answer_ends (Planned outcome.Unsolvable) = (λ is. omega arith, λ is. omega arith, λ is. omega arith, omega arith)
+pub answer_ends : (reply : Reply) → (status_of reply ≡ 2 → ⊥) × (status_of reply ≡ 4 → ⊥) × (status_of reply ≡ 5 → ⊥) × (status_of reply ≤ 6)
+answer_ends (Planned (watched.Known outcome.Found)) = (λ is. omega arith, λ is. omega arith, λ is. omega arith, omega arith)
+answer_ends (Planned (watched.Known outcome.NoPlan)) = (λ is. omega arith, λ is. omega arith, λ is. omega arith, omega arith)
+answer_ends (Planned (watched.Known outcome.Unsolvable)) = (λ is. omega arith, λ is. omega arith, λ is. omega arith, omega arith)
+answer_ends (Planned (watched.Unknown none_within)) = (λ is. omega arith, λ is. omega arith, λ is. omega arith, omega arith)
 answer_ends (Verified verdict.Structure) = (λ is. omega arith, λ is. omega arith, λ is. omega arith, omega arith)
 answer_ends (Verified (verdict.NoInstance line)) = (λ is. omega arith, λ is. omega arith, λ is. omega arith, omega arith)
 answer_ends (Verified (verdict.NotExecutable id)) = (λ is. omega arith, λ is. omega arith, λ is. omega arith, omega arith)
@@ -160,3 +195,23 @@ answer_ends (Verified verdict.Valid) = (λ is. omega arith, λ is. omega arith, 
 answer_ends (Checked Sound) = (λ is. omega arith, λ is. omega arith, λ is. omega arith, omega arith)
 answer_ends (Checked Warned) = (λ is. omega arith, λ is. omega arith, λ is. omega arith, omega arith)
 answer_ends (Checked Faulty) = (λ is. omega arith, λ is. omega arith, λ is. omega arith, omega arith)
+answer_ends (Drawn (Judged verdict.Structure)) = (λ is. omega arith, λ is. omega arith, λ is. omega arith, omega arith)
+answer_ends (Drawn (Judged (verdict.NoInstance line))) = (λ is. omega arith, λ is. omega arith, λ is. omega arith, omega arith)
+answer_ends (Drawn (Judged (verdict.NotExecutable id))) = (λ is. omega arith, λ is. omega arith, λ is. omega arith, omega arith)
+answer_ends (Drawn (Judged verdict.GoalFails)) = (λ is. omega arith, λ is. omega arith, λ is. omega arith, omega arith)
+answer_ends (Drawn (Judged verdict.NoArrangement)) = (λ is. omega arith, λ is. omega arith, λ is. omega arith, omega arith)
+answer_ends (Drawn (Judged verdict.Valid)) = (λ is. omega arith, λ is. omega arith, λ is. omega arith, omega arith)
+answer_ends (Drawn (Refused report)) = (λ is. omega arith, λ is. omega arith, λ is. omega arith, omega arith)
+
+-- beside an answer of status 0 nothing is written
+pub sound_is_quiet : (reply : Reply) (Gets : List ℕ → Type 0) (Same : Type 0) → status_of reply ≡ 0 → AddsBeside reply Gets Same → Same
+sound_is_quiet (Planned ended) Gets Same is h = h
+sound_is_quiet (Verified ended) Gets Same is h = h
+sound_is_quiet (Checked ended) Gets Same is h = h
+sound_is_quiet (Drawn (Judged verdict.Structure)) Gets Same is h = absurd (omega arith)
+sound_is_quiet (Drawn (Judged (verdict.NoInstance line))) Gets Same is h = h
+sound_is_quiet (Drawn (Judged (verdict.NotExecutable id))) Gets Same is h = h
+sound_is_quiet (Drawn (Judged verdict.GoalFails)) Gets Same is h = h
+sound_is_quiet (Drawn (Judged verdict.NoArrangement)) Gets Same is h = h
+sound_is_quiet (Drawn (Judged verdict.Valid)) Gets Same is h = h
+sound_is_quiet (Drawn (Refused report)) Gets Same is h = absurd (omega arith)

@@ -1,5 +1,5 @@
 -- What the text of an answer says.
-use Rattle.std.proofs.Common.{◌≡◌, ℕ, List, Option, Result, Ok, Err, IfErr, codes, refl, sym, subst}
+use Rattle.std.proofs.Common.{◌≡◌, ℕ, List, Option, None, Result, Ok, Err, IfErr, IfSome, codes, refl, sym, subst}
 use Rattle.htn_model.specs.Task.{Task}
 use Rattle.htn_model.specs.PlanFile.{PlanFile}
 use Rattle.htn_model.specs.Grounding.{problem_of}
@@ -13,7 +13,10 @@ use Rattle.plan_text.specs.Out.{TakesBeginning}
 use Rattle.htn_search.specs.Answer.{Answers}
 use Rattle.htn_search.specs.declared.answer.Answer.{Answer}
 use Rattle.htn_search.specs.declared.answer.Answer.TheVariants as answer
-use Rattle.htn_run.specs.Headline.{IsCutShort, Says}
+use Rattle.htn_model.specs.Answer.{IsAnswer}
+use Rattle.htn_run.specs.Headline.{IsCutShort, IsWatchedCutShort, Says, SaysWatched, unknown_text}
+use Rattle.htn_run.specs.declared.outcome.Watched.{Watched}
+use Rattle.htn_run.specs.declared.outcome.Watched.TheVariants.{Known, Unknown}
 use Rattle.htn_run.specs.declared.outcome.Outcome.{Outcome}
 use Rattle.htn_run.specs.declared.outcome.Outcome.TheVariants.{Found, NoPlan, Unsolvable}
 
@@ -43,3 +46,31 @@ cut_short task bound outcome text old new says begun = record { outcome = outcom
 pub at_error : {T E : Type 0} (P : E → Type 0) (r : Result T E) → ((e : E) → P e) → IfErr r P
 at_error P (Ok x) h = tt
 at_error P (Err e) h = h e
+
+-- ## A search that may be stopped
+
+-- what may stop it may be named otherwise
+pub says_more : (task : Task) (bound : ℕ) (A B : Type 0) (watched : Watched) (text : List ℕ) → (A → B) → SaysWatched task bound A watched text → SaysWatched task bound B watched text
+says_more task bound A B (Known outcome) text more says = says
+says_more task bound A B (Unknown none_within) text more says = (more says.0, says.1, says.2)
+
+-- also where the answer is cut short
+pub cut_more : (task : Task) (bound : ℕ) (A B : Type 0) (old new : Option (List ℕ)) → (A → B) → IsWatchedCutShort task bound A old new → IsWatchedCutShort task bound B old new
+cut_more task bound A B old new more h = record { watched = h.watched; text = h.text; says = says_more task bound A B h.watched h.text more h.says; begun = h.begun }
+
+-- a search that is not stopped has an answer
+pub cut_known : (task : Task) (bound : ℕ) (A : Type 0) (old new : Option (List ℕ)) → (A → ⊥) → IsWatchedCutShort task bound A old new → IsCutShort task bound old new
+cut_known task bound A old new never h = by h.watched h.says
+  where
+    by : (watched : Watched) → SaysWatched task bound A watched h.text → IsCutShort task bound old new
+    by (Known outcome) says = record { outcome = outcome; text = h.text; says = says; begun = h.begun }
+    by (Unknown none_within) says = absurd (never says.0)
+
+-- a beginning of the answer's text is one
+pub cut_watched : (task : Task) (bound : ℕ) (A : Type 0) (old new : Option (List ℕ)) → IsCutShort task bound old new → IsWatchedCutShort task bound A old new
+cut_watched task bound A old new h = record { watched = Known h.outcome; text = h.text; says = h.says; begun = h.begun }
+
+-- a beginning of the text that says what is known is one
+pub cut_unknown : (task : Task) (bound : ℕ) (A : Type 0) (none_within : Option ℕ) (old new : Option (List ℕ)) → A → IfSome none_within (λ nodes. IsAnswer (problem_of task) nodes None)
+    → TakesBeginning old new (unknown_text none_within) → IsWatchedCutShort task bound A old new
+cut_unknown task bound A none_within old new may known begun = record { watched = Unknown none_within; text = unknown_text none_within; says = (may, known, refl); begun = begun }

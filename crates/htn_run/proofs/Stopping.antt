@@ -2,9 +2,14 @@
 use Rattle.std.proofs.Common.{◌≡◌, ◌≢◌, ◌⊎◌, ℕ, Bool, true, List, Option, arith, inl, inr, refl, sym, subst}
 use Rattle.htn_command.specs.declared.request.Request.{Request}
 use Rattle.htn_command.specs.declared.request.Request.TheVariants as request
-use Rattle.htn_run.specs.Files.{File, MayGive}
-use Rattle.htn_run.specs.Requests.{HasFault, IsCutShort, LacksFile, LacksFileOf, Refuses, TellsFaults}
-use Rattle.htn_run.specs.Stops.{Stops, StopsByFault, status_of}
+use Rattle.std.specs.Borrow.{Bor}
+use Rattle.htn_command.specs.declared.choice.Colour.{Colour}
+use Rattle.htn_command.specs.declared.choice.Drawing.{Drawing}
+use Rattle.htn_run.specs.Checking.{file_of}
+use Rattle.htn_run.specs.Files.{File, MayFail, MayGive}
+use Rattle.htn_run.specs.Trees.{IsPictureCutShort, IsUndrawn}
+use Rattle.htn_run.specs.Requests.{HasFault, IsCutShort, LacksFile, LacksFileOf, LacksText, Refuses, TellsFault}
+use Rattle.htn_run.specs.Stops.{IsUnread, Stops, StopsByFault, status_of}
 use Rattle.htn_run.specs.declared.outcome.RunFault.{RunFault}
 use Rattle.htn_run.specs.declared.outcome.RunFault.TheVariants as fault
 use Rattle.htn_run.specs.declared.stop.Stop.{Stop}
@@ -20,7 +25,7 @@ given file text bytes is read = subst (λ t. MayGive file t) (sym is) read
 
 -- a request that is refused, or whose answer is cut short
 pub stops_by : {O : Type 0} (contents : O → Option (List ℕ)) (has_failed : O → Bool) (files : List ℕ → File) (request : Request) (old new : O) (f : RunFault)
-    → TellsFaults request → (f ≢ fault.Output → Refuses files request f × (new ≡ old))
+    → TellsFault request f → (f ≢ fault.Output → Refuses files request f × (new ≡ old))
     → (f ≡ fault.Output → IsCutShort files (contents old) (contents new) request × (has_failed new ≡ true))
     → StopsByFault contents has_failed files request old new f
 stops_by contents has_failed files request old new fault.Output tells refused cut = cut refl
@@ -31,19 +36,62 @@ stops_by contents has_failed files request old new (fault.Plan f) tells refused 
 stops_by contents has_failed files request old new fault.OutOfMemory tells refused cut = (refused (λ e. cc)).1
 stops_by contents has_failed files request old new fault.NoThread tells refused cut = let h = refused (λ e. cc) in (tells, h.0, h.1)
 
+-- a tree that is refused for its plan, wants memory, or whose picture is cut short
+pub stops_undrawn : {O : Type 0} (contents : O → Option (List ℕ)) (has_failed : O → Bool) (files : List ℕ → File) (domain problem plan : Bor (List ℕ))
+    (form : Drawing) (colour : Colour) (old new : O) (d p l : List ℕ) → MayGive (files (file_of domain.now)) d → MayGive (files (file_of problem.now)) p
+    → MayGive (files (file_of plan.now)) l → (f : RunFault) → (f ≢ fault.Output → IsUndrawn d p l f × (new ≡ old))
+    → (f ≡ fault.Output → IsPictureCutShort d p l form (contents old) (contents new) × (has_failed new ≡ true))
+    → Stops contents has_failed files (request.Tree domain problem plan form colour) old new (Run f)
+stops_undrawn contents has_failed files domain problem plan form colour old new d p l a b c fault.Output refused cut =
+    let h = cut refl in ((d, p, a, b, (l, c, h.0)), h.1)
+stops_undrawn contents has_failed files domain problem plan form colour old new d p l a b c (fault.Domain f) refused cut = absurd (refused (λ e. cc)).0
+stops_undrawn contents has_failed files domain problem plan form colour old new d p l a b c (fault.Problem f) refused cut = absurd (refused (λ e. cc)).0
+stops_undrawn contents has_failed files domain problem plan form colour old new d p l a b c (fault.Check f) refused cut = absurd (refused (λ e. cc)).0
+stops_undrawn contents has_failed files domain problem plan form colour old new d p l a b c (fault.Plan f) refused cut =
+    let h = refused (λ e. cc) in (tt, (d, p, a, b, (l, c, h.0)), h.1)
+stops_undrawn contents has_failed files domain problem plan form colour old new d p l a b c fault.OutOfMemory refused cut = (refused (λ e. cc)).1
+stops_undrawn contents has_failed files domain problem plan form colour old new d p l a b c fault.NoThread refused cut = absurd (refused (λ e. cc)).0
+
+-- a tree of which the domain or the problem can't be read
+pub stops_unread : {O : Type 0} (contents : O → Option (List ℕ)) (has_failed : O → Bool) (files : List ℕ → File) (domain problem plan : Bor (List ℕ))
+    (form : Drawing) (colour : Colour) (old : O) (first second : List ℕ) → first ≡ file_of domain.now → second ≡ file_of problem.now
+    → (stop : Stop) → IsUnread (LacksText files first second ⊥) stop → Stops contents has_failed files (request.Tree domain problem plan form colour) old old stop
+stops_unread contents has_failed files domain problem plan form colour old first second d p (Unreadable text.Domain) h =
+    (subst (λ n. MayFail (files n)) d h, refl)
+stops_unread contents has_failed files domain problem plan form colour old first second d p (Unreadable text.Problem) h =
+    ((h.0, subst (λ n. MayGive (files n) h.0) d h.1, subst (λ n. MayFail (files n)) p h.2), refl)
+stops_unread contents has_failed files domain problem plan form colour old first second d p (Unreadable text.Plan) h = absurd h
+stops_unread contents has_failed files domain problem plan form colour old first second d p (Run f) h =
+    subst (λ x. Stops contents has_failed files (request.Tree domain problem plan form colour) old old (Run x)) (sym h) refl
+
+-- a tree of which the plan can't be read
+pub stops_without_plan : {O : Type 0} (contents : O → Option (List ℕ)) (has_failed : O → Bool) (files : List ℕ → File) (domain problem plan : Bor (List ℕ))
+    (form : Drawing) (colour : Colour) (old : O) (d p : List ℕ) → MayGive (files (file_of domain.now)) d → MayGive (files (file_of problem.now)) p
+    → (file : File) → file ≡ files (file_of plan.now) → (stop : Stop) → IsUnread (λ t. (t ≡ text.Plan) × MayFail file) stop
+    → Stops contents has_failed files (request.Tree domain problem plan form colour) old old stop
+stops_without_plan contents has_failed files domain problem plan form colour old d p a b file is (Unreadable text.Domain) h = let bad = h.0 in absurd cc
+stops_without_plan contents has_failed files domain problem plan form colour old d p a b file is (Unreadable text.Problem) h = let bad = h.0 in absurd cc
+stops_without_plan contents has_failed files domain problem plan form colour old d p a b file is (Unreadable text.Plan) h =
+    ((d, p, a, b, subst (λ f. MayFail f) is h.1), refl)
+stops_without_plan contents has_failed files domain problem plan form colour old d p a b file is (Run f) h =
+    subst (λ x. Stops contents has_failed files (request.Tree domain problem plan form colour) old old (Run x)) (sym h) refl
+
 -- ## A file that can't be read
 
 -- the file of a text that can't be read is one that the request lacks
 pub lacks_file : (files : List ℕ → File) (r : Request) (t : Text) → LacksFileOf files r t → LacksFile files r
-lacks_file files (request.Plan domain problem bounds) text.Domain h = inl h
-lacks_file files (request.Plan domain problem bounds) text.Problem h = inr h
-lacks_file files (request.Plan domain problem bounds) text.Plan h = absurd h
+lacks_file files (request.Plan domain problem bounds seconds has_progress) text.Domain h = inl h
+lacks_file files (request.Plan domain problem bounds seconds has_progress) text.Problem h = inr h
+lacks_file files (request.Plan domain problem bounds seconds has_progress) text.Plan h = absurd h
 lacks_file files (request.Verify domain problem plan) text.Domain h = inl (inl h)
 lacks_file files (request.Verify domain problem plan) text.Problem h = inl (inr h)
 lacks_file files (request.Verify domain problem plan) text.Plan h = inr h
 lacks_file files (request.Check domain problem format limit is_strict colour) text.Domain h = inl h
 lacks_file files (request.Check domain problem format limit is_strict colour) text.Problem h = inr h
 lacks_file files (request.Check domain problem format limit is_strict colour) text.Plan h = absurd h
+lacks_file files (request.Tree domain problem plan drawing colour) text.Domain h = inl (inl h)
+lacks_file files (request.Tree domain problem plan drawing colour) text.Problem h = inl (inr h)
+lacks_file files (request.Tree domain problem plan drawing colour) text.Plan h = inr h
 
 -- ## The status of a stop
 

@@ -2,12 +2,12 @@
 use Rattle.std.proofs.Common.{◌≡◌, ◌⊎◌, ℕ, Bool, true, List, Option, arith, inl, inr}
 use Rattle.std.specs.Prelude.{codes}
 use Rattle.htn_command.specs.declared.request.Request.{Request}
-use Rattle.htn_command.specs.declared.request.Request.TheVariants.{Plan, Verify, Check}
+use Rattle.htn_command.specs.declared.request.Request.TheVariants.{Plan, Verify, Check, Tree}
 use Rattle.htn_run.specs.Checking.{name_of}
 use Rattle.htn_run.specs.Files.{File}
 use Rattle.htn_run.specs.Laws.{IsOfTexts}
 use Rattle.htn_run.specs.Lines.{line_of, line_of_fault, unread_line}
-use Rattle.htn_run.specs.Requests.{LacksFileOf, NeedsThreads, Refuses, TellsFaults}
+use Rattle.htn_run.specs.Requests.{LacksFileOf, NeedsThreads, Refuses, TellsFault}
 use Rattle.htn_run.specs.Stops.{Stops, status_of}
 use Rattle.htn_run.specs.declared.outcome.RunFault.{RunFault}
 use Rattle.htn_run.specs.declared.outcome.RunFault.TheVariants as fault
@@ -18,21 +18,22 @@ use Rattle.htn_run.proofs.Reporting.{of_texts_never}
 
 -- a request that is refused a thread has more than one worker
 needs_threads : (files : List ℕ → File) (request : Request) → Refuses files request fault.NoThread → NeedsThreads request
-needs_threads files (Plan domain problem bounds) h = h.4
+needs_threads files (Plan domain problem bounds seconds has_progress) h = h.4
 needs_threads files (Verify domain problem plan) h = absurd h.4.2
+needs_threads files (Tree domain problem plan drawing colour) h = absurd h.4.2
 needs_threads files (Check domain problem format limit is_strict colour) h = of_texts_never files domain.now (name_of problem) h
 
 module _ (Gets : List ℕ → Type 0) where
   module _ {O : Type 0} (contents : O → Option (List ℕ)) (has_failed : O → Bool) (files : List ℕ → File) (request : Request) (old new : O) where
     -- status 3: the fault of a text, and the output is as it was
     pub fault_told : (stop : Stop) → Stops contents has_failed files request old new stop → Gets (line_of stop) → status_of stop ≡ 3
-        → (TellsFaults request × ((f : RunFault) × IsOfTexts f × Refuses files request f × Gets (line_of_fault f))) × (new ≡ old)
+        → ((f : RunFault) × TellsFault request f × IsOfTexts f × Refuses files request f × Gets (line_of_fault f)) × (new ≡ old)
     fault_told (Unreadable text) h gets is = absurd (omega arith)
     fault_told (Run fault.Output) h gets is = absurd (omega arith)
-    fault_told (Run (fault.Domain f)) h gets is = ((h.0, (fault.Domain f, tt, h.1, gets)), h.2)
-    fault_told (Run (fault.Problem f)) h gets is = ((h.0, (fault.Problem f, tt, h.1, gets)), h.2)
-    fault_told (Run (fault.Check f)) h gets is = ((h.0, (fault.Check f, tt, h.1, gets)), h.2)
-    fault_told (Run (fault.Plan f)) h gets is = ((h.0, (fault.Plan f, tt, h.1, gets)), h.2)
+    fault_told (Run (fault.Domain f)) h gets is = ((fault.Domain f, h.0, tt, h.1, gets), h.2)
+    fault_told (Run (fault.Problem f)) h gets is = ((fault.Problem f, h.0, tt, h.1, gets), h.2)
+    fault_told (Run (fault.Check f)) h gets is = ((fault.Check f, h.0, tt, h.1, gets), h.2)
+    fault_told (Run (fault.Plan f)) h gets is = ((fault.Plan f, h.0, tt, h.1, gets), h.2)
     fault_told (Run fault.OutOfMemory) h gets is = absurd (omega arith)
     fault_told (Run fault.NoThread) h gets is = absurd (omega arith)
 

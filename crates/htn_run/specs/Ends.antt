@@ -1,5 +1,5 @@
 -- How the run of a command line ends, over what its words ask for and what the files have.
-use Rattle.std.specs.Prelude.{◌⊎◌, ℕ, List, [], Option, String, codes, map, string_bytes}
+use Rattle.std.specs.Prelude.{◌≡◌, ◌⊎◌, ℕ, Bool, List, [], Option, String, codes, map, string_bytes}
 use Rattle.std.specs.Io.KnownBytes.{Appends}
 use Rattle.plan_text.specs.Out.{TakesBeginning}
 use Rattle.htn_command.specs.Help.{HelpIsAsked, VersionIsAsked}
@@ -7,7 +7,7 @@ use Rattle.htn_command.specs.Request.{AskNothing, IsAskedBy}
 use Rattle.htn_command.specs.declared.request.Request.{Request}
 use Rattle.htn_run.specs.Files.{File, Notes, NotesBeginning}
 use Rattle.htn_run.specs.Laws.{IsOfTexts}
-use Rattle.htn_run.specs.Lines.{line_of_fault, unread_line}
+use Rattle.htn_run.specs.Lines.{GetsLine, line_of_fault, unread_line}
 use Rattle.htn_run.specs.Requests as request
 use Rattle.htn_run.specs.declared.outcome.RunFault.{RunFault}
 use Rattle.htn_run.specs.declared.stop.Text.{Text}
@@ -27,6 +27,10 @@ TextIsAsked words = HelpIsAsked words ⊎ VersionIsAsked words
 -- an answer to the request, of this status, was added to the output
 abbrev pub PrintsAnswer : {Z : Type 0} → ℕ → List (String Z) → (List ℕ → File) → Option (List ℕ) → Option (List ℕ) → Type 0
 PrintsAnswer status words files old new = Asked words (request.AddsAnswerWith status files old new)
+
+-- the same, with what the answer adds to the error output
+abbrev pub PrintsBeside : {Z : Type 0} → ℕ → List (String Z) → (List ℕ → File) → Option (List ℕ) → Option (List ℕ) → (List ℕ → Type 0) → Type 0 → Type 0
+PrintsBeside status words files old new Gets Same = Asked words (request.AddsAnswerBeside status files old new Gets Same)
 
 -- help or the version was, and it was asked for
 abbrev pub PrintsText : {Z : Type 0} → List (String Z) → Option (List ℕ) → Option (List ℕ) → Type 0
@@ -49,12 +53,22 @@ IsCutShort words files old new =
 abbrev pub ReadsInOrder : {Z : Type 0} → List (String Z) → Option (List (List ℕ)) → Option (List (List ℕ)) → Type 0
 ReadsInOrder words old new = Notes old new [] ⊎ Asked words (λ r. NotesBeginning old new (request.names_of r))
 
+-- nothing was added to the error output, or what the request shows while it runs
+abbrev pub ShowsProgress : {Z E : Type 0} → (E → Option (List ℕ)) → (E → Bool) → List (String Z) → (List ℕ → File) → E → E → Type 0
+ShowsProgress contents has_failed words files old new =
+    (new ≡ old) ⊎ Asked words (λ r. request.ShowsFor contents has_failed files r old new)
+
+-- the error output got a line, after what the request showed while it ran
+abbrev pub GetsAfter : {Z E : Type 0} → (E → Option (List ℕ)) → (E → Bool) → List (String Z) → (List ℕ → File) → E → E → List ℕ → Type 0
+GetsAfter {E = E} contents has_failed words files old new line =
+    (shown : E) × ShowsProgress contents has_failed words files old shown × GetsLine (contents shown) (contents new) (has_failed new) line
+
 -- ## The line on the error output, of which `Gets` says that the output got it
 
 -- that of a fault which the texts of the request have
 abbrev pub TellsFault : {Z : Type 0} → List (String Z) → (List ℕ → File) → (List ℕ → Type 0) → Type 0
 TellsFault words files Gets =
-    Asked words (λ r. request.TellsFaults r × ((fault : RunFault) × IsOfTexts fault × request.Refuses files r fault × Gets (line_of_fault fault)))
+    Asked words (λ r. (fault : RunFault) × request.TellsFault r fault × IsOfTexts fault × request.Refuses files r fault × Gets (line_of_fault fault))
 
 -- that of a want of memory, or of a thread where the request has more than one worker
 abbrev pub TellsWant : {Z : Type 0} → List (String Z) → (List ℕ → Type 0) → Type 0

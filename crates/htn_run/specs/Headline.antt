@@ -1,5 +1,6 @@
 -- What a run answers for a domain's text, a problem's text and a bound, and what it writes.
-use Rattle.std.specs.Prelude.{◌≡◌, ◌≢◌, ℕ, ◌<◌, List, Option, Some, None, codes, ⊤}
+use Rattle.std.specs.Prelude.{◌≡◌, ◌≢◌, ℕ, ◌<◌, List, [], ◌++◌, Option, Some, None, IfSome, codes, ⊤}
+use Rattle.std.specs.Fmt.{decimal}
 use Rattle.hddl_words.specs.Words.{Word}
 use Rattle.hddl_words.specs.declared.fault.TextFault.{TextFault}
 use Rattle.hddl_words.specs.declared.fault.TextFault.TheVariants as spelling
@@ -21,6 +22,8 @@ use Rattle.plan_text.specs.Out.{TakesBeginning}
 use Rattle.word_machine.specs.declared.bounds.Bounds.{Bounds}
 use Rattle.htn_run.specs.declared.outcome.Outcome.{Outcome}
 use Rattle.htn_run.specs.declared.outcome.Outcome.TheVariants.{Found, NoPlan, Unsolvable}
+use Rattle.htn_run.specs.declared.outcome.Watched.{Watched}
+use Rattle.htn_run.specs.declared.outcome.Watched.TheVariants.{Known, Unknown}
 use Rattle.htn_run.specs.declared.outcome.RunFault.{RunFault}
 use Rattle.htn_run.specs.declared.outcome.RunFault.TheVariants as fault
 
@@ -40,9 +43,33 @@ Says task bound Found text = (s : Solution) × IsAnswer (problem_of task) bound 
 Says task bound NoPlan text = IsAnswer (problem_of task) bound None × IsMet (problem_of task) bound × (text ≡ codes "none\n")
 Says task bound Unsolvable text = IsUnsolvable (problem_of task) × (IsMet (problem_of task) bound → ⊥) × (text ≡ codes "unsolvable\n")
 
+-- a number in decimal, after some words
+abbrev pub number_text : List ℕ → ℕ → List ℕ
+number_text before number = before ++ decimal number
+
+-- the same, if there is a number
+abbrev pub within_text : List ℕ → Option ℕ → List ℕ
+within_text before None = []
+within_text before (Some nodes) = number_text before nodes
+
+-- `unknown`, and the number of nodes that no solution is within, if one is known
+abbrev pub unknown_text : Option ℕ → List ℕ
+unknown_text none_within = codes "unknown" ++ (within_text (codes ": none within ") none_within ++ codes "\n")
+
+-- The text of the answer; or that it is unknown, which comes only where the search may be stopped: no solution has at
+-- most the number of nodes that is named.
+abbrev pub SaysWatched : Task → ℕ → Type 0 → Watched → List ℕ → Type 0
+SaysWatched task bound MayStop (Known outcome) text = Says task bound outcome text
+SaysWatched task bound MayStop (Unknown none_within) text =
+    MayStop × IfSome none_within (λ nodes. IsAnswer (problem_of task) nodes None) × (text ≡ unknown_text none_within)
+
 -- the text that answers for the two texts within the bound
 abbrev pub Answers : List ℕ → List ℕ → ℕ → Outcome → List ℕ → Type 0
 Answers domain problem bound outcome text = (task : Task) × IsTaskOfTexts domain problem task × Says task bound outcome text
+
+-- the same of a search that may be stopped
+abbrev pub SaysOfTexts : List ℕ → List ℕ → ℕ → Type 0 → Watched → List ℕ → Type 0
+SaysOfTexts domain problem bound MayStop watched text = (task : Task) × IsTaskOfTexts domain problem task × SaysWatched task bound MayStop watched text
 
 -- no tree is spelled
 abbrev pub IsUnspelled : {Tree : Type 0} → (List Word → Tree → Type 0) → List ℕ → Type 0
@@ -76,6 +103,17 @@ pub record IsCutShort (task : Task) (bound : ℕ) (old new : Option (List ℕ)) 
   pub says : Says task bound outcome text
   pub begun : TakesBeginning old new text
 
+-- the same of a search that may be stopped
+pub record IsWatchedCutShort (task : Task) (bound : ℕ) (MayStop : Type 0) (old new : Option (List ℕ)) : Type 0 where
+  pub watched : Watched
+  pub text : List ℕ
+  pub says : SaysWatched task bound MayStop watched text
+  pub begun : TakesBeginning old new text
+
 -- a beginning of the text that answers for the two texts was added to the output
 abbrev pub IsAnswerCutShort : List ℕ → List ℕ → ℕ → Option (List ℕ) → Option (List ℕ) → Type 0
 IsAnswerCutShort domain problem bound old new = (task : Task) × IsTaskOfTexts domain problem task × IsCutShort task bound old new
+
+-- the same of a search that may be stopped
+abbrev pub IsTextsCutShort : List ℕ → List ℕ → ℕ → Type 0 → Option (List ℕ) → Option (List ℕ) → Type 0
+IsTextsCutShort domain problem bound MayStop old new = (task : Task) × IsTaskOfTexts domain problem task × IsWatchedCutShort task bound MayStop old new

@@ -6,7 +6,12 @@ pub mod Headline
 pub mod Judgement
 pub mod Laws
 pub mod Lines
+pub mod Progress
+pub mod Showing
 pub mod Process
 pub mod Reporting
 pub mod Requests
+pub mod Sights
 pub mod Stops
+pub mod Trees
+pub mod Refusals

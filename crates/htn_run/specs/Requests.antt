@@ -1,15 +1,20 @@
 -- What is answered to a request over the files that it names, and why it isn't.
-use Rattle.std.specs.Prelude.{◌≡◌, ℕ, ◌<◌, ◌⊎◌, List, [], ◌∷◌, Option, ⊤}
+use Rattle.std.specs.Prelude.{◌≡◌, ℕ, ◌<◌, ◌⊎◌, Bool, true, List, [], ◌∷◌, Option, is_some, ⊤}
 use Rattle.std.specs.Io.KnownBytes.{Appends}
+use Rattle.htn_command.specs.declared.choice.Colour.{Colour}
+use Rattle.htn_command.specs.declared.choice.Drawing.{Drawing}
 use Rattle.htn_command.specs.declared.request.Request.{Request}
-use Rattle.htn_command.specs.declared.request.Request.TheVariants.{Plan, Verify, Check}
-use Rattle.htn_verify.specs.declared.verdict.Verdict.TheVariants.{Valid}
+use Rattle.htn_command.specs.declared.request.Request.TheVariants.{Plan, Verify, Check, Tree}
+use Rattle.htn_verify.specs.declared.verdict.Verdict.TheVariants.{Structure, Valid}
 use Rattle.check_report.specs.declared.report.Finding.TheVariants.{Sound, Faulty}
 use Rattle.check_report.specs.declared.report.Options.{Options}
 use Rattle.htn_run.specs.declared.outcome.Outcome.TheVariants.{Found}
+use Rattle.htn_run.specs.declared.outcome.Watched.TheVariants.{Known, Unknown}
 use Rattle.htn_run.specs.declared.outcome.RunFault.{RunFault}
 use Rattle.htn_run.specs.declared.reply.Reply.{Reply}
-use Rattle.htn_run.specs.declared.reply.Reply.TheVariants.{Planned, Verified, Checked}
+use Rattle.htn_run.specs.declared.reply.Reply.TheVariants.{Planned, Verified, Checked, Drawn}
+use Rattle.htn_run.specs.declared.tree.Drawn.TheVariants.{Judged, Refused}
+use Rattle.htn_run.specs.declared.tree.Look.{Look}
 use Rattle.htn_run.specs.declared.stop.Text.{Text}
 use Rattle.htn_run.specs.declared.stop.Text.TheVariants as text
 use Rattle.htn_run.specs.Files.{File, MayFail, MayGive}
@@ -17,24 +22,30 @@ use Rattle.htn_run.specs.Checking as checks
 use Rattle.htn_run.specs.Headline as plans
 use Rattle.htn_run.specs.Judgement as verdicts
 use Rattle.htn_run.specs.Laws.{IsOfTexts}
+use Rattle.htn_run.specs.Progress as progress
+use Rattle.htn_run.specs.Trees as trees
 
 -- the names of the files of a request, in the order of its words
 abbrev pub names_of : Request → List (List ℕ)
-names_of (Plan domain problem bounds) = domain.now ∷ problem.now ∷ []
+names_of (Plan domain problem bounds seconds has_progress) = domain.now ∷ problem.now ∷ []
 names_of (Verify domain problem plan) = domain.now ∷ problem.now ∷ plan.now ∷ []
 names_of (Check domain problem format limit is_strict colour) = checks.files_of domain.now (checks.name_of problem)
+names_of (Tree domain problem plan drawing colour) = checks.file_of domain.now ∷ checks.file_of problem.now ∷ checks.file_of plan.now ∷ []
 
 -- a request that may be refused a thread: one for a plan, with more than one worker
 abbrev pub NeedsThreads : Request → Type 0
-NeedsThreads (Plan domain problem bounds) = 1 < bounds.workers
+NeedsThreads (Plan domain problem bounds seconds has_progress) = 1 < bounds.workers
 NeedsThreads (Verify domain problem plan) = ⊥
 NeedsThreads (Check domain problem format limit is_strict colour) = ⊥
+NeedsThreads (Tree domain problem plan drawing colour) = ⊥
 
--- a request that tells the fault of a text on the error output; that of a check stands in its report
-abbrev pub TellsFaults : Request → Type 0
-TellsFaults (Plan domain problem bounds) = ⊤
-TellsFaults (Verify domain problem plan) = ⊤
-TellsFaults (Check domain problem format limit is_strict colour) = ⊥
+-- A request that tells this fault of a text by a line on the error output. That of a check stands in its report, and so
+-- does that of a tree, but for the plan's.
+abbrev pub TellsFault : Request → RunFault → Type 0
+TellsFault (Plan domain problem bounds seconds has_progress) cause = ⊤
+TellsFault (Verify domain problem plan) cause = ⊤
+TellsFault (Check domain problem format limit is_strict colour) cause = ⊥
+TellsFault (Tree domain problem plan drawing colour) cause = trees.IsOfPlan cause
 
 -- what holds of the texts in the files of a domain and a problem
 abbrev pub OfTexts : (List ℕ → File) → List ℕ → List ℕ → (List ℕ → List ℕ → Type 0) → Type 0
@@ -44,32 +55,49 @@ OfTexts files domain problem P = (d : List ℕ) × (p : List ℕ) × MayGive (fi
 abbrev pub OfThreeTexts : (List ℕ → File) → List ℕ → List ℕ → List ℕ → (List ℕ → List ℕ → List ℕ → Type 0) → Type 0
 OfThreeTexts files domain problem plan P = OfTexts files domain problem (λ d p. (f : List ℕ) × MayGive (files plan) f × P d p f)
 
+-- what holds of the texts of a tree, whose files may be the standard input
+abbrev pub OfTreeTexts : (List ℕ → File) → List ℕ → List ℕ → List ℕ → (List ℕ → List ℕ → List ℕ → Type 0) → Type 0
+OfTreeTexts files domain problem plan = OfThreeTexts files (checks.file_of domain) (checks.file_of problem) (checks.file_of plan)
+
+-- how the picture is written, as the words ask for it
+abbrev pub AreLooks : Drawing → Colour → Look → Type 0
+AreLooks drawing colour look = (look.drawing ≡ drawing) × checks.MayColour colour look.colour
+
 -- the text that answers the request
 abbrev pub Answers : (List ℕ → File) → Request → Reply → List ℕ → Type 0
-Answers files (Plan domain problem bounds) (Planned outcome) text =
-    OfTexts files domain.now problem.now (λ d p. plans.Answers d p bounds.nodes outcome text)
+Answers files (Plan domain problem bounds seconds has_progress) (Planned watched) text =
+    OfTexts files domain.now problem.now (λ d p. plans.SaysOfTexts d p bounds.nodes (is_some seconds ≡ true) watched text)
 Answers files (Verify domain problem plan) (Verified verdict) text =
     OfThreeTexts files domain.now problem.now plan.now (λ d p f. verdicts.Judges d p f verdict text)
 Answers files (Check domain problem format limit is_strict colour) (Checked finding) text =
     checks.OfTexts files domain.now (checks.name_of problem)
     (λ d p. (o : Options) × checks.AreOptions format limit is_strict colour o × checks.Reports d p o finding text)
+Answers files (Tree domain problem plan drawing colour) (Drawn drawn) text =
+    OfTreeTexts files domain.now problem.now plan.now
+    (λ d p f. (look : Look) × AreLooks drawing colour look
+    × trees.Draws (checks.domain_text domain.now d) (checks.problem_text problem.now p) f look drawn text)
 Answers files _ _ text = ⊥
 
--- the status of an answer: 0 for a plan, for `valid` and for texts that are sound, 3 for texts with an error, and 1 for
--- any other
+-- the status of an answer: 0 for a plan, for `valid` and for texts that are sound, 3 for texts with an error, 6 where the
+-- answer is unknown, and 1 for any other; that of a picture is the status of its verdict
 abbrev pub status_of : Reply → ℕ
-status_of (Planned Found) = 0
+status_of (Planned (Known Found)) = 0
+status_of (Planned (Unknown none_within)) = 6
 status_of (Verified Valid) = 0
 status_of (Checked Sound) = 0
 status_of (Checked Faulty) = 3
+status_of (Drawn (Judged Valid)) = 0
+status_of (Drawn (Refused report)) = 3
 status_of _ = 1
 
 -- why the request has no answer
 abbrev pub Refuses : (List ℕ → File) → Request → RunFault → Type 0
-Refuses files (Plan domain problem bounds) fault = OfTexts files domain.now problem.now (λ d p. plans.Refuses d p bounds fault)
+Refuses files (Plan domain problem bounds seconds has_progress) fault = OfTexts files domain.now problem.now (λ d p. plans.Refuses d p bounds fault)
 Refuses files (Verify domain problem plan) fault = OfThreeTexts files domain.now problem.now plan.now (λ d p f. verdicts.RefusesPlan d p f fault)
 Refuses files (Check domain problem format limit is_strict colour) fault =
     checks.OfTexts files domain.now (checks.name_of problem) (λ d p. checks.RefusesCheck d p fault)
+Refuses files (Tree domain problem plan drawing colour) fault =
+    OfTreeTexts files domain.now problem.now plan.now (λ d p f. verdicts.RefusesPlan d p f fault)
 
 -- a fault of the texts, for which the request has no answer
 abbrev pub HasFault : (List ℕ → File) → Request → Type 0
@@ -81,11 +109,14 @@ LacksOne files domain problem = MayFail (files domain) ⊎ ((d : List ℕ) × Ma
 
 -- a file of the request can't be read, after those before it were
 abbrev pub LacksFile : (List ℕ → File) → Request → Type 0
-LacksFile files (Plan domain problem bounds) = LacksOne files domain.now problem.now
+LacksFile files (Plan domain problem bounds seconds has_progress) = LacksOne files domain.now problem.now
 LacksFile files (Verify domain problem plan) =
     LacksOne files domain.now problem.now ⊎ OfTexts files domain.now problem.now (λ d p. MayFail (files plan.now))
 LacksFile files (Check domain problem format limit is_strict colour) =
     MayFail (files (checks.file_of domain.now)) ⊎ checks.LacksProblem files domain.now (checks.name_of problem)
+LacksFile files (Tree domain problem plan drawing colour) =
+    LacksOne files (checks.file_of domain.now) (checks.file_of problem.now)
+    ⊎ OfTexts files (checks.file_of domain.now) (checks.file_of problem.now) (λ d p. MayFail (files (checks.file_of plan.now)))
 
 -- The domain's file can't be read, or the problem's after it was; what lacks of a plan's file is given.
 abbrev pub LacksText : (List ℕ → File) → List ℕ → List ℕ → Type 0 → Text → Type 0
@@ -95,10 +126,13 @@ LacksText files domain problem LacksPlan text.Plan = LacksPlan
 
 -- the file of this text of the request can't be read, after those before it were
 abbrev pub LacksFileOf : (List ℕ → File) → Request → Text → Type 0
-LacksFileOf files (Plan domain problem bounds) text = LacksText files domain.now problem.now ⊥ text
+LacksFileOf files (Plan domain problem bounds seconds has_progress) text = LacksText files domain.now problem.now ⊥ text
 LacksFileOf files (Verify domain problem plan) text =
     LacksText files domain.now problem.now (OfTexts files domain.now problem.now (λ d p. MayFail (files plan.now))) text
 LacksFileOf files (Check domain problem format limit is_strict colour) text = checks.LacksOf files domain.now (checks.name_of problem) text
+LacksFileOf files (Tree domain problem plan drawing colour) text =
+    LacksText files (checks.file_of domain.now) (checks.file_of problem.now)
+    (OfTexts files (checks.file_of domain.now) (checks.file_of problem.now) (λ d p. MayFail (files (checks.file_of plan.now)))) text
 
 -- the text that answers the request was added to the output
 abbrev pub AddsAnswer : (List ℕ → File) → Option (List ℕ) → Option (List ℕ) → Reply → Request → Type 0
@@ -108,12 +142,35 @@ AddsAnswer files old new reply request = (text : List ℕ) × Answers files requ
 abbrev pub AddsAnswerWith : ℕ → (List ℕ → File) → Option (List ℕ) → Option (List ℕ) → Request → Type 0
 AddsAnswerWith status files old new request = (reply : Reply) × (status_of reply ≡ status) × AddsAnswer files old new reply request
 
+-- What an answer adds to the error output: for a tree without a picture the verdict, or the report on its texts. For
+-- any other it stays as it was.
+abbrev pub AddsBeside : Reply → (List ℕ → Type 0) → Type 0 → Type 0
+AddsBeside (Drawn (Judged Structure)) Gets Same = Gets (verdicts.verdict_text Structure)
+AddsBeside (Drawn (Refused report)) Gets Same = Gets report.items
+AddsBeside _ Gets Same = Same
+
+-- the text that answers the request was added to the output, with this status, and to the error output what is beside it
+abbrev pub AddsAnswerBeside : ℕ → (List ℕ → File) → Option (List ℕ) → Option (List ℕ) → (List ℕ → Type 0) → Type 0 → Request → Type 0
+AddsAnswerBeside status files old new Gets Same request =
+    (reply : Reply) × (status_of reply ≡ status) × AddsAnswer files old new reply request × AddsBeside reply Gets Same
+
 -- a beginning of the text that answers the request was added to the output
 abbrev pub IsCutShort : (List ℕ → File) → Option (List ℕ) → Option (List ℕ) → Request → Type 0
-IsCutShort files old new (Plan domain problem bounds) =
-    OfTexts files domain.now problem.now (λ d p. plans.IsAnswerCutShort d p bounds.nodes old new)
+IsCutShort files old new (Plan domain problem bounds seconds has_progress) =
+    OfTexts files domain.now problem.now (λ d p. plans.IsTextsCutShort d p bounds.nodes (is_some seconds ≡ true) old new)
 IsCutShort files old new (Verify domain problem plan) =
     OfThreeTexts files domain.now problem.now plan.now (λ d p f. verdicts.IsVerdictCutShort d p f old new)
 IsCutShort files old new (Check domain problem format limit is_strict colour) =
     checks.OfTexts files domain.now (checks.name_of problem)
     (λ d p. (o : Options) × checks.AreOptions format limit is_strict colour o × checks.IsReportCutShort d p o old new)
+IsCutShort files old new (Tree domain problem plan drawing colour) =
+    OfTreeTexts files domain.now problem.now plan.now (λ d p f. trees.IsPictureCutShort d p f drawing old new)
+
+-- what a request shows on the error output while it runs: for a plan the lines of progress, if they are asked for; for
+-- any other nothing
+abbrev pub ShowsFor : {E : Type 0} → (E → Option (List ℕ)) → (E → Bool) → (List ℕ → File) → Request → E → E → Type 0
+ShowsFor contents has_failed files (Plan domain problem bounds seconds has_progress) old new =
+    (new ≡ old) ⊎ OfTexts files domain.now problem.now (λ d p. progress.ShowsOfTexts contents has_failed d p has_progress old new)
+ShowsFor contents has_failed files (Verify domain problem plan) old new = new ≡ old
+ShowsFor contents has_failed files (Check domain problem format limit is_strict colour) old new = new ≡ old
+ShowsFor contents has_failed files (Tree domain problem plan drawing colour) old new = new ≡ old

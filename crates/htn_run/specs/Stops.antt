@@ -3,7 +3,7 @@ use Rattle.std.specs.Prelude.{◌≡◌, ℕ, Bool, true, List, Option}
 use Rattle.htn_command.specs.declared.request.Request.{Request}
 use Rattle.plan_text.specs.Out.{TakesBeginning}
 use Rattle.htn_run.specs.Files.{File}
-use Rattle.htn_run.specs.Requests.{IsCutShort, LacksFileOf, Refuses, TellsFaults}
+use Rattle.htn_run.specs.Requests.{IsCutShort, LacksFileOf, Refuses, TellsFault}
 use Rattle.htn_run.specs.declared.outcome.RunFault.{RunFault}
 use Rattle.htn_run.specs.declared.outcome.RunFault.TheVariants.{Output, OutOfMemory, NoThread}
 use Rattle.htn_run.specs.declared.stop.Stop.{Stop}
@@ -36,7 +36,7 @@ CutsShort contents has_failed old new fault = (fault ≡ OutOfMemory) × (new �
 abbrev pub StopsByFault : {O : Type 0} → (O → Option (List ℕ)) → (O → Bool) → (List ℕ → File) → Request → O → O → RunFault → Type 0
 StopsByFault contents has_failed files request old new Output = IsCutShort files (contents old) (contents new) request × (has_failed new ≡ true)
 StopsByFault contents has_failed files request old new OutOfMemory = new ≡ old
-StopsByFault contents has_failed files request old new fault = TellsFaults request × Refuses files request fault × (new ≡ old)
+StopsByFault contents has_failed files request old new fault = TellsFault request fault × Refuses files request fault × (new ≡ old)
 
 -- how the run of a request stops, and what it leaves
 abbrev pub Stops : {O : Type 0} → (O → Option (List ℕ)) → (O → Bool) → (List ℕ → File) → Request → O → O → Stop → Type 0

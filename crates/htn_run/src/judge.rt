@@ -60,7 +60,7 @@ pub(crate) fn judge_task<O: Out>(
 }
 
 /// The plan file that a text holds.
-fn file_in(alloc: Global, text: &[u8]) -> Result<PlanFile, RunFault>
+pub(crate) fn file_in(alloc: Global, text: &[u8]) -> Result<PlanFile, RunFault>
     ensures held { IfOk result (λ file. FileText file text.now) }
     ensures refused { IfErr result (IsUnjudged text.now) }
 {

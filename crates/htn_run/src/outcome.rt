@@ -18,6 +18,15 @@ pub enum Outcome {
     Unsolvable,
 }
 
+/// What a watched run found.
+#[derive(Debug, Clone, Copy, PartialEq, Eq)]
+pub enum Watched {
+    /// The answer.
+    Known(Outcome),
+    /// The watch stopped the search: no plan has at most this number of nodes, if there is one.
+    Unknown { none_within: Option<u64> },
+}
+
 /// Why a run has no answer.
 #[derive(Debug, Clone, Copy, PartialEq, Eq, Error)]
 pub enum RunFault {

@@ -1,34 +1,65 @@
 //! What a request is answered with.
 
-use crate::outcome::Outcome;
+use crate::outcome::{Outcome, Watched};
+use crate::tree::Drawn;
+use crate::verdict::write_verdict;
 use check_report::Finding;
-use htn_plan::Verdict;
+use htn_plan::{Out, Verdict, WriteFault, put_all};
 
 /// The answer to a request.
-#[derive(Debug, Clone, Copy)]
+#[derive(Debug, Drop)]
 pub(crate) enum Reply {
     /// What the search for a plan found.
-    Planned(Outcome),
+    Planned(Watched),
     /// The verdict on a plan.
     Verified(Verdict),
     /// What the check of texts found.
     Checked(Finding),
+    /// What the tree of a plan came to.
+    Drawn(Drawn),
 }
 
 impl Reply {
     ghost use Rattle.std.specs.Prelude.{◌≡◌};
-    ghost use Rattle.htn_run.specs.Requests.{status_of};
+    ghost use Rattle.htn_run.specs.Lines.{GetsLine};
+    ghost use Rattle.htn_run.specs.Requests.{AddsBeside, status_of};
 
-    /// The status of the program: 0 for a plan, for `valid` and for texts that are sound, 3 for texts with an error, 1 for
-    /// any other answer.
+    /// Writes on the standard error why a tree has no picture, and answers the status of the program. A write that
+    /// fails there changes nothing. For any other answer nothing is written.
+    pub(crate) fn conclude<E: Out>(&self, err: &mut E) -> u8
+        ensures status { result ≡ status_of self.now }
+        ensures beside { AddsBeside self.now (GetsLine (E.contents err.old) (E.contents err.new) (E.has_failed err.new)) (err.new ≡ err.old) }
+    {
+        self.write_beside(err);
+        self.status()
+    }
+
+    fn write_beside<E: Out>(&self, err: &mut E)
+        ensures { AddsBeside self.now (GetsLine (E.contents err.old) (E.contents err.new) (E.has_failed err.new)) (err.new ≡ err.old) }
+    {
+        match self {
+            Reply::Drawn(Drawn::Judged(Verdict::Structure)) => {
+                let _refused: Result<(), WriteFault> = write_verdict(Verdict::Structure, err);
+            }
+            Reply::Drawn(Drawn::Refused(report)) => {
+                let _refused: Result<(), WriteFault> = put_all(err, report.as_slice());
+            }
+            _ => {}
+        }
+    }
+
+    /// The status of the program: 0 for a plan, for `valid` and for texts that are sound, 3 for texts with an error, 6
+    /// where the answer is unknown, and 1 for any other. That of a picture is the status of its verdict.
     pub(crate) fn status(&self) -> u8
         ensures { result ≡ status_of self.now }
     {
         match self {
-            Reply::Planned(Outcome::Found)
+            Reply::Planned(Watched::Known(Outcome::Found))
             | Reply::Verified(Verdict::Valid)
-            | Reply::Checked(Finding::Sound) => 0,
-            Reply::Checked(Finding::Faulty) => 3,
+            | Reply::Checked(Finding::Sound)
+            | Reply::Drawn(Drawn::Judged(Verdict::Valid)) => 0,
+            Reply::Checked(Finding::Faulty) | Reply::Drawn(Drawn::Refused(_)) => 3,
+            Reply::Planned(Watched::Unknown { .. }) => 6,
             _ => 1,
         }
     }

@@ -1,14 +1,15 @@
 //! The run of a planner: from the bytes of a domain and a problem to the bytes of the answer.
 ghost use Rattle.std.specs.Prelude.{◌≡◌, ◌≢◌, List, ℕ, true, IfOk, IfErr, OnOk};
 ghost use Rattle.std.specs.Io.KnownBytes.{Appends};
-ghost use Rattle.htn_run.specs.Headline.{Answers, IsAnswerCutShort, IsCutShort, IsWant, Refuses, Says};
+ghost use Rattle.htn_run.specs.Headline.{Answers, IsAnswerCutShort, IsCutShort, IsWant, IsWatchedCutShort, Refuses, Says, SaysWatched};
+ghost use Rattle.htn_search.specs.Answer.{HasNoneBelow};
 ghost use Rattle.htn_run.specs.declared.outcome.RunFault.TheVariants.{Output};
 
-use crate::answer::write_answer;
-use crate::outcome::{Outcome, RunFault};
+use crate::answer::write_known;
+use crate::outcome::{Outcome, RunFault, Watched};
 use crate::texts::task_of;
 use htn_plan::Out;
-use htn_search::{Bounds, Gate, search_with_tables};
+use htn_search::{Bounds, Gate, NoWatch, Watch, search_watched};
 use htn_task::Task;
 use std::alloc::Global;
 use std::mem;
@@ -64,7 +65,35 @@ pub fn run_task<O: Out, G: Gate, R: Threads + Wait + Sync>(
     ensures cut_short { IfErr result (λ fault. fault ≡ Output
         → IsCutShort task.now bounds.nodes (O.contents out.old) (O.contents out.new) × (O.has_failed out.new ≡ true)) }
 {
-    let (answer, tables) = search_with_tables(rt, alloc, task, bounds, gate)?;
+    let watched = run_task_watched(rt, alloc, task, bounds, gate, out, &mut NoWatch)?;
+    match watched {
+        Watched::Known(outcome) => Ok(outcome),
+        // That watch stops nothing.
+        Watched::Unknown { .. } => unreachable!(),
+    }
+}
+
+/// Searches a task within the bounds, and writes the answer as `run_task` does; or, where the watch stops the search,
+/// `unknown` and the number of nodes that no solution is within, if one is known, with a line feed.
+pub fn run_task_watched<O: Out, G: Gate, W: Watch, R: Threads + Wait + Sync>(
+    rt: &R,
+    alloc: Global,
+    task: &Task,
+    bounds: Bounds,
+    gate: &G,
+    out: &mut O,
+    watch: &mut W,
+) -> Result<Watched, RunFault>
+    requires hears { (n : ℕ) → HasNoneBelow task.now n → W.may_hear watch.old n }
+    ensures answer { IfOk result (λ watched. (text : List ℕ)
+        × SaysWatched task.now bounds.nodes (W.may_stop watch.old ≡ true) watched text × Appends (O.contents out.old) (O.contents out.new) text) }
+    ensures works { OnOk result (O.has_failed out.new ≡ O.has_failed out.old) }
+    ensures refused { IfErr result (λ fault. fault ≢ Output → IsWant bounds fault × (out.new ≡ out.old)) }
+    ensures cut_short { IfErr result (λ fault. fault ≡ Output
+        → IsWatchedCutShort task.now bounds.nodes (W.may_stop watch.old ≡ true) (O.contents out.old) (O.contents out.new) × (O.has_failed out.new ≡ true)) }
+    ensures becomes { W.becomes watch.old watch.new }
+{
+    let (known, tables) = search_watched(rt, alloc, task, bounds, gate, watch)?;
     mem::forget(tables);
-    write_answer(alloc, task, bounds.nodes, &answer, out)
+    write_known(alloc, task, bounds.nodes, &known, out)
 }

@@ -4,46 +4,52 @@ ghost use Rattle.std.specs.Io.KnownBytes.{Appends};
 ghost use Rattle.htn_command.specs.Help.{AreMistaken};
 ghost use Rattle.htn_run.specs.Checking as spec;
 ghost use Rattle.htn_run.specs.Checking.{MayColour, files_of, name_of};
+ghost use Rattle.htn_run.specs.Refusals.{EndsRefusal, EndsText};
 ghost use Rattle.htn_run.specs.Reporting.{AddsReport, StopsReport};
-ghost use Rattle.htn_run.specs.Ends.{HasFault, IsCutShort, LacksFile, NothingIsAsked, PrintsAnswer, PrintsText, ReadsInOrder, TellsFault, TellsFile, TellsOutput, TellsWant};
+ghost use Rattle.htn_run.specs.Ends.{GetsAfter, HasFault, IsCutShort, LacksFile, NothingIsAsked, PrintsAnswer, PrintsBeside, PrintsText, ReadsInOrder, ShowsProgress, TellsFault, TellsFile, TellsOutput, TellsWant};
 ghost use Rattle.htn_run.specs.Files.{MayFail, MayGive, Notes, NotesBeginning};
-ghost use Rattle.htn_run.specs.Lines.{GetsLine};
-ghost use Rattle.htn_run.specs.Requests.{AddsAnswer, LacksText, names_of};
+ghost use Rattle.htn_run.specs.Requests.{AddsAnswer, LacksText, ShowsFor, names_of};
 ghost use Rattle.htn_run.specs.Stops.{CutsShort, IsUnread, Stops};
 
 use crate::check::run_check;
+use crate::clock::Watching;
 use crate::judge::run_verify;
 use crate::line::Line;
 use crate::outcome::RunFault;
+use crate::plan_files::plan_files;
 use crate::reply::Reply;
-use crate::run::run_plan;
 use crate::source::{ReadFault, Source};
 use crate::stop::{Stop, Text};
+use crate::tree::Look;
+use crate::tree_files::tree_files;
 use check_report::{Input, Options};
 use clap::Error;
 use htn_command::{Colour, Refusal, Request, parse};
 use htn_plan::{Out, put_all};
-use htn_search::{Bounds, NoGate};
 use std::alloc::Global;
 use std::fmt::Write;
 use std::sync::Wait;
 use std::thread::Threads;
+use std::time::Clock;
 
 /// Does what the words ask for, of which the first is the program's name, and answers the status of the program.
 ///
 /// | Status | When | On `err` |
 /// |---|---|---|
 /// | 0 | a plan, or `valid`, or a report without an error, or help or the version, which was asked for | nothing |
-/// | 1 | `none`, `unsolvable`, or `invalid: ` and why, or a report with a warning that counts | nothing |
+/// | 1 | `none`, `unsolvable`, or `invalid: ` and why, or a report with a warning that counts | nothing; of a tree without a picture the verdict |
 /// | 2 | the words are refused | the text of `clap` |
-/// | 3 | a text is refused | one line: which text, the fault and its place; after a report nothing |
+/// | 3 | a text is refused | one line: which text, the fault and its place; after a report nothing; of a tree the report |
 /// | 4 | want of memory, or no thread | one line |
 /// | 5 | a file can't be read, or the output can't be written | one line |
+/// | 6 | the time for a plan is over | nothing |
 ///
-/// The files are read in the order of the words. Nothing is written to `out` before the answer is known. A write to
-/// `err` that fails changes no status. The answer is tied to what the files hold as far as the source's contract says.
-/// No clause says what the texts of `clap` are.
-pub fn run_words<S: Source, O: Out, E: Out, R: Threads + Wait + Sync>(
+/// Where a plan is asked for with `--progress`, lines that say how the search gets on stand on `err` before that; what
+/// they say of the task is true. The files are read in the order of the words. Nothing is written to `out` before the
+/// answer is known. A write to `err` that fails changes no status. The picture of a plan has the status of its verdict.
+/// The answer is tied to what the files hold as far as the source's contract says. No clause says what the texts of
+/// `clap` are.
+pub fn run_words<S: Source, O: Out, E: Out, R: Threads + Wait + Clock + Sync>(
     rt: &R,
     alloc: Global,
     words: &[String],
@@ -51,12 +57,13 @@ pub fn run_words<S: Source, O: Out, E: Out, R: Threads + Wait + Sync>(
     out: &mut O,
     err: &mut E,
 ) -> u8
-    ensures status { result ≤ 5 }
+    ensures status { result ≤ 6 }
     ensures found { result ≡ 0 → PrintsAnswer 0 words.now (S.files files.old) (O.contents out.old) (O.contents out.new)
         ⊎ PrintsText words.now (O.contents out.old) (O.contents out.new) }
-    ensures none { result ≡ 1 → PrintsAnswer 1 words.now (S.files files.old) (O.contents out.old) (O.contents out.new) }
+    ensures none { result ≡ 1 → PrintsBeside 1 words.now (S.files files.old) (O.contents out.old) (O.contents out.new)
+        (GetsAfter E.contents E.has_failed words.now (S.files files.old) err.old err.new) (ShowsProgress E.contents E.has_failed words.now (S.files files.old) err.old err.new) }
     ensures works { result ≤ 1 → O.has_failed out.new ≡ O.has_failed out.old }
-    ensures quiet { result ≤ 1 → err.new ≡ err.old }
+    ensures quiet { result ≡ 0 → ShowsProgress E.contents E.has_failed words.now (S.files files.old) err.old err.new }
     ensures refused { result ≡ 2 → NothingIsAsked words.now }
     ensures mistaken { result ≡ 2 → AreMistaken words.now }
     ensures faulty { result ≡ 3 → HasFault words.now (S.files files.old) }
@@ -65,30 +72,47 @@ pub fn run_words<S: Source, O: Out, E: Out, R: Threads + Wait + Sync>(
     ensures failed { result ≡ 5 → (LacksFile words.now (S.files files.old) × (out.new ≡ out.old))
         ⊎ (IsCutShort words.now (S.files files.old) (O.contents out.old) (O.contents out.new) × (O.has_failed out.new ≡ true)) }
     ensures reads { ReadsInOrder words.now (S.reads files.old) (S.reads files.new) }
-    ensures fault_line { result ≡ 3 → (TellsFault words.now (S.files files.old) (GetsLine (E.contents err.old) (E.contents err.new) (E.has_failed err.new)) × (out.new ≡ out.old))
-        ⊎ (PrintsAnswer 3 words.now (S.files files.old) (O.contents out.old) (O.contents out.new) × (err.new ≡ err.old)) }
-    ensures want_line { result ≡ 4 → TellsWant words.now (GetsLine (E.contents err.old) (E.contents err.new) (E.has_failed err.new)) }
-    ensures file_line { result ≡ 5 → (TellsFile words.now (S.files files.old) (GetsLine (E.contents err.old) (E.contents err.new) (E.has_failed err.new)) × (out.new ≡ out.old))
-        ⊎ (TellsOutput (GetsLine (E.contents err.old) (E.contents err.new) (E.has_failed err.new)) × (O.has_failed out.new ≡ true)) }
+    ensures fault_line { result ≡ 3 → (TellsFault words.now (S.files files.old) (GetsAfter E.contents E.has_failed words.now (S.files files.old) err.old err.new) × (out.new ≡ out.old))
+        ⊎ PrintsBeside 3 words.now (S.files files.old) (O.contents out.old) (O.contents out.new)
+        (GetsAfter E.contents E.has_failed words.now (S.files files.old) err.old err.new) (ShowsProgress E.contents E.has_failed words.now (S.files files.old) err.old err.new) }
+    ensures want_line { result ≡ 4 → TellsWant words.now (GetsAfter E.contents E.has_failed words.now (S.files files.old) err.old err.new) }
+    ensures file_line { result ≡ 5 → (TellsFile words.now (S.files files.old) (GetsAfter E.contents E.has_failed words.now (S.files files.old) err.old err.new) × (out.new ≡ out.old))
+        ⊎ (TellsOutput (GetsAfter E.contents E.has_failed words.now (S.files files.old) err.old err.new) × (O.has_failed out.new ≡ true)) }
+    ensures unknown { result ≡ 6 → PrintsBeside 6 words.now (S.files files.old) (O.contents out.old) (O.contents out.new)
+        (GetsAfter E.contents E.has_failed words.now (S.files files.old) err.old err.new) (ShowsProgress E.contents E.has_failed words.now (S.files files.old) err.old err.new)
+        × (O.has_failed out.new ≡ O.has_failed out.old) }
 {
     match parse(alloc, words) {
-        Ok(request) => match run_request(rt, alloc, request, files, out) {
-            Ok(reply) => reply.status(),
+        Ok(request) => match run_request(rt, alloc, request, files, out, err) {
+            Ok(reply) => reply.conclude(err),
             Err(stop) => stop.tell(err),
         },
-        Err(Refusal::Help(help)) => match write_text(alloc, &help, out) {
-            Ok(()) => 0,
-            Err(fault) => Stop::Run(fault).tell(err),
-        },
-        Err(Refusal::Version(version)) => match write_text(alloc, &version, out) {
-            Ok(()) => 0,
-            Err(fault) => Stop::Run(fault).tell(err),
-        },
-        Err(Refusal::Words(error)) => {
+        Err(refusal) => refuse(alloc, refusal, out, err),
+    }
+}
+
+// Shows help or the version, or says why the words are refused, and answers the status.
+fn refuse<O: Out, E: Out>(alloc: Global, refusal: Refusal, out: &mut O, err: &mut E) -> u8
+    ensures { EndsRefusal O.contents O.has_failed E.contents E.has_failed refusal out.old out.new err.old err.new result }
+{
+    match refusal {
+        Refusal::Help(help) => show_text(alloc, &help, out, err),
+        Refusal::Version(version) => show_text(alloc, &version, out, err),
+        Refusal::Words(error) => {
             let _refused = write!(Line::new(err), "{error}");
             2
         }
-        Err(Refusal::OutOfMemory) => Stop::Run(RunFault::OutOfMemory).tell(err),
+        Refusal::OutOfMemory => Stop::Run(RunFault::OutOfMemory).tell(err),
+    }
+}
+
+// Writes the text of help, or of the version, and answers the status.
+fn show_text<O: Out, E: Out>(alloc: Global, shown: &Error, out: &mut O, err: &mut E) -> u8
+    ensures { EndsText O.contents O.has_failed E.contents E.has_failed out.old out.new err.old err.new result }
+{
+    match write_text(alloc, shown, out) {
+        Ok(()) => 0,
+        Err(fault) => Stop::Run(fault).tell(err),
     }
 }
 
@@ -104,24 +128,36 @@ fn write_text<O: Out>(alloc: Global, shown: &Error, out: &mut O) -> Result<(), R
 }
 
 // Reads the files of a request, and answers it.
-fn run_request<S: Source, O: Out, R: Threads + Wait + Sync>(
+fn run_request<S: Source, O: Out, E: Out, R: Threads + Wait + Clock + Sync>(
     rt: &R,
     alloc: Global,
     request: Request<'_>,
     files: &mut S,
     out: &mut O,
+    err: &mut E,
 ) -> Result<Reply, Stop>
     ensures answered { IfOk result (λ reply. AddsAnswer (S.files files.old) (O.contents out.old) (O.contents out.new) reply request.entry) }
     ensures works { OnOk result (O.has_failed out.new ≡ O.has_failed out.old) }
     ensures stopped { IfErr result (Stops O.contents O.has_failed (S.files files.old) request.entry out.old out.new) }
     ensures reads { NotesBeginning (S.reads files.old) (S.reads files.new) (names_of request.entry) }
+    ensures shows { ShowsFor E.contents E.has_failed (S.files files.old) request.entry err.old err.new }
 {
     match request {
         Request::Plan {
             domain,
             problem,
             bounds,
-        } => plan_files(rt, alloc, domain, problem, bounds, files, out),
+            seconds,
+            has_progress,
+        } => {
+            let watching = Watching {
+                seconds,
+                has_progress,
+            };
+            plan_files(
+                rt, alloc, domain, problem, bounds, watching, files, out, err,
+            )
+        }
         Request::Verify {
             domain,
             problem,
@@ -143,6 +179,19 @@ fn run_request<S: Source, O: Out, R: Threads + Wait + Sync>(
             };
             check_files(alloc, domain, problem, options, files, out)
         }
+        Request::Tree {
+            domain,
+            problem,
+            plan,
+            drawing,
+            colour,
+        } => {
+            let look = Look {
+                drawing,
+                colour: has_colour(colour, false),
+            };
+            tree_files(alloc, domain, problem, plan, look, files, out)
+        }
     }
 }
 
@@ -155,34 +204,6 @@ fn has_colour(colour: Colour, is_wanted: bool) -> bool
         Colour::Always => true,
         Colour::Never => false,
     }
-}
-
-// The run of a request for a plan.
-fn plan_files<S: Source, O: Out, R: Threads + Wait + Sync>(
-    rt: &R,
-    alloc: Global,
-    domain: &str,
-    problem: &str,
-    bounds: Bounds,
-    files: &mut S,
-    out: &mut O,
-) -> Result<Reply, Stop>
-    ensures answered { IfOk result (λ reply. AddsAnswer (S.files files.old) (O.contents out.old) (O.contents out.new) reply (Request.Plan domain.entry problem.entry bounds)) }
-    ensures works { OnOk result (O.has_failed out.new ≡ O.has_failed out.old) }
-    ensures stopped { IfErr result (Stops O.contents O.has_failed (S.files files.old) (Request.Plan domain.entry problem.entry bounds) out.old out.new) }
-    ensures reads { NotesBeginning (S.reads files.old) (S.reads files.new) (names_of (Request.Plan domain.entry problem.entry bounds)) }
-{
-    let (domain, problem) = read_texts(alloc, files, domain, problem)?;
-    let outcome = run_plan(
-        rt,
-        alloc,
-        domain.as_slice(),
-        problem.as_slice(),
-        bounds,
-        &NoGate,
-        out,
-    )?;
-    Ok(Reply::Planned(outcome))
 }
 
 // The run of a request for a verdict.
@@ -281,14 +302,14 @@ fn check_both<S: Source, O: Out>(
 }
 
 // The file of a name: the standard input for `-`.
-fn file_of(name: &str) -> &str
+pub(crate) fn file_of(name: &str) -> &str
     ensures { result.now ≡ spec.file_of name.now }
 {
     if name == "-" { "/dev/stdin" } else { name }
 }
 
 // The bytes of the files of a domain and a problem.
-fn read_texts<S: Source>(
+pub(crate) fn read_texts<S: Source>(
     alloc: Global,
     files: &mut S,
     domain: &str,
@@ -306,7 +327,7 @@ fn read_texts<S: Source>(
 }
 
 // A file's bytes; `text` says on the standard error which one can't be read.
-fn read_file<S: Source>(
+pub(crate) fn read_file<S: Source>(
     alloc: Global,
     files: &mut S,
     text: Text,

@@ -13,14 +13,18 @@ returns-in_err-problem_tree-clause-refused c =
     let p = err_from_is_err_and c.from_residual-in_err-problem_tree.result c.from_residual-in_err-problem_tree.ensures.1 in
     rw (p.1, p.2) (λ bounds. c.in_err-problem_tree.ensures.refused c.args.domain.now c.in_ok-domain_tree.domain_tree bounds c.in_ok-domain_tree.ensures.spelled)
 
-pub returns : goal.returns
-returns c = record {
-  task = tt;
-  refused = λ bounds. (
-    c.in_ok-domain_tree.domain_tree,
-    c.in_ok-problem_tree.problem_tree,
-    c.in_ok-domain_tree.ensures.spelled,
-    c.in_ok-problem_tree.ensures.spelled,
-    c.in-Err.ensures.fault (λ e. c.in_default.not-OutOfMemory e),
-  );
+pub returns-in_err-task-clause-refused : goal.returns-in_err-task-clause-refused
+returns-in_err-task-clause-refused c =
+    let p = err_from_is_err_and c.from_residual-in_err-task.result c.from_residual-in_err-task.ensures.1 in
+    rw (p.1, p.2)
+    (λ bounds. c.in_err-task.ensures.refused c.args.domain.now c.args.problem.now bounds c.in_ok-domain_tree.ensures.spelled c.in_ok-problem_tree.ensures.spelled)
+
+pub returns-clause-task : goal.returns-clause-task
+returns-clause-task c = record {
+  domain_tree = c.in_ok-domain_tree.domain_tree;
+  problem_tree = c.in_ok-problem_tree.problem_tree;
+  domain_spelled = c.in_ok-domain_tree.ensures.spelled;
+  problem_spelled = c.in_ok-problem_tree.ensures.spelled;
+  fits = c.in_ok-task.ensures.fits;
+  is_task = c.in_ok-task.ensures.task;
 }

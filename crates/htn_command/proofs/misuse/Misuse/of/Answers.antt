@@ -3,12 +3,12 @@ use Rattle.clap.specs.Matches.{found_of}
 use Rattle.clap.specs.Simple.{subcommand_rows_of}
 use Rattle.clap.specs.Walk.{rows_of}
 use Rattle.htn_command.specs.CommandLine.{own_fault}
-use Rattle.htn_command.proofs.Matches.{name_and_rows, no_some, own_of_other}
+use Rattle.htn_command.proofs.Matches.{name_and_rows, no_some}
 use Rattle.htn_command.proofs.misuse.Misuse.of.Goals as goal
 
 pub returns-in-None : goal.returns-in-None
 returns-in-None c =
-    sym (own_of_other c.args.matches.now (λ is. no_some c.subcommand_matches.result c.in-None.is (c.subcommand_matches.ensures.found.1 is)))
+    c.of_other.ensures (λ is. no_some c.subcommand_matches.result c.in-None.is (c.subcommand_matches.ensures.found.1 is))
 
 pub returns-in-Some : goal.returns-in-Some
 returns-in-Some c =

@@ -1,0 +1,16 @@
+use Rattle.std.proofs.Common.{[], refl}
+use Rattle.std.specs.Prelude.{◌++◌, codes}
+use Rattle.std.specs.Fmt.{decimal}
+use Rattle.std.proofs.lemmas.Result.{err_from_is_err_and}
+use Rattle.plan_text.proofs.Taken.{appends_none, fails_after, finishes}
+use Rattle.htn_run.specs.Headline.{number_text, unknown_text, within_text}
+use Rattle.htn_run.proofs.progress.put_unknown.Goals as goal
+
+pub returns-in_err-put_all : goal.returns-in_err-put_all
+returns-in_err-put_all g c =
+    let p = err_from_is_err_and c.from_residual.result c.from_residual.ensures.1 in
+    rw p.1 (fails_after _ _ _ [] (codes "unknown") (within_text (codes ": none within ") c.args.none_within ++ codes "\n") _ (appends_none _) c.in_err-put_all.ensures.0 refl, c.in_err-put_all.ensures.1)
+
+pub returns : goal.returns
+returns g c =
+    finishes _ _ _ _ _ _ c.put_tail.result (codes "unknown") (within_text (codes ": none within ") c.args.none_within ++ codes "\n") (unknown_text c.args.none_within) c.in_ok-put_all.ensures.0 c.in_ok-put_all.ensures.1 c.put_tail.ensures refl

@@ -1,0 +1,111 @@
+//! The lines that say how a search gets on.
+ghost use Rattle.std.specs.Prelude.{◌++◌, codes};
+ghost use Rattle.plan_text.specs.Out.{Writes};
+ghost use Rattle.htn_run.specs.Headline.{number_text, unknown_text, within_text};
+ghost use Rattle.htn_run.specs.Progress.{count_text, end_line, end_text, found_text, progress_line, reach_text};
+
+use crate::outcome::{Outcome, Watched};
+use crate::verdict::put_id;
+use htn_plan::{Out, WriteFault, put_all};
+
+/// How a search gets on.
+#[derive(Clone, Copy, Debug)]
+pub(crate) struct Progress {
+    pub(crate) seconds: u64,
+    /// The bound on the nodes of the search that is under way.
+    pub(crate) bound: u64,
+    pub(crate) configurations: u64,
+    /// No solution has at most this number of nodes, if there is one.
+    pub(crate) none_within: Option<u64>,
+}
+
+/// Writes a number in decimal, after some words.
+fn put_number<O: Out>(out: &mut O, before: &[u8], number: u64) -> Result<(), WriteFault>
+    ensures { Writes (O.contents out.old) (O.contents out.new) (O.has_failed out.old) (O.has_failed out.new) result (number_text before.now number) }
+{
+    put_all(out, before)?;
+    put_id(out, number)
+}
+
+/// Writes a number that no solution has at most as many nodes as, after some words, if there is one.
+fn put_within<O: Out>(
+    out: &mut O,
+    before: &[u8],
+    none_within: Option<u64>,
+) -> Result<(), WriteFault>
+    ensures { Writes (O.contents out.old) (O.contents out.new) (O.has_failed out.old) (O.has_failed out.new) result (within_text before.now none_within) }
+{
+    match none_within {
+        Some(nodes) => put_number(out, before, nodes),
+        None => Ok(()),
+    }
+}
+
+/// The same with a line feed.
+fn put_tail<O: Out>(out: &mut O, before: &[u8], none_within: Option<u64>) -> Result<(), WriteFault>
+    ensures { Writes (O.contents out.old) (O.contents out.new) (O.has_failed out.old) (O.has_failed out.new) result (within_text before.now none_within ++ codes "\n") }
+{
+    put_within(out, before, none_within)?;
+    put_all(out, b"\n")
+}
+
+/// Writes `unknown` and the number of nodes that no solution is within, if there is one, with a line feed.
+pub(crate) fn put_unknown<O: Out>(out: &mut O, none_within: Option<u64>) -> Result<(), WriteFault>
+    ensures { Writes (O.contents out.old) (O.contents out.new) (O.has_failed out.old) (O.has_failed out.new) result (unknown_text none_within) }
+{
+    put_all(out, b"unknown")?;
+    put_tail(out, b": none within ", none_within)
+}
+
+/// Writes the end of a line of progress, from the word `configurations` on.
+fn put_found<O: Out>(out: &mut O, progress: Progress) -> Result<(), WriteFault>
+    ensures { Writes (O.contents out.old) (O.contents out.new) (O.has_failed out.old) (O.has_failed out.new) result (found_text progress.none_within) }
+{
+    put_all(out, b" configurations")?;
+    put_tail(out, b", none within ", progress.none_within)
+}
+
+/// Writes the end of a line of progress, from the number of configurations on.
+fn put_count<O: Out>(out: &mut O, progress: Progress) -> Result<(), WriteFault>
+    ensures { Writes (O.contents out.old) (O.contents out.new) (O.has_failed out.old) (O.has_failed out.new) result (count_text progress.configurations progress.none_within) }
+{
+    put_number(out, b" nodes, ", progress.configurations)?;
+    put_found(out, progress)
+}
+
+/// Writes the end of a line of progress, from the bound on.
+fn put_reach<O: Out>(out: &mut O, progress: Progress) -> Result<(), WriteFault>
+    ensures { Writes (O.contents out.old) (O.contents out.new) (O.has_failed out.old) (O.has_failed out.new) result (reach_text progress.bound progress.configurations progress.none_within) }
+{
+    put_number(out, b" s, plans of up to ", progress.bound)?;
+    put_count(out, progress)
+}
+
+/// Writes the line that says how a search gets on.
+pub(crate) fn put_progress<O: Out>(out: &mut O, progress: Progress) -> Result<(), WriteFault>
+    ensures { Writes (O.contents out.old) (O.contents out.new) (O.has_failed out.old) (O.has_failed out.new) result
+        (progress_line progress.seconds progress.bound progress.configurations progress.none_within) }
+{
+    put_number(out, b"progress: ", progress.seconds)?;
+    put_reach(out, progress)
+}
+
+/// Writes what a search came to, with a line feed.
+fn put_end_text<O: Out>(out: &mut O, watched: Watched) -> Result<(), WriteFault>
+    ensures { Writes (O.contents out.old) (O.contents out.new) (O.has_failed out.old) (O.has_failed out.new) result (end_text watched) }
+{
+    match watched {
+        Watched::Known(Outcome::Found) => put_all(out, b" s, plan found\n"),
+        Watched::Known(Outcome::NoPlan) => put_all(out, b" s, none\n"),
+        Watched::Known(Outcome::Unsolvable) => put_all(out, b" s, unsolvable\n"),
+        Watched::Unknown { .. } => put_all(out, b" s, stopped\n"),
+    }
+}
+
+/// Writes the line that says what a search came to.
+pub(crate) fn put_end<O: Out>(out: &mut O, seconds: u64, watched: Watched) -> Result<(), WriteFault>
+    ensures { Writes (O.contents out.old) (O.contents out.new) (O.has_failed out.old) (O.has_failed out.new) result (end_line seconds watched) }
+{
+    put_number(out, b"progress: ", seconds)?;
+    put_end_text(out, watched)
+}
