@@ -9,6 +9,7 @@ use std::process::Abort;
 use std::sync::Wait;
 use std::test::Fail;
 use std::thread::Threads;
+use std::time::Clock;
 
 // Files in memory: `d` and `p` are the road's, `f` is its plan and `g` another plan, `full` is refused memory, and no
 // other can be read. Each name that is asked for is noted.
@@ -45,7 +46,7 @@ impl Source for Shelf {
 }
 
 // The names of the files that were asked for, the standard output, the standard error and the status, in one line.
-fn run<R: Threads + Wait + Sync>(
+fn run<R: Threads + Wait + Clock + Sync>(
     rt: &R,
     alloc: Global,
     line: &str,
@@ -81,6 +82,17 @@ fn statuses_and_lines(rt: HostRuntime) -> Result<(), Fail> {
         ("plan d p --nodes 8", 1_000, trip.as_str()),
         ("plan d p", 1_000, trip.as_str()),
         ("plan d p --nodes 7", 1_000, "dp|none\n||1"),
+        ("plan d p --seconds 100 --progress", 1_000, trip.as_str()),
+        (
+            "plan d p --nodes 7 --progress --seconds 100",
+            1_000,
+            "dp|none\n||1",
+        ),
+        (
+            "plan d x --progress",
+            1_000,
+            "dx||problem: cannot be read\n|5",
+        ),
         ("plan p d", 1_000, "pd||domain: Expected at 9\n|3"),
         ("plan d d", 1_000, "dd||problem: Expected at 9\n|3"),
         ("plan x p", 1_000, "x||domain: cannot be read\n|5"),
@@ -162,6 +174,37 @@ fn checks_and_lines(rt: HostRuntime) -> Result<(), Fail> {
     Ok(())
 }
 
+// A picture goes to the standard output, and what is said where there is none to the standard error.
+#[test]
+fn trees_and_lines(rt: HostRuntime) -> Result<(), Fail> {
+    let alloc = rt.alloc();
+    let rows = [
+        ("tree x p f", 1_000, "x||domain: cannot be read\n|5"),
+        ("tree d p x", 1_000, "dpx||plan: cannot be read\n|5"),
+        (
+            "tree d p -",
+            1_000,
+            "dp/dev/stdin||plan: cannot be read\n|5",
+        ),
+        ("tree d p p", 1_000, "dpp||plan: NoStart\n|3"),
+        ("tree d p full", 1_000, "dpfull||OutOfMemory\n|4"),
+        ("tree d p f", 3, "dpf|   |output: cannot be written\n|5"),
+    ];
+    for (line, room, text) in rows {
+        let found = run(&rt, alloc, line, room, 1_000)?;
+        assert_eq!(rt; found.as_str(), text, "{line}");
+    }
+    let exchanged = run(&rt, alloc, "tree p d x", 1_000, 10_000)?;
+    assert_eq!(rt; exchanged.as_str(), "pdx||plan: cannot be read\n|5");
+    let exchanged = run(&rt, alloc, "tree p d f --format dot", 0, 10_000)?;
+    assert!(rt;
+        exchanged.as_str().starts_with("pdf||p:1:10: error: "),
+        "exchanged"
+    );
+    assert!(rt; exchanged.as_str().ends_with("|3"), "exchanged");
+    Ok(())
+}
+
 // A write to the standard error that fails changes no status.
 #[test]
 fn a_failed_error_output(rt: HostRuntime) -> Result<(), Fail> {
@@ -173,6 +216,7 @@ fn a_failed_error_output(rt: HostRuntime) -> Result<(), Fail> {
         ("plan d", "|||2"),
         ("verify d p x", "dpx|||5"),
         ("verify d p p", "dpp|||3"),
+        ("tree p d f", "pdf|||3"),
     ];
     for (line, text) in rows {
         let found = run(&rt, alloc, line, 1_000, 0)?;
@@ -203,6 +247,12 @@ fn refused_command_lines(rt: HostRuntime) -> Result<(), Fail> {
         "check d --limit 1000001",
         "check d --nodes 8",
         "check - -",
+        "tree d p",
+        "tree d p f g",
+        "tree d p f --format short",
+        "tree d p f --color red",
+        "tree d - -",
+        "tree d p f --limit 1",
         "verify --version",
         "paint",
     ];
@@ -223,6 +273,7 @@ fn help_goes_to_the_standard_output(rt: HostRuntime) -> Result<(), Fail> {
         "verify --help",
         "help verify",
         "check --help",
+        "tree --help",
     ] {
         let found = run(&rt, alloc, line, 10_000, 0)?;
         assert!(rt; found.as_str().contains("Usage: htnplan"), "{line}");

@@ -2,6 +2,8 @@
 #![tactic(auto)]
 
 #[cfg(test)]
+mod causes;
+#[cfg(test)]
 mod configurations;
 #[cfg(test)]
 mod instances;
@@ -9,6 +11,8 @@ mod instances;
 mod many;
 #[cfg(test)]
 mod names;
+#[cfg(test)]
+mod never;
 #[cfg(test)]
 mod orders;
 #[cfg(test)]
@@ -25,5 +29,6 @@ mod searches;
 mod states;
 #[cfg(test)]
 mod steps;
+#[cfg(test)]
 #[cfg(test)]
 mod verdicts;

@@ -5,6 +5,7 @@ use crate::configurations::{choices_text, configurations_text};
 use crate::instances::{
     distinct_initials_text, distinct_text, ground_action_text, initials_text, instances_text,
 };
+use crate::never::never_text;
 use crate::pairs::{Pair, task_between};
 use crate::plans::answer_within;
 use crate::reach::reach_text;
@@ -32,6 +33,8 @@ pub enum Question<'a> {
     DistinctInitials,
     /// What is reached, where so much is kept of instances.
     Reach(u64),
+    /// What no plan uses.
+    Never,
     /// A line for each configuration along a word.
     Walk(&'a [u64]),
     /// The state, the open nodes and their order of each configuration along a word.
@@ -76,6 +79,7 @@ fn answer<R: Threads + Wait + Sync>(
         Question::DistinctInstances => distinct_text(alloc, task),
         Question::DistinctInitials => distinct_initials_text(alloc, task),
         Question::Reach(limit) => reach_text(alloc, task, limit),
+        Question::Never => never_text(alloc, task),
         Question::Walk(word) => walk(alloc, task, word),
         Question::Configurations(word) => configurations_text(alloc, task, word),
         Question::Choices(word) => choices_text(alloc, task, word),

@@ -1,4 +1,4 @@
-use htn_command::{Colour, Format, Refusal, Request, parse};
+use htn_command::{Colour, Drawing, Format, Refusal, Request, parse};
 use std::alloc::{AllocError, Global};
 use std::process::Abort;
 use std::test::Fail;
@@ -27,12 +27,30 @@ fn reads_the_defaults(rt: HostRuntime) -> Result<(), Fail> {
         domain,
         problem,
         bounds,
+        seconds,
+        has_progress,
     } = request_of(rt.alloc(), words.as_slice())?
     else {
         return Err(Fail::new("another request"));
     };
     assert!(rt; domain == "d.hddl" && problem == "p.hddl");
     assert!(rt; bounds.nodes == 100 && bounds.workers == 1 && bounds.piece == 64);
+    assert!(rt; seconds.is_none() && !has_progress);
+    Ok(())
+}
+
+#[test]
+fn reads_how_a_search_is_watched(rt: HostRuntime) -> Result<(), Fail> {
+    let words = words_of(rt.alloc(), "htnplan plan --progress d p --seconds 10")?;
+    let Request::Plan {
+        seconds,
+        has_progress,
+        ..
+    } = request_of(rt.alloc(), words.as_slice())?
+    else {
+        return Err(Fail::new("another request"));
+    };
+    assert!(rt; seconds == Some(10) && has_progress);
     Ok(())
 }
 
@@ -66,6 +84,13 @@ fn refuses_numbers_out_of_range(rt: HostRuntime) -> Result<(), Fail> {
         ("htnplan plan d p --workers 0", 2),
         ("htnplan plan d p --workers 65", 2),
         ("htnplan plan d p --piece 0", 2),
+        ("htnplan plan d p --seconds 1", -1),
+        ("htnplan plan d p --seconds=31536000 --progress", -1),
+        ("htnplan plan d p --seconds 0", 2),
+        ("htnplan plan d p --seconds 31536001", 2),
+        ("htnplan plan d p --seconds soon", 2),
+        ("htnplan plan d p --seconds", 2),
+        ("htnplan plan d p --progress=yes", 2),
         ("htnplan plan d", 2),
         ("htnplan", 2),
     ];
@@ -97,6 +122,7 @@ fn refuses_fewer_files_and_more(rt: HostRuntime) -> Result<(), Fail> {
         ("htnplan verify d p", 2),
         ("htnplan verify d p f g", 2),
         ("htnplan verify d p f --nodes 5", 2),
+        ("htnplan verify d p f --progress", 2),
         ("htnplan plan d p f", 2),
     ];
     expect_statuses(&rt, rt.alloc(), &rows)
@@ -142,6 +168,46 @@ fn reads_the_options_of_a_check(rt: HostRuntime) -> Result<(), Fail> {
 }
 
 #[test]
+fn reads_a_tree(rt: HostRuntime) -> Result<(), Fail> {
+    let words = words_of(
+        rt.alloc(),
+        "htnplan tree d.hddl p.hddl - --format ascii --color always",
+    )?;
+    let Request::Tree {
+        domain,
+        problem,
+        plan,
+        drawing,
+        colour,
+    } = request_of(rt.alloc(), words.as_slice())?
+    else {
+        return Err(Fail::new("another request"));
+    };
+    assert!(rt; domain == "d.hddl" && problem == "p.hddl" && plan == "-");
+    assert!(rt; drawing == Drawing::Ascii && colour == Colour::Always);
+    Ok(())
+}
+
+#[test]
+fn refuses_words_of_a_tree(rt: HostRuntime) -> Result<(), Fail> {
+    let rows = [
+        ("htnplan tree d p f", -1),
+        ("htnplan tree - p f --format json", -1),
+        ("htnplan tree d p f --format=dot --color=never", -1),
+        ("htnplan tree d p", 2),
+        ("htnplan tree d p f g", 2),
+        ("htnplan tree d p f --format short", 2),
+        ("htnplan tree d p f --format svg", -1),
+        ("htnplan tree d p f --format html", 2),
+        ("htnplan tree d p f --color red", 2),
+        ("htnplan tree - - f", 2),
+        ("htnplan tree - p -", 2),
+        ("htnplan tree d - -", 2),
+    ];
+    expect_statuses(&rt, rt.alloc(), &rows)
+}
+
+#[test]
 fn refuses_words_of_a_check(rt: HostRuntime) -> Result<(), Fail> {
     let rows = [
         (
@@ -179,6 +245,9 @@ fn shows_help_and_the_version(rt: HostRuntime) -> Result<(), Fail> {
         ("htnplan check --help", 0),
         ("htnplan help check", 0),
         ("htnplan check - - -h", 0),
+        ("htnplan tree --help", 0),
+        ("htnplan help tree", 0),
+        ("htnplan tree - - -h", 0),
         ("htnplan --version", 0),
         ("htnplan -V", 0),
         ("htnplan verify --version", 2),
@@ -208,6 +277,7 @@ Commands:
   plan    Prints the plan with the fewest nodes, or `none` (none so small), or `unsolvable`
   verify  Prints `valid`, or `invalid:` and the first cause
   check   Says what is wrong with a domain and a problem, with lines, and warns of what is never used
+  tree    Draws the decomposition tree of a plan: text, ascii, json, dot, svg
   help    Print this message or the help of the given subcommand(s)
 
 Options:
@@ -218,9 +288,10 @@ Examples:
   htnplan check domain.hddl problem.hddl
   htnplan plan domain.hddl problem.hddl --nodes 200 > plan.txt
   htnplan verify domain.hddl problem.hddl plan.txt
+  htnplan tree domain.hddl problem.hddl plan.txt
 
 Status: 0 yes (a plan, valid, no error), 1 no (none, unsolvable, invalid), 2 command line, 3 a text is refused,
-4 memory or threads, 5 files or output.
+4 memory or threads, 5 files or output, 6 `plan --seconds` stopped the search.
 ";
 
 const HELP_OF_PLAN: &str =
@@ -236,15 +307,18 @@ Options:
       --nodes <N>    Nodes of a plan, at most: tasks, actions, precondition steps; after `none` try more [default: 100]
       --workers <N>  Threads that search; changes no answer [default: 1]
       --piece <N>    For experiments: how work is cut; changes no answer [default: 64]
+      --progress     Lines on standard error that say how the search gets on
+      --seconds <N>  Stops the search after about N seconds
   -h, --help         Print help
 
 Example:
   htnplan plan domain.hddl problem.hddl --nodes 200 > plan.txt
 
 `none`: no plan has at most N nodes, and a greater N may help. `unsolvable`: there is no plan of any size.
+`unknown: none within B`: the time of --seconds is over, and no plan has at most B nodes.
 
 Status: 0 a plan, 1 none or unsolvable, 2 command line, 3 a text is refused, 4 memory or threads,
-5 files or output.
+5 files or output, 6 unknown.
 ";
 
 const HELP_OF_VERIFY: &str = "Prints `valid`, or `invalid:` and the first cause
@@ -298,6 +372,47 @@ Examples:
 Status: 0 no error, 1 a warning with --strict, 2 command line, 3 a text is refused, 4 memory, 5 files or output.
 ";
 
+const HELP_OF_TREE: &str = "Draws the decomposition tree of a plan: text, ascii, json, dot, svg
+
+Usage: htnplan tree [OPTIONS] <DOMAIN> <PROBLEM> <PLAN>
+
+Arguments:
+  <DOMAIN>   The file of the domain, in HDDL; - is standard input
+  <PROBLEM>  The file of the problem, in HDDL
+  <PLAN>     The file of the plan, as `plan` prints it
+
+Options:
+      --format <FORMAT>  How it is drawn: text, ascii, json, dot, svg [default: text]
+      --color <WHEN>     Colours of what is wrong with a text: auto, always, never [default: auto]
+  -h, --help             Print help
+
+Examples:
+  htnplan tree domain.hddl problem.hddl plan.txt
+  htnplan plan domain.hddl problem.hddl | htnplan tree domain.hddl problem.hddl -
+  htnplan tree domain.hddl problem.hddl plan.txt --format svg > plan.svg
+  htnplan tree domain.hddl problem.hddl plan.txt --format dot | dot -Tpng > plan.png
+
+The first line has the verdict of `verify`, and the line of the plan that it names is marked. The numbers left of the
+tree are the places of the actions in the plan. Lines that are no forest (`invalid: Structure`) have no picture.
+
+Status: 0 valid, 1 invalid, 2 command line, 3 a text is refused, 4 memory, 5 files or output.
+";
+
+const NO_DRAWING: &str = "error: invalid value for '--format <FORMAT>'
+  [possible values: text, ascii, json, dot, svg]
+
+Usage: htnplan <COMMAND>
+
+For more information, try '--help'.
+";
+
+const INPUT_TWICE: &str = "error: the standard input, `-`, cannot be two of the files
+
+Usage: htnplan <COMMAND>
+
+For more information, try '--help'.
+";
+
 const NO_FORMAT: &str = "error: invalid value for '--format <FORMAT>'
   [possible values: text, short, json]
 
@@ -330,6 +445,9 @@ fn texts(rt: HostRuntime) -> Result<(), Fail> {
         ("htnplan plan --help", HELP_OF_PLAN),
         ("htnplan verify --help", HELP_OF_VERIFY),
         ("htnplan check --help", HELP_OF_CHECK),
+        ("htnplan tree --help", HELP_OF_TREE),
+        ("htnplan tree d p f --format short", NO_DRAWING),
+        ("htnplan tree d - -", INPUT_TWICE),
         ("htnplan check d --format xml", NO_FORMAT),
         ("htnplan check d --color red", NO_COLOUR),
         ("htnplan check - -", TWO_INPUTS),

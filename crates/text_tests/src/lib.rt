@@ -1,4 +1,4 @@
-//! Tests of words, texts, places, names, checks, pairs, warnings, plan texts, forests, reports and command lines.
+//! Tests of words, texts, places, names, checks, pairs, warnings, plan texts, forests, pictures, reports and command lines.
 #![tactic(auto)]
 
 #[cfg(test)]
@@ -12,11 +12,15 @@ mod first_faults;
 #[cfg(test)]
 mod forests;
 #[cfg(test)]
+mod layouts;
+#[cfg(test)]
 mod messages;
 #[cfg(test)]
 mod names;
 #[cfg(test)]
 mod pairs;
+#[cfg(test)]
+mod pictures;
 #[cfg(test)]
 mod places;
 #[cfg(test)]

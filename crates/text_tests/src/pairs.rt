@@ -2,6 +2,7 @@
 
 use diagnostics::{Role, Source, short_report, text_report};
 use hddl_check::check;
+use hddl_meaning::CheckFault;
 use hddl_text::{read_domain, read_problem};
 use hddl_tree::{DomainText, ProblemText};
 use pair_messages::{PairIndex, PairTexts, domain_summary, pair_diagnostic, problem_summary};
@@ -28,30 +29,54 @@ fn source_of<'a>(
     })
 }
 
+/// The first fault of two trees.
+fn first_fault(
+    alloc: Global,
+    domain: &DomainText,
+    problem: &ProblemText,
+) -> Result<CheckFault, Fail> {
+    let fault = check(alloc, domain, problem).err().ok_or("no fault")?;
+    Ok(fault)
+}
+
+/// The line of a fault.
+fn line_at(alloc: Global, index: &PairIndex<'_>, fault: CheckFault) -> Result<Vec<u8>, AllocError> {
+    let mut diagnostics = Vec::new(alloc);
+    diagnostics.push(pair_diagnostic(alloc, index, 0, fault)?)?;
+    short_report(alloc, diagnostics.as_slice())
+}
+
 /// The line of the first fault of a pair.
 fn first_line(alloc: Global, texts: &PairTexts<'_>) -> Result<Vec<u8>, Fail> {
-    let fault = check(alloc, texts.domain_tree, texts.problem_tree)
-        .err()
-        .ok_or("no fault")?;
+    let fault = first_fault(alloc, texts.domain_tree, texts.problem_tree)?;
     let index = PairIndex::new(alloc, texts)?;
-    let mut diagnostics = Vec::new(alloc);
-    diagnostics.push(pair_diagnostic(alloc, &index, 0, fault)?)?;
-    Ok(short_report(alloc, diagnostics.as_slice())?)
+    Ok(line_at(alloc, &index, fault)?)
+}
+
+/// The line of the first fault of two trees, which a domain's text spells and a problem's text that isn't shown.
+fn line_of<'a>(
+    alloc: Global,
+    domain: &'a Source<'a>,
+    domain_tree: &'a DomainText,
+    problem_tree: &'a ProblemText,
+) -> Result<Vec<u8>, Fail> {
+    let texts = PairTexts {
+        domain,
+        problem: None,
+        domain_tree,
+        problem_tree,
+    };
+    first_line(alloc, &texts)
 }
 
 /// A predicate that is not declared.
 #[test]
 fn a_name_that_is_not_declared(rt: HostRuntime) -> Result<(), Fail> {
     let alloc = rt.alloc();
-    let domain = source_of(alloc, Role::Domain, "d", DOMAIN)?;
-    let problem = source_of(alloc, Role::Problem, "p", PROBLEM)?;
-    let texts = PairTexts {
-        domain: &domain,
-        problem: Some(&problem),
-        domain_tree: &read_domain(alloc, DOMAIN)?,
-        problem_tree: &read_problem(alloc, PROBLEM)?,
-    };
-    let line = first_line(alloc, &texts)?;
+    let domain = read_domain(alloc, DOMAIN)?;
+    let problem = read_problem(alloc, PROBLEM)?;
+    let source = source_of(alloc, Role::Domain, "d", DOMAIN)?;
+    let line = line_of(alloc, &source, &domain, &problem)?;
     let wanted = b"d:2:22: error: no predicate is named `q` [UnknownName]\n";
     assert!(rt; line.as_slice() == wanted.as_slice(), "the line");
     Ok(())

@@ -1,4 +1,6 @@
-use plan_text::{MAX_BYTES, PlanFault, Sink, WriteFault, read_plan, write_plan};
+use plan_text::{
+    LinePlaces, MAX_BYTES, PlanFault, Sink, WriteFault, line_places, read_plan, write_plan,
+};
 use std::alloc::Global;
 use std::io;
 use std::io::Write;
@@ -29,6 +31,19 @@ fn reads_what_is_written(rt: HostRuntime) -> Result<(), Fail> {
     assert_eq!(rt; file.decompositions().len(), 3);
     let text = rewritten(rt.alloc(), ROAD).ok_or("refused")?;
     assert_eq!(rt; text.as_slice(), ROAD);
+    Ok(())
+}
+
+fn places_of(alloc: Global, text: &[u8]) -> Option<LinePlaces> {
+    line_places(alloc, text).ok()?
+}
+
+#[test]
+fn lines_have_places(rt: HostRuntime) -> Result<(), Fail> {
+    let places = places_of(rt.alloc(), ROAD).ok_or("no plan")?;
+    assert_eq!(rt; places.actions.as_slice(), [4, 19].as_slice());
+    assert_eq!(rt; places.roots.as_slice(), [34].as_slice());
+    assert_eq!(rt; places.decompositions.as_slice(), [41, 65, 89].as_slice());
     Ok(())
 }
 

@@ -162,7 +162,7 @@ fn json_of(alloc: Global, source: &Source<'_>) -> Result<Vec<u8>, AllocError> {
     let mut diagnostics = Vec::new(alloc);
     diagnostics.push(unknown(alloc, word)?)?;
     diagnostics.push(counted(alloc, Where::Text(source), first)?)?;
-    json_report(alloc, diagnostics.as_slice())
+    json_report(alloc, diagnostics.as_slice(), None)
 }
 
 #[test]

@@ -1,7 +1,9 @@
 use hddl_text::{
     Condition, DomainText, ProblemText, Term, TextFault, lex, read_domain, read_problem,
 };
+use hddl_tree::{LiteralText, MethodText, NetworkText};
 use std::alloc::Global;
+use std::process::Abort;
 use std::test::Fail;
 
 const ROAD: &[u8] = b"(define (domain road)
@@ -354,9 +356,8 @@ fn beginnings(rt: HostRuntime) -> Result<(), Fail> {
     Ok(())
 }
 
-#[test]
-fn road(rt: HostRuntime) -> Result<(), Fail> {
-    let domain: DomainText = read_domain(rt.alloc(), ROAD).ok().ok_or("refused")?;
+/// The parts of the domain of roads.
+fn expect_road(rt: &impl Abort, domain: &DomainText) -> Result<(), Fail> {
     assert_eq!(rt; domain.name.place(), 16);
     assert!(rt; domain.name.text() == b"road".as_slice());
     assert_eq!(rt; domain.requirements.len(), 3);
@@ -366,7 +367,11 @@ fn road(rt: HostRuntime) -> Result<(), Fail> {
     assert_eq!(rt; domain.tasks.len(), 1);
     assert_eq!(rt; domain.methods.len(), 2);
     assert_eq!(rt; domain.actions.len(), 1);
-    let step = domain.methods.as_slice().get(1).ok_or("one method")?;
+    Ok(())
+}
+
+/// The parts of its second method.
+fn expect_step(rt: &impl Abort, step: &MethodText) -> Result<(), Fail> {
     assert_eq!(rt; ROAD.get(step.place).copied(), Some(b'('));
     assert!(rt; step.name.text() == b"m-step".as_slice());
     assert_eq!(rt; step.parameters.len(), 2);
@@ -374,46 +379,83 @@ fn road(rt: HostRuntime) -> Result<(), Fail> {
     assert_eq!(rt; step.precondition.len(), 2);
     assert!(rt; step.network.is_ordered);
     assert_eq!(rt; step.network.subtasks.len(), 2);
-    let effect = &domain.actions.as_slice()[0].effect;
-    assert_eq!(rt; effect.len(), 2);
-    assert!(rt; !effect.as_slice()[0].is_positive);
-    assert!(rt; effect.as_slice()[1].is_positive);
+    Ok(())
+}
+
+/// The effects of its action.
+fn expect_effects(rt: &impl Abort, effects: &[LiteralText]) -> Result<(), Fail> {
+    assert_eq!(rt; effects.len(), 2);
+    assert!(rt; !effects[0].is_positive);
+    assert!(rt; effects[1].is_positive);
     Ok(())
 }
 
 #[test]
-fn delivery(rt: HostRuntime) -> Result<(), Fail> {
-    let text = b"(define (problem p) (:domain d) (:objects a b - t c) (:init (p a))
+fn road(rt: HostRuntime) -> Result<(), Fail> {
+    let domain: DomainText = read_domain(rt.alloc(), ROAD).ok().ok_or("refused")?;
+    expect_road(&rt, &domain)?;
+    let step = domain.methods.as_slice().get(1).ok_or("one method")?;
+    expect_step(&rt, step)?;
+    let action = domain.actions.as_slice().first().ok_or("no action")?;
+    expect_effects(&rt, action.effect.as_slice())
+}
+
+/// A problem with each of its sections.
+const DELIVERY: &[u8] = b"(define (problem p) (:domain d) (:objects a b - t c) (:init (p a))
         (:goal (and (p b) (and (not (q ?x)) (forall (?y) (= ?y b)))))
         (:htn :parameters (?x) :subtasks (and (s1 (go t1 c)) (go ?x)) :ordering (s1 < s1)))";
-    let problem: ProblemText = read_problem(rt.alloc(), text).ok().ok_or("refused")?;
+
+/// The parts of the problem.
+fn expect_delivery(rt: &impl Abort, problem: &ProblemText) -> Result<(), Fail> {
     assert!(rt; problem.name.text() == b"p".as_slice());
     assert!(rt; problem.domain.text() == b"d".as_slice());
     assert_eq!(rt; problem.objects.len(), 2);
     assert_eq!(rt; problem.init.len(), 1);
     // A nested `and` adds its parts in its place.
     assert_eq!(rt; problem.goal.len(), 3);
-    match &problem.goal.as_slice()[2] {
-        Condition::Forall(parameters, body) => {
-            assert_eq!(rt; parameters.len(), 1);
-            assert_eq!(rt; body.len(), 1);
-        }
-        _ => return Err("no forall".into()),
-    }
-    assert_eq!(rt; text.get(problem.htn.place).copied(), Some(b'('));
-    let network = &problem.htn.network;
+    assert_eq!(rt; DELIVERY.get(problem.htn.place).copied(), Some(b'('));
+    Ok(())
+}
+
+/// The parts of the last condition of its goal.
+fn expect_forall(rt: &impl Abort, condition: &Condition) -> Result<(), Fail> {
+    let Condition::Forall(parameters, body) = condition else {
+        return Err(Fail::new("no forall"));
+    };
+    assert_eq!(rt; parameters.len(), 1);
+    assert_eq!(rt; body.len(), 1);
+    Ok(())
+}
+
+/// The parts of its network.
+fn expect_network(rt: &impl Abort, network: &NetworkText) -> Result<(), Fail> {
     assert!(rt; !network.is_ordered);
     assert_eq!(rt; network.orderings.len(), 1);
     let first = network.subtasks.as_slice().first().ok_or("no subtask")?;
     assert!(rt; first.label.is_some());
     let within = first.task.name.place().checked_sub(first.place());
     assert_eq!(rt; within, Some(4));
-    let second = network.subtasks.as_slice().get(1).ok_or("one subtask")?;
-    match second.task.terms.as_slice() {
-        [Term::Variable(variable)] => assert!(rt; variable.text() == b"?x".as_slice()),
-        _ => return Err("no variable".into()),
-    }
     Ok(())
+}
+
+/// The argument of its second subtask.
+fn expect_variable(rt: &impl Abort, network: &NetworkText) -> Result<(), Fail> {
+    let second = network.subtasks.as_slice().get(1).ok_or("one subtask")?;
+    let [Term::Variable(variable)] = second.task.terms.as_slice() else {
+        return Err(Fail::new("no variable"));
+    };
+    assert!(rt; variable.text() == b"?x".as_slice());
+    Ok(())
+}
+
+#[test]
+fn delivery(rt: HostRuntime) -> Result<(), Fail> {
+    let problem: ProblemText = read_problem(rt.alloc(), DELIVERY).ok().ok_or("refused")?;
+    expect_delivery(&rt, &problem)?;
+    let last = problem.goal.as_slice().get(2).ok_or("no condition")?;
+    expect_forall(&rt, last)?;
+    expect_network(&rt, &problem.htn.network)?;
+    expect_variable(&rt, &problem.htn.network)
 }
 
 #[test]
