@@ -9,6 +9,7 @@ from benchexec.tools.template import BaseTool2
 RESULTS = {
     0: result.RESULT_DONE,
     3: "REFUSED",
+    6: "UNKNOWN",
 }
 
 

@@ -1,15 +1,18 @@
 # Completion for bash. A new command is a line of the first table, and a new option a word of its line. An option that
-# takes one of some words is a line of the second table. `--help` and `--strict` take nothing, and every other option a
-# number, for which nothing is offered.
+# takes one of some words is a line of the second table, after its command's name. `--help`, `--strict` and `--progress`
+# take nothing, and every other option a number, for which nothing is offered.
 _htnplan_table='
-plan --nodes --workers --piece --help
+plan --nodes --workers --piece --progress --seconds --help
 verify --help
 check --format --limit --strict --color --help
+tree --format --color --help
 help
 '
 _htnplan_choices='
---format text short json
---color auto always never
+check--format text short json
+check--color auto always never
+tree--format text ascii json dot svg
+tree--color auto always never
 '
 
 # The words of the line of a table that begins with a word.
@@ -33,8 +36,8 @@ _htnplan() {
         words="$commands --help --version"
     elif [ "$command" = help ]; then
         words=$commands
-    elif [[ $before == -* && $before != --help && $before != --strict ]]; then
-        words=$(_htnplan_line "$_htnplan_choices" "$before")
+    elif [[ $before == -* && $before != --help && $before != --strict && $before != --progress ]]; then
+        words=$(_htnplan_line "$_htnplan_choices" "$command$before")
     elif [[ $word != -* ]]; then
         # An empty reply lets bash complete the name of a file.
         return

@@ -2,7 +2,8 @@
 set -l commands \
     "plan\t'Prints the plan with the fewest nodes'" \
     "verify\t'Prints whether a plan is valid'" \
-    "check\t'Says what is wrong with a domain and a problem'"
+    "check\t'Says what is wrong with a domain and a problem'" \
+    "tree\t'Draws the decomposition tree of a plan'"
 
 # Whether the command is the given one; an empty word stands for none so far.
 function __htnplan_command_is
@@ -18,8 +19,13 @@ complete -c htnplan -s h -l help -d 'Prints help'
 complete -c htnplan -n '__htnplan_command_is plan' -l nodes -x -d 'Nodes of a plan, at most (100)'
 complete -c htnplan -n '__htnplan_command_is plan' -l workers -x -d 'Threads that search (1)'
 complete -c htnplan -n '__htnplan_command_is plan' -l piece -x -d 'For experiments: how work is cut (64)'
+complete -c htnplan -n '__htnplan_command_is plan' -l progress -d 'Lines that say how the search gets on'
+complete -c htnplan -n '__htnplan_command_is plan' -l seconds -x -d 'Stops the search after about N seconds'
 
 complete -c htnplan -n '__htnplan_command_is check' -l format -x -a 'text short json' -d 'How it is printed (text)'
 complete -c htnplan -n '__htnplan_command_is check' -l limit -x -d 'Diagnostics that text shows; 0 is all (20)'
 complete -c htnplan -n '__htnplan_command_is check' -l strict -d 'A warning is status 1'
 complete -c htnplan -n '__htnplan_command_is check' -l color -x -a 'auto always never' -d 'Colours (auto)'
+
+complete -c htnplan -n '__htnplan_command_is tree' -l format -x -a 'text ascii json dot svg' -d 'How it is drawn (text)'
+complete -c htnplan -n '__htnplan_command_is tree' -l color -x -a 'auto always never' -d 'Colours (auto)'

@@ -25,6 +25,7 @@ OUTCOMES = {
     3: "text refused",
     4: "out of memory or threads",
     5: "file or output",
+    6: "unknown",
 }
 
 
