@@ -174,7 +174,7 @@ fn checks_and_lines(rt: HostRuntime) -> Result<(), Fail> {
     Ok(())
 }
 
-// A picture goes to the standard output, and what is said where there is none to the standard error.
+// A picture is written to the standard output; where there is none, the standard error says why.
 #[test]
 fn trees_and_lines(rt: HostRuntime) -> Result<(), Fail> {
     let alloc = rt.alloc();

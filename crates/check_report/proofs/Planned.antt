@@ -39,7 +39,7 @@ reached_unless d p (f ∷ fs) false o some none silent found = absurd (no_cons f
 
 -- ## Warnings by the texts
 
--- they are told where there are no faults
+-- they are reported where there are no faults
 pub others_unless : (texts : PairTexts) (faults : List CheckFault) (b : Bool) (told : List Diagnostic) → (b ≡ true → faults ≢ []) → (b ≡ false → faults ≡ [])
     → (b ≡ true → told ≡ []) → (b ≡ false → TellsExactly texts (IsWarning texts.domain_tree.now (Some texts.problem_tree.now)) told)
     → TellsOthers texts faults told
@@ -47,7 +47,7 @@ others_unless texts faults true told some none silent all = record { all = λ em
 others_unless texts faults false told some none silent all = record { all = λ empty. all refl; silent = λ any. absurd (any (none refl)) }
 
 module _ (texts : PairTexts) where
-  -- the warnings that are told
+  -- the warnings that are reported
   others_told : (faults : List CheckFault) (some : List Diagnostic) → TellsOthers texts faults some
       → (ws : List Warning) × (faults ≡ [] → AreExactly (IsWarning texts.domain_tree.now (Some texts.problem_tree.now)) ws) × (faults ≢ [] → ws ≡ [])
       × AllZip (WarnsPair texts) ws some
@@ -74,7 +74,7 @@ module _ (texts : PairTexts) (problem : Source) (is : option_map (λ p. p.now) t
       let same : named (pair.problem_text texts) ≡ named problem = ap named (problem_is texts.problem texts.domain.now problem is) in
       subst (λ t. IsWarned t no_plan_code (Some place) e) same (record { severity = h.severity; code = h.code; about = about })
 
-  -- how they are told
+  -- the diagnostics that report them
   abbrev TellsPlans : List Unplanned → List Diagnostic → Type 0
   TellsPlans = AllZip (WarnsOfPlans (named texts.domain.now) (named problem))
 
@@ -111,7 +111,7 @@ module _ (texts : PairTexts) (problem : Source) (is : option_map (λ p. p.now) t
 
   -- ## All warnings of two trees
 
-  -- they are told before the errors
+  -- they are reported before the errors
   pub record PairWarned (faults : List CheckFault) (reach : Option Reach) (errors ds : List Diagnostic) : Type 0 where
     pub warnings : AllWarnings
     pub are : AreWarnings texts.domain_tree.now texts.problem_tree.now faults (found_in (findings_of reach)) warnings

@@ -1,5 +1,5 @@
 //! Which literals the effects of actions make reachable: a worklist with a count of the preconditions that each action
-//! still lacks, as Hoffmann and Nebel compute relaxed plans (The FF planning system, 2001), for negative literals as
+//! still needs, as Hoffmann and Nebel compute relaxed plans (The FF planning system, 2001), for negative literals as
 //! well as for positive ones. The result has no contract, since it is checked.
 
 use crate::ends::ending_tasks;
@@ -105,7 +105,7 @@ impl Worklist {
         Ok(effects)
     }
 
-    /// Adds an action. One that no objects satisfy lacks a literal for ever.
+    /// Adds an action. One that no objects satisfy always has a literal to wait for.
     fn add(
         &mut self,
         alloc: Global,

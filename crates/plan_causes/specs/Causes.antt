@@ -13,18 +13,18 @@ use Rattle.plan_causes.specs.declared.cause.RunCause.TheVariants as cause
 
 -- ## How literals stand
 
--- how something stands after so many steps, by what is so after each number of them: it holds; it never did; or the
+-- how a condition stands after a number of steps, by whether it holds after each number: it holds; it never did; or the
 -- step of that number made it false, and none up to there made it true again
 abbrev pub Stands : (ℕ → Bool → Type 0) → ℕ → Standing → Type 0
 Stands IsSo steps Holds = IsSo steps true
 Stands IsSo steps False = (k : ℕ) → k ≤ steps → IsSo k false
 Stands IsSo steps (FalseSince n) = (n < steps) × IsSo n true × ((k : ℕ) → n < k → k ≤ steps → IsSo k false)
 
--- in the state after so many of the tasks a literal holds or doesn't
+-- whether a literal holds in the state after the given number of the tasks
 abbrev pub IsSoAfter : Problem → List GroundTask → Literal → ℕ → Bool → Type 0
 IsSoAfter problem tasks l k b = (state : State) × (run_tasks problem problem.initial_state (take k tasks) ≡ Some state) × (literal_holds state l ≡ b)
 
--- how a literal stands after so many of the tasks
+-- how a literal stands after the given number of the tasks
 abbrev pub StandsAfter : Problem → List GroundTask → ℕ → Literal → Standing → Type 0
 StandsAfter problem tasks steps l standing = Stands (IsSoAfter problem tasks l) steps standing
 

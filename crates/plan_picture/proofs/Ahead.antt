@@ -11,7 +11,7 @@ pub sibling_lines : (parent : Option ℕ) (depth : ℕ) (above : List Bool) (lin
 sibling_lines parent depth above [] = refl
 sibling_lines parent depth above (line ∷ lines) = ap (λ ls. line ∷ ls) (sibling_lines parent depth above lines)
 
--- what is below a line ends within so many lines
+-- what is below a line ends within the given number of lines
 abbrev pub Ends : (ℕ → List ℕ) → ℕ → ℕ → Type 0
 Ends children zero line = ⊥
 Ends children (suc deep) line = (child : ℕ) → IsIn child (children line) → Ends children deep child

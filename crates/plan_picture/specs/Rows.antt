@@ -45,7 +45,7 @@ pub data ArePreorder (children : ℕ → List ℕ) : (rows all : List Row) → T
   next : (row : Row) (rows below after : List Row) → ArePreorder children (child_rows children row) below → ArePreorder children rows after
       → ArePreorder children (row ∷ rows) (row ∷ (below ++ after))
 
--- the same for what is no deeper below the rows than so many lines
+-- the same, to the given depth below the rows
 abbrev pub rows_within : (ℕ → List ℕ) → ℕ → List Row → List Row
 rows_within children zero rows = []
 rows_within children (suc deep) rows = flat_map (λ row. row ∷ rows_within children deep (child_rows children row)) rows

@@ -1,5 +1,5 @@
 //! Which actions are reachable in the delete relaxation, and which literals their effects make reachable: a worklist
-//! with a count of the preconditions that each action still lacks, as Hoffmann and Nebel compute relaxed plans (The FF
+//! with a count of the preconditions that each action still needs, as Hoffmann and Nebel compute relaxed plans (The FF
 //! planning system, 2001), but for negative literals as well as for positive ones. The result has no contract, since
 //! [`RelaxedReach::of`] checks it.
 
@@ -141,7 +141,7 @@ impl Actions {
         Ok(effects)
     }
 
-    /// The entry of an action. One that no objects satisfy lacks a literal for ever.
+    /// The entry of an action. One that no objects satisfy always has a literal to wait for.
     fn met_by(
         &mut self,
         alloc: Global,

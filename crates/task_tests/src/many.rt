@@ -17,7 +17,7 @@ fn problem_text(alloc: Global, things: u64, atoms: &str) -> Result<String, Fail>
     Ok(text)
 }
 
-// The text of the plan that is found within so many nodes, or why there is none.
+// The text of the plan of at most the given number of nodes, or why there is none.
 fn found_with<R: Threads + Wait + Sync>(
     rt: &R,
     alloc: Global,
