@@ -10,31 +10,32 @@ use Rattle.htn_run.specs.declared.outcome.Outcome.TheVariants.{Found, NoPlan, Un
 use Rattle.htn_run.specs.declared.outcome.Watched.{Watched}
 use Rattle.htn_run.specs.declared.outcome.Watched.TheVariants.{Known, Unknown}
 
--- that these are configurations, and a number of nodes that no solution is within, if one is known
+-- the end of a line of progress, from the word `configurations` on, with a number of nodes that no solution is within,
+-- if one is known
 abbrev pub found_text : Option ℕ → List ℕ
 found_text none_within = codes " configurations" ++ (within_text (codes ", none within ") none_within ++ codes "\n")
 
--- how many configurations a search has, and that
+-- the same from the number of configurations on
 abbrev pub count_text : ℕ → Option ℕ → List ℕ
 count_text configurations none_within = number_text (codes " nodes, ") configurations ++ found_text none_within
 
--- its bound, and that
+-- the same from the bound on the nodes on
 abbrev pub reach_text : ℕ → ℕ → Option ℕ → List ℕ
 reach_text bound configurations none_within = number_text (codes " s, plans of up to ") bound ++ count_text configurations none_within
 
--- how long it has run in seconds, and that
+-- the line that says for how many seconds a search has run, its bound, and how many configurations it has
 abbrev pub progress_line : ℕ → ℕ → ℕ → Option ℕ → List ℕ
 progress_line seconds bound configurations none_within =
     number_text (codes "progress: ") seconds ++ reach_text bound configurations none_within
 
--- what a search came to
+-- the end of the last line: the answer of the search, or that it was stopped
 abbrev pub end_text : Watched → List ℕ
 end_text (Known Found) = codes " s, plan found\n"
 end_text (Known NoPlan) = codes " s, none\n"
 end_text (Known Unsolvable) = codes " s, unsolvable\n"
 end_text (Unknown none_within) = codes " s, stopped\n"
 
--- how long it has run, and what it came to
+-- the last line: for how many seconds the search has run, and how it ended
 abbrev pub end_line : ℕ → Watched → List ℕ
 end_line seconds watched = number_text (codes "progress: ") seconds ++ end_text watched
 
