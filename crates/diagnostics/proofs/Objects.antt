@@ -24,6 +24,7 @@ use Rattle.diagnostics.specs.Ink.{Ink, written, said}
 use Rattle.diagnostics.specs.Parts.{message_inks, part_inks}
 use Rattle.diagnostics.specs.Written.{is_error}
 use Rattle.diagnostics.specs.Json.{Named, with_members, object_of, array_of, count, message_json, severity_name, no_place, spot_members, where_members, is_help, remark_json, note_json, help_json, notes_json, diagnostic_json, reached_json, reached_members, report_json}
+use Rattle.diagnostics.specs.Verdicts.{explained_json, verdict_json}
 use Rattle.diagnostics.proofs.Adds.{written-append}
 
 -- ---- messages
@@ -170,3 +171,13 @@ report_plain ds reached =
     let ms : List Named = (codes "format", string (codes "htnplan-check")) ∷ (codes "version", count 1) ∷ (codes "errors", count errors)
     ∷ (codes "warnings", count (length ds - errors)) ∷ (codes "diagnostics", array_of (map diagnostic_json ds)) ∷ reached_members reached in
     object_plain 4 ms (leaf 4, (leaf 4, (leaf 4, (leaf 4, (array_plain 3 diagnostic_json diagnostic_plain ds, known_plain reached)))))
+
+pub explained_plain : (verdict : Option (List ℕ)) (ds : List Diagnostic) → IsPlain 5 (explained_json verdict ds)
+explained_plain verdict ds = object_plain 4 (members verdict) (leaf 4, (leaf 4, (judged verdict, (array_plain 3 diagnostic_json diagnostic_plain ds, tt))))
+  where
+    members : Option (List ℕ) → List Named
+    members v = (codes "format", string (codes "htnplan-explain")) ∷ (codes "version", count 1) ∷ (codes "verdict", verdict_json v) ∷ (codes "diagnostics", array_of (map diagnostic_json ds)) ∷ []
+
+    judged : (v : Option (List ℕ)) → IsPlain 4 (verdict_json v)
+    judged None = leaf 4
+    judged (Some words) = leaf 4

@@ -4,3 +4,4 @@ pub mod Json
 pub mod Parts
 pub mod Tame
 pub mod Written
+pub mod Verdicts

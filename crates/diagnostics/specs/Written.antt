@@ -67,9 +67,13 @@ also_inks (place ∷ places) =
     styled style.Rule (codes "      = ") ++ styled style.Note (codes "also at ") ++ where_inks place
     ++ flat_map comma_inks (take 3 places) ++ rest_inks (length places - 3) ++ ended
 
+-- a diagnostic
+abbrev pub body_inks : Diagnostic → List Ink
+body_inks d = head_inks d ++ shown_inks d ++ flat_map remark_inks d.remarks.items ++ flat_map note_inks d.notes.items
+
 -- a diagnostic, and the places of others that say the same, with an empty line after them
 abbrev pub whole_inks : Diagnostic → List Where → List Ink
-whole_inks d also = head_inks d ++ shown_inks d ++ flat_map remark_inks d.remarks.items ++ flat_map note_inks d.notes.items ++ also_inks also ++ ended
+whole_inks d also = body_inks d ++ also_inks also ++ ended
 
 -- diagnostics that say the same: the first, and the places of the others
 abbrev pub group_inks : List Diagnostic → List Ink

@@ -215,7 +215,10 @@ fn diagnostic_value(alloc: Global, diagnostic: &Diagnostic<'_>) -> Result<Value,
 }
 
 /// Each diagnostic.
-fn diagnostics_value(alloc: Global, diagnostics: &[Diagnostic<'_>]) -> Result<Value, AllocError>
+pub(crate) fn diagnostics_value(
+    alloc: Global,
+    diagnostics: &[Diagnostic<'_>],
+) -> Result<Value, AllocError>
     ensures { IfOk result (λ v. view v ≡ spec.array_of (map spec.diagnostic_json diagnostics.now)) }
 {
     let mut list = Vec::new(alloc);

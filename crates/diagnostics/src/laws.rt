@@ -1,10 +1,11 @@
 //! Laws of outputs. Reports for people are inks, of which the laws on colour and tame bytes speak.
 
-ghost use Rattle.std.specs.Prelude.{◌≡◌, Bool, true, false, List, [], Option, None, codes};
+ghost use Rattle.std.specs.Prelude.{◌≡◌, ℕ, Bool, true, false, List, [], Option, None, codes};
 ghost use Rattle.diagnostics.specs.Ink.{Ink, written};
 ghost use Rattle.diagnostics.specs.declared.diagnostic.Diagnostic.{Diagnostic};
 ghost use Rattle.diagnostics.specs.declared.reached.Reached.{Reached};
 ghost use Rattle.diagnostics.specs.Json.{json_bytes, IsOneLine};
+ghost use Rattle.diagnostics.specs.Verdicts.{explained_bytes};
 ghost use Rattle.diagnostics.specs.Tame.{IsTame, HasTameNames, plain};
 
 /// What is written has no control byte but tabs and line feeds and, in colour, the sequences of the styles, unless the
@@ -22,6 +23,11 @@ pub fn colour_is_dress()
 /// A report as JSON has no byte below 32 but the line feed at its end, whatever the texts and the names of files have.
 pub fn json_is_one_line()
     ensures { (ds : List Diagnostic) (reached : Option Reached) → IsOneLine (json_bytes ds reached) }
+{}
+
+/// Nor has a verdict with its diagnostics.
+pub fn verdict_is_one_line()
+    ensures { (verdict : Option (List ℕ)) (ds : List Diagnostic) → IsOneLine (explained_bytes verdict ds) }
 {}
 
 /// The report on texts of which nothing is said.

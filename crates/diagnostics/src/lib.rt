@@ -11,6 +11,7 @@ mod lines;
 mod reached;
 mod report;
 mod text;
+mod verdict;
 
 pub use as_json::json_report;
 pub use diagnostic::{
@@ -18,6 +19,9 @@ pub use diagnostic::{
 };
 pub use format::Format;
 pub use ink::Style;
-pub use laws::{colour_is_dress, json_is_one_line, json_of_no_diagnostics, output_is_tame};
+pub use laws::{
+    colour_is_dress, json_is_one_line, json_of_no_diagnostics, output_is_tame, verdict_is_one_line,
+};
 pub use reached::Reached;
 pub use report::{short_report, text_report};
+pub use verdict::{json_verdict, short_verdict, text_verdict};

@@ -197,6 +197,22 @@ fn say_also(out: &mut Vec<u8>, colour: bool, places: &[Where<'_>]) -> Result<(),
     }
 }
 
+/// A diagnostic.
+pub(crate) fn say_body(
+    alloc: Global,
+    out: &mut Vec<u8>,
+    colour: bool,
+    diagnostic: &Diagnostic<'_>,
+) -> Result<(), AllocError>
+    ensures { OnOk result (out.new.items ≡ out.old.items ++ written colour (spec.body_inks diagnostic.now)) }
+{
+    say_head(out, colour, diagnostic)?;
+    say_shown(alloc, out, colour, diagnostic)?;
+    say_remarks(out, colour, diagnostic.remarks.as_slice())?;
+    say_notes(alloc, out, colour, diagnostic.notes.as_slice())?;
+    Ok(())
+}
+
 /// A diagnostic, and the places of others that say the same, with an empty line after them.
 pub(crate) fn say_whole(
     alloc: Global,
@@ -207,10 +223,7 @@ pub(crate) fn say_whole(
 ) -> Result<(), AllocError>
     ensures { OnOk result (out.new.items ≡ out.old.items ++ written colour (spec.whole_inks diagnostic.now also.now)) }
 {
-    say_head(out, colour, diagnostic)?;
-    say_shown(alloc, out, colour, diagnostic)?;
-    say_remarks(out, colour, diagnostic.remarks.as_slice())?;
-    say_notes(alloc, out, colour, diagnostic.notes.as_slice())?;
+    say_body(alloc, out, colour, diagnostic)?;
     say_also(out, colour, also)?;
     end_line(out, colour)?;
     Ok(())

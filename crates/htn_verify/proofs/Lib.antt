@@ -8,3 +8,4 @@ pub mod Tested
 pub mod Fitting
 pub mod Candidates
 pub mod Arranging
+pub mod Caused

@@ -5,3 +5,4 @@ pub mod Faults
 pub mod Runs
 pub mod Verdicts
 pub mod Placed
+pub mod Rooms

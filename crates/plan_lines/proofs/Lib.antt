@@ -9,3 +9,4 @@ pub mod Alike
 pub mod Positive
 pub mod Listed
 pub mod Joined
+pub mod Valued

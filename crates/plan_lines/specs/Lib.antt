@@ -4,3 +4,4 @@ pub mod Allowed
 pub mod Lines
 pub mod Fitting
 pub mod Found
+pub mod Values

@@ -2,6 +2,7 @@
 //! show.
 #![tactic(auto)]
 
+mod allowed_values;
 mod children;
 mod completing;
 mod completion;
@@ -14,6 +15,7 @@ mod matching;
 mod names;
 mod search;
 
+pub use allowed_values::AllowedValues;
 pub use fitting::{initials_to_fit, instances_to_fit};
 pub use instances::{has_initial, has_instance};
 pub use names::{Names, task_named};

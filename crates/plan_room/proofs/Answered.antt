@@ -1,10 +1,8 @@
 -- The lines on a way down once the last one has asked for another, or has its answer.
-use Rattle.std.proofs.Common.{◌≡◌, ℕ, suc, ◌+◌, ◌*◌, ◌≤◌, ◌<◌, ◌↔◌, Bool, true, cond, List, [], ◌∷◌, ◌++◌, length, Option, Some, None, sym, ap, ◌∙◌, subst, arith}
+use Rattle.std.proofs.Common.{◌≡◌, ℕ, suc, ◌+◌, ◌*◌, ◌≤◌, ◌<◌, cond, List, [], ◌∷◌, ◌++◌, length, Option, Some, None, sym, ap, ◌∙◌, subst, arith}
 use Rattle.std.proofs.Math.Nat.{mul-le-mul_right}
 use Rattle.plan_room.specs.Placing.{IsFinish}
-use Rattle.std.proofs.lemmas.Bool.{both_ways}
-use Rattle.std.specs.Option.{is_some}
-use Rattle.plan_room.specs.Lines.{Lines, AreLines, FileFits}
+use Rattle.plan_room.specs.Lines.{Lines, AreLines}
 use Rattle.plan_room.specs.Memo.{known, answer, IsMemo, IsOpenBelow}
 use Rattle.plan_room.specs.Questions.{question_eq}
 use Rattle.plan_room.specs.Seats.{children_of, LineFits}
@@ -12,7 +10,7 @@ use Rattle.plan_room.specs.Frames.{IsLine, IsFrame, AreStacked, last_size, line_
 use Rattle.plan_room.specs.declared.rooms.Question.{Question}
 use Rattle.plan_room.specs.declared.memo.Memo.{Memo}
 use Rattle.plan_room.specs.declared.frames.Frame.{Frame}
-use Rattle.plan_room.proofs.Unrolled.{child_low, smaller, root_fits, fits_root}
+use Rattle.plan_room.proofs.Unrolled.{child_low, smaller}
 use Rattle.plan_room.proofs.Missing.{missing_less}
 use Rattle.plan_room.proofs.Stacked.{last_pushed, last_lower, pushed, popped, still_stacked, memo_noted}
 
@@ -77,15 +75,3 @@ module _ (l : Lines) (are : AreLines l) (memo : Memo) (top : ℕ) (rest : List F
         let whole : suc (missing l new) * top ≤ missing l memo * top = mul-le-mul_right top (omega arith) in
         let split : suc (missing l new) * top ≡ top + missing l new * top = omega arith in
         omega arith
-
--- the root's answer is that of the file
-pub root_decided : (l : Lines) → AreLines l → (q : Question) (end : Option ℕ) (b : Bool) → q ≡ record { line = l.count; gap = 0 } → IsFinish (LineFits l q.line q.gap) l.actions (answer q (Some end))
-    → b ≡ is_some end → (b ≡ true) ↔ FileFits l
-root_decided l are q None b e never is = (
-  (λ yes. absurd (both_ways b is yes)),
-  (λ fits. absurd (never l.actions (omega arith) (subst (λ p. LineFits l p.line p.gap l.actions) (sym e) (fits_root l are fits)))),
-)
-root_decided l are q (Some h) b e first is = (
-  (λ yes. root_fits l are h (subst (λ p. LineFits l p.line p.gap h) e first.fits) first.within),
-  (λ fits. is),
-)

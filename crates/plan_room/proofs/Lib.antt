@@ -18,3 +18,4 @@ pub mod Suited
 pub mod Reordered
 pub mod Listed
 pub mod Windowed
+pub mod Own

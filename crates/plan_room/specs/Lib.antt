@@ -11,3 +11,5 @@ pub mod Frames
 pub mod Steps
 pub mod Bound
 pub mod Windows
+pub mod Ends
+pub mod Deepest

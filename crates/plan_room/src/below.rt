@@ -64,7 +64,7 @@ fn is_task_line<L: PlanLines>(lines: &L, task: &GroundTask, line: usize) -> bool
 }
 
 /// Whether a line can stand for this node of a network.
-fn takes_line<L: PlanLines>(lines: &L, child: &Child, line: usize) -> bool
+pub fn takes_line<L: PlanLines>(lines: &L, child: &Child, line: usize) -> bool
     requires lines { AreLines (L.lines lines.now) }
     requires low { line < (L.lines lines.now).count }
     ensures { result ≡ child_eq (child_view child.now) (child_of ((L.lines lines.now).plan_of line)) }

@@ -2,10 +2,9 @@
 ghost use Rattle.std.specs.Prelude.{◌↔◌, IfOk, IsTrue};
 ghost use Rattle.plan_room.specs.Lines.{AreLines, FileFits};
 
-use crate::frames::frame_of;
+use crate::deepest::has_own_room;
 use crate::lines::PlanLines;
 use crate::memo::Memo;
-use crate::rooms::{Finish, Question};
 use std::alloc::{AllocError, Global};
 
 /// Whether the lines of a plan file have room in the whole plan.
@@ -14,27 +13,6 @@ pub fn forest_fits<L: PlanLines>(alloc: Global, lines: &L) -> Result<bool, Alloc
     ensures { IfOk result (λ b. IsTrue b ↔ FileFits (L.lines lines.now)) }
 {
     let mut memo = Memo::new(alloc);
-    let root = Question {
-        line: lines.count(),
-        gap: 0,
-    };
-    let mut frames = Vec::new(alloc);
-    frames.push(frame_of(alloc, lines, root)?)?;
-    while let Some(mut frame) = frames.pop() {
-        let end = match frame.go_on(alloc, lines, &memo)? {
-            Finish::Unknown(question) => {
-                let next = frame_of(alloc, lines, question)?;
-                frames.push(frame)?;
-                frames.push(next)?;
-                continue;
-            }
-            Finish::Never => None,
-            Finish::At(end) => Some(end),
-        };
-        if frames.is_empty() {
-            return Ok(end.is_some());
-        }
-        memo.note(frame.question, end)?;
-    }
-    Ok(false)
+    let fits = has_own_room(alloc, lines, &mut memo, lines.count())?;
+    Ok(fits)
 }

@@ -57,7 +57,7 @@ pub(crate) struct Frame<'a> {
 }
 
 /// The children of a line; those of the number past all lines are the roots.
-pub(crate) fn children_of<L: PlanLines>(lines: &L, line: usize) -> &[usize]
+pub fn children_of<L: PlanLines>(lines: &L, line: usize) -> &[usize]
     requires { IsLine (L.lines lines.now) line }
     ensures { result.now ≡ children_of (L.lines lines.now) line }
 {

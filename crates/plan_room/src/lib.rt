@@ -3,6 +3,8 @@
 
 mod below;
 mod bound;
+mod deepest;
+mod ends;
 mod fits;
 mod frames;
 mod guess;
@@ -15,5 +17,9 @@ mod rooms;
 mod sequence;
 mod window;
 
+pub use below::takes_line;
+pub use deepest::deepest_without_room;
+pub use ends::Ends;
 pub use fits::forest_fits;
+pub use frames::children_of;
 pub use lines::PlanLines;

@@ -1,0 +1,4 @@
+pub mod Causes
+pub mod Falsities
+pub mod Steps
+pub mod Words

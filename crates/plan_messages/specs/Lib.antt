@@ -1,0 +1,4 @@
+pub mod Errors
+pub mod Explanation
+pub mod Numbers
+pub mod Places

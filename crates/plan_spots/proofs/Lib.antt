@@ -1,0 +1,3 @@
+pub mod Mentioned
+pub mod OneLine
+pub mod Seeing

@@ -1,0 +1,12 @@
+//! The words of a plan's lines, and where numbers stand in them.
+#![tactic(auto)]
+
+mod mentions;
+mod placed_plan;
+mod sighting;
+mod words;
+
+pub use mentions::{Mention, definitions, listings};
+pub use placed_plan::PlacedPlan;
+pub use sighting::{Sighting, sightings};
+pub use words::{word_from, words_from};

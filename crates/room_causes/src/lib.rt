@@ -1,0 +1,15 @@
+//! Why the lines of a plan file have no room: the deepest line that has none, and what is in its way.
+#![tactic(auto)]
+
+mod actions;
+mod cause;
+mod conflict;
+mod instances;
+mod nodes;
+mod order;
+mod reading;
+mod room;
+mod unmet;
+
+pub use cause::{Conflict, Node, OrderConflict, RoomCause, Unmet};
+pub use room::room_cause_of;
