@@ -1,1 +1,5 @@
+pub mod Differing
 pub mod Falses
+pub mod Ordered
+pub mod Placed
+pub mod Running

@@ -12,9 +12,12 @@ use Rattle.plan_causes.specs.Causes.{IsRunCause}
 use Rattle.plan_causes.specs.Structure.{AreWrong}
 use Rattle.plan_causes.specs.declared.cause.RunCause.{RunCause}
 use Rattle.plan_causes.specs.declared.cause.RunCause.TheVariants as run
+use Rattle.plan_causes.specs.declared.standing.Standing.{Standing}
 use Rattle.plan_findings.specs.Falsities.{AreFalsities}
+use Rattle.plan_findings.specs.Words.{bracketed}
 use Rattle.plan_reasons.specs.declared.cause.Cause.{Cause}
 use Rattle.plan_reasons.specs.declared.cause.Cause.TheVariants as cause
+use Rattle.plan_reasons.specs.declared.cause.FailedAction.{FailedAction}
 
 -- what the words of an action line name
 abbrev pub action_task : Naming → ActionLine → Option GroundTask
@@ -24,19 +27,29 @@ action_task naming line = naming.named line.name line.arguments
 abbrev pub tasks_of : Task → PlanFile → List GroundTask
 tasks_of t file = flat_map option_to_list (map (action_task (naming_of t)) file.actions)
 
--- the same as what comes of the run: the first action that can't be carried out with exactly the literals of its
--- precondition that are false there, or exactly those of the goal that are false at the end
-abbrev pub IsSaidOf : Task → List GroundTask → RunCause → Cause → Type 0
-IsSaidOf t tasks (run.Fails n standings) (cause.NotExecutable failed) =
-    (failed.number ≡ n) × ((action : Action) → option_and_then (problem_of t).action_of (slice_get tasks n) ≡ Some action
-    → AreFalsities t action.precondition standings.items failed.literals.items)
-IsSaidOf t tasks (run.GoalFails standings) (cause.GoalFails literals) = AreFalsities t (problem_of t).goal standings.items literals.items
-IsSaidOf t tasks run.Holds cause.Valid = Unit {0}
-IsSaidOf t tasks _ _ = ⊥
+-- the words of an action line in brackets, if there is a line
+abbrev pub line_text : Option ActionLine → List ℕ
+line_text (Some line) = bracketed line.name line.arguments
+line_text None = []
+
+-- the task of this number, as its line has it, with exactly the literals of its precondition that are false there
+pub record IsFailed (t : Task) (file : PlanFile) (tasks : List GroundTask) (n : ℕ) (standings : List Standing) (failed : FailedAction) : Type 0 where
+  pub number : failed.number ≡ n
+  pub text : failed.text.items ≡ line_text (slice_get file.actions n)
+  pub literals : (action : Action) → option_and_then (problem_of t).action_of (slice_get tasks n) ≡ Some action
+      → AreFalsities t action.precondition standings failed.literals.items
+
+-- the same as what comes of the run: the first action that can't be carried out, or exactly the literals of the goal
+-- that are false at the end
+abbrev pub IsSaidOf : Task → PlanFile → List GroundTask → RunCause → Cause → Type 0
+IsSaidOf t file tasks (run.Fails n standings) (cause.NotExecutable failed) = IsFailed t file tasks n standings.items failed
+IsSaidOf t file tasks (run.GoalFails standings) (cause.GoalFails literals) = AreFalsities t (problem_of t).goal standings.items literals.items
+IsSaidOf t file tasks run.Holds cause.Valid = Unit {0}
+IsSaidOf t file tasks _ _ = ⊥
 
 -- what comes of the run of the action lines
 abbrev pub IsRunReason : Task → PlanFile → Cause → Type 0
-IsRunReason t file c = (found : RunCause) × IsRunCause (problem_of t) (tasks_of t file) found × IsSaidOf t (tasks_of t file) found c
+IsRunReason t file c = (found : RunCause) × IsRunCause (problem_of t) (tasks_of t file) found × IsSaidOf t file (tasks_of t file) found c
 
 -- the numbers with which something is wrong; of the line that no root reaches nothing is said
 abbrev pub IsStructureReason : PlanFile → Cause → Type 0

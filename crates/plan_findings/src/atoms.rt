@@ -122,7 +122,9 @@ fn negated(alloc: Global, core: &[u8]) -> Result<Vec<u8>, AllocError>
 }
 
 /// Adds words, each after a blank.
-fn push_words(text: &mut Vec<u8>, words: &[Word]) -> Result<(), AllocError> {
+fn push_words(text: &mut Vec<u8>, words: &[Word]) -> Result<(), AllocError>
+    ensures { OnOk result (text.new.items ≡ text.old.items ++ flat_map spaced words.now) }
+{
     for word in words {
         push_word(text, word.as_bytes())?;
     }
@@ -130,7 +132,9 @@ fn push_words(text: &mut Vec<u8>, words: &[Word]) -> Result<(), AllocError> {
 }
 
 /// The action of a line: `(pick-up truck junction grain)`.
-pub(crate) fn action_text(alloc: Global, line: &ActionLine) -> Result<Vec<u8>, AllocError> {
+pub(crate) fn action_text(alloc: Global, line: &ActionLine) -> Result<Vec<u8>, AllocError>
+    ensures { IfOk result (λ v. v.items ≡ spec.bracketed line.now.name line.now.arguments) }
+{
     let mut text = Vec::new(alloc);
     text.push(b'(')?;
     text.extend_from_slice(line.name().as_bytes())?;

@@ -4,6 +4,7 @@ ghost use Rattle.std.specs.Prelude.{◌≡◌, IfOk, Some, option_and_then, slic
 ghost use Rattle.htn_model.specs.Grounding.{problem_of};
 ghost use Rattle.htn_model.specs.Literal as model;
 ghost use Rattle.plan_reasons.specs.Causes.{AreOnce};
+ghost use Rattle.plan_findings.specs.Causes as spec;
 ghost use Rattle.plan_findings.specs.Causes.{IsRunReason, IsSaidOf, IsStructureReason};
 ghost use Rattle.plan_findings.specs.Falsities.{AreFalsities};
 ghost use Rattle.plan_causes.specs.declared.cause.RunCause.TheVariants as run;
@@ -97,7 +98,9 @@ fn next_of(
 }
 
 /// The words of the action line of a number.
-fn line_text(alloc: Global, file: &PlanFile, number: usize) -> Result<Vec<u8>, AllocError> {
+fn line_text(alloc: Global, file: &PlanFile, number: usize) -> Result<Vec<u8>, AllocError>
+    ensures { IfOk result (λ v. v.items ≡ spec.line_text (slice_get file.now.actions number)) }
+{
     match file.actions().get(number) {
         Some(line) => action_text(alloc, line),
         None => Ok(Vec::new(alloc)),
@@ -150,7 +153,7 @@ fn action_fails(
     number: usize,
     standings: Vec<Standing>,
 ) -> Result<Cause, AllocError>
-    ensures said { IfOk result (IsSaidOf case.now.task.now tasks.now (run.Fails number standings)) }
+    ensures said { IfOk result (IsSaidOf case.now.task.now case.now.file.now tasks.now (run.Fails number standings)) }
     ensures once { IfOk result AreOnce }
 {
     let (literals, next) = false_preconditions(alloc, case, tasks, number, standings.as_slice())?;
@@ -170,7 +173,7 @@ fn goal_fails(
     tasks: &[GroundTask],
     standings: Vec<Standing>,
 ) -> Result<Cause, AllocError>
-    ensures said { IfOk result (IsSaidOf case.now.task.now tasks.now (run.GoalFails standings)) }
+    ensures said { IfOk result (IsSaidOf case.now.task.now case.now.file.now tasks.now (run.GoalFails standings)) }
     ensures once { IfOk result AreOnce }
 {
     let goal = goal_literals(alloc, case.task)?;
@@ -191,7 +194,7 @@ fn reason_of(
     tasks: &[GroundTask],
     found: RunCause,
 ) -> Result<Cause, AllocError>
-    ensures said { IfOk result (IsSaidOf case.now.task.now tasks.now found) }
+    ensures said { IfOk result (IsSaidOf case.now.task.now case.now.file.now tasks.now found) }
     ensures once { IfOk result AreOnce }
 {
     match found {

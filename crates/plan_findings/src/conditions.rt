@@ -1,5 +1,9 @@
 //! Where the literals of a precondition or a goal are written.
 
+ghost use Rattle.std.specs.Prelude.{◌≡◌, IfOk, OnOk};
+ghost use Rattle.plan_findings.specs.Conditions as spec;
+ghost use Rattle.plan_findings.specs.Conditions.{AddsAmong, AreAmong};
+
 use hddl_names::fold;
 use hddl_tree::{Condition, Name, ProblemText, Term, VariableGroup};
 use htn_task::Task;
@@ -7,7 +11,9 @@ use indexmap::IndexMap;
 use std::alloc::{AllocError, Global};
 
 /// The place of a term.
-fn term_place(term: &Term) -> usize {
+fn term_place(term: &Term) -> usize
+    ensures { result ≡ spec.term_place term.now }
+{
     match term {
         Term::Variable(variable) => variable.place(),
         Term::Object(name) => name.place(),
@@ -42,11 +48,14 @@ fn choice_count(alloc: Global, task: &Task, groups: &[VariableGroup]) -> Result<
 }
 
 /// Adds places a number of times.
-fn push_repeated(places: &mut Vec<usize>, block: &[usize], count: usize) -> Result<(), AllocError> {
+fn push_repeated(places: &mut Vec<usize>, block: &[usize], count: usize) -> Result<(), AllocError>
+    ensures { OnOk result (AddsAmong places.old.items places.new.items block.now) }
+{
     if block.is_empty() {
         return Ok(());
     }
-    for _ in 0..count {
+    for pushed in 0..count {
+        let _ = pushed;
         places.extend_from_slice(block)?;
     }
     Ok(())
@@ -58,7 +67,9 @@ fn push_places(
     task: &Task,
     condition: &Condition,
     places: &mut Vec<usize>,
-) -> Result<(), AllocError> {
+) -> Result<(), AllocError>
+    ensures { OnOk result (AddsAmong places.old.items places.new.items (spec.places_in condition.now)) }
+{
     match condition {
         Condition::Literal(literal) => {
             places.push(literal.atom.name.place())?;
@@ -74,9 +85,25 @@ fn push_places(
                 push_places(alloc, task, part, &mut block)?;
             }
             let count = choice_count(alloc, task, groups.as_slice())?;
-            push_repeated(places, block.as_slice(), count)
+            push_repeated(places, block.as_slice(), count)?;
+            Ok(())
         }
     }
+}
+
+/// The same of a condition of a precondition, if it holds in states.
+fn push_held(
+    alloc: Global,
+    task: &Task,
+    condition: &Condition,
+    places: &mut Vec<usize>,
+) -> Result<(), AllocError>
+    ensures { OnOk result (AddsAmong places.old.items places.new.items (spec.places_in condition.now)) }
+{
+    if matches!(condition, Condition::Equality(_)) {
+        return Ok(());
+    }
+    push_places(alloc, task, condition, places)
 }
 
 /// The place of each literal of a goal, in the literals' order.
@@ -84,7 +111,9 @@ pub(crate) fn goal_places(
     alloc: Global,
     task: &Task,
     goal: &[Condition],
-) -> Result<Vec<usize>, AllocError> {
+) -> Result<Vec<usize>, AllocError>
+    ensures { IfOk result (λ v. AreAmong v.items (spec.places_of goal.now)) }
+{
     let mut places = Vec::new(alloc);
     for condition in goal {
         push_places(alloc, task, condition, &mut places)?;
@@ -97,12 +126,12 @@ pub fn precondition_places(
     alloc: Global,
     task: &Task,
     precondition: &[Condition],
-) -> Result<Vec<usize>, AllocError> {
+) -> Result<Vec<usize>, AllocError>
+    ensures { IfOk result (λ v. AreAmong v.items (spec.places_of precondition.now)) }
+{
     let mut places = Vec::new(alloc);
     for condition in precondition {
-        if !matches!(condition, Condition::Equality(_)) {
-            push_places(alloc, task, condition, &mut places)?;
-        }
+        push_held(alloc, task, condition, &mut places)?;
     }
     Ok(places)
 }

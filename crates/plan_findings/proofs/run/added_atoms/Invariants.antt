@@ -1,0 +1,7 @@
+use Rattle.std.proofs.Common.{◌≡◌, map, not, take}
+use Rattle.std.specs.List.{filter}
+use Rattle.plan_run.specs.Turns.{truth}
+use Rattle.plan_findings.proofs.run.added_atoms.Given as goal
+
+abbrev pub invariant-loop-atom : goal.invariant-loop-atom
+invariant-loop-atom l = map (λ a. a.now) l.atoms.items ≡ filter (λ a. not (truth l.turns a l.gap)) (take l.atom-index l.atom-items)

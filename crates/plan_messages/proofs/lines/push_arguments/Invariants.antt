@@ -1,0 +1,7 @@
+use Rattle.std.proofs.Common.{◌≡◌, ◌++◌, ◌∷◌, map, take}
+use Rattle.std.specs.List.{flat_map}
+use Rattle.text_places.specs.Shown.{shown}
+use Rattle.plan_messages.proofs.lines.push_arguments.Given as goal
+
+abbrev pub invariant-loop-word : goal.invariant-loop-word
+invariant-loop-word l = l.text.items ≡ l.initial.text.items ++ flat_map (λ w. 32 ∷ map shown w) (take l.word-index l.words)

@@ -1,0 +1,20 @@
+//! Why a plan has its verdict, or why its text is refused, as the bytes of a report.
+#![tactic(auto)]
+
+mod arrangement;
+mod cause;
+mod children;
+mod faults;
+mod line;
+mod message;
+mod reason;
+mod report;
+mod schemas;
+mod search;
+mod spots;
+mod unmet;
+mod words;
+
+pub use plan_messages::{PairTexts, PlanTexts};
+pub use plan_spots::PlacedPlan;
+pub use report::{Telling, explain, explain_fault};

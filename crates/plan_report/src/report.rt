@@ -1,0 +1,312 @@
+//! Reports of why a plan has its verdict.
+
+ghost use Rattle.std.specs.Prelude.{◌≡◌, IfOk, IfSome};
+ghost use Rattle.plan_reasons.specs.Causes.{AreOnce};
+ghost use Rattle.diagnostics.specs.declared.format.Format.TheVariants as format;
+ghost use Rattle.plan_report.specs.Explained as spec;
+
+use crate::arrangement::arrangement_reason;
+use crate::faults::fault_error;
+use crate::line::line_reason;
+use crate::reason::{Reason, reason_error};
+use diagnostics::{
+    Diagnostic, Format, Part, Source, json_verdict, short_report, short_verdict, text_report,
+    text_verdict,
+};
+use htn_task::Task;
+use htn_verify::Verdict;
+use plan_findings::{PlanCase, counts_of, run_of, run_reason, structure_reason};
+use plan_forest::forest_of;
+use plan_messages::{PairTexts, PlanTexts, counts_line, explanation, run_lines};
+use plan_reasons::Cause;
+use plan_spots::PlacedPlan;
+use plan_text::{PlanFault, PlanFile};
+use std::alloc::{AllocError, Global};
+
+/// How an explanation is written.
+#[derive(Clone, Copy, Debug)]
+pub struct Telling {
+    pub format: Format,
+    /// Whether it has what is true at the start, and what each action makes true and false.
+    pub has_states: bool,
+    /// Whether the text has colours.
+    pub colour: bool,
+}
+
+/// What is explained: the verdict on a plan, the words of its line, and how it is written.
+#[derive(Clone, Copy)]
+struct Judged<'a> {
+    verdict: Verdict,
+    words: &'a str,
+    telling: Telling,
+}
+
+/// Whether a report has the lines of the run: if they are wanted, and the lines of the plan have one.
+fn has_run(verdict: Verdict, telling: Telling) -> bool
+    ensures { result ≡ spec.has_run verdict telling }
+{
+    match verdict {
+        Verdict::Structure | Verdict::NoInstance(_) => false,
+        Verdict::NotExecutable(_) | Verdict::GoalFails | Verdict::NoArrangement | Verdict::Valid =>
+            telling.has_states,
+    }
+}
+
+/// The lines of the run, if a report has them.
+fn states(
+    alloc: Global,
+    task: &Task,
+    file: &PlanFile,
+    verdict: Verdict,
+    telling: Telling,
+) -> Result<Vec<u8>, AllocError>
+    ensures { IfOk result (λ run. spec.AreRunLines task.now file.now (spec.has_run verdict telling) run.items) }
+{
+    if !has_run(verdict, telling) {
+        return Ok(Vec::new(alloc));
+    }
+    let found = run_of(alloc, task, file)?;
+    let lines = run_lines(alloc, file, &found)?;
+    Ok(lines)
+}
+
+/// The last lines: of a valid plan how many nodes its solution has.
+fn last_lines<'a>(
+    alloc: Global,
+    task: &Task,
+    file: &PlanFile,
+    verdict: Verdict,
+) -> Result<Vec<Vec<Part<'a>>>, AllocError>
+    ensures { IfOk result (λ lines. spec.AreLastLines task.now file.now (spec.is_valid verdict) lines.items) }
+{
+    if !is_valid(verdict) {
+        return Ok(Vec::new(alloc));
+    }
+    let counts = counts_of(task, file);
+    let line = counts_line(alloc, counts)?;
+    let lines = vec![in alloc; line]?;
+    Ok(lines)
+}
+
+/// Whether a verdict is `valid`.
+fn is_valid(verdict: Verdict) -> bool
+    ensures { result ≡ spec.is_valid verdict }
+{
+    matches!(verdict, Verdict::Valid)
+}
+
+/// A verdict and what is said of it, as people read it.
+fn text_of(
+    alloc: Global,
+    task: &Task,
+    file: &PlanFile,
+    judged: Judged<'_>,
+    errors: &[Diagnostic<'_>],
+) -> Result<Vec<u8>, AllocError>
+    ensures { IfOk result (λ bytes. spec.IsWrittenIn format.Text task.now file.now judged.entry.verdict judged.entry.words.now judged.entry.telling errors.now bytes.items) }
+{
+    let run = states(alloc, task, file, judged.verdict, judged.telling)?;
+    let lines = last_lines(alloc, task, file, judged.verdict)?;
+    let text = text_verdict(
+        alloc,
+        judged.words,
+        is_valid(judged.verdict),
+        run.as_slice(),
+        errors,
+        lines.as_slice(),
+        judged.telling.colour,
+    )?;
+    Ok(text)
+}
+
+/// A verdict and what is said of it, as editors read it.
+fn short_of(
+    alloc: Global,
+    task: &Task,
+    file: &PlanFile,
+    judged: Judged<'_>,
+    errors: &[Diagnostic<'_>],
+) -> Result<Vec<u8>, AllocError>
+    ensures { IfOk result (λ bytes. spec.IsWrittenIn format.Short task.now file.now judged.entry.verdict judged.entry.words.now judged.entry.telling errors.now bytes.items) }
+{
+    let run = states(alloc, task, file, judged.verdict, judged.telling)?;
+    let text = short_verdict(alloc, judged.words, run.as_slice(), errors)?;
+    Ok(text)
+}
+
+/// A verdict and what is said of it, in one of the formats.
+fn written(
+    alloc: Global,
+    task: &Task,
+    file: &PlanFile,
+    judged: Judged<'_>,
+    errors: &[Diagnostic<'_>],
+) -> Result<Vec<u8>, AllocError>
+    ensures { IfOk result (λ bytes. spec.IsWritten task.now file.now judged.entry.verdict judged.entry.words.now judged.entry.telling errors.now bytes.items) }
+{
+    match judged.telling.format {
+        Format::Text => text_of(alloc, task, file, judged, errors),
+        Format::Short => short_of(alloc, task, file, judged, errors),
+        Format::Json => json_verdict(alloc, Some(judged.words), errors),
+    }
+}
+
+/// The name of a verdict that has a reason.
+fn code_of<'a>(verdict: Verdict) -> &'a str
+    ensures { result.now ≡ spec.code_of verdict }
+{
+    match verdict {
+        Verdict::NoInstance(_) => "NoInstance",
+        Verdict::NoArrangement => "NoArrangement",
+        _ => "",
+    }
+}
+
+/// The cause of a verdict.
+fn cause_of(alloc: Global, case: &PlanCase<'_>, verdict: Verdict) -> Result<Cause, AllocError>
+    ensures cause { IfOk result (spec.IsCauseOf case.now.task.now case.now.file.now verdict) }
+    ensures once { IfOk result AreOnce }
+{
+    match verdict {
+        Verdict::Structure => structure_reason(alloc, case),
+        Verdict::NotExecutable(_) | Verdict::GoalFails => run_reason(alloc, case),
+        Verdict::NoInstance(line) => Ok(Cause::NoInstance(line)),
+        Verdict::NoArrangement => Ok(Cause::NoArrangement),
+        Verdict::Valid => Ok(Cause::Valid),
+    }
+}
+
+/// Why a line has no instance, or why the lines can't be arranged; none for any other verdict.
+fn reason_of(
+    alloc: Global,
+    case: &PlanCase<'_>,
+    plan: &PlacedPlan<'_>,
+    verdict: Verdict,
+) -> Result<Option<Reason>, AllocError>
+    ensures { IfOk result (λ found. IfSome found (λ _. spec.HasReason verdict)) }
+{
+    match verdict {
+        Verdict::NoInstance(line) => {
+            let Some(forest) = forest_of(alloc, case.file)? else {
+                return Ok(None);
+            };
+            let here = PlanCase {
+                task: case.task,
+                domain: case.domain,
+                problem: case.problem,
+                file: case.file,
+            };
+            let reason = line_reason(alloc, &here, plan, &forest, line)?;
+            Ok(reason)
+        }
+        Verdict::NoArrangement => arrangement_reason(alloc, case, plan),
+        _ => Ok(None),
+    }
+}
+
+/// The report of a reason.
+fn explain_reason<'a>(
+    alloc: Global,
+    texts: &PlanTexts<'a>,
+    task: &Task,
+    reason: &'a Reason,
+    judged: Judged<'_>,
+) -> Result<Vec<u8>, AllocError>
+    requires { spec.HasReason judged.verdict }
+    ensures { IfOk result (λ bytes. spec.IsExplanation task.now texts.now judged.entry.verdict judged.entry.words.now judged.entry.telling bytes.items) }
+{
+    let code = code_of(judged.verdict);
+    let errors = vec![in alloc; reason_error(alloc, texts, code, reason)?]?;
+    let text = written(alloc, task, texts.plan.file, judged, errors.as_slice())?;
+    Ok(text)
+}
+
+/// The report of a cause.
+fn explain_cause<'a>(
+    alloc: Global,
+    texts: &PlanTexts<'a>,
+    task: &Task,
+    cause: &'a Cause,
+    judged: Judged<'_>,
+) -> Result<Vec<u8>, AllocError>
+    requires once { AreOnce cause.now }
+    requires cause { spec.IsCauseOf task.now texts.now.plan.file.now judged.verdict cause.now }
+    ensures { IfOk result (λ bytes. spec.IsExplanation task.now texts.now judged.entry.verdict judged.entry.words.now judged.entry.telling bytes.items) }
+{
+    let errors = explanation(alloc, texts, cause)?;
+    let text = written(alloc, task, texts.plan.file, judged, errors.as_slice())?;
+    Ok(text)
+}
+
+/// Why a plan file has its verdict, of which `words` are the line. An error where memory was refused.
+pub fn explain<'a>(
+    alloc: Global,
+    pair: &PairTexts<'a>,
+    plan: &PlacedPlan<'a>,
+    task: &Task,
+    verdict: Verdict,
+    words: &str,
+    telling: Telling,
+) -> Result<Vec<u8>, AllocError>
+    ensures { IfOk result (λ bytes. spec.IsExplanation task.now (record { pair = pair.now; plan = plan.now }) verdict words.now telling bytes.items) }
+{
+    let judged = Judged {
+        verdict,
+        words,
+        telling,
+    };
+    let case = PlanCase {
+        task,
+        domain: pair.domain_tree,
+        problem: pair.problem_tree,
+        file: plan.file,
+    };
+    let here = PlanTexts {
+        pair: PairTexts {
+            domain: pair.domain,
+            problem: pair.problem,
+            domain_tree: pair.domain_tree,
+            problem_tree: pair.problem_tree,
+        },
+        plan: PlacedPlan {
+            text: plan.text,
+            file: plan.file,
+            places: plan.places,
+        },
+    };
+    if let Some(reason) = reason_of(alloc, &case, plan, verdict)? {
+        return explain_reason(alloc, &here, task, &reason, judged);
+    }
+    let cause = cause_of(alloc, &case, verdict)?;
+    explain_cause(alloc, &here, task, &cause, judged)
+}
+
+/// A report of some errors, in one of the formats.
+fn report_of(
+    alloc: Global,
+    errors: &[Diagnostic<'_>],
+    telling: Telling,
+) -> Result<Vec<u8>, AllocError>
+    ensures { IfOk result (λ bytes. spec.IsReportIn telling.format telling.colour errors.now bytes.items) }
+{
+    match telling.format {
+        Format::Text => text_report(alloc, errors, &[], 0, telling.colour),
+        Format::Short => short_report(alloc, errors),
+        Format::Json => json_verdict(alloc, None, errors),
+    }
+}
+
+/// Why a plan's text is refused. An error where memory was refused.
+pub fn explain_fault(
+    alloc: Global,
+    plan: &Source<'_>,
+    fault: PlanFault,
+    telling: Telling,
+) -> Result<Vec<u8>, AllocError>
+    ensures { IfOk result (λ bytes. spec.IsRefusal plan.now fault telling bytes.items) }
+{
+    let error = fault_error(alloc, plan, fault)?;
+    let errors = vec![in alloc; error]?;
+    let text = report_of(alloc, errors.as_slice(), telling)?;
+    Ok(text)
+}
