@@ -3,6 +3,7 @@ set -l commands \
     "plan\t'Prints the plan with the fewest nodes'" \
     "verify\t'Prints whether a plan is valid'" \
     "check\t'Says what is wrong with a domain and a problem'" \
+    "explain\t'Says why a plan is invalid'" \
     "tree\t'Draws the decomposition tree of a plan'"
 
 # Whether the command is the given one; an empty word stands for none so far.
@@ -26,6 +27,10 @@ complete -c htnplan -n '__htnplan_command_is check' -l format -x -a 'text short 
 complete -c htnplan -n '__htnplan_command_is check' -l limit -x -d 'Diagnostics that text shows; 0 is all (20)'
 complete -c htnplan -n '__htnplan_command_is check' -l strict -d 'A warning is status 1'
 complete -c htnplan -n '__htnplan_command_is check' -l color -x -a 'auto always never' -d 'Colours (auto)'
+
+complete -c htnplan -n '__htnplan_command_is explain' -l format -x -a 'text short json' -d 'How it is printed (text)'
+complete -c htnplan -n '__htnplan_command_is explain' -l states -d 'What each action makes true and false'
+complete -c htnplan -n '__htnplan_command_is explain' -l color -x -a 'auto always never' -d 'Colours (auto)'
 
 complete -c htnplan -n '__htnplan_command_is tree' -l format -x -a 'text ascii json dot svg' -d 'How it is drawn (text)'
 complete -c htnplan -n '__htnplan_command_is tree' -l color -x -a 'auto always never' -d 'Colours (auto)'

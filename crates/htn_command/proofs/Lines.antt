@@ -34,6 +34,11 @@ examples_hold = record {
   two_inputs = refl;
   no_domain = refl;
   foreign_option = refl;
+  explained_by_default = record { domain = refl; problem = refl; plan = refl; format = refl; states = refl; colour = refl; sound = refl };
+  explained_by_options = record { domain = refl; problem = refl; plan = refl; format = refl; states = refl; colour = refl; sound = refl };
+  explained_as = refl;
+  explained_once = refl;
+  unexplained = refl;
   drawn_by_default = record { domain = refl; problem = refl; plan = refl; format = refl; colour = refl; sound = refl };
   drawn_by_options = record { domain = refl; problem = refl; plan = refl; format = refl; colour = refl; sound = refl };
   no_drawing = refl;

@@ -23,7 +23,7 @@ use Rattle.clap.specs.declared.error.kind.ErrorKind.TheVariants.{DisplayHelp, Di
 use Rattle.clap.proofs.WalkLemmas.{first_value-rows, one_text-rows}
 use Rattle.word_machine.specs.Bounds.{AreInRange}
 use Rattle.word_machine.specs.declared.bounds.Bounds.{Bounds}
-use Rattle.htn_command.specs.CommandLine.{HelpIsDue, IsNumber, IsNumberIfAny, VersionIsDue, colour_named, drawing_named, faults, flag_named, format_named, check_fault, htnplan, own_fault, read_by, tree_fault}
+use Rattle.htn_command.specs.CommandLine.{HelpIsDue, IsNumber, IsNumberIfAny, VersionIsDue, colour_named, drawing_named, faults, flag_named, format_named, check_fault, explain_fault, htnplan, own_fault, read_by, tree_fault}
 use Rattle.htn_command.specs.Help.{IsOfWords, IsPossible, RefusesWords}
 use Rattle.htn_command.specs.Misuse.{kinds_of}
 use Rattle.htn_command.specs.Request.{AskNothing, IsGiven, IsOf}
@@ -34,7 +34,7 @@ use Rattle.htn_command.specs.declared.misuse.Misuse.{Misuse}
 use Rattle.htn_command.specs.declared.refusal.Refusal.{Refusal}
 use Rattle.htn_command.specs.declared.refusal.Refusal.TheVariants as refusal
 use Rattle.htn_command.specs.declared.request.Request.{Request}
-use Rattle.htn_command.specs.declared.request.Request.TheVariants.{Plan, Verify, Check, Tree}
+use Rattle.htn_command.specs.declared.request.Request.TheVariants.{Plan, Verify, Check, Explain, Tree}
 use Rattle.htn_command.proofs.Building.{line_is_free, line_is_simple}
 
 -- a command's name and its rows
@@ -84,24 +84,28 @@ parse_is_sound app words m is sound has =
     let none : fault_of htnplan words ≡ [] = ap (λ (a : App). fault_of a words) (sym is) ∙ sound (ap is_simple_and_free is ∙ line_is_free) in
     ap (λ ks. or_else ks (own_fault (read_by words))) none ∙ ap own_fault (parse_reads app words m is has)
 
--- a command other than `check` and `tree` has no fault of its own
-pub own_of_other : (m : ArgMatches) → (subcommand_name_of m ≡ Some (codes "check") → ⊥) → (subcommand_name_of m ≡ Some (codes "tree") → ⊥)
-    → own_fault (subcommand_rows_of m) ≡ []
-own_of_other m no_check no_tree = by (out-ArgMatches m).subcommand no_check no_tree
+-- a command other than `check`, `explain` and `tree` has no fault of its own
+pub own_of_other : (m : ArgMatches) → (subcommand_name_of m ≡ Some (codes "check") → ⊥) → (subcommand_name_of m ≡ Some (codes "explain") → ⊥)
+    → (subcommand_name_of m ≡ Some (codes "tree") → ⊥) → own_fault (subcommand_rows_of m) ≡ []
+own_of_other m no_check no_explain no_tree = by (out-ArgMatches m).subcommand no_check no_explain no_tree
   where
     decided : (name other : Text) (kinds rest : Kinds) (b : Bool) → Decides b (name ≡ other) → (Some name ≡ Some other → ⊥) → cond b kinds rest ≡ rest
     decided name other kinds rest true is isn't = absurd (isn't (ap (λ (t : Text). Some t) (is.0 refl)))
     decided name other kinds rest false is isn't = refl
 
     by : {Z : Type 0} → (sub : Option (Box SubCommand Z)) → (option_map (λ b. (out-SubCommand (box_value b)).name.now) sub ≡ Some (codes "check") → ⊥)
+        → (option_map (λ b. (out-SubCommand (box_value b)).name.now) sub ≡ Some (codes "explain") → ⊥)
         → (option_map (λ b. (out-SubCommand (box_value b)).name.now) sub ≡ Some (codes "tree") → ⊥) → own_fault (subcommand_rows sub) ≡ []
-    by None isn't nor = refl
-    by (Some b) isn't nor =
+    by None isn't nor either = refl
+    by (Some b) isn't nor either =
         let s = out-SubCommand (box_value b) in
         let rows = rows_of (found_of s.matches) in
         let is_tree = bytes_eq s.name.now (codes "tree") in
-        decided s.name.now (codes "check") (check_fault rows) (cond is_tree (tree_fault rows) []) (bytes_eq s.name.now (codes "check")) (bytes_eq-Decides s.name.now (codes "check")) isn't
-        ∙ decided s.name.now (codes "tree") (tree_fault rows) [] is_tree (bytes_eq-Decides s.name.now (codes "tree")) nor
+        let is_explain = bytes_eq s.name.now (codes "explain") in
+        let drawn = cond is_tree (tree_fault rows) [] in
+        decided s.name.now (codes "check") (check_fault rows) (cond is_explain (explain_fault rows) drawn) (bytes_eq s.name.now (codes "check")) (bytes_eq-Decides s.name.now (codes "check")) isn't
+        ∙ decided s.name.now (codes "explain") (explain_fault rows) drawn is_explain (bytes_eq-Decides s.name.now (codes "explain")) nor
+        ∙ decided s.name.now (codes "tree") (tree_fault rows) [] is_tree (bytes_eq-Decides s.name.now (codes "tree")) either
 
 -- none isn't some
 pub no_some : {X : Type 0} (o : Option X) → o ≡ None → is_some o ≡ true → ⊥
@@ -226,6 +230,26 @@ check_is_not_tree same =
     let bad : ◌≡◌ {A = ℕ} 99 116 = ap (λ (t : Text). slice_index t 0) same in
     absurd (omega arith)
 
+pub explain_is_not_plan : {Z : Type 0} → codes "explain" ≡ codes "plan" → Z
+explain_is_not_plan same =
+    let bad : ◌≡◌ {A = ℕ} 101 112 = ap (λ (t : Text). slice_index t 0) same in
+    absurd (omega arith)
+
+pub explain_is_not_verify : {Z : Type 0} → codes "explain" ≡ codes "verify" → Z
+explain_is_not_verify same =
+    let bad : ◌≡◌ {A = ℕ} 101 118 = ap (λ (t : Text). slice_index t 0) same in
+    absurd (omega arith)
+
+pub explain_is_not_check : {Z : Type 0} → codes "explain" ≡ codes "check" → Z
+explain_is_not_check same =
+    let bad : ◌≡◌ {A = ℕ} 101 99 = ap (λ (t : Text). slice_index t 0) same in
+    absurd (omega arith)
+
+pub explain_is_not_tree : {Z : Type 0} → codes "explain" ≡ codes "tree" → Z
+explain_is_not_tree same =
+    let bad : ◌≡◌ {A = ℕ} 101 116 = ap (λ (t : Text). slice_index t 0) same in
+    absurd (omega arith)
+
 -- where an option has a value that isn't read as a number, the line gives no number for it, and not none
 pub unread_number : (f : Found) (id text : Text) → Some text ≡ first_value f id → IsUnread f id → (n : Option ℕ) → IsNumberIfAny (one_of id (rows_of f)) n → ⊥
 unread_number f id text has unread None is = let bad : Some text ≡ None = has ∙ no_first_back f id is in absurd cc
@@ -246,6 +270,7 @@ module _ (f : Found) where
   plan_of (Plan domain problem bounds seconds has_progress) is use_it = use_it domain problem bounds seconds has_progress (given_rows _ _ (Plan domain problem bounds seconds has_progress) is refl)
   plan_of (Verify domain problem plan) is use_it = other_command _ _ is.1 plan_is_not_verify
   plan_of (Check domain problem format limit is_strict colour) is use_it = other_command _ _ is.1 (λ same. check_is_not_plan (sym same))
+  plan_of (Explain domain problem plan format has_states colour) is use_it = other_command _ _ is.1 (λ same. explain_is_not_plan (sym same))
   plan_of (Tree domain problem plan drawing colour) is use_it = other_command _ _ is.1 plan_is_not_tree
 
   -- where the bound isn't read, no plan is asked for
@@ -297,6 +322,7 @@ module _ (f : Found) where
       → Verified r → ⊥
   lacks_a_file (Plan domain problem bounds seconds has_progress) id none which is = other_command _ _ is.1 (λ same. plan_is_not_verify (sym same))
   lacks_a_file (Check domain problem format limit is_strict colour) id none which is = other_command _ _ is.1 (λ same. check_is_not_verify (sym same))
+  lacks_a_file (Explain domain problem plan format has_states colour) id none which is = other_command _ _ is.1 (λ same. explain_is_not_verify (sym same))
   lacks_a_file (Tree domain problem plan drawing colour) id none which is = other_command _ _ is.1 verify_is_not_tree
   lacks_a_file (Verify domain problem plan) id none which is =
       let h = given_rows _ _ (Verify domain problem plan) is refl in
@@ -318,6 +344,7 @@ module _ (f : Found) where
       → IsGiven (rows_of f) (Check domain problem format limit is_strict colour) → Z) → Z
   check_of (Plan domain problem bounds seconds has_progress) is use_it = other_command _ _ is.1 (λ same. check_is_not_plan same)
   check_of (Verify domain problem plan) is use_it = other_command _ _ is.1 (λ same. check_is_not_verify same)
+  check_of (Explain domain problem plan format has_states colour) is use_it = other_command _ _ is.1 (λ same. explain_is_not_check (sym same))
   check_of (Tree domain problem plan drawing colour) is use_it = other_command _ _ is.1 (λ same. check_is_not_tree same)
   check_of (Check domain problem format limit is_strict colour) is use_it =
       use_it domain problem format limit is_strict colour (given_rows _ _ (Check domain problem format limit is_strict colour) is refl)
@@ -340,6 +367,41 @@ module _ (f : Found) where
   pub lacks_colour : (r : Request) → option_and_then colour_named (first_value f (codes "color")) ≡ None → Checked r → ⊥
   lacks_colour r none is = check_of r is (λ domain problem format limit is_strict colour h. no_named f (codes "color") colour_named colour none h.6)
 
+  -- what `explain` was given
+  abbrev pub Explained : Request → Type 0
+  Explained r = IsOf (Some (codes "explain", rows_of f)) r
+
+  -- a request for an explanation, whose rows these are
+  pub explain_of : {Z : Type 0} → (r : Request) → Explained r
+      → ((domain problem plan : Bor Text) (format : Format) (has_states : Bool) (colour : Colour)
+      → IsGiven (rows_of f) (Explain domain problem plan format has_states colour) → Z) → Z
+  explain_of (Plan domain problem bounds seconds has_progress) is use_it = other_command _ _ is.1 explain_is_not_plan
+  explain_of (Verify domain problem plan) is use_it = other_command _ _ is.1 explain_is_not_verify
+  explain_of (Check domain problem format limit is_strict colour) is use_it = other_command _ _ is.1 explain_is_not_check
+  explain_of (Tree domain problem plan drawing colour) is use_it = other_command _ _ is.1 explain_is_not_tree
+  explain_of (Explain domain problem plan format has_states colour) is use_it =
+      use_it domain problem plan format has_states colour (given_rows _ _ (Explain domain problem plan format has_states colour) is refl)
+
+  -- where a file isn't given, no explanation is asked for
+  pub lacks_explained_domain : (r : Request) → None ≡ first_value f (codes "DOMAIN") → Explained r → ⊥
+  lacks_explained_domain r none is = explain_of r is (λ domain problem plan format has_states colour h. no_text f (codes "DOMAIN") domain.now none h.0)
+
+  pub lacks_explained_problem : (r : Request) → None ≡ first_value f (codes "PROBLEM") → Explained r → ⊥
+  lacks_explained_problem r none is = explain_of r is (λ domain problem plan format has_states colour h. no_text f (codes "PROBLEM") problem.now none h.1)
+
+  pub lacks_explained_plan : (r : Request) → None ≡ first_value f (codes "PLAN") → Explained r → ⊥
+  lacks_explained_plan r none is = explain_of r is (λ domain problem plan format has_states colour h. no_text f (codes "PLAN") plan.now none h.2)
+
+  -- where a word that isn't there or names nothing is to name a format, a flag or a time, no explanation is asked for
+  pub lacks_explained_format : (r : Request) → option_and_then format_named (first_value f (codes "format")) ≡ None → Explained r → ⊥
+  lacks_explained_format r none is = explain_of r is (λ domain problem plan format has_states colour h. no_named f (codes "format") format_named format none h.3)
+
+  pub lacks_states : (r : Request) → option_and_then flag_named (first_value f (codes "states")) ≡ None → Explained r → ⊥
+  lacks_states r none is = explain_of r is (λ domain problem plan format has_states colour h. no_named f (codes "states") flag_named has_states none h.4)
+
+  pub lacks_explained_colour : (r : Request) → option_and_then colour_named (first_value f (codes "color")) ≡ None → Explained r → ⊥
+  lacks_explained_colour r none is = explain_of r is (λ domain problem plan format has_states colour h. no_named f (codes "color") colour_named colour none h.5)
+
   -- what `tree` was given
   abbrev pub Drawn : Request → Type 0
   Drawn r = IsOf (Some (codes "tree", rows_of f)) r
@@ -350,6 +412,7 @@ module _ (f : Found) where
   tree_of (Plan domain problem bounds seconds has_progress) is use_it = other_command _ _ is.1 (λ same. plan_is_not_tree (sym same))
   tree_of (Verify domain problem plan) is use_it = other_command _ _ is.1 (λ same. verify_is_not_tree (sym same))
   tree_of (Check domain problem format limit is_strict colour) is use_it = other_command _ _ is.1 (λ same. check_is_not_tree (sym same))
+  tree_of (Explain domain problem plan format has_states colour) is use_it = other_command _ _ is.1 (λ same. explain_is_not_tree (sym same))
   tree_of (Tree domain problem plan drawing colour) is use_it =
       use_it domain problem plan drawing colour (given_rows _ _ (Tree domain problem plan drawing colour) is refl)
 

@@ -4,8 +4,8 @@ use Rattle.std.specs.Prelude.{option_map, unwrap_or}
 use Rattle.clap.specs.Walk.{Row, Text}
 use Rattle.htn_command.specs.Request.{AreAlike, IsGiven, RequestsAreUnique, command_of}
 use Rattle.htn_command.specs.declared.request.Request.{Request}
-use Rattle.htn_command.specs.declared.request.Request.TheVariants.{Plan, Verify, Check, Tree}
-use Rattle.htn_command.proofs.Matches.{check_is_not_plan, check_is_not_tree, check_is_not_verify, given_rows, one_if_any, one_number, plan_is_not_tree, plan_is_not_verify, verify_is_not_tree}
+use Rattle.htn_command.specs.declared.request.Request.TheVariants.{Plan, Verify, Check, Explain, Tree}
+use Rattle.htn_command.proofs.Matches.{check_is_not_plan, check_is_not_tree, check_is_not_verify, explain_is_not_check, explain_is_not_plan, explain_is_not_tree, explain_is_not_verify, given_rows, one_if_any, one_number, plan_is_not_tree, plan_is_not_verify, verify_is_not_tree}
 
 -- an option holds one value
 one_value : (text : Option Text) (a b : Text) → text ≡ Some a → text ≡ Some b → a ≡ b
@@ -49,6 +49,16 @@ rows_give_one rows (Verify domain problem plan) (Plan other second limits time i
 rows_give_one rows (Verify domain problem plan) (Check other second form most strict when) same h k = check_is_not_verify (sym same)
 rows_give_one rows (Check domain problem format limit is_strict colour) (Plan other second limits time is_shown) same h k = check_is_not_plan same
 rows_give_one rows (Check domain problem format limit is_strict colour) (Verify other second third) same h k = check_is_not_verify same
+rows_give_one rows (Explain domain problem plan format has_states colour) (Explain other second third form are_shown when) same h k =
+    (one_value _ _ _ h.0 k.0, one_value _ _ _ h.1 k.1, one_value _ _ _ h.2 k.2, one_named _ _ _ h.3 k.3, one_named _ _ _ h.4 k.4, one_named _ _ _ h.5 k.5)
+rows_give_one rows (Explain domain problem plan format has_states colour) (Plan other second limits time is_shown) same h k = explain_is_not_plan same
+rows_give_one rows (Plan domain problem bounds seconds has_progress) (Explain other second third form are_shown when) same h k = explain_is_not_plan (sym same)
+rows_give_one rows (Explain domain problem plan format has_states colour) (Verify other second third) same h k = explain_is_not_verify same
+rows_give_one rows (Verify domain problem plan) (Explain other second third form are_shown when) same h k = explain_is_not_verify (sym same)
+rows_give_one rows (Explain domain problem plan format has_states colour) (Check other second form most strict when) same h k = explain_is_not_check same
+rows_give_one rows (Check domain problem format limit is_strict colour) (Explain other second third form are_shown when) same h k = explain_is_not_check (sym same)
+rows_give_one rows (Explain domain problem plan format has_states colour) (Tree other second third drawn when) same h k = explain_is_not_tree same
+rows_give_one rows (Tree domain problem plan drawing colour) (Explain other second third form are_shown when) same h k = explain_is_not_tree (sym same)
 
 -- words ask for one request at most
 pub requests_are_unique : RequestsAreUnique

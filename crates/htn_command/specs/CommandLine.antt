@@ -75,6 +75,17 @@ check =
     (flag (codes "strict")))
     (choice (codes "color") (codes "auto"))
 
+-- `explain DOMAIN PROBLEM PLAN [--format FORMAT] [--states] [--color WHEN]`
+abbrev pub explain : App
+explain =
+    with_rule
+    (with_rule
+    (with_rule
+    (with_rule (with_rule (with_rule (new_app (codes "explain")) (file (codes "DOMAIN"))) (file (codes "PROBLEM"))) (file (codes "PLAN")))
+    (choice (codes "format") (codes "text")))
+    (flag (codes "states")))
+    (choice (codes "color") (codes "auto"))
+
 -- `tree DOMAIN PROBLEM PLAN [--format FORMAT] [--color WHEN]`
 abbrev pub tree : App
 tree =
@@ -90,11 +101,13 @@ htnplan =
     with_subcommand
     (with_subcommand
     (with_subcommand
+    (with_subcommand
     (with_subcommand (on_top
     (λ s. record s { has_version = true; subcommand_required = true; arg_required_else_help = true })
     (new_app (codes "htnplan"))) plan.top)
     verify.top)
     check.top)
+    explain.top)
     tree.top
 
 -- the command that the words name, with what they give each of its names
@@ -154,6 +167,13 @@ check_fault rows =
 abbrev pub are_two : Bool → Bool → Bool → Bool
 are_two a b c = (a && b) || ((a || b) && c)
 
+-- what `explain` refuses of the words that `clap` takes: a word that names no format, one that names no time for
+-- colours, and the standard input twice
+abbrev pub explain_fault : List Row → Kinds
+explain_fault rows =
+    refused_kinds (is_unknown format_named (first_of (codes "format") rows)) (is_unknown colour_named (first_of (codes "color") rows))
+    (are_two (is_input (first_of (codes "DOMAIN") rows)) (is_input (first_of (codes "PROBLEM") rows)) (is_input (first_of (codes "PLAN") rows)))
+
 -- what `tree` refuses of the words that `clap` takes: a word that names no drawing, one that names no time for colours,
 -- and the standard input twice
 abbrev pub tree_fault : List Row → Kinds
@@ -165,7 +185,9 @@ tree_fault rows =
 abbrev pub own_fault : Option (Text × List Row) → Kinds
 own_fault None = []
 own_fault (Some found) =
-    if bytes_eq found.0 (codes "check") then check_fault found.1 else (if bytes_eq found.0 (codes "tree") then tree_fault found.1 else [])
+    if bytes_eq found.0 (codes "check") then check_fault found.1
+    else (if bytes_eq found.0 (codes "explain") then explain_fault found.1
+    else (if bytes_eq found.0 (codes "tree") then tree_fault found.1 else []))
 
 -- the faults of the words
 unfoldable pub faults : List Text → Kinds

@@ -33,6 +33,14 @@ abbrev pub checking_strictly : List Text
 checking_strictly =
     codes "htnplan" ∷ codes "check" ∷ codes "-" ∷ codes "--strict" ∷ codes "--format=json" ∷ codes "p" ∷ codes "--limit" ∷ codes "0" ∷ codes "--color" ∷ codes "never" ∷ []
 
+-- a line that explains, with defaults
+abbrev pub explaining : List Text
+explaining = codes "htnplan" ∷ codes "explain" ∷ codes "d" ∷ codes "p" ∷ codes "f" ∷ []
+
+-- a line that explains the plan of the standard input, with all options
+abbrev pub explaining_states : List Text
+explaining_states = codes "htnplan" ∷ codes "explain" ∷ codes "d" ∷ codes "p" ∷ codes "--states" ∷ codes "-" ∷ codes "--format=json" ∷ codes "--color" ∷ codes "never" ∷ []
+
 -- a line that draws, with defaults
 abbrev pub drawing : List Text
 drawing = codes "htnplan" ∷ codes "tree" ∷ codes "d" ∷ codes "p" ∷ codes "f" ∷ []
@@ -47,6 +55,16 @@ pub record DrawsAsGiven (words : List Text) (d p f form when : Option Text) : Ty
   pub problem : given words (codes "PROBLEM") ≡ p
   pub plan : given words (codes "PLAN") ≡ f
   pub format : given words (codes "format") ≡ form
+  pub colour : given words (codes "color") ≡ when
+  pub sound : faults words ≡ []
+
+-- what it gives the names of `explain`
+pub record ExplainsAsGiven (words : List Text) (d p f form shown when : Option Text) : Type 0 where
+  pub domain : given words (codes "DOMAIN") ≡ d
+  pub problem : given words (codes "PROBLEM") ≡ p
+  pub plan : given words (codes "PLAN") ≡ f
+  pub format : given words (codes "format") ≡ form
+  pub states : given words (codes "states") ≡ shown
   pub colour : given words (codes "color") ≡ when
   pub sound : faults words ≡ []
 
@@ -88,6 +106,11 @@ pub record ExamplesHold : Type 0 where
   pub two_inputs : faults (codes "htnplan" ∷ codes "check" ∷ codes "-" ∷ codes "-" ∷ []) ≡ ArgumentConflict ∷ []
   pub no_domain : faults (codes "htnplan" ∷ codes "check" ∷ []) ≡ MissingRequiredArgument ∷ []
   pub foreign_option : faults (codes "htnplan" ∷ codes "check" ∷ codes "d" ∷ codes "--nodes" ∷ codes "5" ∷ []) ≡ UnknownArgument ∷ []
+  pub explained_by_default : ExplainsAsGiven explaining (Some (codes "d")) (Some (codes "p")) (Some (codes "f")) (Some (codes "text")) (Some (codes "false")) (Some (codes "auto"))
+  pub explained_by_options : ExplainsAsGiven explaining_states (Some (codes "d")) (Some (codes "p")) (Some (codes "-")) (Some (codes "json")) (Some (codes "true")) (Some (codes "never"))
+  pub explained_as : faults (codes "htnplan" ∷ codes "explain" ∷ codes "d" ∷ codes "p" ∷ codes "f" ∷ codes "--format" ∷ codes "svg" ∷ []) ≡ InvalidValue ∷ []
+  pub explained_once : faults (codes "htnplan" ∷ codes "explain" ∷ codes "-" ∷ codes "p" ∷ codes "-" ∷ []) ≡ ArgumentConflict ∷ []
+  pub unexplained : faults (codes "htnplan" ∷ codes "explain" ∷ codes "d" ∷ codes "p" ∷ []) ≡ MissingRequiredArgument ∷ []
   pub drawn_by_default : DrawsAsGiven drawing (Some (codes "d")) (Some (codes "p")) (Some (codes "f")) (Some (codes "text")) (Some (codes "auto"))
   pub drawn_by_options : DrawsAsGiven drawing_dots (Some (codes "d")) (Some (codes "p")) (Some (codes "-")) (Some (codes "dot")) (Some (codes "always"))
   pub no_drawing : faults (codes "htnplan" ∷ codes "tree" ∷ codes "d" ∷ codes "p" ∷ codes "f" ∷ codes "--format" ∷ codes "short" ∷ []) ≡ InvalidValue ∷ []

@@ -4,13 +4,14 @@ use Rattle.clap.specs.Walk.{Row, Text, first_of, one_of}
 use Rattle.word_machine.specs.Bounds.{AreInRange}
 use Rattle.htn_command.specs.CommandLine.{IsNumber, IsNumberIfAny, colour_named, drawing_named, faults, flag_named, format_named, read_by}
 use Rattle.htn_command.specs.declared.request.Request.{Request}
-use Rattle.htn_command.specs.declared.request.Request.TheVariants.{Plan, Verify, Check, Tree}
+use Rattle.htn_command.specs.declared.request.Request.TheVariants.{Plan, Verify, Check, Explain, Tree}
 
 -- the command of a request
 abbrev pub command_of : Request → Text
 command_of (Plan domain problem bounds seconds has_progress) = codes "plan"
 command_of (Verify domain problem plan) = codes "verify"
 command_of (Check domain problem format limit is_strict colour) = codes "check"
+command_of (Explain domain problem plan format has_states colour) = codes "explain"
 command_of (Tree domain problem plan drawing colour) = codes "tree"
 
 -- what stands under the names of the command
@@ -35,6 +36,13 @@ IsGiven rows (Check domain problem format limit is_strict colour) =
     × IsNumber (one_of (codes "limit") rows) limit
     × (limit < 2 ^ 64)
     × (option_and_then flag_named (first_of (codes "strict") rows) ≡ Some is_strict)
+    × (option_and_then colour_named (first_of (codes "color") rows) ≡ Some colour)
+IsGiven rows (Explain domain problem plan format has_states colour) =
+    (first_of (codes "DOMAIN") rows ≡ Some domain.now)
+    × (first_of (codes "PROBLEM") rows ≡ Some problem.now)
+    × (first_of (codes "PLAN") rows ≡ Some plan.now)
+    × (option_and_then format_named (first_of (codes "format") rows) ≡ Some format)
+    × (option_and_then flag_named (first_of (codes "states") rows) ≡ Some has_states)
     × (option_and_then colour_named (first_of (codes "color") rows) ≡ Some colour)
 IsGiven rows (Tree domain problem plan drawing colour) =
     (first_of (codes "DOMAIN") rows ≡ Some domain.now)
@@ -70,6 +78,9 @@ AreAlike (Verify domain problem plan) (Verify other second third) = (domain.now 
 AreAlike (Check domain problem format limit is_strict colour) (Check other second form most strict when) =
     (domain.now ≡ other.now) × (option_map (λ name. name.now) problem ≡ option_map (λ name. name.now) second)
     × (format ≡ form) × (limit ≡ most) × (is_strict ≡ strict) × (colour ≡ when)
+AreAlike (Explain domain problem plan format has_states colour) (Explain other second third form are_shown when) =
+    (domain.now ≡ other.now) × (problem.now ≡ second.now) × (plan.now ≡ third.now)
+    × (format ≡ form) × (has_states ≡ are_shown) × (colour ≡ when)
 AreAlike (Tree domain problem plan drawing colour) (Tree other second third drawn when) =
     (domain.now ≡ other.now) × (problem.now ≡ second.now) × (plan.now ≡ third.now) × (drawing ≡ drawn) × (colour ≡ when)
 AreAlike _ _ = ⊥

@@ -21,7 +21,7 @@ pub(crate) enum Misuse {
     Inputs,
     /// A word of `--format` that names no drawing.
     Drawing,
-    /// The standard input, for two files of a tree.
+    /// The standard input, for two of three files.
     InputTwice,
 }
 
@@ -40,6 +40,17 @@ impl Misuse {
     fn of_other(matches: &ArgMatches<'_>) -> Option<Misuse>
         ensures { subcommand_name_of matches.now ≢ Some (codes "check") → spec.kinds_of result ≡ line.own_fault (subcommand_rows_of matches.now) }
     {
+        match matches.subcommand_matches("explain") {
+            Some(explain) => Misuse::of_explain(explain),
+            None => Misuse::of_pictures(matches),
+        }
+    }
+
+    // The same of a command that is neither `check` nor `explain`.
+    fn of_pictures(matches: &ArgMatches<'_>) -> Option<Misuse>
+        ensures { subcommand_name_of matches.now ≢ Some (codes "check") → subcommand_name_of matches.now ≢ Some (codes "explain")
+            → spec.kinds_of result ≡ line.own_fault (subcommand_rows_of matches.now) }
+    {
         match matches.subcommand_matches("tree") {
             Some(tree) => Misuse::of_tree(tree),
             None => None,
@@ -56,6 +67,23 @@ impl Misuse {
         Misuse::first(no_format, no_colour, two_inputs)
     }
 
+    // The first of them that the words of `explain` have.
+    fn of_explain(explain: &ArgMatches<'_>) -> Option<Misuse>
+        ensures { spec.kinds_of result ≡ line.explain_fault (rows_of (found_of explain.now)) }
+    {
+        let no_format = is_no_format(explain.get_str("format"));
+        let no_colour = is_no_colour(explain.get_str("color"));
+        let domain = is_input(explain.get_str("DOMAIN"));
+        let problem = is_input(explain.get_str("PROBLEM"));
+        let plan = is_input(explain.get_str("PLAN"));
+        Misuse::first_of_three(
+            no_format,
+            Misuse::Format,
+            no_colour,
+            are_two(domain, problem, plan),
+        )
+    }
+
     // The first of them that the words of `tree` have.
     fn of_tree(tree: &ArgMatches<'_>) -> Option<Misuse>
         ensures { spec.kinds_of result ≡ line.tree_fault (rows_of (found_of tree.now)) }
@@ -65,15 +93,26 @@ impl Misuse {
         let domain = is_input(tree.get_str("DOMAIN"));
         let problem = is_input(tree.get_str("PROBLEM"));
         let plan = is_input(tree.get_str("PLAN"));
-        Misuse::first_of_tree(no_drawing, no_colour, are_two(domain, problem, plan))
+        Misuse::first_of_three(
+            no_drawing,
+            Misuse::Drawing,
+            no_colour,
+            are_two(domain, problem, plan),
+        )
     }
 
-    // The first of those of `tree` that is so.
-    fn first_of_tree(no_drawing: bool, no_colour: bool, input_twice: bool) -> Option<Misuse>
-        ensures { spec.kinds_of result ≡ line.refused_kinds no_drawing no_colour input_twice }
+    // The first that is so of a command with three files, of which `unknown` is a word of `--format`.
+    fn first_of_three(
+        is_unknown: bool,
+        unknown: Misuse,
+        no_colour: bool,
+        input_twice: bool,
+    ) -> Option<Misuse>
+        requires { spec.kind_of_misuse unknown ≡ ErrorKind.InvalidValue }
+        ensures { spec.kinds_of result ≡ line.refused_kinds is_unknown no_colour input_twice }
     {
-        if no_drawing {
-            return Some(Misuse::Drawing);
+        if is_unknown {
+            return Some(unknown);
         }
         if no_colour {
             return Some(Misuse::Colour);

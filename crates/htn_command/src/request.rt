@@ -46,6 +46,17 @@ pub enum Request<'a> {
         is_strict: bool,
         colour: Colour,
     },
+    /// Why the plan in the last of these files is valid or not, for the domain and the problem in the others. A file's
+    /// name `-` is the standard input.
+    Explain {
+        domain: &'a str,
+        problem: &'a str,
+        plan: &'a str,
+        format: Format,
+        /// Whether what each action changes is shown.
+        has_states: bool,
+        colour: Colour,
+    },
     /// The picture of the plan in the last of these files, for the domain and the problem in the others. A file's name
     /// `-` is the standard input.
     Tree {
@@ -66,6 +77,7 @@ const CALLS: &str = "Examples:
   htnplan plan domain.hddl problem.hddl --nodes 200 > plan.txt
   htnplan verify domain.hddl problem.hddl plan.txt
   htnplan tree domain.hddl problem.hddl plan.txt
+  htnplan explain domain.hddl problem.hddl plan.txt
 
 Status: 0 yes (a plan, valid, no error), 1 no (none, unsolvable, invalid), 2 command line, 3 a text is refused,
 4 memory or threads, 5 files or output, 6 `plan --seconds` stopped the search.";
@@ -102,6 +114,15 @@ const CHECK_CALL: &str = "Examples:
 `short` prints FILE:LINE:COLUMN: error: MESSAGE [Code], which editors read. What each code means: docs/FAULTS.md.
 
 Status: 0 no error, 1 a warning with --strict, 2 command line, 3 a text is refused, 4 memory, 5 files or output.";
+
+const EXPLAIN_CALL: &str = "Examples:
+  htnplan explain domain.hddl problem.hddl plan.txt
+  htnplan explain domain.hddl problem.hddl plan.txt --states
+
+The first line has the verdict of `verify`. What follows says why, with lines of the plan and of the texts. `--states`
+shows what is true at the start, and what each action makes true and false.
+
+Status: 0 valid, 1 invalid, 2 command line, 3 a text is refused, 4 memory, 5 files or output.";
 
 const TREE_CALL: &str = "Examples:
   htnplan tree domain.hddl problem.hddl plan.txt
@@ -155,6 +176,7 @@ pub(crate) fn command<'a>(alloc: Global) -> Result<Command<'a>, AllocError>
     let plan = plan(alloc)?;
     let verify = verify(alloc)?;
     let check = check(alloc)?;
+    let explain = explain(alloc)?;
     let tree = tree(alloc)?;
     let program = Command::new(alloc, "htnplan")
         .version(VERSION)
@@ -168,6 +190,7 @@ pub(crate) fn command<'a>(alloc: Global) -> Result<Command<'a>, AllocError>
         .subcommand(plan)?
         .subcommand(verify)?
         .subcommand(check)?
+        .subcommand(explain)?
         .subcommand(tree)
 }
 
@@ -236,6 +259,28 @@ fn check<'a>(alloc: Global) -> Result<Command<'a>, AllocError>
         .arg(format.help("How it is printed: text, short, json"))?
         .arg(limit.help("Diagnostics that text shows; 0 is all"))?
         .arg(strict.help("A warning is status 1"))?
+        .arg(color.help("Colours: auto, always, never"))
+}
+
+// The command `explain`.
+fn explain<'a>(alloc: Global) -> Result<Command<'a>, AllocError>
+    ensures { IfOk result (λ c. (app_of c ≡ line.explain) × ((fields_of c).has_globals ≡ false)) }
+{
+    let format = choice(alloc, "format", "FORMAT", "text");
+    let states = flag(alloc, "states");
+    let color = choice(alloc, "color", "WHEN", "auto");
+    Command::new(alloc, "explain")
+        .about("Says why a plan is invalid")
+        .after_help(EXPLAIN_CALL)
+        .arg(file(
+            alloc,
+            "DOMAIN",
+            "The file of the domain, in HDDL; - is standard input",
+        ))?
+        .arg(file(alloc, "PROBLEM", "The file of the problem, in HDDL"))?
+        .arg(file(alloc, "PLAN", "The file of the plan, as `plan` prints it"))?
+        .arg(format.help("How it is printed: text, short, json"))?
+        .arg(states.help("What each action makes true and false"))?
         .arg(color.help("Colours: auto, always, never"))
 }
 
@@ -343,6 +388,9 @@ fn read_words<'a>(matches: &ArgMatches<'a>) -> Option<Request<'a>>
     if let Some(check) = matches.subcommand_matches("check") {
         return read_check_words(check);
     }
+    if let Some(explain) = matches.subcommand_matches("explain") {
+        return read_explain_words(explain);
+    }
     read_tree_words(matches.subcommand_matches("tree")?)
 }
 
@@ -400,6 +448,27 @@ fn read_check_words<'a>(check: &ArgMatches<'a>) -> Option<Request<'a>>
         format,
         limit,
         is_strict,
+        colour,
+    })
+}
+
+// The request of what `explain` was given.
+fn read_explain_words<'a>(explain: &ArgMatches<'a>) -> Option<Request<'a>>
+    ensures some { IfSome result (IsOf (Some (codes "explain", rows_of (found_of explain.now)))) }
+    ensures none { IsNone result → IsOfNothing (Some (codes "explain", rows_of (found_of explain.now))) }
+{
+    let domain = explain.get_str("DOMAIN")?;
+    let problem = explain.get_str("PROBLEM")?;
+    let plan = explain.get_str("PLAN")?;
+    let format = format_named(explain.get_str("format")?)?;
+    let has_states = flag_named(explain.get_str("states")?)?;
+    let colour = colour_named(explain.get_str("color")?)?;
+    Some(Request::Explain {
+        domain,
+        problem,
+        plan,
+        format,
+        has_states,
         colour,
     })
 }

@@ -9,7 +9,7 @@ use Rattle.htn_run.specs.Requests.{AddsBeside}
 use Rattle.htn_run.specs.Stops.{status_of}
 use Rattle.htn_run.specs.declared.outcome.RunFault.TheVariants as fault
 use Rattle.htn_run.specs.declared.reply.Reply.{Reply}
-use Rattle.htn_run.specs.declared.reply.Reply.TheVariants.{Planned, Verified, Checked, Drawn}
+use Rattle.htn_run.specs.declared.reply.Reply.TheVariants.{Planned, Verified, Checked, Explained, Drawn}
 use Rattle.htn_run.specs.declared.stop.Stop.{Stop}
 use Rattle.htn_run.specs.declared.stop.Stop.TheVariants.{Unreadable, Run}
 use Rattle.htn_run.specs.declared.tree.Drawn.TheVariants.{Judged, Refused}
@@ -34,6 +34,7 @@ module _ {Z E : Type 0} (contents : E → Option (List ℕ)) (has_failed : E →
     beside_after (Planned ended) h = same_after h
     beside_after (Verified ended) h = same_after h
     beside_after (Checked ended) h = same_after h
+    beside_after (Explained came) h = same_after h
     beside_after (Drawn (Judged verdict.Structure)) h = line_after _ h
     beside_after (Drawn (Judged (verdict.NoInstance line))) h = same_after h
     beside_after (Drawn (Judged (verdict.NotExecutable id))) h = same_after h

@@ -5,7 +5,7 @@ mod Exists
 mod Stopping
 mod FileReads
 mod Reporting
-mod Telling
+mod ErrorLines
 mod Decided
 mod DecidedLines
 mod DecidedRoom
@@ -20,4 +20,6 @@ mod Sighting
 mod ShownWords
 mod After
 mod Watching
+mod Quiet
+mod ExplainedTexts
 pub mod Unasked

@@ -1,5 +1,5 @@
 -- The run of a check as that of its request.
-use Rattle.std.proofs.Common.{◌≡◌, ◌≢◌, ◌≤◌, ℕ, Bool, true, List, Option, Some, None, arith, refl, subst}
+use Rattle.std.proofs.Common.{◌≡◌, ◌≢◌, ◌≤◌, ℕ, Bool, true, List, Option, Some, None, arith, inl, inr, refl, subst}
 use Rattle.std.specs.Borrow.{Bor}
 use Rattle.diagnostics.specs.declared.format.Format.{Format}
 use Rattle.check_report.specs.Checks.{bytes_of}
@@ -27,8 +27,9 @@ use Rattle.htn_run.specs.declared.outcome.Watched.TheVariants as watched
 use Rattle.htn_run.specs.declared.outcome.RunFault.{RunFault}
 use Rattle.htn_run.specs.declared.outcome.RunFault.TheVariants as fault
 use Rattle.htn_run.specs.declared.reply.Reply.{Reply}
+use Rattle.htn_run.specs.declared.explain.Explained.TheVariants as explained
 use Rattle.htn_run.specs.declared.tree.Drawn.TheVariants.{Judged, Refused}
-use Rattle.htn_run.specs.declared.reply.Reply.TheVariants.{Planned, Verified, Checked, Drawn}
+use Rattle.htn_run.specs.declared.reply.Reply.TheVariants.{Planned, Verified, Checked, Explained, Drawn}
 use Rattle.htn_run.specs.declared.stop.Stop.{Stop}
 use Rattle.htn_run.specs.declared.stop.Stop.TheVariants.{Unreadable, Run}
 use Rattle.htn_run.proofs.Stopping.{given}
@@ -84,6 +85,7 @@ module _ (files : List ℕ → File) (domain : Bor (List ℕ)) (problem : Option
       → AddsReport files old new domain.now (name_of problem) o reply → AddsAnswer files old new reply asked
   report_answers old new o (Planned ended) options h = absurd h
   report_answers old new o (Verified ended) options h = absurd h
+  report_answers old new o (Explained came) options h = absurd h
   report_answers old new o (Drawn came) options h = absurd h
   report_answers old new o (Checked finding) options h =
       (h.0, of_texts_more files domain.now (name_of problem) _ _ (λ d p reports. (o, options, reports)) h.1, h.2)
@@ -138,6 +140,15 @@ picture_ends verdict.GoalFails is = omega arith
 picture_ends verdict.NoArrangement is = omega arith
 picture_ends verdict.Valid is = omega arith
 
+-- and so does an explanation
+explanation_ends : (ended : Verdict) → status_of (Explained (explained.Judged ended)) ≡ 3 → ⊥
+explanation_ends verdict.Structure is = omega arith
+explanation_ends (verdict.NoInstance line) is = omega arith
+explanation_ends (verdict.NotExecutable id) is = omega arith
+explanation_ends verdict.GoalFails is = omega arith
+explanation_ends verdict.NoArrangement is = omega arith
+explanation_ends verdict.Valid is = omega arith
+
 -- a fault of the pair is one of texts
 of_pair_is_of_texts : (f : RunFault) → is_of_pair f ≡ true → IsOfTexts f
 of_pair_is_of_texts (fault.Domain f) is = tt
@@ -153,20 +164,34 @@ pub faulty_answer : (files : List ℕ → File) (r : Request) (reply : Reply) (t
 faulty_answer files (request.Plan domain problem bounds seconds has_progress) (Planned ended) text h is = absurd (plan_ends ended is)
 faulty_answer files (request.Plan domain problem bounds seconds has_progress) (Verified ended) text h is = absurd h
 faulty_answer files (request.Plan domain problem bounds seconds has_progress) (Checked ended) text h is = absurd h
+faulty_answer files (request.Plan domain problem bounds seconds has_progress) (Explained came) text h is = absurd h
 faulty_answer files (request.Plan domain problem bounds seconds has_progress) (Drawn came) text h is = absurd h
 faulty_answer files (request.Verify domain problem plan) (Planned ended) text h is = absurd h
 faulty_answer files (request.Verify domain problem plan) (Verified ended) text h is = absurd (verdict_ends ended is)
 faulty_answer files (request.Verify domain problem plan) (Checked ended) text h is = absurd h
+faulty_answer files (request.Verify domain problem plan) (Explained came) text h is = absurd h
 faulty_answer files (request.Verify domain problem plan) (Drawn came) text h is = absurd h
+faulty_answer files (request.Explain domain problem plan format has_states colour) (Planned ended) text h is = absurd h
+faulty_answer files (request.Explain domain problem plan format has_states colour) (Verified ended) text h is = absurd h
+faulty_answer files (request.Explain domain problem plan format has_states colour) (Checked ended) text h is = absurd h
+faulty_answer files (request.Explain domain problem plan format has_states colour) (Drawn came) text h is = absurd h
+faulty_answer files (request.Explain domain problem plan format has_states colour) (Explained (explained.Judged ended)) text h is = absurd (explanation_ends ended is)
+faulty_answer files (request.Explain domain problem plan format has_states colour) (Explained explained.Refused) text h is =
+    elim h.4.2.2 [
+      | inl refusal ↦ (refusal.cause, of_pair_is_of_texts refusal.cause refusal.of_pair, (h.0, h.1, h.2, h.3, (h.4.0, h.4.1, refusal.refuses)))
+      | inr refusal ↦ (fault.Plan refusal.cause, tt, (h.0, h.1, h.2, h.3, (h.4.0, h.4.1, refusal.refuses)))
+    ]
 faulty_answer files (request.Tree domain problem plan drawing colour) (Planned ended) text h is = absurd h
 faulty_answer files (request.Tree domain problem plan drawing colour) (Verified ended) text h is = absurd h
 faulty_answer files (request.Tree domain problem plan drawing colour) (Checked ended) text h is = absurd h
+faulty_answer files (request.Tree domain problem plan drawing colour) (Explained came) text h is = absurd h
 faulty_answer files (request.Tree domain problem plan drawing colour) (Drawn (Judged ended)) text h is = absurd (picture_ends ended is)
 faulty_answer files (request.Tree domain problem plan drawing colour) (Drawn (Refused report)) text h is =
     let refusal = h.4.2.2.0 in
     (refusal.cause, of_pair_is_of_texts refusal.cause refusal.of_pair, (h.0, h.1, h.2, h.3, (h.4.0, h.4.1, refusal.refuses)))
 faulty_answer files (request.Check domain problem format limit is_strict colour) (Planned ended) text h is = absurd h
 faulty_answer files (request.Check domain problem format limit is_strict colour) (Verified ended) text h is = absurd h
+faulty_answer files (request.Check domain problem format limit is_strict colour) (Explained came) text h is = absurd h
 faulty_answer files (request.Check domain problem format limit is_strict colour) (Drawn came) text h is = absurd h
 faulty_answer files (request.Check domain problem format limit is_strict colour) (Checked Sound) text h is = absurd (omega arith)
 faulty_answer files (request.Check domain problem format limit is_strict colour) (Checked Warned) text h is = absurd (omega arith)
@@ -195,6 +220,13 @@ answer_ends (Verified verdict.Valid) = (λ is. omega arith, λ is. omega arith, 
 answer_ends (Checked Sound) = (λ is. omega arith, λ is. omega arith, λ is. omega arith, omega arith)
 answer_ends (Checked Warned) = (λ is. omega arith, λ is. omega arith, λ is. omega arith, omega arith)
 answer_ends (Checked Faulty) = (λ is. omega arith, λ is. omega arith, λ is. omega arith, omega arith)
+answer_ends (Explained (explained.Judged verdict.Structure)) = (λ is. omega arith, λ is. omega arith, λ is. omega arith, omega arith)
+answer_ends (Explained (explained.Judged (verdict.NoInstance line))) = (λ is. omega arith, λ is. omega arith, λ is. omega arith, omega arith)
+answer_ends (Explained (explained.Judged (verdict.NotExecutable id))) = (λ is. omega arith, λ is. omega arith, λ is. omega arith, omega arith)
+answer_ends (Explained (explained.Judged verdict.GoalFails)) = (λ is. omega arith, λ is. omega arith, λ is. omega arith, omega arith)
+answer_ends (Explained (explained.Judged verdict.NoArrangement)) = (λ is. omega arith, λ is. omega arith, λ is. omega arith, omega arith)
+answer_ends (Explained (explained.Judged verdict.Valid)) = (λ is. omega arith, λ is. omega arith, λ is. omega arith, omega arith)
+answer_ends (Explained explained.Refused) = (λ is. omega arith, λ is. omega arith, λ is. omega arith, omega arith)
 answer_ends (Drawn (Judged verdict.Structure)) = (λ is. omega arith, λ is. omega arith, λ is. omega arith, omega arith)
 answer_ends (Drawn (Judged (verdict.NoInstance line))) = (λ is. omega arith, λ is. omega arith, λ is. omega arith, omega arith)
 answer_ends (Drawn (Judged (verdict.NotExecutable id))) = (λ is. omega arith, λ is. omega arith, λ is. omega arith, omega arith)
@@ -208,6 +240,7 @@ pub sound_is_quiet : (reply : Reply) (Gets : List ℕ → Type 0) (Same : Type 0
 sound_is_quiet (Planned ended) Gets Same is h = h
 sound_is_quiet (Verified ended) Gets Same is h = h
 sound_is_quiet (Checked ended) Gets Same is h = h
+sound_is_quiet (Explained came) Gets Same is h = h
 sound_is_quiet (Drawn (Judged verdict.Structure)) Gets Same is h = absurd (omega arith)
 sound_is_quiet (Drawn (Judged (verdict.NoInstance line))) Gets Same is h = h
 sound_is_quiet (Drawn (Judged (verdict.NotExecutable id))) Gets Same is h = h

@@ -18,7 +18,7 @@ use Rattle.htn_command.specs.declared.choice.Drawing.{Drawing}
 use Rattle.htn_run.specs.Headline.{IsTaskOfTexts}
 use Rattle.htn_run.specs.Judgement.{RefusesPlan}
 use Rattle.htn_run.specs.Sights.{IsLeft, IsPairOf, IsReported, IsSight, IsSightOfTexts, bytes_of}
-use Rattle.htn_run.specs.Trees.{ArePicture, Draws, IsDrawn, IsUndrawn, Shows, is_of_pair}
+use Rattle.htn_run.specs.Trees.{ArePicture, Draws, IsDrawn, IsRefusal, IsUndrawn, Shows, is_of_pair}
 use Rattle.htn_run.specs.declared.outcome.RunFault.{RunFault}
 use Rattle.htn_run.specs.declared.outcome.RunFault.TheVariants as fault
 use Rattle.htn_run.specs.declared.sight.Sight.{Sight}

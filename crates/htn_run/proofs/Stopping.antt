@@ -5,9 +5,12 @@ use Rattle.htn_command.specs.declared.request.Request.TheVariants as request
 use Rattle.std.specs.Borrow.{Bor}
 use Rattle.htn_command.specs.declared.choice.Colour.{Colour}
 use Rattle.htn_command.specs.declared.choice.Drawing.{Drawing}
-use Rattle.htn_run.specs.Checking.{file_of}
+use Rattle.htn_run.specs.Checking.{MayColour, domain_text, file_of, problem_text}
 use Rattle.htn_run.specs.Files.{File, MayFail, MayGive}
+use Rattle.diagnostics.specs.declared.format.Format.{Format}
+use Rattle.htn_run.specs.Explaining.{IsExplanationCutShort, plan_text}
 use Rattle.htn_run.specs.Trees.{IsPictureCutShort, IsUndrawn}
+use Rattle.plan_report.specs.declared.report.ReportStyle.{ReportStyle}
 use Rattle.htn_run.specs.Requests.{HasFault, IsCutShort, LacksFile, LacksFileOf, LacksText, Refuses, TellsFault}
 use Rattle.htn_run.specs.Stops.{IsUnread, Stops, StopsByFault, status_of}
 use Rattle.htn_run.specs.declared.outcome.RunFault.{RunFault}
@@ -76,6 +79,45 @@ stops_without_plan contents has_failed files domain problem plan form colour old
 stops_without_plan contents has_failed files domain problem plan form colour old d p a b file is (Run f) h =
     subst (λ x. Stops contents has_failed files (request.Tree domain problem plan form colour) old old (Run x)) (sym h) refl
 
+-- an explanation that wants memory, or is cut short
+pub stops_unexplained : {O : Type 0} (contents : O → Option (List ℕ)) (has_failed : O → Bool) (files : List ℕ → File) (domain problem plan : Bor (List ℕ))
+    (style : ReportStyle) (colour : Colour) (old new : O) (d p l : List ℕ) → MayGive (files (file_of domain.now)) d → MayGive (files (file_of problem.now)) p
+    → MayGive (files (file_of plan.now)) l → MayColour colour style.colour → (f : RunFault) → (f ≢ fault.Output → (f ≡ fault.OutOfMemory) × (new ≡ old))
+    → (f ≡ fault.Output → IsExplanationCutShort (domain_text domain.now d) (problem_text problem.now p) (plan_text plan.now l) style (contents old) (contents new) × (has_failed new ≡ true))
+    → Stops contents has_failed files (request.Explain domain problem plan style.format style.has_states colour) old new (Run f)
+stops_unexplained contents has_failed files domain problem plan style colour old new d p l a b c may fault.Output memory cut =
+    let h = cut refl in ((d, p, a, b, (l, c, (style, (refl, refl, may), h.0))), h.1)
+stops_unexplained contents has_failed files domain problem plan style colour old new d p l a b c may (fault.Domain f) memory cut = let bad = (memory (λ e. cc)).0 in absurd cc
+stops_unexplained contents has_failed files domain problem plan style colour old new d p l a b c may (fault.Problem f) memory cut = let bad = (memory (λ e. cc)).0 in absurd cc
+stops_unexplained contents has_failed files domain problem plan style colour old new d p l a b c may (fault.Check f) memory cut = let bad = (memory (λ e. cc)).0 in absurd cc
+stops_unexplained contents has_failed files domain problem plan style colour old new d p l a b c may (fault.Plan f) memory cut = let bad = (memory (λ e. cc)).0 in absurd cc
+stops_unexplained contents has_failed files domain problem plan style colour old new d p l a b c may fault.OutOfMemory memory cut = (memory (λ e. cc)).1
+stops_unexplained contents has_failed files domain problem plan style colour old new d p l a b c may fault.NoThread memory cut = let bad = (memory (λ e. cc)).0 in absurd cc
+
+-- an explanation of which the domain or the problem can't be read
+pub stops_unread_three : {O : Type 0} (contents : O → Option (List ℕ)) (has_failed : O → Bool) (files : List ℕ → File) (domain problem plan : Bor (List ℕ))
+    (style : ReportStyle) (colour : Colour) (old : O) (first second : List ℕ) → first ≡ file_of domain.now → second ≡ file_of problem.now
+    → (stop : Stop) → IsUnread (LacksText files first second ⊥) stop → Stops contents has_failed files (request.Explain domain problem plan style.format style.has_states colour) old old stop
+stops_unread_three contents has_failed files domain problem plan style colour old first second d p (Unreadable text.Domain) h =
+    (subst (λ n. MayFail (files n)) d h, refl)
+stops_unread_three contents has_failed files domain problem plan style colour old first second d p (Unreadable text.Problem) h =
+    ((h.0, subst (λ n. MayGive (files n) h.0) d h.1, subst (λ n. MayFail (files n)) p h.2), refl)
+stops_unread_three contents has_failed files domain problem plan style colour old first second d p (Unreadable text.Plan) h = absurd h
+stops_unread_three contents has_failed files domain problem plan style colour old first second d p (Run f) h =
+    subst (λ x. Stops contents has_failed files (request.Explain domain problem plan style.format style.has_states colour) old old (Run x)) (sym h) refl
+
+-- an explanation of which the plan can't be read
+pub stops_without_third : {O : Type 0} (contents : O → Option (List ℕ)) (has_failed : O → Bool) (files : List ℕ → File) (domain problem plan : Bor (List ℕ))
+    (style : ReportStyle) (colour : Colour) (old : O) (d p : List ℕ) → MayGive (files (file_of domain.now)) d → MayGive (files (file_of problem.now)) p
+    → (file : File) → file ≡ files (file_of plan.now) → (stop : Stop) → IsUnread (λ t. (t ≡ text.Plan) × MayFail file) stop
+    → Stops contents has_failed files (request.Explain domain problem plan style.format style.has_states colour) old old stop
+stops_without_third contents has_failed files domain problem plan style colour old d p a b file is (Unreadable text.Domain) h = let bad = h.0 in absurd cc
+stops_without_third contents has_failed files domain problem plan style colour old d p a b file is (Unreadable text.Problem) h = let bad = h.0 in absurd cc
+stops_without_third contents has_failed files domain problem plan style colour old d p a b file is (Unreadable text.Plan) h =
+    ((d, p, a, b, subst (λ f. MayFail f) is h.1), refl)
+stops_without_third contents has_failed files domain problem plan style colour old d p a b file is (Run f) h =
+    subst (λ x. Stops contents has_failed files (request.Explain domain problem plan style.format style.has_states colour) old old (Run x)) (sym h) refl
+
 -- ## A file that can't be read
 
 -- the file of a text that can't be read is one that the request lacks
@@ -89,6 +131,9 @@ lacks_file files (request.Verify domain problem plan) text.Plan h = inr h
 lacks_file files (request.Check domain problem format limit is_strict colour) text.Domain h = inl h
 lacks_file files (request.Check domain problem format limit is_strict colour) text.Problem h = inr h
 lacks_file files (request.Check domain problem format limit is_strict colour) text.Plan h = absurd h
+lacks_file files (request.Explain domain problem plan format has_states colour) text.Domain h = inl (inl h)
+lacks_file files (request.Explain domain problem plan format has_states colour) text.Problem h = inl (inr h)
+lacks_file files (request.Explain domain problem plan format has_states colour) text.Plan h = inr h
 lacks_file files (request.Tree domain problem plan drawing colour) text.Domain h = inl (inl h)
 lacks_file files (request.Tree domain problem plan drawing colour) text.Problem h = inl (inr h)
 lacks_file files (request.Tree domain problem plan drawing colour) text.Plan h = inr h

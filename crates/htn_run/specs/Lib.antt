@@ -14,4 +14,6 @@ pub mod Requests
 pub mod Sights
 pub mod Stops
 pub mod Trees
+pub mod Explaining
+pub mod Explanations
 pub mod Refusals

@@ -1,10 +1,11 @@
 -- What is answered to a request over the files that it names, and why it isn't.
-use Rattle.std.specs.Prelude.{◌≡◌, ℕ, ◌<◌, ◌⊎◌, Bool, true, List, [], ◌∷◌, Option, is_some, ⊤}
+use Rattle.std.specs.Prelude.{◌≡◌, ℕ, ◌<◌, ◌⊎◌, Bool, true, false, List, [], ◌∷◌, Option, is_some, ⊤}
 use Rattle.std.specs.Io.KnownBytes.{Appends}
 use Rattle.htn_command.specs.declared.choice.Colour.{Colour}
 use Rattle.htn_command.specs.declared.choice.Drawing.{Drawing}
 use Rattle.htn_command.specs.declared.request.Request.{Request}
-use Rattle.htn_command.specs.declared.request.Request.TheVariants.{Plan, Verify, Check, Tree}
+use Rattle.htn_command.specs.declared.request.Request.TheVariants.{Plan, Verify, Check, Explain, Tree}
+use Rattle.diagnostics.specs.declared.format.Format.{Format}
 use Rattle.htn_verify.specs.declared.verdict.Verdict.TheVariants.{Structure, Valid}
 use Rattle.check_report.specs.declared.report.Finding.TheVariants.{Sound, Faulty}
 use Rattle.check_report.specs.declared.report.Options.{Options}
@@ -12,13 +13,16 @@ use Rattle.htn_run.specs.declared.outcome.Outcome.TheVariants.{Found}
 use Rattle.htn_run.specs.declared.outcome.Watched.TheVariants.{Known, Unknown}
 use Rattle.htn_run.specs.declared.outcome.RunFault.{RunFault}
 use Rattle.htn_run.specs.declared.reply.Reply.{Reply}
-use Rattle.htn_run.specs.declared.reply.Reply.TheVariants.{Planned, Verified, Checked, Drawn}
+use Rattle.htn_run.specs.declared.reply.Reply.TheVariants.{Planned, Verified, Checked, Explained, Drawn}
+use Rattle.htn_run.specs.declared.explain.Explained.TheVariants as explained
+use Rattle.plan_report.specs.declared.report.ReportStyle.{ReportStyle}
 use Rattle.htn_run.specs.declared.tree.Drawn.TheVariants.{Judged, Refused}
 use Rattle.htn_run.specs.declared.tree.Look.{Look}
 use Rattle.htn_run.specs.declared.stop.Text.{Text}
 use Rattle.htn_run.specs.declared.stop.Text.TheVariants as text
 use Rattle.htn_run.specs.Files.{File, MayFail, MayGive}
 use Rattle.htn_run.specs.Checking as checks
+use Rattle.htn_run.specs.Explaining as explaining
 use Rattle.htn_run.specs.Headline as plans
 use Rattle.htn_run.specs.Judgement as verdicts
 use Rattle.htn_run.specs.Laws.{IsOfTexts}
@@ -30,6 +34,7 @@ abbrev pub names_of : Request → List (List ℕ)
 names_of (Plan domain problem bounds seconds has_progress) = domain.now ∷ problem.now ∷ []
 names_of (Verify domain problem plan) = domain.now ∷ problem.now ∷ plan.now ∷ []
 names_of (Check domain problem format limit is_strict colour) = checks.files_of domain.now (checks.name_of problem)
+names_of (Explain domain problem plan format has_states colour) = checks.file_of domain.now ∷ checks.file_of problem.now ∷ checks.file_of plan.now ∷ []
 names_of (Tree domain problem plan drawing colour) = checks.file_of domain.now ∷ checks.file_of problem.now ∷ checks.file_of plan.now ∷ []
 
 -- a request that may be refused a thread: one for a plan, with more than one worker
@@ -37,14 +42,16 @@ abbrev pub NeedsThreads : Request → Type 0
 NeedsThreads (Plan domain problem bounds seconds has_progress) = 1 < bounds.workers
 NeedsThreads (Verify domain problem plan) = ⊥
 NeedsThreads (Check domain problem format limit is_strict colour) = ⊥
+NeedsThreads (Explain domain problem plan format has_states colour) = ⊥
 NeedsThreads (Tree domain problem plan drawing colour) = ⊥
 
--- A request that tells this fault of a text by a line on the error output. That of a check stands in its report, and so
--- does that of a tree, but for the plan's.
+-- A request that tells this fault of a text by a line on the error output. That of a check or of an explanation stands in
+-- its report, and so does that of a tree, but for the plan's.
 abbrev pub TellsFault : Request → RunFault → Type 0
 TellsFault (Plan domain problem bounds seconds has_progress) cause = ⊤
 TellsFault (Verify domain problem plan) cause = ⊤
 TellsFault (Check domain problem format limit is_strict colour) cause = ⊥
+TellsFault (Explain domain problem plan format has_states colour) cause = ⊥
 TellsFault (Tree domain problem plan drawing colour) cause = trees.IsOfPlan cause
 
 -- what holds of the texts in the files of a domain and a problem
@@ -55,13 +62,18 @@ OfTexts files domain problem P = (d : List ℕ) × (p : List ℕ) × MayGive (fi
 abbrev pub OfThreeTexts : (List ℕ → File) → List ℕ → List ℕ → List ℕ → (List ℕ → List ℕ → List ℕ → Type 0) → Type 0
 OfThreeTexts files domain problem plan P = OfTexts files domain problem (λ d p. (f : List ℕ) × MayGive (files plan) f × P d p f)
 
--- what holds of the texts of a tree, whose files may be the standard input
-abbrev pub OfTreeTexts : (List ℕ → File) → List ℕ → List ℕ → List ℕ → (List ℕ → List ℕ → List ℕ → Type 0) → Type 0
-OfTreeTexts files domain problem plan = OfThreeTexts files (checks.file_of domain) (checks.file_of problem) (checks.file_of plan)
+-- what holds of three texts, whose files may be the standard input
+abbrev pub OfInputs : (List ℕ → File) → List ℕ → List ℕ → List ℕ → (List ℕ → List ℕ → List ℕ → Type 0) → Type 0
+OfInputs files domain problem plan = OfThreeTexts files (checks.file_of domain) (checks.file_of problem) (checks.file_of plan)
 
 -- how the picture is written, as the words ask for it
 abbrev pub AreLooks : Drawing → Colour → Look → Type 0
 AreLooks drawing colour look = (look.drawing ≡ drawing) × checks.MayColour colour look.colour
+
+-- how the explanation is written, as the words ask for it
+abbrev pub IsStyleOf : Format → Bool → Colour → ReportStyle → Type 0
+IsStyleOf format has_states colour style =
+    (style.format ≡ format) × (style.has_states ≡ has_states) × checks.MayColour colour style.colour
 
 -- the text that answers the request
 abbrev pub Answers : (List ℕ → File) → Request → Reply → List ℕ → Type 0
@@ -72,20 +84,26 @@ Answers files (Verify domain problem plan) (Verified verdict) text =
 Answers files (Check domain problem format limit is_strict colour) (Checked finding) text =
     checks.OfTexts files domain.now (checks.name_of problem)
     (λ d p. (o : Options) × checks.AreOptions format limit is_strict colour o × checks.Reports d p o finding text)
+Answers files (Explain domain problem plan format has_states colour) (Explained came) text =
+    OfInputs files domain.now problem.now plan.now
+    (λ d p f. (style : ReportStyle) × IsStyleOf format has_states colour style
+    × explaining.Explains (checks.domain_text domain.now d) (checks.problem_text problem.now p) (explaining.plan_text plan.now f) style came text)
 Answers files (Tree domain problem plan drawing colour) (Drawn drawn) text =
-    OfTreeTexts files domain.now problem.now plan.now
+    OfInputs files domain.now problem.now plan.now
     (λ d p f. (look : Look) × AreLooks drawing colour look
     × trees.Draws (checks.domain_text domain.now d) (checks.problem_text problem.now p) f look drawn text)
 Answers files _ _ text = ⊥
 
 -- the status of an answer: 0 for a plan, for `valid` and for texts that are sound, 3 for texts with an error, 6 where the
--- answer is unknown, and 1 for any other; that of a picture is the status of its verdict
+-- answer is unknown, and 1 for any other; that of an explanation or of a picture is the status of its verdict
 abbrev pub status_of : Reply → ℕ
 status_of (Planned (Known Found)) = 0
 status_of (Planned (Unknown none_within)) = 6
 status_of (Verified Valid) = 0
 status_of (Checked Sound) = 0
 status_of (Checked Faulty) = 3
+status_of (Explained (explained.Judged Valid)) = 0
+status_of (Explained explained.Refused) = 3
 status_of (Drawn (Judged Valid)) = 0
 status_of (Drawn (Refused report)) = 3
 status_of _ = 1
@@ -96,8 +114,10 @@ Refuses files (Plan domain problem bounds seconds has_progress) fault = OfTexts 
 Refuses files (Verify domain problem plan) fault = OfThreeTexts files domain.now problem.now plan.now (λ d p f. verdicts.RefusesPlan d p f fault)
 Refuses files (Check domain problem format limit is_strict colour) fault =
     checks.OfTexts files domain.now (checks.name_of problem) (λ d p. checks.RefusesCheck d p fault)
+Refuses files (Explain domain problem plan format has_states colour) fault =
+    OfInputs files domain.now problem.now plan.now (λ d p f. verdicts.RefusesPlan d p f fault)
 Refuses files (Tree domain problem plan drawing colour) fault =
-    OfTreeTexts files domain.now problem.now plan.now (λ d p f. verdicts.RefusesPlan d p f fault)
+    OfInputs files domain.now problem.now plan.now (λ d p f. verdicts.RefusesPlan d p f fault)
 
 -- a fault of the texts, for which the request has no answer
 abbrev pub HasFault : (List ℕ → File) → Request → Type 0
@@ -114,6 +134,9 @@ LacksFile files (Verify domain problem plan) =
     LacksOne files domain.now problem.now ⊎ OfTexts files domain.now problem.now (λ d p. MayFail (files plan.now))
 LacksFile files (Check domain problem format limit is_strict colour) =
     MayFail (files (checks.file_of domain.now)) ⊎ checks.LacksProblem files domain.now (checks.name_of problem)
+LacksFile files (Explain domain problem plan format has_states colour) =
+    LacksOne files (checks.file_of domain.now) (checks.file_of problem.now)
+    ⊎ OfTexts files (checks.file_of domain.now) (checks.file_of problem.now) (λ d p. MayFail (files (checks.file_of plan.now)))
 LacksFile files (Tree domain problem plan drawing colour) =
     LacksOne files (checks.file_of domain.now) (checks.file_of problem.now)
     ⊎ OfTexts files (checks.file_of domain.now) (checks.file_of problem.now) (λ d p. MayFail (files (checks.file_of plan.now)))
@@ -130,6 +153,9 @@ LacksFileOf files (Plan domain problem bounds seconds has_progress) text = Lacks
 LacksFileOf files (Verify domain problem plan) text =
     LacksText files domain.now problem.now (OfTexts files domain.now problem.now (λ d p. MayFail (files plan.now))) text
 LacksFileOf files (Check domain problem format limit is_strict colour) text = checks.LacksOf files domain.now (checks.name_of problem) text
+LacksFileOf files (Explain domain problem plan format has_states colour) text =
+    LacksText files (checks.file_of domain.now) (checks.file_of problem.now)
+    (OfTexts files (checks.file_of domain.now) (checks.file_of problem.now) (λ d p. MayFail (files (checks.file_of plan.now)))) text
 LacksFileOf files (Tree domain problem plan drawing colour) text =
     LacksText files (checks.file_of domain.now) (checks.file_of problem.now)
     (OfTexts files (checks.file_of domain.now) (checks.file_of problem.now) (λ d p. MayFail (files (checks.file_of plan.now)))) text
@@ -163,8 +189,12 @@ IsCutShort files old new (Verify domain problem plan) =
 IsCutShort files old new (Check domain problem format limit is_strict colour) =
     checks.OfTexts files domain.now (checks.name_of problem)
     (λ d p. (o : Options) × checks.AreOptions format limit is_strict colour o × checks.IsReportCutShort d p o old new)
+IsCutShort files old new (Explain domain problem plan format has_states colour) =
+    OfInputs files domain.now problem.now plan.now
+    (λ d p f. (style : ReportStyle) × IsStyleOf format has_states colour style
+    × explaining.IsExplanationCutShort (checks.domain_text domain.now d) (checks.problem_text problem.now p) (explaining.plan_text plan.now f) style old new)
 IsCutShort files old new (Tree domain problem plan drawing colour) =
-    OfTreeTexts files domain.now problem.now plan.now (λ d p f. trees.IsPictureCutShort d p f drawing old new)
+    OfInputs files domain.now problem.now plan.now (λ d p f. trees.IsPictureCutShort d p f drawing old new)
 
 -- what a request shows on the error output while it runs: for a plan the lines of progress, if they are asked for; for
 -- any other nothing
@@ -173,4 +203,10 @@ ShowsFor contents has_failed files (Plan domain problem bounds seconds has_progr
     (new ≡ old) ⊎ OfTexts files domain.now problem.now (λ d p. progress.ShowsOfTexts contents has_failed d p has_progress old new)
 ShowsFor contents has_failed files (Verify domain problem plan) old new = new ≡ old
 ShowsFor contents has_failed files (Check domain problem format limit is_strict colour) old new = new ≡ old
+ShowsFor contents has_failed files (Explain domain problem plan format has_states colour) old new = new ≡ old
 ShowsFor contents has_failed files (Tree domain problem plan drawing colour) old new = new ≡ old
+
+-- whether a request asks for lines of progress
+abbrev pub wants_progress : Request → Bool
+wants_progress (Plan domain problem bounds seconds has_progress) = has_progress
+wants_progress _ = false

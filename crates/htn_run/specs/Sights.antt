@@ -11,8 +11,9 @@ use Rattle.htn_verify.specs.Verdicts.{verdict_of}
 use Rattle.plan_text.specs.FileText.{FileText}
 use Rattle.plan_text.specs.Out.{TakesBeginning}
 use Rattle.check_report.specs.Told.{Named}
+use Rattle.diagnostics.specs.declared.format.Format.TheVariants.{Text}
 use Rattle.htn_command.specs.declared.choice.Drawing.{Drawing}
-use Rattle.htn_run.specs.Trees.{ArePicture, AreRead, IsReport, Shows, is_of_pair}
+use Rattle.htn_run.specs.Trees.{ArePicture, AreRead, IsReport, Shows, is_of_pair, report_options}
 use Rattle.htn_run.specs.declared.outcome.RunFault.{RunFault}
 use Rattle.htn_run.specs.declared.outcome.RunFault.TheVariants.{OutOfMemory}
 use Rattle.htn_run.specs.declared.sight.Sight.{Sight}
@@ -53,7 +54,7 @@ IsBegun s old new = TakesBeginning old new (bytes_of s.picture)
 -- the report on two texts
 abbrev pub IsReported : Named → Named → Bool → Drawn → Type 0
 IsReported domain problem is_coloured (Judged v) = ⊥
-IsReported domain problem is_coloured (Refused report) = IsReport domain problem is_coloured report.items
+IsReported domain problem is_coloured (Refused report) = IsReport domain problem (report_options Text is_coloured) report.items
 
 -- a fault stays as it is, which is not of the pair; or memory was refused
 abbrev pub IsLeft : RunFault → RunFault → Type 0

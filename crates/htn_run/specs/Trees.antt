@@ -26,6 +26,7 @@ use Rattle.picture_svg.specs.Svg.{IsSvgOf}
 use Rattle.picture_text.specs.declared.as_text.Glyphs.TheVariants.{Unicode, Ascii}
 use Rattle.picture_text.specs.declared.caption.Caption.{Caption}
 use Rattle.picture_text.specs.declared.caption.Mark.{Mark}
+use Rattle.diagnostics.specs.declared.format.Format.{Format}
 use Rattle.diagnostics.specs.declared.format.Format.TheVariants as format
 use Rattle.check_report.specs.Told.{Named}
 use Rattle.check_report.specs.declared.report.Finding.{Finding}
@@ -115,24 +116,24 @@ IsOfPlan (fault.Plan f) = ⊤
 IsOfPlan _ = ⊥
 
 -- how the report on texts that are refused is written
-abbrev pub report_options : Bool → Options
-report_options is_coloured = record { format = format.Text; limit = 20; is_strict = false; colour = is_coloured }
+abbrev pub report_options : Format → Bool → Options
+report_options form is_coloured = record { format = form; limit = 20; is_strict = false; colour = is_coloured }
 
 -- the bytes of the report on two texts
-abbrev pub IsReport : Named → Named → Bool → List ℕ → Type 0
-IsReport domain problem is_coloured bytes = (finding : Finding) × Reports domain (Some problem) (report_options is_coloured) finding bytes
+abbrev pub IsReport : Named → Named → Options → List ℕ → Type 0
+IsReport domain problem o bytes = (finding : Finding) × Reports domain (Some problem) o finding bytes
 
 -- the two texts are refused, and these are the bytes of the report on them
-pub record IsRefusal (domain problem : Named) (plan : List ℕ) (is_coloured : Bool) (bytes : List ℕ) : Type 0 where
+pub record IsRefusal (domain problem : Named) (plan : List ℕ) (o : Options) (bytes : List ℕ) : Type 0 where
   pub cause : RunFault
   pub of_pair : is_of_pair cause ≡ true
   pub refuses : RefusesPlan domain.bytes problem.bytes plan cause
-  pub report : IsReport domain problem is_coloured bytes
+  pub report : IsReport domain problem o bytes
 
 -- what the run came to, and the text that it added to the output
 abbrev pub Draws : Named → Named → List ℕ → Look → Drawn → List ℕ → Type 0
 Draws domain problem plan look (Judged v) text = Shows domain.bytes problem.bytes plan look.drawing v text
-Draws domain problem plan look (Refused report) text = IsRefusal domain problem plan look.colour report.items × (text ≡ [])
+Draws domain problem plan look (Refused report) text = IsRefusal domain problem plan (report_options format.Text look.colour) report.items × (text ≡ [])
 
 -- why there is neither a picture nor a report: the plan's text is refused, or memory was
 abbrev pub IsUndrawn : List ℕ → List ℕ → List ℕ → RunFault → Type 0

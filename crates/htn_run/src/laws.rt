@@ -1,6 +1,12 @@
 //! What follows from the definitions of an answer and a verdict. Each function here is a law, with an empty body.
+ghost use Rattle.std.specs.Prelude.{◌≡◌, ℕ, List, false};
+ghost use Rattle.htn_command.specs.declared.request.Request.{Request};
+ghost use Rattle.htn_run.specs.Files.{File};
 ghost use Rattle.htn_run.specs.Laws.{AnswersAreUnique, AnswersExist, FaultyHaveNoAnswer, TextsHaveATask, TextsHaveOneTask};
 ghost use Rattle.htn_run.specs.Laws.{FaultyHaveNoVerdict, LongPlansAreRefused, PlansAreValid, ValidIsSolved, VerdictsAreTold, VerdictsAreUnique, VerdictsExist};
+ghost use Rattle.htn_run.specs.Requests.{ShowsFor, wants_progress};
+
+use htn_plan::Out;
 
 /// The two texts and the bound determine the answer: no two outcomes answer them, and no two texts. Texts have one task
 /// at most.
@@ -44,4 +50,10 @@ pub fn faulty_texts_have_no_verdict()
 pub fn plans_are_valid()
     ensures valid { PlansAreValid }
     ensures long { LongPlansAreRefused }
+{}
+
+/// Nothing is shown on the error output while a request without `--progress` is run.
+pub fn quiet_requests_show_nothing<E: Out>()
+    ensures { (files : List ℕ → File) (request : Request) (old new : E) → wants_progress request ≡ false
+        → ShowsFor E.contents E.has_failed files request old new → new ≡ old }
 {}

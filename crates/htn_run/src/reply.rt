@@ -1,5 +1,6 @@
 //! What a request is answered with.
 
+use crate::explain::Explained;
 use crate::outcome::{Outcome, Watched};
 use crate::tree::Drawn;
 use crate::verdict::write_verdict;
@@ -15,6 +16,8 @@ pub(crate) enum Reply {
     Verified(Verdict),
     /// What the check of texts found.
     Checked(Finding),
+    /// What the explanation of a plan came to.
+    Explained(Explained),
     /// What the tree of a plan came to.
     Drawn(Drawn),
 }
@@ -49,7 +52,8 @@ impl Reply {
     }
 
     /// The status of the program: 0 for a plan, for `valid` and for texts that are sound, 3 for texts with an error, 6
-    /// where the answer is unknown, and 1 for any other. That of a picture is the status of its verdict.
+    /// where the answer is unknown, and 1 for any other. That of an explanation or of a picture is the status of its
+    /// verdict.
     pub(crate) fn status(&self) -> u8
         ensures { result ≡ status_of self.now }
     {
@@ -57,8 +61,11 @@ impl Reply {
             Reply::Planned(Watched::Known(Outcome::Found))
             | Reply::Verified(Verdict::Valid)
             | Reply::Checked(Finding::Sound)
+            | Reply::Explained(Explained::Judged(Verdict::Valid))
             | Reply::Drawn(Drawn::Judged(Verdict::Valid)) => 0,
-            Reply::Checked(Finding::Faulty) | Reply::Drawn(Drawn::Refused(_)) => 3,
+            Reply::Checked(Finding::Faulty)
+            | Reply::Explained(Explained::Refused)
+            | Reply::Drawn(Drawn::Refused(_)) => 3,
             Reply::Planned(Watched::Unknown { .. }) => 6,
             _ => 1,
         }

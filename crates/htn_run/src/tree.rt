@@ -85,12 +85,12 @@ fn refuse(
     if !is_of_pair(fault) {
         return Err(fault);
     }
-    let report = report_of(alloc, domain, problem, colour)?;
+    let report = report_of(alloc, domain, problem, Format::Text, colour)?;
     Ok(Drawn::Refused(report))
 }
 
-// Whether a fault is of the domain, of the problem or of the two together.
-fn is_of_pair(fault: RunFault) -> bool
+/// Whether a fault is of the domain, of the problem or of the two together.
+pub(crate) fn is_of_pair(fault: RunFault) -> bool
     ensures { result ≡ spec.is_of_pair fault }
 {
     matches!(
@@ -99,17 +99,19 @@ fn is_of_pair(fault: RunFault) -> bool
     )
 }
 
-// The bytes of the report on a domain and a problem.
-fn report_of(
+/// The bytes of the report on a domain and a problem.
+pub(crate) fn report_of(
     alloc: Global,
     domain: Input<'_>,
     problem: Input<'_>,
+    format: Format,
     colour: bool,
 ) -> Result<Vec<u8>, AllocError>
-    ensures { IfOk result (λ bytes. spec.IsReport (domain_text domain.entry.name.now domain.entry.text.now) (problem_text problem.entry.name.now problem.entry.text.now) colour bytes.items) }
+    ensures { IfOk result (λ bytes. spec.IsReport (domain_text domain.entry.name.now domain.entry.text.now) (problem_text problem.entry.name.now problem.entry.text.now)
+        (spec.report_options format colour) bytes.items) }
 {
     let options = Options {
-        format: Format::Text,
+        format,
         limit: 20,
         is_strict: false,
         colour,

@@ -13,6 +13,7 @@ ghost use Rattle.htn_run.specs.Stops.{CutsShort, IsUnread, Stops};
 
 use crate::check::run_check;
 use crate::clock::Watching;
+use crate::explain_files::explain_files;
 use crate::judge::run_verify;
 use crate::line::Line;
 use crate::outcome::RunFault;
@@ -26,6 +27,7 @@ use check_report::{Input, Options};
 use clap::Error;
 use htn_command::{Colour, Refusal, Request, parse};
 use htn_plan::{Out, put_all};
+use plan_report::ReportStyle;
 use std::alloc::Global;
 use std::fmt::Write;
 use std::sync::Wait;
@@ -178,6 +180,21 @@ fn run_request<S: Source, O: Out, E: Out, R: Threads + Wait + Clock + Sync>(
                 colour: has_colour(colour, out.takes_colour()),
             };
             check_files(alloc, domain, problem, options, files, out)
+        }
+        Request::Explain {
+            domain,
+            problem,
+            plan,
+            format,
+            has_states,
+            colour,
+        } => {
+            let style = ReportStyle {
+                format,
+                has_states,
+                colour: has_colour(colour, out.takes_colour()),
+            };
+            explain_files(alloc, domain, problem, plan, style, files, out)
         }
         Request::Tree {
             domain,

@@ -5,7 +5,7 @@ ghost use Rattle.htn_model.specs.Grounding.{problem_of};
 ghost use Rattle.htn_model.specs.Literal as model;
 ghost use Rattle.plan_reasons.specs.Causes.{AreOnce};
 ghost use Rattle.plan_findings.specs.Causes as spec;
-ghost use Rattle.plan_findings.specs.Causes.{IsRunReason, IsSaidOf, IsStructureReason};
+ghost use Rattle.plan_findings.specs.Causes.{IsRunReason, IsCauseOf, IsStructureReason};
 ghost use Rattle.plan_findings.specs.Falsities.{AreFalsities};
 ghost use Rattle.plan_causes.specs.declared.cause.RunCause.TheVariants as run;
 
@@ -153,7 +153,7 @@ fn action_fails(
     number: usize,
     standings: Vec<Standing>,
 ) -> Result<Cause, AllocError>
-    ensures said { IfOk result (IsSaidOf case.now.task.now case.now.file.now tasks.now (run.Fails number standings)) }
+    ensures said { IfOk result (IsCauseOf case.now.task.now case.now.file.now tasks.now (run.Fails number standings)) }
     ensures once { IfOk result AreOnce }
 {
     let (literals, next) = false_preconditions(alloc, case, tasks, number, standings.as_slice())?;
@@ -173,7 +173,7 @@ fn goal_fails(
     tasks: &[GroundTask],
     standings: Vec<Standing>,
 ) -> Result<Cause, AllocError>
-    ensures said { IfOk result (IsSaidOf case.now.task.now case.now.file.now tasks.now (run.GoalFails standings)) }
+    ensures said { IfOk result (IsCauseOf case.now.task.now case.now.file.now tasks.now (run.GoalFails standings)) }
     ensures once { IfOk result AreOnce }
 {
     let goal = goal_literals(alloc, case.task)?;
@@ -194,7 +194,7 @@ fn reason_of(
     tasks: &[GroundTask],
     found: RunCause,
 ) -> Result<Cause, AllocError>
-    ensures said { IfOk result (IsSaidOf case.now.task.now case.now.file.now tasks.now found) }
+    ensures said { IfOk result (IsCauseOf case.now.task.now case.now.file.now tasks.now found) }
     ensures once { IfOk result AreOnce }
 {
     match found {

@@ -17,3 +17,4 @@ pub use cause::{run_reason, structure_reason};
 pub use conditions::precondition_places;
 pub use counts::{counts_of, has_step};
 pub use run::run_of;
+pub use tasks::action_tasks;

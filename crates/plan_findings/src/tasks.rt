@@ -35,8 +35,8 @@ fn tasks_alone(alloc: Global, named: Vec<Option<GroundTask>>) -> Result<Vec<Grou
     named.into_iter().flatten().collect(alloc)
 }
 
-/// The tasks that action lines name.
-pub(crate) fn action_tasks(
+/// The tasks that the action lines of a plan file name, in their order; a line whose words name none has none.
+pub fn action_tasks(
     alloc: Global,
     task: &Task,
     file: &PlanFile,

@@ -30,7 +30,7 @@ use Rattle.pair_messages.specs.Counts.{numbers_of}
 use Rattle.plan_reasons.specs.declared.cause.Cause.TheVariants as cause
 use Rattle.plan_reasons.specs.declared.cause.Cause.{Cause}
 use Rattle.plan_reasons.specs.declared.run.Run.{Run}
-use Rattle.plan_report.specs.declared.report.Telling.{Telling}
+use Rattle.plan_report.specs.declared.report.ReportStyle.{ReportStyle}
 
 -- ## Verdicts
 
@@ -72,10 +72,10 @@ AreErrorsOf task texts v ds =
 -- ## Reports
 
 -- whether a report has the lines of the run: if they are wanted, and the lines of the file have one
-abbrev pub has_run : Verdict → Telling → Bool
-has_run verdict.Structure telling = false
-has_run (verdict.NoInstance line) telling = false
-has_run _ telling = telling.has_states
+abbrev pub has_run : Verdict → ReportStyle → Bool
+has_run verdict.Structure style = false
+has_run (verdict.NoInstance line) style = false
+has_run _ style = style.has_states
 
 -- the lines of the run of the action lines, or none
 abbrev pub AreRunLines : Task → PlanFile → Bool → List ℕ → Type 0
@@ -97,22 +97,22 @@ AreLastLines task file false lines = lines ≡ []
 
 -- The words of a verdict and its errors in each format. In the text the nodes of a valid plan are counted at
 -- the end.
-abbrev pub IsWrittenIn : Format → Task → PlanFile → Verdict → List ℕ → Telling → List Diagnostic → List ℕ → Type 0
-IsWrittenIn format.Text task file v words telling ds bytes =
-    (run : List ℕ) × (lines : List (Vec Part Global)) × AreRunLines task file (has_run v telling) run × AreLastLines task file (is_valid v) lines
-    × (bytes ≡ text_bytes telling.colour (is_valid v) words run ds lines)
-IsWrittenIn format.Short task file v words telling ds bytes =
-    (run : List ℕ) × AreRunLines task file (has_run v telling) run × (bytes ≡ short_bytes words run ds)
-IsWrittenIn format.Json task file v words telling ds bytes = bytes ≡ explained_bytes (Some words) ds
+abbrev pub IsWrittenIn : Format → Task → PlanFile → Verdict → List ℕ → ReportStyle → List Diagnostic → List ℕ → Type 0
+IsWrittenIn format.Text task file v words style ds bytes =
+    (run : List ℕ) × (lines : List (Vec Part Global)) × AreRunLines task file (has_run v style) run × AreLastLines task file (is_valid v) lines
+    × (bytes ≡ text_bytes style.colour (is_valid v) words run ds lines)
+IsWrittenIn format.Short task file v words style ds bytes =
+    (run : List ℕ) × AreRunLines task file (has_run v style) run × (bytes ≡ short_bytes words run ds)
+IsWrittenIn format.Json task file v words style ds bytes = bytes ≡ explained_bytes (Some words) ds
 
 -- the same in the format that is asked for
-abbrev pub IsWritten : Task → PlanFile → Verdict → List ℕ → Telling → List Diagnostic → List ℕ → Type 0
-IsWritten task file v words telling ds bytes = IsWrittenIn telling.format task file v words telling ds bytes
+abbrev pub IsWritten : Task → PlanFile → Verdict → List ℕ → ReportStyle → List Diagnostic → List ℕ → Type 0
+IsWritten task file v words style ds bytes = IsWrittenIn style.format task file v words style ds bytes
 
 -- the bytes that say why a file has its verdict
-abbrev pub IsExplanation : Task → PlanTexts → Verdict → List ℕ → Telling → List ℕ → Type 0
-IsExplanation task texts v words telling bytes =
-    (ds : List Diagnostic) × AreErrorsOf task texts v ds × IsWritten task texts.plan.file.now v words telling ds bytes
+abbrev pub IsExplanation : Task → PlanTexts → Verdict → List ℕ → ReportStyle → List ℕ → Type 0
+IsExplanation task texts v words style bytes =
+    (ds : List Diagnostic) × AreErrorsOf task texts v ds × IsWritten task texts.plan.file.now v words style ds bytes
 
 -- ## Texts that are refused
 
@@ -157,5 +157,5 @@ IsReportIn format.Short is_coloured ds bytes = bytes ≡ written false (flat_map
 IsReportIn format.Json is_coloured ds bytes = bytes ≡ explained_bytes None ds
 
 -- the bytes that say why a plan's text is refused
-abbrev pub IsRefusal : Source → PlanFault → Telling → List ℕ → Type 0
-IsRefusal s f telling bytes = (d : Diagnostic) × IsFaultError s f d × IsReportIn telling.format telling.colour (d ∷ []) bytes
+abbrev pub IsRefusal : Source → PlanFault → ReportStyle → List ℕ → Type 0
+IsRefusal s f style bytes = (d : Diagnostic) × IsFaultError s f d × IsReportIn style.format style.colour (d ∷ []) bytes

@@ -4,7 +4,7 @@ use crate::message::Message;
 use crate::reason::{Mark, Reason};
 use crate::spots::{in_domain, in_problem, root_word, whole_line, word_at};
 use crate::unmet::{literal_place, method_of, texts_of, unmet_reason, with_texts};
-use crate::words::{bracketed, spaced, words_of};
+use crate::words::{bracketed, words_of};
 use hddl_tree::SubtaskText;
 use htn_state::Literal;
 use htn_verify::room_cause;

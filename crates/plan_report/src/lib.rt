@@ -17,4 +17,4 @@ mod words;
 
 pub use plan_messages::{PairTexts, PlanTexts};
 pub use plan_spots::PlacedPlan;
-pub use report::{Telling, explain, explain_fault};
+pub use report::{ReportStyle, explain, explain_fault};

@@ -25,7 +25,7 @@ use std::alloc::{AllocError, Global};
 
 /// How an explanation is written.
 #[derive(Clone, Copy, Debug)]
-pub struct Telling {
+pub struct ReportStyle {
     pub format: Format,
     /// Whether it has what is true at the start, and what each action makes true and false.
     pub has_states: bool,
@@ -38,17 +38,17 @@ pub struct Telling {
 struct Judged<'a> {
     verdict: Verdict,
     words: &'a str,
-    telling: Telling,
+    style: ReportStyle,
 }
 
 /// Whether a report has the lines of the run: if they are wanted, and the lines of the plan have one.
-fn has_run(verdict: Verdict, telling: Telling) -> bool
-    ensures { result ≡ spec.has_run verdict telling }
+fn has_run(verdict: Verdict, style: ReportStyle) -> bool
+    ensures { result ≡ spec.has_run verdict style }
 {
     match verdict {
         Verdict::Structure | Verdict::NoInstance(_) => false,
         Verdict::NotExecutable(_) | Verdict::GoalFails | Verdict::NoArrangement | Verdict::Valid =>
-            telling.has_states,
+            style.has_states,
     }
 }
 
@@ -58,11 +58,11 @@ fn states(
     task: &Task,
     file: &PlanFile,
     verdict: Verdict,
-    telling: Telling,
+    style: ReportStyle,
 ) -> Result<Vec<u8>, AllocError>
-    ensures { IfOk result (λ run. spec.AreRunLines task.now file.now (spec.has_run verdict telling) run.items) }
+    ensures { IfOk result (λ run. spec.AreRunLines task.now file.now (spec.has_run verdict style) run.items) }
 {
-    if !has_run(verdict, telling) {
+    if !has_run(verdict, style) {
         return Ok(Vec::new(alloc));
     }
     let found = run_of(alloc, task, file)?;
@@ -103,9 +103,9 @@ fn text_of(
     judged: Judged<'_>,
     errors: &[Diagnostic<'_>],
 ) -> Result<Vec<u8>, AllocError>
-    ensures { IfOk result (λ bytes. spec.IsWrittenIn format.Text task.now file.now judged.entry.verdict judged.entry.words.now judged.entry.telling errors.now bytes.items) }
+    ensures { IfOk result (λ bytes. spec.IsWrittenIn format.Text task.now file.now judged.entry.verdict judged.entry.words.now judged.entry.style errors.now bytes.items) }
 {
-    let run = states(alloc, task, file, judged.verdict, judged.telling)?;
+    let run = states(alloc, task, file, judged.verdict, judged.style)?;
     let lines = last_lines(alloc, task, file, judged.verdict)?;
     let text = text_verdict(
         alloc,
@@ -114,7 +114,7 @@ fn text_of(
         run.as_slice(),
         errors,
         lines.as_slice(),
-        judged.telling.colour,
+        judged.style.colour,
     )?;
     Ok(text)
 }
@@ -127,9 +127,9 @@ fn short_of(
     judged: Judged<'_>,
     errors: &[Diagnostic<'_>],
 ) -> Result<Vec<u8>, AllocError>
-    ensures { IfOk result (λ bytes. spec.IsWrittenIn format.Short task.now file.now judged.entry.verdict judged.entry.words.now judged.entry.telling errors.now bytes.items) }
+    ensures { IfOk result (λ bytes. spec.IsWrittenIn format.Short task.now file.now judged.entry.verdict judged.entry.words.now judged.entry.style errors.now bytes.items) }
 {
-    let run = states(alloc, task, file, judged.verdict, judged.telling)?;
+    let run = states(alloc, task, file, judged.verdict, judged.style)?;
     let text = short_verdict(alloc, judged.words, run.as_slice(), errors)?;
     Ok(text)
 }
@@ -142,9 +142,9 @@ fn written(
     judged: Judged<'_>,
     errors: &[Diagnostic<'_>],
 ) -> Result<Vec<u8>, AllocError>
-    ensures { IfOk result (λ bytes. spec.IsWritten task.now file.now judged.entry.verdict judged.entry.words.now judged.entry.telling errors.now bytes.items) }
+    ensures { IfOk result (λ bytes. spec.IsWritten task.now file.now judged.entry.verdict judged.entry.words.now judged.entry.style errors.now bytes.items) }
 {
-    match judged.telling.format {
+    match judged.style.format {
         Format::Text => text_of(alloc, task, file, judged, errors),
         Format::Short => short_of(alloc, task, file, judged, errors),
         Format::Json => json_verdict(alloc, Some(judged.words), errors),
@@ -213,7 +213,7 @@ fn explain_reason<'a>(
     judged: Judged<'_>,
 ) -> Result<Vec<u8>, AllocError>
     requires { spec.HasReason judged.verdict }
-    ensures { IfOk result (λ bytes. spec.IsExplanation task.now texts.now judged.entry.verdict judged.entry.words.now judged.entry.telling bytes.items) }
+    ensures { IfOk result (λ bytes. spec.IsExplanation task.now texts.now judged.entry.verdict judged.entry.words.now judged.entry.style bytes.items) }
 {
     let code = code_of(judged.verdict);
     let errors = vec![in alloc; reason_error(alloc, texts, code, reason)?]?;
@@ -231,7 +231,7 @@ fn explain_cause<'a>(
 ) -> Result<Vec<u8>, AllocError>
     requires once { AreOnce cause.now }
     requires cause { spec.IsCauseOf task.now texts.now.plan.file.now judged.verdict cause.now }
-    ensures { IfOk result (λ bytes. spec.IsExplanation task.now texts.now judged.entry.verdict judged.entry.words.now judged.entry.telling bytes.items) }
+    ensures { IfOk result (λ bytes. spec.IsExplanation task.now texts.now judged.entry.verdict judged.entry.words.now judged.entry.style bytes.items) }
 {
     let errors = explanation(alloc, texts, cause)?;
     let text = written(alloc, task, texts.plan.file, judged, errors.as_slice())?;
@@ -246,14 +246,14 @@ pub fn explain<'a>(
     task: &Task,
     verdict: Verdict,
     words: &str,
-    telling: Telling,
+    style: ReportStyle,
 ) -> Result<Vec<u8>, AllocError>
-    ensures { IfOk result (λ bytes. spec.IsExplanation task.now (record { pair = pair.now; plan = plan.now }) verdict words.now telling bytes.items) }
+    ensures { IfOk result (λ bytes. spec.IsExplanation task.now (record { pair = pair.now; plan = plan.now }) verdict words.now style bytes.items) }
 {
     let judged = Judged {
         verdict,
         words,
-        telling,
+        style,
     };
     let case = PlanCase {
         task,
@@ -285,12 +285,12 @@ pub fn explain<'a>(
 fn report_of(
     alloc: Global,
     errors: &[Diagnostic<'_>],
-    telling: Telling,
+    style: ReportStyle,
 ) -> Result<Vec<u8>, AllocError>
-    ensures { IfOk result (λ bytes. spec.IsReportIn telling.format telling.colour errors.now bytes.items) }
+    ensures { IfOk result (λ bytes. spec.IsReportIn style.format style.colour errors.now bytes.items) }
 {
-    match telling.format {
-        Format::Text => text_report(alloc, errors, &[], 0, telling.colour),
+    match style.format {
+        Format::Text => text_report(alloc, errors, &[], 0, style.colour),
         Format::Short => short_report(alloc, errors),
         Format::Json => json_verdict(alloc, None, errors),
     }
@@ -301,12 +301,12 @@ pub fn explain_fault(
     alloc: Global,
     plan: &Source<'_>,
     fault: PlanFault,
-    telling: Telling,
+    style: ReportStyle,
 ) -> Result<Vec<u8>, AllocError>
-    ensures { IfOk result (λ bytes. spec.IsRefusal plan.now fault telling bytes.items) }
+    ensures { IfOk result (λ bytes. spec.IsRefusal plan.now fault style bytes.items) }
 {
     let error = fault_error(alloc, plan, fault)?;
     let errors = vec![in alloc; error]?;
-    let text = report_of(alloc, errors.as_slice(), telling)?;
+    let text = report_of(alloc, errors.as_slice(), style)?;
     Ok(text)
 }

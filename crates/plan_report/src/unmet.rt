@@ -7,10 +7,8 @@ use crate::schemas::{listed, method_named};
 use crate::spots::{in_domain, whole_line, word_at};
 use crate::words::bracketed;
 use hddl_tree::MethodText;
-use htn_ground::GroundTask;
 use htn_state::Literal;
-use plan_findings::{PlanCase, literal_core, literal_text, precondition_places};
-use plan_lines::{Names, task_named};
+use plan_findings::{PlanCase, action_tasks, literal_core, literal_text, precondition_places};
 use plan_run::{Outcome, run};
 use room_causes::Unmet;
 use std::alloc::{AllocError, Global};
@@ -73,25 +71,13 @@ pub(crate) fn with_texts(
     listed(message, names.as_slice(), " and ")
 }
 
-/// The tasks of the action lines.
-fn action_tasks(alloc: Global, case: &PlanCase<'_>) -> Result<Vec<GroundTask>, AllocError> {
-    let names = Names::new(case.task);
-    let mut tasks = Vec::new(alloc);
-    for line in case.file.actions() {
-        if let Some(task) = task_named(alloc, &names, line.name(), line.arguments())? {
-            tasks.push(task)?;
-        }
-    }
-    Ok(tasks)
-}
-
 /// The number of the action that last made a literal false, if one did.
 fn turned_by(
     alloc: Global,
     case: &PlanCase<'_>,
     literal: &Literal,
 ) -> Result<Option<usize>, AllocError> {
-    let tasks = action_tasks(alloc, case)?;
+    let tasks = action_tasks(alloc, case.task, case.file)?;
     match run(alloc, case.task, tasks.as_slice())? {
         Outcome::Runs(turns) => {
             let last = turns.last_gap(literal, tasks.len());

@@ -2,6 +2,8 @@
 #![tactic(auto)]
 
 #[cfg(test)]
+mod action_lines;
+#[cfg(test)]
 mod causes;
 #[cfg(test)]
 mod configurations;
@@ -24,11 +26,12 @@ mod questions;
 #[cfg(test)]
 mod reach;
 #[cfg(test)]
+mod rooms;
+#[cfg(test)]
 mod searches;
 #[cfg(test)]
 mod states;
 #[cfg(test)]
 mod steps;
-#[cfg(test)]
 #[cfg(test)]
 mod verdicts;

@@ -69,6 +69,22 @@ pub const SET_AND_CLEAR: Pair = Pair {
   (:htn :subtasks (and (t) (set-p) (clear-p))))",
 };
 
+/// Two tasks in order, each with an action of its own.
+pub const TWO_IN_ORDER: Pair = Pair {
+    domain: "(define (domain d) (:task t) (:task u) (:method m :task (t) :subtasks (x))
+  (:method n :task (u) :subtasks (y)) (:action x) (:action y))",
+    problem: "(define (problem x) (:domain d) (:htn :ordered-tasks (and (t) (u))))",
+};
+
+/// A task whose methods need what is never so.
+pub const NEVER: Pair = Pair {
+    domain: "(define (domain d) (:predicates (p) (q)) (:task t)
+  (:method m :task (t) :precondition (and (p) (not (p))))
+  (:method n :task (t) :precondition (q))
+  (:action x :effect (p)))",
+    problem: "(define (problem x) (:domain d) (:init (p)) (:htn :tasks (and (t) (x))))",
+};
+
 /// A task with two empty methods.
 pub const TWO_METHODS: Pair = Pair {
     domain: "(define (domain d) (:task t) (:method m1 :task (t)) (:method m2 :task (t)))",

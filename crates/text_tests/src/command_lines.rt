@@ -189,6 +189,45 @@ fn reads_a_tree(rt: HostRuntime) -> Result<(), Fail> {
 }
 
 #[test]
+fn reads_an_explanation(rt: HostRuntime) -> Result<(), Fail> {
+    let words = words_of(
+        rt.alloc(),
+        "htnplan explain d.hddl p.hddl --states - --format short --color always",
+    )?;
+    let Request::Explain {
+        domain,
+        problem,
+        plan,
+        format,
+        has_states,
+        colour,
+    } = request_of(rt.alloc(), words.as_slice())?
+    else {
+        return Err(Fail::new("another request"));
+    };
+    assert!(rt; domain == "d.hddl" && problem == "p.hddl" && plan == "-");
+    assert!(rt; format == Format::Short && has_states && colour == Colour::Always);
+    Ok(())
+}
+
+#[test]
+fn refuses_words_of_an_explanation(rt: HostRuntime) -> Result<(), Fail> {
+    let rows = [
+        ("htnplan explain d p f", -1),
+        ("htnplan explain - p f --states --format=json", -1),
+        ("htnplan explain d p", 2),
+        ("htnplan explain d p f g", 2),
+        ("htnplan explain d p f --format svg", 2),
+        ("htnplan explain d p f --color red", 2),
+        ("htnplan explain d p f --strict", 2),
+        ("htnplan explain - - f", 2),
+        ("htnplan explain - p -", 2),
+        ("htnplan explain d - -", 2),
+    ];
+    expect_statuses(&rt, rt.alloc(), &rows)
+}
+
+#[test]
 fn refuses_words_of_a_tree(rt: HostRuntime) -> Result<(), Fail> {
     let rows = [
         ("htnplan tree d p f", -1),
@@ -245,6 +284,8 @@ fn shows_help_and_the_version(rt: HostRuntime) -> Result<(), Fail> {
         ("htnplan check --help", 0),
         ("htnplan help check", 0),
         ("htnplan check - - -h", 0),
+        ("htnplan explain --help", 0),
+        ("htnplan help explain", 0),
         ("htnplan tree --help", 0),
         ("htnplan help tree", 0),
         ("htnplan tree - - -h", 0),
@@ -274,11 +315,12 @@ const HELP: &str =
 Usage: htnplan <COMMAND>
 
 Commands:
-  plan    Prints the plan with the fewest nodes, or `none` (none so small), or `unsolvable`
-  verify  Prints `valid`, or `invalid:` and the first cause
-  check   Says what is wrong with a domain and a problem, with lines, and warns of what is never used
-  tree    Draws the decomposition tree of a plan: text, ascii, json, dot, svg
-  help    Print this message or the help of the given subcommand(s)
+  plan     Prints the plan with the fewest nodes, or `none` (none so small), or `unsolvable`
+  verify   Prints `valid`, or `invalid:` and the first cause
+  check    Says what is wrong with a domain and a problem, with lines, and warns of what is never used
+  explain  Says why a plan is invalid
+  tree     Draws the decomposition tree of a plan: text, ascii, json, dot, svg
+  help     Print this message or the help of the given subcommand(s)
 
 Options:
   -h, --help     Print help
@@ -289,6 +331,7 @@ Examples:
   htnplan plan domain.hddl problem.hddl --nodes 200 > plan.txt
   htnplan verify domain.hddl problem.hddl plan.txt
   htnplan tree domain.hddl problem.hddl plan.txt
+  htnplan explain domain.hddl problem.hddl plan.txt
 
 Status: 0 yes (a plan, valid, no error), 1 no (none, unsolvable, invalid), 2 command line, 3 a text is refused,
 4 memory or threads, 5 files or output, 6 `plan --seconds` stopped the search.

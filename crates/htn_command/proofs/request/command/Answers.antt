@@ -16,5 +16,6 @@ returns c =
     let one = c.in_ok-subcommand.ensures.shape c.in_ok-plan.ensures.1 ∙ ap₂ with_subcommand program (ap top c.in_ok-plan.ensures.0) in
     let two = c.in_ok-subcommand-2.ensures.shape c.in_ok-verify.ensures.1 ∙ ap₂ with_subcommand one (ap top c.in_ok-verify.ensures.0) in
     let three = c.in_ok-subcommand-3.ensures.shape c.in_ok-check.ensures.1 ∙ ap₂ with_subcommand two (ap top c.in_ok-check.ensures.0) in
-    IfOk-weaker c.subcommand-4.result _ _
-    (λ r adds. adds.shape c.in_ok-tree.ensures.1 ∙ ap₂ with_subcommand three (ap top c.in_ok-tree.ensures.0)) c.subcommand-4.ensures
+    let four = c.in_ok-subcommand-4.ensures.shape c.in_ok-explain.ensures.1 ∙ ap₂ with_subcommand three (ap top c.in_ok-explain.ensures.0) in
+    IfOk-weaker c.subcommand-5.result _ _
+    (λ r adds. adds.shape c.in_ok-tree.ensures.1 ∙ ap₂ with_subcommand four (ap top c.in_ok-tree.ensures.0)) c.subcommand-5.ensures

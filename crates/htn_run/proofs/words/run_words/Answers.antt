@@ -3,7 +3,7 @@ use Rattle.htn_run.specs.Ends.{GetsAfter}
 use Rattle.htn_run.proofs.After.{beside_after, line_after, never_unknown}
 use Rattle.htn_run.proofs.Reporting.{faulty_answer, sound_is_quiet}
 use Rattle.htn_run.proofs.Stopping.{at_five, at_three}
-use Rattle.htn_run.proofs.Telling.{fault_told, file_told, want_told}
+use Rattle.htn_run.proofs.ErrorLines.{fault_told, file_told, want_told}
 use Rattle.htn_run.proofs.Unasked.{at_two}
 use Rattle.htn_run.proofs.words.run_words.Goals as goal
 

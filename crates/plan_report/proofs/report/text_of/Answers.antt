@@ -5,7 +5,7 @@ use Rattle.plan_report.proofs.report.text_of.Goals as goal
 
 pub returns : goal.returns
 returns c =
-    let colour = c.args.judged.telling.colour in
+    let colour = c.args.judged.style.colour in
     let words = c.args.judged.words.now in
     let ds = c.args.errors.now in
     let valid = is_valid c.args.judged.verdict in

@@ -18,7 +18,7 @@ returns c =
     ∙ ap (λ b. are_two b c.is_input-problem.result c.is_input-plan.result) domain
     ∙ ap (λ b. are_two (is_input (first_of (codes "DOMAIN") (rows_of f))) b c.is_input-plan.result) problem
     ∙ ap (λ b. are_two (is_input (first_of (codes "DOMAIN") (rows_of f))) (is_input (first_of (codes "PROBLEM") (rows_of f))) b) plan in
-    c.first_of_tree.ensures
+    c.first_of_three.ensures
     ∙ ap (λ b. refused_kinds b c.is_no_colour-no_colour.result c.are_two.result) drawing
     ∙ ap (λ b. refused_kinds (is_unknown drawing_named (first_of (codes "format") (rows_of f))) b c.are_two.result) colour
     ∙ ap (λ b. refused_kinds (is_unknown drawing_named (first_of (codes "format") (rows_of f))) (is_unknown colour_named (first_of (codes "color") (rows_of f))) b) inputs

@@ -2,7 +2,7 @@
 use Rattle.std.proofs.Common.{◌≡◌, ◌⊎◌, ℕ, Bool, true, List, Option, arith, inl, inr}
 use Rattle.std.specs.Prelude.{codes}
 use Rattle.htn_command.specs.declared.request.Request.{Request}
-use Rattle.htn_command.specs.declared.request.Request.TheVariants.{Plan, Verify, Check, Tree}
+use Rattle.htn_command.specs.declared.request.Request.TheVariants.{Plan, Verify, Check, Explain, Tree}
 use Rattle.htn_run.specs.Checking.{name_of}
 use Rattle.htn_run.specs.Files.{File}
 use Rattle.htn_run.specs.Laws.{IsOfTexts}
@@ -20,6 +20,7 @@ use Rattle.htn_run.proofs.Reporting.{of_texts_never}
 needs_threads : (files : List ℕ → File) (request : Request) → Refuses files request fault.NoThread → NeedsThreads request
 needs_threads files (Plan domain problem bounds seconds has_progress) h = h.4
 needs_threads files (Verify domain problem plan) h = absurd h.4.2
+needs_threads files (Explain domain problem plan format has_states colour) h = absurd h.4.2
 needs_threads files (Tree domain problem plan drawing colour) h = absurd h.4.2
 needs_threads files (Check domain problem format limit is_strict colour) h = of_texts_never files domain.now (name_of problem) h
 
