@@ -1,0 +1,9 @@
+pub mod Listing
+pub mod Lone
+pub mod Walks
+pub mod Within
+pub mod Sizes
+pub mod Tables
+pub mod Values
+pub mod Measured
+pub mod Numbers

@@ -1,0 +1,2 @@
+pub mod Certificate
+pub mod Worked
