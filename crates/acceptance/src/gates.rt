@@ -35,7 +35,7 @@ impl Gate for CountingGate {
     }
 }
 
-// The nth time that piece 0 comes, it waits until piece `later` came n times, for so many turns.
+// The nth call for piece 0 waits until piece `later` was called n times, for at most `TURNS` turns.
 #[derive(Drop)]
 struct WaitingGate {
     later: u64,
@@ -108,7 +108,7 @@ fn a_piece_waits_for_a_later_one(rt: HostRuntime) -> Result<(), Fail> {
     expect_meeting(&rt, TWICE, 2, 1, twice)
 }
 
-// Expects the answer, and that so many pieces passed the gate.
+// Expects the answer, and that `calls` pieces passed the gate.
 fn expect_calls<R: Threads + Wait + Sync + Abort + AllocGlobal>(
     rt: &R,
     pair: Pair,

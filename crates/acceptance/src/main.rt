@@ -1,5 +1,5 @@
 //! Runs `htnplan` on each line of `command_lines.txt`, and prints what it writes and its status. Each plan that is
-//! printed is verified, and the last line tells how many plans there are and how many of them are valid.
+//! printed is verified, and the last line says how many plans there are and how many of them are valid.
 #![tactic(auto)]
 
 use htn_run::{Disk, Sink, Source, Verdict, run_verify, run_words};

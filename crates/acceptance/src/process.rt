@@ -1,4 +1,4 @@
-//! What stands around a run in a process.
+//! The parts of a process around its run.
 
 use crate::pairs::text_of;
 use htn_run::{ProcessFault, Sink, flush, words_of};

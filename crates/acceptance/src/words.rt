@@ -144,7 +144,7 @@ fn verdicts_and_lines(rt: HostRuntime) -> Result<(), Fail> {
     Ok(())
 }
 
-// A check tells all of a text on the standard output, and of the files that can't be read on the standard error.
+// A check reports everything about a text on the standard output, and files that can't be read on the standard error.
 #[test]
 fn checks_and_lines(rt: HostRuntime) -> Result<(), Fail> {
     let alloc = rt.alloc();

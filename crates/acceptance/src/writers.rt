@@ -1,4 +1,4 @@
-//! What stands in an output that fails.
+//! The bytes in an output that fails.
 
 use crate::pairs::{DOUBLING, ENDLESS, Pair, ROAD, TRIP};
 use htn_run::{Bounds, NoGate, Outcome, RunFault, Sink};
@@ -10,7 +10,7 @@ use std::sync::Wait;
 use std::test::Fail;
 use std::thread::Threads;
 
-// Takes so many bytes at a time, and so many in all.
+// A writer that takes at most `step` bytes at a time, and `room` in all.
 #[derive(Drop)]
 pub struct Narrow {
     pub taken: Vec<u8>,
@@ -31,7 +31,7 @@ impl Write for Narrow {
     }
 }
 
-// Expects that exactly the bytes that there was room for stand in the output, and `Output` where they are not all.
+// Expects that the output has exactly the bytes that there was room for, and `Output` where they are not all.
 fn expect_room<R: Threads + Wait + Sync + Abort>(
     rt: &R,
     alloc: Global,

@@ -8,7 +8,7 @@ pub record Lists : Type 0 where
   pub counts : List ℕ
   pub lists : List (List ℕ)
 
--- as values
+-- lists of blocks as values: their parts in turn
 abbrev pub lists_code : Coded Lists
 lists_code = code_by (List ℕ × List (List ℕ)) (coded× (coded_list coded_ℕ) (coded_list (coded_list coded_ℕ))) (λ l. (l.counts, l.lists))
     (λ p. record { counts = p.0; lists = p.1 }) (λ _. refl)
@@ -17,11 +17,11 @@ lists_code = code_by (List ℕ × List (List ℕ)) (coded× (coded_list coded_�
 abbrev pub list_at : Lists → ℕ → List ℕ
 list_at l number = get_or l.lists number []
 
--- the empty list, and those that links stand for, each a block before one of the lists before it
+-- the lists that links stand for: the empty list, and then for each link a block before one of the lists before it
 abbrev pub lists_of : List Link → List (List ℕ)
 lists_of links = fold (λ lists link. lists ++ (link.first ∷ get_or lists link.rest []) ∷ []) ([] ∷ []) links
 
--- the nodes of a block, and of blocks
+-- the number of nodes of a block, 0 where no block has this number, and of several blocks together
 abbrev pub count_of : List ℕ → ℕ → ℕ
 count_of counts block = get_or counts block 0
 
@@ -29,12 +29,13 @@ abbrev pub nodes_of : List ℕ → List ℕ → ℕ
 nodes_of counts [] = 0
 nodes_of counts (block ∷ blocks) = count_of counts block + nodes_of counts blocks
 
--- a link is that of a list: its block, and then the blocks of a list before it; which have as many nodes at least
+-- a link stands for a list: its block, and then the blocks of a list before it; the list has at least the link's number
+-- of nodes
 pub record IsLink (counts : List ℕ) (lists : List (List ℕ)) (number : ℕ) (link : Link) : Type 0 where
   pub rest : link.rest < number
   pub is : get_or lists number [] ≡ link.first ∷ get_or lists link.rest []
   pub nodes : link.nodes ≤ nodes_of counts (get_or lists number [])
 
--- each is that of the list that it stands for
+-- each link stands for the list of its number
 abbrev pub AreLinked : List ℕ → List Link → Type 0
 AreLinked counts links = (k : ℕ) (d : Link) → k < length links → IsLink counts (lists_of links) (k + 1) (get_or links k d)

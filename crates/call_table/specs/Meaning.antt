@@ -1,4 +1,4 @@
--- What the numbers of a table stand for: states and blocks of the machine of a problem.
+-- The meaning of the numbers of a table: states and blocks of the machine of a problem.
 use Rattle.std.specs.Prelude.{◌≡◌, ℕ, ◌≤◌, List, map, length, Some}
 use Rattle.htn_model.specs.State.{State}
 use Rattle.htn_model.specs.Problem.{Network, Problem}

@@ -1,4 +1,4 @@
--- When two sites are equal, and what they feed a hasher.
+-- The equality and the hash of sites.
 use Rattle.std.specs.Prelude.{◌≡◌, Bool, ◌++◌, nat_eq}
 use Rattle.std.specs.Bool.{Decides}
 use Rattle.std.specs.Cmp.{IsEquivalence, IsPartialEquivalence, partial_equiv_from_equiv, unsigned_Decides, decided, first_so, second_so}
@@ -9,7 +9,7 @@ use Rattle.std.proofs.Common.{ap}
 use Rattle.htn_model.specs.AtomOrder.{both_true}
 use Rattle.call_table.specs.declared.site.Site.{Site}
 
--- equal states and equal numbers
+-- two sites are equal if their states and their numbers are
 abbrev pub site_eq : Site → Site → Bool
 site_eq = eq_of_both (on (λ q. q.state) nat_eq) (on (λ q. q.number) nat_eq)
 
@@ -22,18 +22,18 @@ site_eq-decides p q =
       λ e. both_true _ _ (states.1 (ap (λ (x : Site). x.state) e)) (numbers.1 (ap (λ (x : Site). x.number) e)),
     )
 
--- it has the laws of an equality
+-- the test has the laws of an equality
 pub site_eq-laws : IsEquivalence site_eq
 site_eq-laws = decided site_eq site_eq-decides
 
--- and of a partial one
+-- the test has the laws of a partial equality
 pub site_eq-partial : IsPartialEquivalence site_eq
 site_eq-partial = partial_equiv_from_equiv site_eq-laws
 
--- what a site feeds a hasher
+-- the writes by which a site feeds a hasher
 abbrev pub site_hash : Site → HashWrites
 site_hash q = fed.u32 q.state ++ fed.u32 q.number
 
--- equal ones feed it alike
+-- equal sites feed a hasher alike
 pub site_hash-Alike : Alike site_eq site_hash
 site_hash-Alike = same_Alike site_hash site_eq-decides

@@ -19,7 +19,7 @@ exit_view e = record { state = e.state; cost = e.cost }
 abbrev pub summary_view : Call → model.Summary ℕ
 summary_view c = record { exits = map exit_view c.exits.items; floor = c.floor }
 
--- what is known of a block in a state
+-- the call of a block in a state, if the table has one
 abbrev pub call_at : CallTable → ℕ → ℕ → Option Call
 call_at t s b = get site_eq t.calls (record { state = s; number = b })
 

@@ -1,4 +1,4 @@
-//! Calls, and what is known of each.
+//! Calls with their rules, exits and places.
 
 use crate::site::Site;
 use indexmap::IndexMap;
@@ -10,14 +10,14 @@ pub struct Exit {
     pub cost: u32,
 }
 
-/// What a step of a block leads to: a state, and the list of the blocks in its place.
+/// The result of a step of a block: a state, and the list of the blocks that replace it.
 #[derive(Clone, Copy, Drop)]
 pub struct Rule {
     pub state: u32,
     pub blocks: u32,
 }
 
-/// A list of blocks in a state, and a number of steps that it takes at least from the start of the call to there.
+/// A list of blocks in a state, with a lower bound on the steps from the start of the call to there.
 #[derive(Clone, Copy, Drop)]
 pub struct Place {
     pub state: u32,
@@ -25,8 +25,8 @@ pub struct Place {
     pub distance: u32,
 }
 
-/// What is known of a block in a state: its rules, in which states it ends and at what cost, the floor, below which no
-/// other end is, and the places by which this is checked.
+/// A block in a state: its rules, the states in which it ends with their costs, the floor, below which it has no other
+/// end, and the places by which these are checked.
 #[derive(Drop)]
 pub struct Call {
     pub rules: Vec<Rule>,

@@ -11,7 +11,7 @@ use crate::site::Site;
 use indexmap::IndexMap;
 use std::alloc::{AllocError, Global};
 
-/// Whether what each rule of a call leads to is met after one step.
+/// Whether the result of each rule of a call is met after one step.
 fn are_rules_met(lists: &BlockLists, call: &Call, places: &IndexMap<Site, u32>) -> bool
     requires { ArePlaces call.now places.now }
     ensures { IsTrue result → All (λ r. IsMetAt lists.now call.now r.state (list_at lists.now r.blocks) 1) call.now.rules.items }
@@ -28,7 +28,7 @@ fn are_rules_met(lists: &BlockLists, call: &Call, places: &IndexMap<Site, u32>) 
     true
 }
 
-/// Whether a block in a state, of which this is known, is a closed call.
+/// Whether a block in a state is a closed call, by its rules, exits and places.
 fn is_closed(
     alloc: Global,
     table: &CallTable,

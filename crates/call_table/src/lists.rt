@@ -5,8 +5,8 @@ ghost use Rattle.call_table.specs.Lists.{IsLink, list_at, nodes_of};
 use std::alloc::{AllocError, Global};
 use std::marker::Model;
 
-/// A list with some block: the first, the number of the list of the others, and a number of nodes that the list has at
-/// least.
+/// A list that is not empty: its first block, the number of the list of the others, and a lower bound on the number of
+/// its nodes.
 #[derive(Clone, Copy, Drop)]
 pub struct Link {
     pub first: u32,
@@ -46,8 +46,8 @@ impl BlockLists {
         }
     }
 
-    /// The number of a block that comes now, with that many nodes. An error means that memory was refused or that there
-    /// are 2^32 blocks; then all is as it was.
+    /// Adds a block with `count` nodes, and returns its number. An error means that memory was refused or that there
+    /// are 2^32 blocks; then nothing has changed.
     pub fn add_block(&mut self, count: u64) -> Result<u32, AllocError>
         ensures number { IfOk result (λ n. n ≡ length self.old.counts) }
         ensures counts { OnOk result (self.new.counts ≡ self.old.counts ++ count ∷ []) }
@@ -61,8 +61,8 @@ impl BlockLists {
         Ok(number)
     }
 
-    /// The number of a list that comes now: a block before another list. An error means that memory was refused or that
-    /// there are 2^32 lists; then all is as it was.
+    /// Adds the list of a block before another list, and returns its number. An error means that memory was refused or
+    /// that there are 2^32 lists; then nothing has changed.
     pub fn add(&mut self, first: u32, rest: u32) -> Result<u32, AllocError>
         requires { rest < length self.old.lists }
         ensures number { IfOk result (λ n. n ≡ length self.old.lists) }
@@ -78,7 +78,7 @@ impl BlockLists {
         Ok(number)
     }
 
-    /// How many nodes a block has; none where it has no number.
+    /// The number of nodes of a block; 0 where no block has this number.
     fn count(&self, block: u32) -> u64
         ensures { result ≡ get_or self.now.counts block 0 }
     {
@@ -89,7 +89,8 @@ impl BlockLists {
         }
     }
 
-    /// The first block of a list and the list of the others; none of the empty list, and where there is no such list.
+    /// The first block of a list and the list of the others; None for the empty list, and where no list has this
+    /// number.
     pub fn link(&self, number: u32) -> Option<Link>
         ensures some { IfSome result (IsLink self.now.counts self.now.lists number) }
         ensures none { IfNone result (list_at self.now number ≡ []) }
@@ -100,7 +101,7 @@ impl BlockLists {
         Some(self.links[number as usize - 1])
     }
 
-    /// How many nodes the blocks of a list have at least: all, where a word of 64 bits holds that.
+    /// A lower bound on the nodes of a list's blocks together: their number, where it fits 64 bits.
     pub fn nodes(&self, number: u32) -> u64
         ensures { result ≤ nodes_of self.now.counts (list_at self.now number) }
     {

@@ -41,7 +41,7 @@ abbrev pub IsOpenObject : Text → CheckFault → Type 0
 IsOpenObject text (fault.UnknownName at) = (at.source ≡ source.Domain) × IsArgument text at.place
 IsOpenObject text _ = ⊥
 
--- the fault stands in the domain
+-- the fault is in the domain
 abbrev pub IsInDomain : CheckFault → Type 0
 IsInDomain f = (at : At) × (at_of f ≡ Some at) × (at.source ≡ source.Domain)
 
@@ -64,7 +64,7 @@ abbrev pub is_of_domain : Source → Bool
 is_of_domain source.Domain = true
 is_of_domain source.Problem = false
 
--- whether a place stands in the domain
+-- whether a place is in the domain
 abbrev pub stands_in_domain : Option At → Bool
 stands_in_domain None = false
 stands_in_domain (Some at) = is_of_domain at.source

@@ -1,4 +1,4 @@
--- What no plan of two trees uses, and the warnings of that.
+-- The methods and actions that no plan of two trees uses, and the warnings of these.
 use Rattle.std.specs.Prelude.{◌≡◌, ℕ, is_some, List, [], ◌∷◌, ◌++◌, map, length, Option, Some, None, option_map, IfSome}
 use Rattle.diagnostics.specs.declared.reached.Reached.{Reached}
 use Rattle.hddl_meaning.specs.Building.{IsTaskOf}
@@ -11,20 +11,21 @@ use Rattle.never_applied.specs.declared.answer.Findings.{Findings}
 use Rattle.never_applied.specs.declared.answer.NoPlan.{NoPlan}
 use Rattle.reach_messages.specs.Reach.{action_places, causes, method_places, reach_counts}
 
--- ## What is found
+-- ## Findings
 
--- what no solution of the task of two trees uses, of any size; nothing where too much would have to be listed
+-- the methods and actions that no solution of the task of two trees uses, of any size; none are found where too much
+-- would have to be listed
 abbrev pub AreFoundOf : DomainText → ProblemText → Option Findings → Type 0
 AreFoundOf d p found = (t : Task) × IsTaskOf d p t × IfSome found (AreFindings t)
 
--- it is looked for where the two have no fault
+-- there are such findings exactly where the two trees have no fault
 abbrev pub AreReached : DomainText → ProblemText → List CheckFault → Option (Option Findings) → Type 0
 AreReached d p [] None = ⊥
 AreReached d p [] (Some found) = AreFoundOf d p found
 AreReached d p (f ∷ fs) None = Unit {0}
 AreReached d p (f ∷ fs) (Some found) = ⊥
 
--- what was found, if anything
+-- the findings, if there are any
 abbrev pub found_in : Option (Option Findings) → Option Findings
 found_in None = None
 found_in (Some found) = found
@@ -33,11 +34,11 @@ found_in (Some found) = found
 abbrev pub reached_by : Findings → Reached
 reached_by f = record { actions = length f.usable.actions.keys; methods = f.usable.instances; facts = f.facts; no_plan = is_some f.no_plan }
 
--- the same, where it is known
+-- how much a plan may use, where it is known
 abbrev pub reached_of : Option (Option Findings) → Option Reached
 reached_of reach = option_map reached_by (found_in reach)
 
--- the counts that are given of it
+-- the counts in the report of how much a plan may use
 abbrev pub counts_of : Option (Option Findings) → List (List ℕ)
 counts_of None = []
 counts_of (Some found) = reach_counts found
@@ -50,12 +51,12 @@ pub data Unplanned : Type 0 where
   never_applied : ℕ → Unplanned
   no_plan : ℕ → Unplanned
 
--- that there is no plan, where that was found
+-- the warning that there is no plan, where that was found
 abbrev pub AreOfProblem : Option NoPlan → List Unplanned → Type 0
 AreOfProblem None us = us ≡ []
 AreOfProblem (Some why) us = (place : ℕ) × (us ≡ no_plan place ∷ [])
 
--- the warnings of what was found: of the methods and the actions that are unused for a reason of their own, and of the
+-- the warnings of findings: of the methods and the actions that are unused for a reason of their own, and of the
 -- problem
 abbrev pub AreUnplanned : DomainText → Option Findings → List Unplanned → Type 0
 AreUnplanned d None us = us ≡ []

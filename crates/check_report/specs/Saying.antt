@@ -43,7 +43,7 @@ pub record TellsPair (texts : PairTexts) (f : CheckFault) (d : Diagnostic) : Typ
 abbrev pub WarnsPair : PairTexts → Warning → Diagnostic → Type 0
 WarnsPair texts = warning.TellsWarning texts.domain.now (option_map (λ p. p.now) texts.problem)
 
--- the diagnostics tell exactly the warnings with a property
+-- the diagnostics are those of exactly the warnings with a property
 pub record TellsExactly (texts : PairTexts) (Holds : Warning → Type 0) (told : List Diagnostic) : Type 0 where
   pub warnings : List Warning
   pub are : AreExactly Holds warnings
@@ -54,7 +54,7 @@ pub record TellsOthers (texts : PairTexts) (faults : List CheckFault) (told : Li
   pub all : faults ≡ [] → TellsExactly texts (IsWarning texts.domain_tree.now (Some texts.problem_tree.now)) told
   pub silent : faults ≢ [] → told ≡ []
 
--- these, and the diagnostics of what no plan uses, by place
+-- these, and the diagnostics of methods and actions that no plan uses, or that there is no plan, by place
 pub record WarnsPairByPlace (texts : PairTexts) (faults : List CheckFault) (reach : Option Reach) (told : List Diagnostic) : Type 0 where
   pub some : List Diagnostic
   pub others : TellsOthers texts faults some
@@ -68,7 +68,7 @@ pub record WarnsPairBefore (texts : PairTexts) (warned errors told : List Diagno
   pub of_domain : TellsExactly texts (IsOtherDomain texts.domain_tree.now texts.problem_tree.now) first
   pub whole : told ≡ (first ++ warned) ++ errors
 
--- the diagnostics tell the warnings and the faults of two trees
+-- the diagnostics are those of the warnings and the faults of two trees
 pub record TellsPairTrees (texts : PairTexts) (faults : List CheckFault) (reach : Option Reach) (told : List Diagnostic) : Type 0 where
   pub errors : List Diagnostic
   pub tell : AllZip (TellsPair texts) faults errors
@@ -76,7 +76,7 @@ pub record TellsPairTrees (texts : PairTexts) (faults : List CheckFault) (reach 
   pub warns : WarnsPairByPlace texts faults reach warned
   pub before : WarnsPairBefore texts warned errors told
 
--- the diagnostics tell the warnings of a domain's tree, and then the errors
+-- the diagnostics are those of the warnings of a domain's tree, and then the errors
 pub record WarnsBefore (texts : PairTexts) (Are : List Warning → Type 0) (errors told : List Diagnostic) : Type 0 where
   pub warnings : List Warning
   pub are : Are warnings
@@ -84,7 +84,7 @@ pub record WarnsBefore (texts : PairTexts) (Are : List Warning → Type 0) (erro
   pub tell : AllZip (WarnsPair texts) warnings warned
   pub whole : told ≡ warned ++ errors
 
--- the diagnostics tell the warnings and the faults of a domain's tree
+-- the diagnostics are those of the warnings and the faults of a domain's tree
 pub record TellsTrees (texts : PairTexts) (Are : List CheckFault → Type 0) (Warn : List CheckFault → List Warning → Type 0) (told : List Diagnostic) : Type 0 where
   pub faults : List CheckFault
   pub are : Are faults

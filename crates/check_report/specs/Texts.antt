@@ -28,7 +28,7 @@ pub data Fault : Type 0 where
   of_problem : TextFault → Fault
   of_pair : CheckFault → Fault
 
--- no tree is spelled, and this fault stands in the text; want of memory is none
+-- no tree is spelled, and this fault is in the text; a refusal of memory is no such fault
 pub record IsFaulty {Tree : Type 0} (Derives : List Word → Tree → Type 0) (text : Text) (f : TextFault) : Type 0 where
   pub unspelled : (tree : Tree) → Spells Derives text tree → ⊥
   pub other : f ≢ spelling.OutOfMemory
@@ -78,13 +78,12 @@ pub record AreExactly (Holds : Warning → Type 0) (ws : List Warning) : Type 0 
   pub all : (w : Warning) → IsIn w ws ↔ Holds w
   pub order : IsStrictlySortedBy warning_cmp ws
 
--- Warnings: that of another domain, those of what is never used or said twice, and those of what no plan uses.
+-- Warnings: of another domain, of what is never used or written twice, and of what no plan uses.
 pub record AllWarnings : Type 0 where
   pub other : List Warning
   pub of_texts : List Warning
   pub unplanned : List Unplanned
 
--- none
 abbrev pub no_warnings : AllWarnings
 no_warnings = record { other = []; of_texts = []; unplanned = [] }
 
@@ -101,9 +100,9 @@ pub record AreOwnWarnings (d : DomainText) (faults : List CheckFault) (ws : List
   pub of_domain : faults ≡ [] → AreExactly (IsWarning d None) ws
   pub silent : faults ≢ [] → ws ≡ []
 
--- What is found of two texts: faults, warnings, the counts of the trees, and how much a plan may use. Of a text that
--- spells no tree its first fault, and of two trees all; the first of these is the one for which the two are refused. Of
--- two trees without a fault what no plan of their task uses.
+-- The findings for two texts: faults, warnings, the counts of the trees, and how much a plan may use. A text that
+-- spells no tree has its first fault, and two trees have all theirs; the first fault is the one for which the two are
+-- refused. For two trees without a fault the findings include what no plan of their task uses.
 pub data PairFinds (domain problem : Text) : List Fault → AllWarnings → List (List ℕ) → Option Reached → Type 0 where
   both : {f g : TextFault} → IsFaulty DerivesDomain domain f → IsFaulty DerivesProblem problem g
       → PairFinds domain problem (of_domain f ∷ of_problem g ∷ []) no_warnings [] None
@@ -115,7 +114,7 @@ pub data PairFinds (domain problem : Text) : List Fault → AllWarnings → List
       → Spells DerivesProblem problem p → ArePairFaults d p faults → AreReached d p faults reach → AreWarnings d p faults (found_in reach) ws
       → PairFinds domain problem (map of_pair faults) ws ((domain_counts d ∷ problem_counts p ∷ []) ++ counts_of reach) (reached_of reach)
 
--- what is found of a domain alone
+-- the findings for a domain alone
 pub data DomainFinds (domain : Text) : List Fault → AllWarnings → List (List ℕ) → Option Reached → Type 0 where
   unread : {f : TextFault} → IsFaulty DerivesDomain domain f → DomainFinds domain (of_domain f ∷ []) no_warnings [] None
   alone : {d : DomainText} {e : ProblemText} {faults : List CheckFault} {ws : List Warning} → Spells DerivesDomain domain d → Spells DerivesProblem no_problem e

@@ -1,4 +1,4 @@
--- Faults, and the diagnostics that tell them.
+-- Faults and warnings, and their diagnostics.
 use Rattle.std.specs.Prelude.{◌≡◌, ℕ, min, length, List, [], ◌∷◌, ◌++◌, Option, Some, None, option_map}
 use Rattle.std.specs.List.{All, AllZip}
 use Rattle.hddl_words.specs.declared.fault.TextFault.{TextFault}
@@ -81,7 +81,7 @@ abbrev pub TellsAt : Named → Option Named → List ℕ → Option At → Diagn
 TellsAt domain problem code None d = ⊥
 TellsAt domain problem code (Some at) d = (t : Named) × (text_at domain problem at.source ≡ Some t) × IsError t code (Some at.place) d
 
--- the diagnostic tells the fault
+-- the diagnostic is that of the fault
 abbrev pub Tells : Named → Option Named → Fault → Diagnostic → Type 0
 Tells domain problem (of_domain f) d = IsError domain (text.code_of f) (text_place f) d
 Tells domain None (of_problem f) d = ⊥
@@ -113,7 +113,7 @@ AreTold domain problem [] [] = Unit {0}
 AreTold domain problem (f ∷ fs) (d ∷ ds) = Tells domain problem f d × AreTold domain problem fs ds
 AreTold domain problem _ _ = ⊥
 
--- the diagnostic tells the warning, which stands in one of two texts
+-- the diagnostic is that of the warning, which is in one of two texts
 abbrev pub Warns : Named → Option Named → Warning → Diagnostic → Type 0
 Warns domain problem w d = (t : Named) × (text_at domain problem w.at.source ≡ Some t) × IsWarned t (warning.code_of w.kind) (Some w.at.place) d
 
@@ -121,7 +121,7 @@ Warns domain problem w d = (t : Named) × (text_at domain problem w.at.source �
 abbrev pub AreTextsWarned : Named → Option Named → List Warning → List Diagnostic → Type 0
 AreTextsWarned domain problem = AllZip (Warns domain problem)
 
--- the diagnostic tells what no plan uses: a method or an action by its name, or that the problem has no plan
+-- the diagnostic is that of a method or an action that no plan uses, at its name, or says that the problem has no plan
 abbrev pub WarnsOfPlans : Named → Named → Unplanned → Diagnostic → Type 0
 WarnsOfPlans domain problem (never_applied place) d = IsWarned domain never_applied_code (Some place) d
 WarnsOfPlans domain problem (no_plan place) d = IsWarned problem no_plan_code (Some place) d

@@ -8,7 +8,7 @@ use diagnostics::{
 };
 use std::alloc::{AllocError, Global};
 
-/// What a check found.
+/// The result of a check.
 #[derive(Clone, Copy, Debug, PartialEq, Eq)]
 pub enum Finding {
     /// No error, and no warning that counts.
@@ -19,7 +19,7 @@ pub enum Finding {
     Faulty,
 }
 
-/// What a check found, and the bytes of its report.
+/// The result of a check, and the bytes of its report.
 #[derive(Debug, Drop)]
 pub struct Checked {
     pub finding: Finding,
@@ -30,7 +30,7 @@ pub struct Checked {
 #[derive(Clone, Copy, Debug)]
 pub struct Options {
     pub format: Format,
-    /// How many diagnostics the text shows at most, those that say the same counted once; 0 is all.
+    /// The most diagnostics that the text shows, where those with equal texts count once; 0 is all.
     pub limit: usize,
     /// Whether warnings count.
     pub is_strict: bool,

@@ -51,10 +51,10 @@ fn check_inputs(
 /// All that is wrong with a domain, and with a problem if there is one: the report, which finds an error exactly where a
 /// text is refused or the two don't fit together.
 ///
-/// Of a text that spells no tree the first fault is reported, of both texts where both spell none. Of two trees all
-/// faults are reported, by place, the domain's first. Of a domain alone those are reported that it has beside a problem
-/// that declares nothing, but for objects that aren't declared, which a problem may declare. An error where memory was
-/// refused.
+/// For a text that spells no tree the first fault is reported, and for both texts where both spell none. For two trees
+/// all faults are reported, by place, the domain's first. For a domain alone the report has the faults that it has with
+/// a problem that declares nothing, but for those of undeclared objects, which a problem may declare. An error where
+/// memory was refused.
 pub fn check_texts(
     alloc: Global,
     domain: Input<'_>,

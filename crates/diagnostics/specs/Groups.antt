@@ -1,4 +1,4 @@
--- Diagnostics that say the same.
+-- Diagnostics grouped by equal texts, whatever their places.
 use Rattle.std.specs.Prelude.{◌≡◌, ℕ, Some, zero, suc, nat_eq, if◌then◌else◌, fold, List, [], ◌∷◌, ◌++◌, map, filter_map, slice_get}
 use Rattle.std.specs.Cmp.Lexicographic.{pointwise}
 use Rattle.std.specs.declared.alloc.Global.{Global}
@@ -6,12 +6,12 @@ use Rattle.std.specs.declared.vec.Vec.{Vec}
 use Rattle.diagnostics.specs.declared.diagnostic.Diagnostic.{Diagnostic}
 
 module _ (saying : Diagnostic → List ℕ) where
-  -- what the first of a group says
+  -- the text of the first diagnostic of a group
   abbrev pub first_saying : List Diagnostic → List ℕ
   first_saying [] = []
   first_saying (d ∷ ds) = saying d
 
-  -- a diagnostic joins the group that says the same, as its last, or begins one at the end
+  -- a diagnostic is added at the end of the group with its text, or begins one at the end
   abbrev pub joined : Diagnostic → List (List Diagnostic) → List (List Diagnostic)
   joined d [] = (d ∷ []) ∷ []
   joined d (g ∷ gs) = if pointwise nat_eq (saying d) (first_saying g) then (g ++ d ∷ []) ∷ gs else g ∷ joined d gs

@@ -1,4 +1,4 @@
--- What an output is made of, and its bytes with and without colour.
+-- The parts of an output, and its bytes with and without colour.
 use Rattle.std.specs.Prelude.{ℕ, Bool, if◌then◌else◌, List, [], ◌∷◌, ◌++◌, map, codes}
 use Rattle.std.specs.List.{flat_map}
 use Rattle.text_places.specs.Shown.{shown}

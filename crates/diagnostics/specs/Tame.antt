@@ -15,8 +15,8 @@ pub data IsTame (colour : Bool) : List ℕ → Type 0 where
   begins : (s : Style) {bytes : List ℕ} → colour ≡ true → IsTame colour bytes → IsTame colour (sequence s ++ bytes)
   ends : {bytes : List ℕ} → colour ≡ true → IsTame colour bytes → IsTame colour (reset ++ bytes)
 
--- The bytes without escape sequences, each of which goes from an escape to the next `m`. The flag says whether one is
--- open.
+-- The bytes without escape sequences, each of which extends from an escape to the next `m`. The flag says whether one
+-- is open.
 abbrev pub plain : Bool → List ℕ → List ℕ
 plain inside [] = []
 plain true (b ∷ bytes) = if b == 109 then plain false bytes else plain true bytes

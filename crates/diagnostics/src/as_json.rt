@@ -283,9 +283,9 @@ fn report_value(
     Ok(Value::Object(map))
 }
 
-/// Each diagnostic as tools read it: one object of JSON on one line, whose members stand in the order of their names.
-/// What a plan may use stands in it where that is known. It is ASCII where codes and names of files are. An error where
-/// memory was refused.
+/// The diagnostics for tools: one object of JSON on one line, whose members are in the order of their names. It says
+/// how much a plan may use, where that is known. It is ASCII where codes and names of files are. An error where memory
+/// was refused.
 pub fn json_report(
     alloc: Global,
     diagnostics: &[Diagnostic<'_>],

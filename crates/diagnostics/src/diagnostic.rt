@@ -1,4 +1,4 @@
-//! What is said of a text, as data.
+//! Diagnostics of texts, as data.
 
 ghost use Rattle.std.specs.Prelude.{◌≤◌, length};
 
@@ -20,8 +20,8 @@ pub struct Source<'a> {
     pub lines: Lines<'a>,
 }
 
-/// A word of a text: where its first byte stands, and how many bytes it has. A place that is the end of the text has
-/// no word.
+/// A word of a text: the place of its first byte, and how many bytes it has. A place that is the end of the text has no
+/// word.
 #[derive(Clone, Copy, Drop)]
 pub struct Spot<'a> {
     pub source: &'a Source<'a>,
@@ -40,7 +40,7 @@ pub enum Where<'a> {
     Place(Spot<'a>),
 }
 
-/// A part of a message. Where it is written, tabs and printable ASCII stand as they are, every other byte as `?`.
+/// A part of a message. When it is written, tabs and printable ASCII are unchanged, and every other byte is `?`.
 #[derive(Clone, Copy, Drop)]
 pub enum Part<'a> {
     /// Words of the program.
@@ -56,7 +56,7 @@ pub enum Severity {
     Warning,
 }
 
-/// Whether a remark says what to do, or something that is so.
+/// Whether a remark gives advice or states a fact.
 #[derive(Clone, Copy, Debug, PartialEq, Eq)]
 pub enum RemarkKind {
     Help,
@@ -77,7 +77,7 @@ pub struct Note<'a> {
     pub message: Vec<Part<'a>>,
 }
 
-/// What is said of a text.
+/// A diagnostic: an error or a warning about a text.
 #[derive(Drop)]
 pub struct Diagnostic<'a> {
     pub severity: Severity,
@@ -85,7 +85,7 @@ pub struct Diagnostic<'a> {
     pub code: &'a str,
     pub about: Where<'a>,
     pub message: Vec<Part<'a>>,
-    /// What stands beside the carets, if anything.
+    /// The label beside the carets; empty where there is none.
     pub label: Vec<Part<'a>>,
     pub remarks: Vec<Remark<'a>>,
     pub notes: Vec<Note<'a>>,

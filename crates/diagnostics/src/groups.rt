@@ -1,4 +1,4 @@
-//! Diagnostics that say the same, put together.
+//! Diagnostics grouped by equal texts, whatever their places.
 
 ghost use Rattle.std.specs.Prelude.{◌≡◌, ◌<◌, [], ◌++◌, OnOk, IfOk, map, length};
 ghost use Rattle.diagnostics.specs.Groups.{first_saying, folded, members_of, picked, JoinsAt};
@@ -11,7 +11,7 @@ use crate::text::{say_code, severity_style, severity_word};
 use indexmap::IndexSet;
 use std::alloc::{AllocError, Global};
 
-/// What a diagnostic says, of whatever place.
+/// The text of a diagnostic without its places: severity, message and code.
 fn saying(alloc: Global, diagnostic: &Diagnostic<'_>) -> Result<Vec<u8>, AllocError>
     ensures { IfOk result (λ bytes. bytes.items ≡ saying_of diagnostic.now) }
 {
@@ -28,7 +28,7 @@ fn saying(alloc: Global, diagnostic: &Diagnostic<'_>) -> Result<Vec<u8>, AllocEr
     Ok(out)
 }
 
-/// Puts the diagnostic at an index to those that say the same.
+/// Adds the diagnostic at an index to the group of those with the same text, which may be new.
 fn join(
     alloc: Global,
     said: &mut IndexSet<Vec<u8>>,

@@ -25,12 +25,12 @@ pub fn json_is_one_line()
     ensures { (ds : List Diagnostic) (reached : Option Reached) → IsOneLine (json_bytes ds reached) }
 {}
 
-/// Nor has a verdict with its diagnostics.
+/// A verdict with its diagnostics as JSON has no byte below 32 but the line feed at its end.
 pub fn verdict_is_one_line()
     ensures { (verdict : Option (List ℕ)) (ds : List Diagnostic) → IsOneLine (explained_bytes verdict ds) }
 {}
 
-/// The report on texts of which nothing is said.
+/// The report as JSON on texts without diagnostics.
 pub fn json_of_no_diagnostics()
     ensures { json_bytes [] None ≡ codes "{\"diagnostics\":[],\"errors\":0,\"format\":\"htnplan-check\",\"version\":1,\"warnings\":0}\n" }
 {}

@@ -147,9 +147,9 @@ pub(crate) fn count_errors(diagnostics: &[Diagnostic<'_>]) -> usize
     diagnostics.iter().filter(|d| is_error(d.severity)).count()
 }
 
-/// Diagnostics as people read them: those that say the same stand together, at the first place. At most `limit` groups
-/// are written, of which 0 is all; then how many are left, the lines of `summary`, and how many errors and warnings
-/// there are. An error where memory was refused.
+/// Diagnostics for people: those with equal texts form a group, which is at the place of its first one. At most `limit`
+/// groups are written, of which 0 is all; then how many are left, the lines of `summary`, and how many errors and
+/// warnings there are. An error where memory was refused.
 pub fn text_report(
     alloc: Global,
     diagnostics: &[Diagnostic<'_>],
@@ -176,7 +176,7 @@ pub fn text_report(
     Ok(out)
 }
 
-/// The first line of each diagnostic, without colour, as editors read it. An error where memory was refused.
+/// The first line of each diagnostic, without colour, for editors. An error where memory was refused.
 pub fn short_report(alloc: Global, diagnostics: &[Diagnostic<'_>]) -> Result<Vec<u8>, AllocError>
     ensures { IfOk result (λ bytes. bytes.items ≡ written false (flat_map spec.head_inks diagnostics.now)) }
 {

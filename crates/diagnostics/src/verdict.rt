@@ -77,8 +77,8 @@ fn say_last(out: &mut Vec<u8>, colour: bool, lines: &[Vec<Part<'_>>]) -> Result<
     Ok(())
 }
 
-/// A verdict and why it is so, as people read it: the line of the verdict, then the lines of `run` if it has some, each
-/// diagnostic, and each of `lines`, with an empty line before each part. The bytes of `run` stand as they are. An error
+/// A verdict with its explanation, for people: the line of the verdict, then the lines of `run` if it has some, each
+/// diagnostic, and each of `lines`, with an empty line before each part. The bytes of `run` are unchanged. An error
 /// where memory was refused.
 pub fn text_verdict(
     alloc: Global,
@@ -99,8 +99,8 @@ pub fn text_verdict(
     Ok(out)
 }
 
-/// A verdict and why it is so, as editors read it: the line of the verdict, the lines of `run`, and the first line of
-/// each diagnostic, without colour. An error where memory was refused.
+/// A verdict with its explanation, for editors: the line of the verdict, the lines of `run`, and the first line of each
+/// diagnostic, without colour. An error where memory was refused.
 pub fn short_verdict(
     alloc: Global,
     verdict: &str,
@@ -146,7 +146,7 @@ fn explained_value(
     Ok(Value::Object(map))
 }
 
-/// A verdict, if there is one, and why it is so, as tools read it: one object of JSON on one line, whose members stand in
+/// A verdict, if there is one, with its explanation, for tools: one object of JSON on one line, whose members are in
 /// the order of their names. An error where memory was refused.
 pub fn json_verdict(
     alloc: Global,

@@ -6,11 +6,11 @@ use Rattle.hddl_tree.specs.declared.condition.Condition.{Condition, fold-Conditi
 use Rattle.hddl_tree.specs.declared.condition.Condition.TheOpen.{Condition-F}
 use Rattle.hddl_meaning.specs.Building.{variables_of}
 
--- the places of so many fit sixteen bits
+-- the most variables whose places fit sixteen bits
 abbrev pub most_in_force : ℕ
 most_in_force = 65536
 
--- whether no more are in force anywhere in a condition that has n in force around it
+-- whether the limit holds everywhere in a condition that has n variables in force around it
 abbrev pub fits_step : Condition-F (ℕ → Bool) → ℕ → Bool
 fits_step (Condition-F.Literal l) n = true
 fits_step (Condition-F.Equality e) n = true
@@ -21,11 +21,11 @@ fits_step (Condition-F.Forall groups body) n =
 abbrev pub fits : ℕ → Condition → Bool
 fits n c = fold-Condition (ℕ → Bool) fits_step c n
 
--- the same for all conditions
+-- no more variables than the limit are in force anywhere in these conditions, where there are n around them
 abbrev pub all_fit : ℕ → List Condition → Bool
 all_fit n conditions = list_all (fits n) conditions
 
--- no more are in force anywhere in the conditions of a schema
+-- no more variables than the limit are in force anywhere in the conditions of a schema
 pub record IsBounded (groups : List VariableGroup) (conditions : List Condition) : Type 0 where
   pub parameters : length (variables_of groups) ≤ most_in_force
   pub inside : all_fit (length (variables_of groups)) conditions ≡ true

@@ -17,6 +17,6 @@ IsCycleFault d f = (at : At) × (f ≡ fault.TypeCycle at) × IsTypeCycle d at
 abbrev pub cycle_at : Mention → CheckFault
 cycle_at m = fault.TypeCycle (record { source = source.Domain; place = m.place })
 
--- a declaration of a type lies on a cycle: the fault stands at its name, or at its parent, where one is written
+-- a declaration of a type is on a cycle: the fault is at its name, or at its parent, where one is written
 abbrev pub CycleFails : DomainText → Typed → CheckFault → Type 0
 CycleFails d t f = IsOnCycle d t × ((m : Mention) × IsIn m (t.mention ∷ type_of t) × (f ≡ cycle_at m))

@@ -1,4 +1,4 @@
--- What a schema, a domain and a problem say that has to fit, part by part.
+-- The parts of a schema, a domain and a problem that have conditions on them.
 use Rattle.std.specs.Prelude.{◌⊎◌, List, [], ◌∷◌, ◌++◌, map}
 use Rattle.std.specs.List.{flat_map}
 use Rattle.hddl_tree.specs.declared.term.VariableGroup.{VariableGroup}
@@ -16,69 +16,69 @@ use Rattle.hddl_meaning.specs.declared.fault.CheckFault.{CheckFault}
 use Rattle.hddl_scope.specs.Findings.{AnyOf}
 use Rattle.hddl_uses.specs.Parts.{Part, FailsIn, PassedOverIn, Different, Limited, Atom, Decomposed, Subtask, Side, Types, Objects, type_parts, quantifier_parts, network_parts}
 
--- what has to fit in parameters: they differ, are few enough, and have declared types
+-- the parts of parameters: they differ, are few enough, and have declared types
 abbrev pub parameter_parts : List VariableGroup → List Part
 parameter_parts groups =
     let mentions = mentions_of (typed_variables groups) in
     Different mentions ∷ Limited items.most_parameters mentions ∷ type_parts (typed_variables groups)
 
--- what a schema uses and declares, but for its parameters
+-- the parts of a schema's uses and declarations, but for its parameters
 abbrev pub inner_parts : Schema → List Part
 inner_parts s =
     map Atom s.atoms ++ (flat_map quantifier_parts s.quantifiers ++ (map Side s.sides ++ (map Decomposed s.decomposed ++ map Subtask s.subtasks)))
 
--- what has to fit in a method, an action or the initial network: parameters, and what stands inside
+-- the parts of a method, an action or the initial network: those of its parameters, and others
 abbrev pub schema_parts : Schema → List Part
 schema_parts s = parameter_parts s.parameters ++ inner_parts s
 
--- what has to fit in the network of a method
+-- the parts of a method's network
 abbrev pub method_network_parts : MethodText → List Part
 method_network_parts m = network_parts m.place m.network
 
--- what has to fit in a method apart from its network
+-- the parts of a method apart from its network
 abbrev pub method_parts : MethodText → List Part
 method_parts m = schema_parts (schema_of_method m)
 
--- what has to fit in an action
+-- the parts of an action
 abbrev pub action_parts : ActionText → List Part
 action_parts a = schema_parts (schema_of_action a)
 
--- what has to fit in the declaration of a predicate: parameters that are few enough, with declared types
+-- the parts of a predicate's declaration: parameters that are few enough, with declared types
 abbrev pub predicate_parts : PredicateText → List Part
 predicate_parts x = Limited items.most_parameters (mentions_of (typed_variables x.parameters)) ∷ type_parts (typed_variables x.parameters)
 
--- what has to fit in the declaration of a task: declared types of parameters
+-- the parts of a task's declaration: declared types of parameters
 abbrev pub task_parts : TaskText → List Part
 task_parts x = type_parts (typed_variables x.parameters)
 
--- declarations of one kind with different names
+-- the names of one kind, which differ and are few enough
 abbrev pub name_parts : List Mention → List Part
 name_parts mentions = Different mentions ∷ Limited items.most_declarations mentions ∷ []
 
--- tasks and actions are named apart
+-- the names of tasks and actions, which differ together and are few enough each
 abbrev pub task_name_parts : DomainText → List Part
 task_name_parts d =
     let tasks = map (λ x. mention_of x.name) d.tasks in
     let actions = map (λ x. mention_of x.name) d.actions in
     Different (tasks ++ actions) ∷ Limited items.most_declarations tasks ∷ Limited items.most_declarations actions ∷ []
 
--- what a domain declares by name, and then what its declarations say
+-- the parts of a domain: its declared names, and then the parts of its declarations
 abbrev pub declared_parts : DomainText → List Part
 declared_parts d =
     Types ∷ Objects ∷ (type_parts (typed_names d.constants)
     ++ (name_parts (map (λ x. mention_of x.name) d.predicates) ++ (name_parts (map (λ x. mention_of x.name) d.methods) ++ task_name_parts d)))
 
--- what has to fit in the predicates, tasks, methods and actions of a domain
+-- the parts of the predicates, tasks, methods and actions of a domain
 abbrev pub body_parts : DomainText → List Part
 body_parts d =
     flat_map predicate_parts d.predicates ++ (flat_map task_parts d.tasks ++ (flat_map method_parts d.methods ++ (flat_map method_network_parts d.methods
     ++ flat_map action_parts d.actions)))
 
--- all that has to fit in a domain
+-- all parts of a domain
 abbrev pub domain_parts : DomainText → List Part
 domain_parts d = declared_parts d ++ body_parts d
 
--- what a problem says
+-- all parts of a problem
 abbrev pub problem_parts : ProblemText → List Part
 problem_parts p =
     Objects ∷ (type_parts (typed_names p.objects) ++ (schema_parts (schema_of_network p) ++ (network_parts p.htn.place p.htn.network

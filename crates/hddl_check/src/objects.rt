@@ -1,4 +1,4 @@
-//! The types of each object, where that can be told.
+//! The types of each object, where they are known.
 ghost use Rattle.std.specs.Prelude.{◌≡◌, ◌↔◌, IfOk, IsTrue, MatchOption};
 ghost use Rattle.hddl_meaning.specs.Building.{vocabulary_of};
 ghost use Rattle.hddl_meaning.specs.Mentions.{typed_names};

@@ -81,7 +81,7 @@ formula_of v = fold-Condition (List Text → model.Formula) (formula_step v)
 abbrev pub formulas_of : Vocabulary → List Text → List Condition → List model.Formula
 formulas_of v variables conditions = map (λ c. formula_of v c variables) conditions
 
--- the atoms of an effect by number, of the literals with the sign that is kept
+-- the atoms, by numbers, of those literals of an effect whose sign passes a test
 abbrev pub effects_of : Vocabulary → List Text → (Bool → Bool) → List LiteralText → List model.AtomSchema
 effects_of v variables kept effect = map (λ l. atom_of v variables l.atom) (filter (λ l. kept l.is_positive) effect)
 

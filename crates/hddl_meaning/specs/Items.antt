@@ -23,7 +23,7 @@ use Rattle.hddl_meaning.specs.Uses.{Variable, Use, TermUse, Schema, domain_schem
 
 -- ## By the text
 
--- what the methods and actions of the domain, or the problem, use
+-- the schemas of a text: those of the domain's methods and actions, or those of the problem
 abbrev pub schemas_in : DomainText → ProblemText → Source → List Schema
 schemas_in d p source.Domain = domain_schemas d
 schemas_in d p source.Problem = problem_schemas p
@@ -67,7 +67,7 @@ abbrev pub groups : DomainText → ProblemText → Source → List (List Mention
 groups d p text =
     declaration_groups d text ++ flat_map schema_groups (schemas_in d p text) ++ map (λ n. label_mentions n.1) (networks_in d p text)
 
--- two of one text: the place of the later one
+-- two names of a group whose names must differ are equal, at the place of the later one
 abbrev pub IsDuplicate : DomainText → ProblemText → At → Type 0
 IsDuplicate d p at =
     (group : List Mention) × (before : List Mention) × (first : Mention) × (middle : List Mention) × (second : Mention) × (after : List Mention)
@@ -76,7 +76,7 @@ IsDuplicate d p at =
 
 -- ## 2. Types that are named
 
--- the type that a typed name has, if one stands there
+-- the type of a typed name, if one is written
 abbrev pub type_of : Typed → List Mention
 type_of t = by t.of_type
   where
@@ -96,7 +96,7 @@ type_uses d p text =
         flat_map (λ x. typed_variables x.parameters) d.predicates ++ flat_map (λ x. typed_variables x.parameters) d.tasks
     declaration_parameters d source.Problem = []
 
--- a type is `object` or stands in `:types`
+-- a type is `object` or is in `:types`
 abbrev pub IsDeclaredType : DomainText → Text → Type 0
 IsDeclaredType d text = (text ≡ object) ⊎ IsIn text (texts (type_mentions d))
 
@@ -119,11 +119,11 @@ IsTypeCycle d at =
 abbrev pub flattened : {X : Type 0} → (Schema → List X) → List Schema → List X
 flattened part schemas = flat_map part schemas
 
--- a name that a list of declared names lacks
+-- a name that is not in a list of declared names
 abbrev pub IsMissing : List Text → Name → ℕ → Type 0
 IsMissing names name place = (IsIn (folded name.text) names → ⊥) × (place ≡ name.place)
 
--- one of the uses has a name that isn't among these, at its place
+-- one of the uses has a name that is not in the list, at its place
 abbrev pub AreMissing : List Text → List Use → ℕ → Type 0
 AreMissing names uses place = (u : Use) × IsIn u uses × IsMissing names u.atom.name place
 
@@ -206,7 +206,7 @@ IsType = IsDeclaredType
 abbrev pub ShareSubtype : DomainText → Text → Text → Type 0
 ShareSubtype d t u = (w : Text) × IsType d w × IsBelow d w t × IsBelow d w u
 
--- whether a variable's type lets it stand in a place of a type
+-- a variable's type allows it at a place of a type
 abbrev pub MayStand : DomainText → Variable → Text → Type 0
 MayStand d v type = by v.is_quantified
   where
@@ -277,19 +277,19 @@ IsPastDistinct limit mentions place =
     (before : List Mention) × (m : Mention) × (after : List Mention) × (mentions ≡ before ++ m ∷ after)
     × (length (distinct (texts before)) ≡ limit) × (IsIn m.text (texts before) → ⊥) × (place ≡ m.place)
 
--- of each kind of declaration
+-- the most declarations of each kind
 abbrev pub most_declarations : ℕ
 most_declarations = 65535
 
--- of one predicate, method, action, initial network or `forall`
+-- the most parameters of one predicate, method, action, initial network or `forall`
 abbrev pub most_parameters : ℕ
 most_parameters = 32
 
--- in force at once, around and in a `forall`
+-- the most variables in force at once, around and in a `forall`
 abbrev pub most_variables : ℕ
 most_variables = 65535
 
--- of one network
+-- the most subtasks of one network
 abbrev pub most_subtasks : ℕ
 most_subtasks = 10000
 
@@ -348,7 +348,7 @@ IsTooMany d p at =
 
 -- ## All
 
--- a fault holds at its place, by what its kind says
+-- a fault holds at its place, by the condition of its kind
 abbrev pub FailsAt : DomainText → ProblemText → CheckFault → Type 0
 FailsAt d p (fault.Duplicate at) = IsDuplicate d p at
 FailsAt d p (fault.UnknownType at) = IsUnknownType d p at

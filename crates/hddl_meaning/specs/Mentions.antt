@@ -27,7 +27,7 @@ mention_of x = record { text = folded x.text; place = x.place }
 abbrev pub variable_mention : Variable → Mention
 variable_mention x = record { text = folded x.text; place = x.place }
 
--- what is declared in a typed list, with the type that is written for it
+-- a declaration in a typed list, with the type that is written for it
 pub record Typed : Type 0 where
   pub mention : Mention
   pub of_type : Option Mention
@@ -48,6 +48,6 @@ mentions_of ts = map (λ t. t.mention) ts
 abbrev pub texts : List Mention → List Text
 texts mentions = map (λ m. m.text) mentions
 
--- a value stands in a list
+-- a value is in a list
 abbrev pub IsIn : {X : Type 0} → X → List X → Type 0
 IsIn x xs = Contains xs x

@@ -1,4 +1,4 @@
--- What a domain and a problem declare, by kind, and the numbers of names.
+-- The declarations of a domain and a problem, by kind, and the numbers of names.
 use Rattle.std.specs.Prelude.{ℕ, Bool, cond, nat_eq, List, [], ◌∷◌, ◌++◌, map, codes, Option, Some, None}
 use Rattle.std.specs.List.{flat_map, fold, list_any, position}
 use Rattle.std.specs.Cmp.Lexicographic.{pointwise}
@@ -11,7 +11,7 @@ use Rattle.hddl_meaning.specs.Mentions.{Text, Mention, Typed, folded, mention_of
 abbrev pub is_same_text : Text → Text → Bool
 is_same_text = pointwise nat_eq
 
--- the names after one more is named: the first declaration counts
+-- a list of names with one more, unless it has it: the first declaration counts
 abbrev pub with_name : List Text → Text → List Text
 with_name names text = cond (list_any (is_same_text text) names) names (names ++ text ∷ [])
 
@@ -28,7 +28,7 @@ number_or_zero (Some number) = number
 abbrev pub number_in : List Text → Text → ℕ
 number_in names text = number_or_zero (position (is_same_text text) names)
 
--- the type of what no type is written for
+-- the type of a name for which no type is written
 abbrev pub object : Text
 object = codes "object"
 
@@ -37,7 +37,7 @@ abbrev pub optional_mention : Option Name → List Mention
 optional_mention None = []
 optional_mention (Some x) = mention_of x ∷ []
 
--- what `:types` names, in the order of the text: names and their parents
+-- the names in `:types`, in the order of the text: types and their parents
 abbrev pub type_mentions : DomainText → List Mention
 type_mentions d = flat_map (λ g. map mention_of g.names ++ optional_mention g.of_type) d.types
 

@@ -27,11 +27,11 @@ pair_of None b = []
 abbrev pub written_pairs : NetworkText → List (ℕ × ℕ)
 written_pairs n = flat_map (λ o. pair_of (labelled n o.before) (labelled n o.after)) n.orderings
 
--- with each subtask before the next one, where the list is ordered
+-- the pairs of `:ordering`, and each subtask with the next one where the list is ordered
 abbrev pub order_pairs : NetworkText → List (ℕ × ℕ)
 order_pairs n = cond n.is_ordered (successors (length n.subtasks)) [] ++ written_pairs n
 
--- the order that the pairs lead to
+-- the order is the closure of the pairs
 pub record IsOrderOf (n : NetworkText) (order : Order) : Type 0 where
   pub square : IsSquare (length n.subtasks) order
   pub closure : IsClosureOf (order_pairs n) order

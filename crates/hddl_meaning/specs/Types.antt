@@ -10,7 +10,7 @@ pub data Leads (pairs : List (Text × Text)) : Text → Text → Type 0 where
   Direct : (t u : Text) → Contains pairs (t, u) → Leads pairs t u
   Through : (t u v : Text) → Contains pairs (t, u) → Leads pairs u v → Leads pairs t v
 
--- the text of a type, and `object` where none stands
+-- the text of a type, and `object` where none is written
 abbrev pub text_or_object : Option Mention → Text
 text_or_object None = object
 text_or_object (Some m) = m.text
@@ -31,7 +31,7 @@ is_object_pair pair = is_same_text pair.0 object && is_same_text pair.1 object
 abbrev pub parent_pairs : DomainText → List (Text × Text)
 parent_pairs d = filter (λ pair. not (is_object_pair pair)) (declared_pairs d ++ map (λ text. (text, object)) (texts (type_mentions d)))
 
--- a type is below itself, and below what the pairs lead to
+-- a type is below itself, and below the types to which the pairs lead
 abbrev pub IsBelow : DomainText → Text → Text → Type 0
 IsBelow d t u = (t ≡ u) ⊎ Leads (parent_pairs d) t u
 

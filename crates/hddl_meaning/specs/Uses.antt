@@ -1,4 +1,4 @@
--- What a domain and a problem use, drawn from their trees as flat lists.
+-- The uses of names in a domain and a problem, as flat lists made from their trees.
 use Rattle.std.specs.Prelude.{Bool, true, false, List, [], ◌∷◌, ◌++◌, map}
 use Rattle.std.specs.List.{flat_map}
 use Rattle.hddl_tree.specs.declared.term.Term.{Term}
@@ -27,7 +27,7 @@ parameters_of groups = map (λ t. record { typed = t; is_quantified = false }) (
 abbrev pub quantified_of : List VariableGroup → List Variable
 quantified_of groups = map (λ t. record { typed = t; is_quantified = true }) (typed_variables groups)
 
--- an atom, a task or an equality's side, with the variables in force where it stands
+-- an atom, a task or an equality's side, with the variables in force there
 pub record Use : Type 0 where
   pub variables : List Variable
   pub atom : AtomText
@@ -44,7 +44,8 @@ pub record Quantifier : Type 0 where
 
 -- ## Conditions
 
--- what a part of a condition gives under its variables, where a `forall` hands its body more of them
+-- the list that a part of a condition gives under its variables; the body of a `forall` has the variables of the
+-- `forall` too
 abbrev pub under : {X : Type 0} → List Variable → List VariableGroup → List (List Variable → List X) → List X
 under variables groups body = flat_map (λ part. part (variables ++ quantified_of groups)) body
 
@@ -84,7 +85,7 @@ quantifiers_in variables conditions = flat_map (λ c. fold-Condition (List Varia
 
 -- ## Schemas: methods, actions, the initial network and, without parameters, the initial atoms and the goal
 
--- what one of them uses
+-- the uses of names in one of them
 pub record Schema : Type 0 where
   -- the parameters of a method, an action or the initial network
   pub parameters : List VariableGroup
@@ -105,7 +106,7 @@ subtasks_in variables n = map (λ s. record { variables = variables; atom = s.ta
 abbrev pub constraints_in : List Variable → NetworkText → List TermUse
 constraints_in variables n = flat_map (sides variables) n.constraints
 
--- what a method uses and declares
+-- the uses and declarations of a method
 abbrev pub schema_of_method : MethodText → Schema
 schema_of_method m =
     let variables = parameters_of m.parameters in
@@ -118,7 +119,7 @@ schema_of_method m =
       quantifiers = quantifiers_in variables m.precondition;
     }
 
--- what an action uses and declares
+-- the uses and declarations of an action
 abbrev pub schema_of_action : ActionText → Schema
 schema_of_action a =
     let variables = parameters_of a.parameters in
@@ -131,7 +132,7 @@ schema_of_action a =
       quantifiers = quantifiers_in variables a.precondition;
     }
 
--- what the initial network uses and declares
+-- the uses and declarations of the initial network
 abbrev pub schema_of_network : ProblemText → Schema
 schema_of_network p =
     let variables = parameters_of p.htn.parameters in
@@ -155,10 +156,10 @@ schema_of_states p = record {
   quantifiers = quantifiers_in [] p.goal;
 }
 
--- what each method and each action of a domain uses and declares
+-- the uses and declarations of each method and each action of a domain
 abbrev pub domain_schemas : DomainText → List Schema
 domain_schemas d = map schema_of_method d.methods ++ map schema_of_action d.actions
 
--- what the initial network, and the initial state with the goal, use and declare
+-- the uses and declarations of the initial network, and of the initial state with the goal
 abbrev pub problem_schemas : ProblemText → List Schema
 problem_schemas p = schema_of_network p ∷ schema_of_states p ∷ []

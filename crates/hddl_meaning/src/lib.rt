@@ -1,5 +1,5 @@
-//! What a domain and a problem mean together: when they fit, and which planning task they are. The definitions stand in
-//! `specs/`.
+//! The meaning of a domain and a problem together: when they fit together, and which planning task they are. The
+//! definitions are in `specs/`.
 #![tactic(auto)]
 
 mod fault;
@@ -27,8 +27,8 @@ pub fn tasks_are_well_typed()
     ensures typed { TasksAreWellTyped }
 {}
 
-/// Small trees: one that fails in the way of each fault, at that fault's place, what some parts mean, a pair that fits
-/// together with its task, and where types are on no cycle and clash with none.
+/// Small trees: one that has each fault, at that fault's place, the meanings of some parts, a pair that fits together
+/// with its task, and types that are on no cycle and clash with none.
 pub fn worked_examples_hold()
     ensures faults { FaultsHavePlaces }
     ensures meanings { TreesHaveMeanings }

@@ -1,4 +1,4 @@
--- The closure of pairs of numbers, kept as lines and junctions.
+-- The closure of pairs of numbers, stored as lines and junctions.
 use Rattle.std.specs.Prelude.{◌≡◌, ◌<◌, ◌↔◌, ◌⊎◌, ℕ, true, not, ◌&&◌, Option, Some, IfSome, List, [], length, get_or, slice_get, nat_eq, Contains}
 use Rattle.std.specs.List.{filter, list_any, position}
 use Rattle.hddl_names.specs.Intervals.{IsInside, top_at}
@@ -14,7 +14,7 @@ pub record Closure : Type 0 where
   pub tops : List ℕ
   pub sets : List (List ℕ)
 
--- the set that is kept for a number, empty where none is
+-- the set that is stored for a number, empty where none is
 abbrev pub set_of : List (List ℕ) → ℕ → List ℕ
 set_of sets number = get_or sets number []
 
@@ -54,7 +54,7 @@ ShareJunction c a b = (i : ℕ) × (has (set_of c.sets a) i ≡ true) × (has (s
 abbrev pub Meet : Closure → ℕ → ℕ → Type 0
 Meet c a b = LeadsTo c a b ⊎ LeadsTo c b a ⊎ ShareJunction c a b
 
--- the closure tells what leads to what along the pairs, and whether something leads to both of two numbers
+-- the closure decides which number leads to which along the pairs, and whether some number leads to both of two
 pub record Tells (pairs : List (ℕ × ℕ)) (count : ℕ) (c : Closure) : Type 0 where
   pub leads : (a b : ℕ) → a < count → 0 < b → b < count → LeadsTo c a b ↔ Reaches pairs a b
   pub meet : (a b : ℕ) → 0 < a → a < count → 0 < b → b < count → Meet c a b ↔ ((s : ℕ) × (s < count) × Reaches pairs s a × Reaches pairs s b)

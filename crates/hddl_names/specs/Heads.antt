@@ -7,7 +7,7 @@ use Rattle.hddl_names.specs.Closures.{Closure, LeadsTo, Meet}
 use Rattle.hddl_names.specs.Reach.{Reaches}
 use Rattle.hddl_names.specs.TypeNumbers.{AreTypesOf, numbered_pairs}
 
--- the head that is kept for a number: itself where none is
+-- the head that is stored for a number: the number itself where none is
 abbrev pub head_at : List ℕ → ℕ → ℕ
 head_at heads number = get_or heads number number
 
@@ -46,13 +46,14 @@ HeadLeads c a b = (head_at c.heads b ≡ 0) ⊎ LeadsTo c.closure (head_at c.hea
 abbrev pub HeadsMeet : Condensed → ℕ → ℕ → Type 0
 HeadsMeet c a b = (head_at c.heads a ≡ 0) ⊎ (head_at c.heads b ≡ 0) ⊎ Meet c.closure (head_at c.heads a) (head_at c.heads b)
 
--- heads and their closure tell what leads to what along the pairs, and whether something leads to both of two numbers
+-- heads and their closure decide which number leads to which along the pairs, and whether some number leads to both of
+-- two
 pub record TellsAll (pairs : List (ℕ × ℕ)) (count : ℕ) (c : Condensed) : Type 0 where
   pub leads : (a b : ℕ) → a < count → b < count → HeadLeads c a b ↔ Reaches pairs a b
   pub meet : (a b : ℕ) → a < count → b < count → HeadsMeet c a b ↔ ((s : ℕ) × (s < count) × Reaches pairs s a × Reaches pairs s b)
 
--- the names of a domain's types with their parents and children, and heads with a closure, if there are some, that tell
--- the same
+-- the names of a domain's types with their parents and children; and the heads with a closure, if there are some,
+-- decide the same
 pub record AreHierarchyOf (d : DomainText) (names : List Text) (up down : List (List ℕ)) (closure : Option Condensed) : Type 0 where
   pub types : AreTypesOf d names up down
   pub told : IfSome closure (TellsAll (numbered_pairs d) (length names))

@@ -4,7 +4,7 @@ use Rattle.hddl_names.specs.Rows.{AreRows, turned}
 use Rattle.hddl_names.specs.Reach.{Reaches}
 use Rattle.hddl_names.specs.declared.intervals.Interval.{Interval}
 
--- the interval of a number, that of no places where none is kept
+-- the interval of a number, the empty one where none is stored
 abbrev pub interval_at : List Interval → ℕ → Interval
 interval_at intervals number = get_or intervals number (record { start = 0; end = 0 })
 
@@ -34,7 +34,7 @@ abbrev pub AreTiled : List Interval → List (List ℕ) → Type 0
 AreTiled intervals rows =
     (number : ℕ) → 0 < number → number < length rows → Tile intervals (get_or rows number []) (suc (start_of intervals number)) (end_of intervals number)
 
--- each number stands in the order at its place
+-- each number is in the order at its place
 abbrev pub StandAtPlaces : List Interval → List ℕ → Type 0
 StandAtPlaces intervals order = (number : ℕ) → number < length intervals → slice_get order (start_of intervals number) ≡ Some number
 
@@ -42,17 +42,18 @@ StandAtPlaces intervals order = (number : ℕ) → number < length intervals →
 abbrev pub Tell : List (ℕ × ℕ) → List Interval → Type 0
 Tell pairs intervals = (a b : ℕ) → a < length intervals → 0 < b → b < length intervals → IsInside intervals a b ↔ Reaches pairs a b
 
--- the top of a number's line, the number itself where none is kept
+-- the top of a number's line, the number itself where none is stored
 abbrev pub top_at : List ℕ → ℕ → ℕ
 top_at tops number = get_or tops number number
 
--- a number is its own top, or has a row and is inside its top; and all of its row have the same top
+-- a number with this row of parents is its own top, or has parents and is inside its top; and all its parents have the
+-- same top
 abbrev pub HasTop : List Interval → List ℕ → List ℕ → ℕ → Type 0
 HasTop intervals tops row number =
     ((top_at tops number ≡ number) ⊎ ((row ≡ [] → ⊥) × (0 < top_at tops number) × IsInside intervals number (top_at tops number)))
     × All (λ parent. top_at tops parent ≡ top_at tops number) row
 
--- the same for each number that has a row
+-- each number that has a row of parents has its top
 abbrev pub HaveTops : List Interval → List ℕ → List (List ℕ) → Type 0
 HaveTops intervals tops rows = (number : ℕ) → number < length rows → HasTop intervals tops (get_or rows number []) number
 
@@ -62,7 +63,7 @@ pub record AreTops (pairs : List (ℕ × ℕ)) (count : ℕ) (tops : List ℕ) :
   pub alike : (a b : ℕ) → Contains {X = ℕ × ℕ} pairs (a, b) → top_at tops a ≡ top_at tops b
   pub last : (a : ℕ) → a < count → ((b : ℕ) → Contains {X = ℕ × ℕ} pairs (a, b) → ⊥) → top_at tops a ≡ a
 
--- the same along the pairs of the rows
+-- intervals and tops that decide which number leads to which along the pairs of the rows
 abbrev pub TellOfRows : List (List ℕ) → List (List ℕ) → List Interval → List ℕ → Type 0
 TellOfRows up down intervals tops =
     (pairs : List (ℕ × ℕ)) → AreRows pairs up → AreRows (turned pairs) down → (length intervals ≡ length down) × Tell pairs intervals × AreTops pairs (length up) tops

@@ -25,7 +25,7 @@ object_at d p number = get_or (object_names d p) number []
 abbrev pub number_typed : List Text → List Text → Typed → ℕ × ℕ
 number_typed objects types t = (number_in objects t.mention.text, number_in types (text_or_object t.of_type))
 
--- the same for all names of a typed list, in its order
+-- the numbers of all names of a typed list with those of their types, in the order of the list
 abbrev pub declared_in : List Text → List Text → List NameGroup → List (ℕ × ℕ)
 declared_in objects types groups = map (number_typed objects types) (typed_names groups)
 

@@ -1,7 +1,7 @@
--- Pairs of numbers, kept as a list for each first number.
+-- Pairs of numbers, stored as a list for each first number.
 use Rattle.std.specs.Prelude.{ℕ, ◌<◌, ◌↔◌, List, [], map, length, get_or, Vec, Contains, All}
 
--- what the vectors hold
+-- the contents of vectors
 abbrev pub lists_of : {A : Type 0} → List (Vec ℕ A) → List (List ℕ)
 lists_of vectors = map (λ v. v.items) vectors
 
@@ -9,7 +9,7 @@ lists_of vectors = map (λ v. v.items) vectors
 abbrev pub AreWithin : List (List ℕ) → Type 0
 AreWithin rows = All (All (λ x. x < length rows)) rows
 
--- the list of each number has what it is paired with
+-- the list of each number has the second numbers of its pairs
 abbrev pub AreRows : List (ℕ × ℕ) → List (List ℕ) → Type 0
 AreRows pairs rows = (a b : ℕ) → Contains (get_or rows a []) b ↔ Contains {X = ℕ × ℕ} pairs (a, b)
 

@@ -6,7 +6,7 @@ use Rattle.hddl_tree.specs.declared.term.NameGroup.{NameGroup}
 use Rattle.hddl_meaning.specs.Mentions.{Text, Mention, mention_of}
 use Rattle.hddl_meaning.specs.Names.{optional_mention}
 
--- what the vectors hold, as texts
+-- the contents of vectors, as texts
 abbrev pub texts_of : {A : Type 0} → List (Vec ℕ A) → List Text
 texts_of vectors = map (λ v. v.items) vectors
 

@@ -40,7 +40,7 @@ is_root pair = nat_eq pair.0 0 && nat_eq pair.1 0
 abbrev pub numbered_pairs : DomainText → List (ℕ × ℕ)
 numbered_pairs d = map (number_pair (type_names d)) (parent_pairs d)
 
--- the types' names with, for each, its parents and what it is a parent of
+-- the names of types with, for each, the lists of its parents and of its children
 pub record AreTypesOf (d : DomainText) (names : List Text) (up down : List (List ℕ)) : Type 0 where
   pub all : names ≡ type_names d
   pub up_count : length up ≡ length names

@@ -1,11 +1,11 @@
-//! The closure of pairs of numbers with their parents, kept short.
+//! The closure of pairs of numbers with their parents, in compact form.
 //!
-//! Where a number has one parent, `0` aside, a line goes from it to that parent, and along lines intervals tell which
-//! number leads to which. Lines end at numbers without parents, and at *junctions*, which have several. Past the top of
-//! its line a number leads to what the junction there leads to. So each number keeps the set of the junctions that lead
-//! to it, a bit for each: then one look tells whether a number leads to another, and a pass over two sets whether
-//! something leads to both. The time to make it is that of going over all pairs, with a set for each pair past a
-//! junction.
+//! Where a number has one parent, `0` aside, a line leads from it to that parent, and intervals decide which number
+//! leads to which along lines. Lines end at numbers without parents, and at *junctions*, which have several. Past the
+//! top of its line a number leads to whatever the junction there leads to. So each number has the set of the junctions
+//! that lead to it, a bit for each: then one look-up decides whether a number leads to another, and a pass over two
+//! sets whether some number leads to both. It is made in the time of a pass over all pairs, with a set for each pair
+//! past a junction.
 //!
 //! In the words of graphs: reachability by interval labels along trees, and by hubs, the junctions, between them.
 ghost use Rattle.std.specs.Prelude.{◌≡◌, ◌<◌, ◌↔◌, ◌⊎◌, ◌||◌, ℕ, [], Some, List, true, replicate, length, get_or, All, Contains, IsTrue, IfOk, IfSome, OnOk};
@@ -71,7 +71,8 @@ fn line_pairs(
         .collect(alloc)
 }
 
-/// What tells which number leads to which along the lines between junctions. It may be None where there is a cycle.
+/// The intervals that decide which number leads to which along the lines between junctions. They may be None where
+/// there is a cycle.
 fn lines_between(
     alloc: Global,
     size: usize,

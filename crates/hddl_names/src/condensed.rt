@@ -165,8 +165,7 @@ fn closure_of_heads(
 }
 
 impl Condensed {
-    /// What tells which number leads to which along pairs, which are also given by rows in both directions, or an error
-    /// where memory was refused.
+    /// The closure of pairs, which are also given by rows in both directions. An error means that memory was refused.
     pub(crate) fn of(
         alloc: Global,
         pairs: &[(usize, usize)],

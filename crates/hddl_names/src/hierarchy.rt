@@ -30,7 +30,7 @@ pub struct TypeHierarchy<'a> {
     parents: Rows,
     /// What each type is a parent of.
     children: Rows,
-    /// What tells which type is below which, for speed.
+    /// The closure of the types' parents, which decides which type is below which: for speed.
     closure: Option<Condensed>,
 }
 

@@ -1,10 +1,10 @@
-//! Intervals of a walk, which tell in one look whether one number leads to another.
+//! Intervals of a walk, which decide in one look-up whether one number leads to another.
 //!
-//! Where each number has one parent at most, a line goes from it up to the last of its ancestors, its top. The numbers
-//! are walked from the tops down. Each has a place in the walk, and its interval goes from there to the end of all that
-//! lead to it. So a number leads to another exactly where its place is in the other's interval. No promise rests on the
-//! walk: whether the intervals of the children tile that of their parent is looked at once, after it. Where a number
-//! has several parents, or leads to itself, they don't, and there are none.
+//! Where each number has at most one parent, a line leads from it up to the last of its ancestors, its top. The numbers
+//! are walked from the tops down. Each has a place in the walk, and its interval extends from there to the end of all
+//! that lead to it. So a number leads to another exactly where its place is in the other's interval. The walk is not
+//! proved: whether the intervals of the children tile that of their parent is checked once, after it. Where a number
+//! has several parents, or leads to itself, they do not, and there are no intervals.
 //!
 //! In the words of graphs: interval labels of a tree, as Agrawal, Borgida and Jagadish (1989) have them.
 ghost use Rattle.std.specs.Prelude.{◌≡◌, ◌<◌, ◌↔◌, ℕ, IsTrue, IfOk, IfSome, [], length, get_or};
@@ -155,8 +155,8 @@ pub(crate) fn top_of(tops: &[usize], number: usize) -> usize
     tops.get(number).copied().unwrap_or(number)
 }
 
-/// Whether a number with this row is its own top, or has a row and is inside its top, and all of the row have the same
-/// top.
+/// Whether a number with this row of parents is its own top, or has parents and is inside its top, and all its parents
+/// have the same top.
 fn has_top(intervals: &[Interval], tops: &[usize], row: &[usize], number: usize) -> bool
     ensures { IsTrue result ↔ HasTop intervals.now tops.now row.now number }
 {
@@ -188,8 +188,8 @@ pub(crate) struct Lines {
     pub(crate) tops: Vec<usize>,
 }
 
-/// What tells which number leads to which along the parents, None where a number has several or leads to itself, or an
-/// error where memory was refused. The work is that of going over all rows.
+/// The intervals and tops that decide which number leads to which along the parents; None where a number has several or
+/// leads to itself. An error means that memory was refused. It takes the time of a pass over all rows.
 pub(crate) fn lines_of(
     alloc: Global,
     parents: &Rows,

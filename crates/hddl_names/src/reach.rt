@@ -17,7 +17,7 @@ pub fn add_all(found: &mut IndexSet<usize>, numbers: &[usize]) -> Result<(), All
     Ok(())
 }
 
-/// The numbers and all that they lead to, each once. The work is that of going over their rows.
+/// The numbers and all that they lead to, each once. It takes the time of a pass over their rows.
 pub fn all_reached(
     alloc: Global,
     rows: &Rows,
@@ -40,7 +40,7 @@ pub fn all_reached(
     Ok(found)
 }
 
-/// The number and all that it leads to, each once. The work is that of going over their rows.
+/// The number and all that it leads to, each once. It takes the time of a pass over their rows.
 pub fn reached(alloc: Global, rows: &Rows, start: usize) -> Result<IndexSet<usize>, AllocError>
     requires { start < length rows.now }
     ensures { IfOk result (λ found. IsReached rows.now start found.keys) }

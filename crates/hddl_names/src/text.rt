@@ -69,7 +69,7 @@ pub fn fold(alloc: Global, bytes: &[u8]) -> Result<Folded<'_>, AllocError>
     })
 }
 
-/// The bytes of a name or a variable in lower case, to be kept in a table, or an error where memory was refused.
+/// The bytes of a name or a variable in lower case, to be stored in a table. An error means that memory was refused.
 pub fn fold_to_vec(alloc: Global, bytes: &[u8]) -> Result<Vec<u8>, AllocError>
     ensures { IfOk result (λ text. text.items ≡ folded bytes.now) }
 {
@@ -78,7 +78,7 @@ pub fn fold_to_vec(alloc: Global, bytes: &[u8]) -> Result<Vec<u8>, AllocError>
     Ok(text)
 }
 
-/// Puts bytes in lower case into a buffer that is used again: what it held goes.
+/// Replaces the contents of a buffer by these bytes in lower case.
 pub fn fold_into(buffer: &mut Vec<u8>, bytes: &[u8]) -> Result<(), AllocError>
     ensures { OnOk result (buffer.new.items ≡ folded bytes.now) }
 {

@@ -1,4 +1,4 @@
--- Names of which one stands twice.
+-- Names that occur twice.
 use Rattle.std.specs.Prelude.{◌≡◌, ◌⊎◌, ◌<◌, ℕ, cond, max, List, [], ◌∷◌, ◌++◌, Option, Some, None, is_some, length, map, take}
 use Rattle.hddl_meaning.specs.Mentions.{Mention, Text, IsIn, texts}
 use Rattle.hddl_meaning.specs.Names.{distinct}
@@ -37,7 +37,7 @@ IsOvertaken group place =
     × (group ≡ before ++ first ∷ middle ++ second ∷ after) × (first.text ≡ second.text) × (place ≡ max first.place second.place)
     × IsIn third before × (third.text ≡ first.text) × (place < third.place)
 
--- the places at which mentions past the first so many repeat others, but for those that are overtaken
+-- the places at which mentions after the first `start` ones repeat others, but for those that are overtaken
 pub record AreRepeats (start : ℕ) (group : List Mention) (places : List ℕ) : Type 0 where
   pub sound : (place : ℕ) → IsIn place places → IsRepeat group place
   pub complete : (place : ℕ) → IsRepeat group place → IsIn place places ⊎ IsRepeat (take start group) place ⊎ IsOvertaken group place

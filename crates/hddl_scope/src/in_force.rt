@@ -36,7 +36,7 @@ pub struct Scope<'a> {
     entries: Vec<Entry<'a>>,
     /// The position of the first variable of each text.
     positions: Numbers,
-    /// The place of a variable whose text stood before, if there is one.
+    /// The place of a variable whose text occurs before it, if there is one.
     repeat: Option<usize>,
 }
 
@@ -85,7 +85,7 @@ impl<'a> Scope<'a> {
         }
     }
 
-    /// No variables, with room for so many.
+    /// No variables, with room for `capacity` of them.
     fn with_capacity(alloc: Global, capacity: usize) -> Result<Scope<'a>, AllocError>
         ensures { IfOk result (λ scope. scope ≡ []) }
     {
@@ -139,7 +139,7 @@ impl<'a> Scope<'a> {
         self.positions.get(text)
     }
 
-    /// The place of a variable whose text stood before, if there is one.
+    /// The place of a variable whose text occurs before it, if there is one.
     pub fn repeat(&self) -> Option<usize>
         ensures { Finds (IsRepeat (variable_mentions self.now)) result }
     {
@@ -164,7 +164,7 @@ impl<'a> Scope<'a> {
         later(self.place_at(Some(first)), variable.place())
     }
 
-    /// The places at which variables past the first `start` ones stand again.
+    /// The places at which variables past the first `start` ones repeat others.
     pub fn repeats(&self, alloc: Global, start: usize) -> Result<Vec<usize>, AllocError>
         ensures { IfOk result (λ places. AreRepeats start (variable_mentions self.now) places.items) }
     {

@@ -1,4 +1,4 @@
-//! Names and variables as they are compared, those that stand twice or are too many, and the variables in force.
+//! Names and variables as they are compared, those that occur twice or are too many, and the variables in force.
 #![tactic(auto)]
 
 mod distinct;

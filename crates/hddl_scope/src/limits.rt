@@ -4,13 +4,13 @@ ghost use Rattle.hddl_meaning.specs.Items.{IsPast};
 
 use crate::mention::Mention;
 
-/// Of each kind of declaration, and of variables in force at once.
+/// The most declarations of each kind, and the most variables in force at once.
 pub const MOST_DECLARATIONS: usize = 65_535;
 
-/// Of the parameters of one predicate, method, action, initial network or `forall`.
+/// The most parameters of one predicate, method, action, initial network or `forall`.
 pub const MOST_PARAMETERS: usize = 32;
 
-/// Of the subtasks of one network.
+/// The most subtasks of one network.
 pub const MOST_SUBTASKS: usize = 10_000;
 
 /// The place of the first name past the limit, if there are more.

@@ -9,7 +9,7 @@ use smallvec::SmallVec;
 use std::alloc::{AllocError, Global};
 use std::marker::Model;
 
-/// So many texts are looked through one by one, which takes less than a table of them.
+/// Up to this number of texts are compared one by one, which takes less time than a table of them.
 const FEW: usize = 16;
 
 /// A text with its number.

@@ -28,7 +28,7 @@ fn rank_at(at: At, kind: usize) -> Rank
     }
 }
 
-/// The rank of a fault. Want of memory comes last.
+/// The rank of a fault. `OutOfMemory` is last.
 fn rank_of(fault: CheckFault) -> Rank
     ensures { result ≡ rank_of fault }
 {

@@ -57,8 +57,8 @@ pub(crate) fn note(
     note_after(alloc, known, mention, first)
 }
 
-/// The places at which names stand that stood before: of each name but the first of its text, its place or that of the
-/// first, whichever is later.
+/// The places of repeated names: for each name but the first of its text, its place or that of the first, whichever is
+/// later.
 pub fn repeats(alloc: Global, mentions: &[Mention<'_>]) -> Result<Vec<usize>, AllocError>
     ensures repeats { IfOk result (λ places. AreRepeats 0 mentions.now places.items) }
     ensures none { IfOk result (λ places. places.items ≡ [] → (place : ℕ) → IsRepeat mentions.now place → ⊥) }

@@ -1,4 +1,4 @@
--- What was read of a list, a section or a text so far, and the tree that it completes.
+-- The parts of a list, a section or a text that were read so far, and the tree that they complete.
 use Rattle.std.specs.Prelude.{ℕ, false, List, [], ◌∷◌, ◌++◌, Option, Some, None, unwrap_or}
 use Rattle.hddl_words.specs.Names.{Name, Variable}
 use Rattle.hddl_tree.specs.declared.term.AtomText.{AtomText}

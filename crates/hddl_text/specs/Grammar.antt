@@ -1,5 +1,5 @@
--- The grammar of domain and problem texts, over words. Each definition is a rule or an alternative of one; what follows
--- a word is told by the word's class, and the tree is built beside it.
+-- The grammar of domain and problem texts, over words. Each definition is a rule or an alternative of one; the class of
+-- a word determines what may follow it, and the rules build the tree of the text.
 use Rattle.std.specs.Prelude.{ℕ, zero, suc, Bool, true, false, not, List, [], ◌∷◌, ◌++◌, Option, Some, None, codes}
 use Rattle.std.specs.Str.{str_eq_ignore_ascii_case}
 use Rattle.hddl_words.specs.declared.class.Keyword.TheVariants as key

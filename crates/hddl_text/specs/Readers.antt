@@ -578,6 +578,6 @@ domain = opening >> domain_rest
 unfoldable pub problem : Reader ProblemText
 problem = opening >> problem_rest
 
--- the same, and no word after it
+-- a reader, and then the end of the words
 abbrev pub whole : {A : Type 0} → Reader A → Reader A
 whole p = p >>= (λ a. end >> pure a)

@@ -1,4 +1,4 @@
--- What it means that a text spells a tree, and that a fault stands at a place.
+-- The meaning of a text that spells a tree, and of a fault at a place of a text.
 use Rattle.std.specs.Prelude.{◌≡◌, ◌≢◌, ℕ, ◌-◌, ◌⊎◌, Bool, true, ◌&&◌, if◌then◌else◌, List, [], ◌∷◌, ◌++◌, length, map, drop, min, Ok}
 use Rattle.std.specs.declared.alloc.Global.{Global}
 use Rattle.std.specs.declared.vec.Vec.{Vec}
@@ -40,14 +40,14 @@ pub record HasNested (text : List ℕ) (ws : List Word) : Type 0 where
   pub lexed : words text ≡ Ok ws
   pub nested : Nests 0 ws
 
--- Faults of the words are looked for first, those of brackets only where the words have none.
+-- Faults of the words are considered first, those of brackets only where the words have none.
 abbrev pub EarlyFaultAt : List ℕ → TextFault → Type 0
 EarlyFaultAt text (TooDeep place) = (ws : List Word) × (words text ≡ Ok ws) × BracketFaultAt ws (TooDeep place)
 EarlyFaultAt text (ExtraClose place) = (ws : List Word) × (words text ≡ Ok ws) × BracketFaultAt ws (ExtraClose place)
 EarlyFaultAt text (Unclosed place) = (ws : List Word) × (words text ≡ Ok ws) × BracketFaultAt ws (Unclosed place)
 EarlyFaultAt text fault = WordFaultAt text fault × IsLeftmost text fault
 
--- The fault stands in the text, at its place. Those of the grammar are looked for only where the brackets nest.
+-- The fault is in the text, at its place. Faults of the grammar are considered only where the brackets nest.
 abbrev pub FaultAt : {Tree : Type 0} → (List Word → Tree → Type 0) → List ℕ → TextFault → Type 0
 FaultAt Derives text (Expected place) = (ws : List Word) × HasNested text ws × (((ws ≡ []) × (place ≡ length text)) ⊎ ((w : Word) × (w.place ≡ place) × BeginsNone Derives ws w))
 FaultAt Derives text (Unsupported place) = (ws : List Word) × HasNested text ws × ((w : Word) × (w.place ≡ place) × BeginsNone Derives ws w × (is_unsupportable (class_of w) ≡ true))

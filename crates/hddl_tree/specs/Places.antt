@@ -1,4 +1,4 @@
--- Where the parts of a tree stand.
+-- The places of a tree's parts in its text.
 use Rattle.std.specs.Prelude.{ℕ, Option, Some, None}
 use Rattle.hddl_words.specs.Names.{Name}
 use Rattle.hddl_tree.specs.declared.network.SubtaskText.{SubtaskText}

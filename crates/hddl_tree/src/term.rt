@@ -2,7 +2,7 @@
 
 use hddl_words::{Items, Name, Variable};
 
-/// What stands for an object: a variable, or the name of a constant or object.
+/// A term: a variable, or the name of a constant or object.
 #[derive(Debug, Drop)]
 pub enum Term {
     Variable(Variable),

@@ -27,7 +27,7 @@ PassedOver c = PassedOverIn c.source
 abbrev pub PassedInside : Context → List Variable → Part → CheckFault → Type 0
 PassedInside c variables part f = PassedOver c part f ⊎ Fails c (Different (variable_mentions variables)) f
 
--- a repeat among the first so many variables, or one that is overtaken
+-- a repeat among the first `start` variables, or one that is overtaken
 abbrev pub RepeatsBefore : Context → ℕ → List Variable → CheckFault → Type 0
 RepeatsBefore c start variables f =
     Fails c (Different (take start (variable_mentions variables))) f ⊎ Faulted fault.Duplicate c.source (IsOvertaken (variable_mentions variables)) f
@@ -48,7 +48,7 @@ ArgumentFails c variables a = ArgumentFailsIn c.domain.now c.problem.now c.sourc
 abbrev pub TermFails : Context → List Variable → Term → CheckFault → Type 0
 TermFails c variables x = Fails c (Side (record { variables = variables; term = x }))
 
--- an argument clashes with its place, and it can be told
+-- an argument clashes with its place, and its type is known
 abbrev pub ArgumentClashes : Context → List Variable → Term × Variable → CheckFault → Type 0
 ArgumentClashes c variables a = Faulted fault.TypeClash c.source (ClashesAt c.domain.now c.problem.now variables (a.0, a.1.typed))
 

@@ -1,4 +1,4 @@
--- What has to be known before it can be told whether an argument fits.
+-- The conditions under which it is known whether an argument fits its place.
 use Rattle.std.specs.Prelude.{◌≤◌, ℕ, List, length}
 use Rattle.hddl_tree.specs.declared.term.Term.{Term}
 use Rattle.hddl_tree.specs.declared.term.Term.TheVariants as term
@@ -24,12 +24,12 @@ IsTyped d t = IsDeclaredType d (text_or_object t.of_type)
 abbrev pub AllTyped : DomainText → List Typed → Type 0
 AllTyped d typed = (t : Typed) → IsIn t typed → IsTyped d t
 
--- of a constant or object, all are
+-- the types of a constant or object are known where those of all are
 abbrev pub IsKnown : DomainText → ProblemText → Term → Type 0
 IsKnown d p (term.Variable x) = Unit {0}
 IsKnown d p (term.Object x) = ∥ AreKnown d p ∥₁
 
--- a clash that can be told
+-- a clash of an argument whose type is known
 pub record IsKnownClash (d : DomainText) (p : ProblemText) (variables : List Variable) (argument : Term) (at_place : Typed) (place : ℕ) : Type 0 where
   pub clash : IsClash d p variables argument at_place place
   pub known : IsKnown d p argument

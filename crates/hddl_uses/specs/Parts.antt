@@ -1,4 +1,4 @@
--- What has to fit, part by part, and how each part fails.
+-- The conditions of a pair, part by part, and how each part fails.
 use Rattle.std.specs.Prelude.{◌≡◌, ◌⊎◌, ℕ, List, [], ◌∷◌, ◌++◌, map, length, Some}
 use Rattle.std.specs.List.{flat_map, zip}
 use Rattle.hddl_tree.specs.declared.term.Term.{Term}
@@ -23,7 +23,7 @@ use Rattle.hddl_scope.specs.Findings.{Faulted}
 use Rattle.hddl_uses.specs.Known.{IsKnownClash}
 use Rattle.hddl_scope.specs.Repeats.{IsOvertaken, IsRepeat}
 
--- one thing that has to fit
+-- one part of a pair with a condition on it
 pub data Part : Type 0 where
   -- names that must differ
   Different : List Mention → Part
@@ -54,11 +54,11 @@ abbrev pub IsWrongCount : List Signature → Use → ℕ → Type 0
 IsWrongCount signatures u place =
     (s : Signature) × (items.declaration_in signatures u.atom.name ≡ Some s) × (length u.atom.terms ≡ length s.places → ⊥) × (place ≡ u.atom.name.place)
 
--- an argument clashes with the place that it takes, and it can be told
+-- an argument clashes with the place that it takes, and its type is known
 abbrev pub ClashesAt : DomainText → ProblemText → List Variable → Term × Typed → ℕ → Type 0
 ClashesAt d p variables a place = IsKnownClash d p variables a.0 a.1 place
 
--- an argument and its place
+-- an argument fails at its place of a declaration: it is unknown, or clashes with the type of the place
 abbrev pub ArgumentFailsIn : DomainText → ProblemText → Source → List Variable → Term × Typed → CheckFault → Type 0
 ArgumentFailsIn d p text variables a f =
     Faulted fault.UnknownName text (items.IsUnknownTerm (object_names d p) (record { variables = variables; term = a.0 })) f
@@ -68,13 +68,14 @@ ArgumentFailsIn d p text variables a f =
 abbrev pub HasUnknownArgument : DomainText → ProblemText → Use → ℕ → Type 0
 HasUnknownArgument d p u place = (t : TermUse) × IsIn t (items.arguments_of u) × items.IsUnknownTerm (object_names d p) t place
 
--- an argument of a use clashes with what is declared there
+-- an argument of a use clashes with the declared type of its place
 abbrev pub HasClash : DomainText → ProblemText → List Signature → Use → ℕ → Type 0
 HasClash d p signatures u place =
     (s : Signature) × (argument : Term) × (at_place : Typed) × (items.declaration_in signatures u.atom.name ≡ Some s)
     × IsIn (argument, at_place) (zip u.atom.terms s.places) × IsKnownClash d p u.variables argument at_place place
 
--- the names among which its name has to be, and the declarations that its arguments have to fit
+-- a use fails: its name is not among the names, one of its arguments is unknown, or its arguments do not fit its
+-- declaration by their number or by their types
 abbrev pub UseFails : DomainText → ProblemText → Source → List Text → List Signature → Use → CheckFault → Type 0
 UseFails d p text names signatures u f =
     Faulted fault.UnknownName text (items.IsMissing names u.atom.name) f
@@ -82,7 +83,7 @@ UseFails d p text names signatures u f =
     ⊎ Faulted fault.Arity text (IsWrongCount signatures u) f
     ⊎ Faulted fault.TypeClash text (HasClash d p signatures u) f
 
--- the first position of its order that leads to itself, at the place of the whole
+-- some subtask of a network leads to itself by the orderings, at the place of the network
 abbrev pub IsCyclic : ℕ → NetworkText → ℕ → Type 0
 IsCyclic at n place = (a : ℕ) × Precedes (order_pairs n) a a × (place ≡ at)
 
@@ -114,15 +115,15 @@ PassedOverIn text _ f = ⊥
 abbrev pub type_parts : List Typed → List Part
 type_parts typed = map TypeName (flat_map type_of typed)
 
--- of one group of a typed list
+-- the type that one group of a typed list names
 abbrev pub variable_group_parts : VariableGroup → List Part
 variable_group_parts g = type_parts (typed_variables (g ∷ []))
 
--- what has to fit in a group of a typed list: the type that it names
+-- the parts of a group of a typed list: the type that it names
 abbrev pub name_group_parts : NameGroup → List Part
 name_group_parts g = type_parts (typed_names (g ∷ []))
 
--- what has to fit at a `forall`: its variables differ from those around it, are few enough, and have declared types
+-- the parts of a `forall`: its variables differ from those around it, are few enough, and have declared types
 abbrev pub quantifier_parts : Quantifier → List Part
 quantifier_parts q =
     let own = mentions_of (typed_variables q.own) in
@@ -134,6 +135,6 @@ abbrev pub conditions_parts : List Variable → List Condition → List Part
 conditions_parts variables cs =
     map Atom (atoms_in variables cs) ++ (flat_map quantifier_parts (quantifiers_in variables cs) ++ map Side (sides_in variables cs))
 
--- what has to fit in a network apart from its uses: labels that differ, subtasks that are few enough, and orderings
+-- the parts of a network apart from its uses: labels that differ, subtasks that are few enough, and orderings
 abbrev pub network_parts : ℕ → NetworkText → List Part
 network_parts place n = Different (label_mentions n) ∷ Limited items.most_subtasks (subtask_mentions n) ∷ Network place n ∷ []

@@ -135,7 +135,7 @@ fn is_barred(
     }
 }
 
-/// Whether the constant or object of a number lacks the type of a place. Not, where types aren't declared.
+/// Whether the constant or object of a number does not have the type of a place. No, where types aren't declared.
 fn lacks_type(
     context: &Context<'_, '_>,
     object: usize,
@@ -177,7 +177,7 @@ fn check_variable_argument(
     Ok(())
 }
 
-/// A constant or object that isn't declared, or lacks the type of its place.
+/// Adds the fault of a constant or object that isn't declared, or does not have the type of its place.
 fn check_object_argument(
     context: &Context<'_, '_>,
     name: &Name,

@@ -1,8 +1,8 @@
 //! Whether pairs of positions have a cycle, in time and memory that are linear in the positions and pairs.
 //!
-//! A rank for each position, or a way back along a cycle, is found without proof and then checked. By ranks that rise
-//! along each pair there is no cycle, and a way that comes back is one. Where neither passes, which doesn't happen, the
-//! closure of the pairs tells; so no promise rests on what was found, but that of speed.
+//! A rank for each position, or a way back along a cycle, is found without proof and then checked. Ranks that rise
+//! along each pair show that there is no cycle, and a way that comes back is one. Where neither passes its check, which
+//! doesn't happen, the closure of the pairs decides; so only the speed rests on what was found.
 //!
 //! The ranks are by Kahn's algorithm (Topological sorting of large networks, 1962).
 ghost use Rattle.std.specs.Prelude.{◌↔◌, ◌<◌, Contains, IfOk, IfSome, IsTrue, get_or};
@@ -142,7 +142,7 @@ fn ways_back(
     Ok(back)
 }
 
-/// A position on a cycle: where so many steps back as there are positions end.
+/// A position on a cycle: the end of as many steps back as there are positions.
 fn far_back(pairs: &[(usize, usize)], back: &[Option<usize>]) -> usize {
     let mut at = back.iter().position(|way| way.is_some()).unwrap_or(0);
     for _ in 0..back.len() {

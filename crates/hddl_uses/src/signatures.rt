@@ -16,7 +16,7 @@ pub(crate) struct Signatures<'a> {
 }
 
 impl<'a> Signatures<'a> {
-    /// No declarations, with room for so many.
+    /// No declarations, with room for `capacity` of them.
     pub(crate) fn with_capacity(
         alloc: Global,
         capacity: usize,

@@ -38,13 +38,13 @@ pub record AddsEach (old new : Parts) (conditions : List Condition) : Type 0 whe
   pub sides : (v : List Variable) → sides new ≡ sides old ++ flat_map (condition_sides v) conditions
   pub groups : (v : List Variable) → groups new ≡ groups old ++ flat_map (condition_groups v) conditions
 
--- the same of one condition
+-- the parts of one condition were added
 pub record AddsParts (old new : Parts) (c : Condition) : Type 0 where
   pub atoms : (v : List Variable) → atoms new ≡ atoms old ++ condition_atoms v c
   pub sides : (v : List Variable) → sides new ≡ sides old ++ condition_sides v c
   pub groups : (v : List Variable) → groups new ≡ groups old ++ condition_groups v c
 
--- the same, as the parts of conditions are defined
+-- the parts of conditions were added, as the warnings define them
 pub record AddsConditions (old new : Parts) (conditions : List Condition) : Type 0 where
   pub atoms : (v : List Variable) → atoms new ≡ atoms old ++ map (λ u. u.atom) (atoms_in v conditions)
   pub sides : (v : List Variable) → sides new ≡ sides old ++ map (λ u. u.term) (sides_in v conditions)

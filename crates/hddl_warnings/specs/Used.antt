@@ -1,4 +1,4 @@
--- What a domain and a problem use, as flat lists.
+-- The uses of names in a domain and a problem, as flat lists.
 use Rattle.std.specs.Prelude.{List, [], ◌∷◌, ◌++◌, map, Option, Some, None}
 use Rattle.std.specs.List.{flat_map}
 use Rattle.hddl_words.specs.Names.{Name}

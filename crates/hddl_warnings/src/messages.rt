@@ -63,14 +63,14 @@ fn code(kind: WarningKind) -> &'static str
     }
 }
 
-/// The last of some names in ascending order that stands at the place or before it.
+/// The name of the last method that is at the place or before it; the names ascend.
 fn last_method(methods: &[MethodText], place: usize) -> Option<&Name> {
     let after = methods.partition_point(|method| method.name.place() <= place);
     let method = methods.get(after.checked_sub(1)?)?;
     Some(&method.name)
 }
 
-/// The same of actions.
+/// The name of the last action that is at the place or before it; the names ascend.
 fn last_action(actions: &[ActionText], place: usize) -> Option<&Name> {
     let after = actions.partition_point(|action| action.name.place() <= place);
     let action = actions.get(after.checked_sub(1)?)?;
@@ -153,7 +153,7 @@ fn say_effect<'a>(
     Ok(())
 }
 
-/// What stands before the word in a message of one word.
+/// The words before the named word in a message with one word.
 fn words_before(kind: WarningKind) -> &'static str {
     match kind {
         WarningKind::NoMethod => "no method decomposes the task ",
@@ -166,7 +166,7 @@ fn words_before(kind: WarningKind) -> &'static str {
     }
 }
 
-/// What stands after it.
+/// The words after the named word in a message with one word.
 fn words_after(kind: WarningKind) -> &'static str {
     match kind {
         WarningKind::UnusedPredicate => " is never used",
@@ -225,7 +225,7 @@ fn words<'a>(alloc: Global, words: &'a str) -> Result<Vec<Part<'a>>, AllocError>
     Ok(parts)
 }
 
-/// What stands beside the carets.
+/// The label beside the carets.
 fn label_of(kind: WarningKind) -> &'static str {
     match kind {
         WarningKind::AddedAndDeleted => "it is true afterwards",

@@ -71,7 +71,7 @@ FaultHere (NotAscii place) front b rest = (place ≡ length front) × IsNotAscii
 FaultHere (BadWord place) front b rest = (place ≡ length front) × IsBadWord front b rest
 FaultHere _ front b rest = ⊥
 
--- what becomes of one byte: a fault, a word that begins here, or neither
+-- the result for one byte: a fault, a word that begins here, or neither
 data Turn (n : ℕ) (front : List ℕ) (b : ℕ) (bytes : List ℕ) : Type 0 where
   stops : (fault : TextFault) → words_from n (length front) (b ∷ bytes) ≡ Err fault → FaultHere fault front b bytes → Turn n front b bytes
   gives : (m : ℕ) (w : Word) → Begins front b bytes w → Mode m (front ++ b ∷ []) bytes → words_from n (length front) (b ∷ bytes) ≡ before (w ∷ []) (words_from m (length front + 1) bytes) → ((fault : TextFault) → FaultHere fault front b bytes → ⊥) → Turn n front b bytes

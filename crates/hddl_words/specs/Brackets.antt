@@ -32,7 +32,7 @@ abbrev pub innermost : List ℕ → Option TextFault
 innermost [] = None
 innermost (place ∷ places) = Some (Unclosed place)
 
--- the fault of a bracket at its place, or what follows it
+-- the fault of a bracket at its place, or else the result for the words after it
 abbrev pub bracket_at : Kind → ℕ → List ℕ → (List ℕ → Option TextFault) → Option TextFault
 bracket_at kind.Open place places more = if length places == 64 then Some (TooDeep place) else more (place ∷ places)
 bracket_at kind.Close place [] more = Some (ExtraClose place)

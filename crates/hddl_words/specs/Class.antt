@@ -1,4 +1,4 @@
--- What a word is to the grammar, with its letters folded.
+-- The class of a word in the grammar, with its letters folded.
 use Rattle.std.specs.Prelude.{ℕ, Bool, true, false, ◌||◌, if◌then◌else◌, List, codes}
 use Rattle.std.specs.Str.{str_eq_ignore_ascii_case}
 use Rattle.hddl_words.specs.declared.token.Kind.{Kind}
@@ -49,7 +49,7 @@ is_left_out text =
     || str_eq_ignore_ascii_case text (codes "when") || str_eq_ignore_ascii_case text (codes "either") || str_eq_ignore_ascii_case text (codes "increase")
     || str_eq_ignore_ascii_case text (codes "preference")
 
--- a name that is kept for the grammar, one that is left out of the language, or any other
+-- the class of a name: one reserved for the grammar, one that is left out of the language, or any other
 abbrev pub name_class : List ℕ → Class
 name_class text =
     if str_eq_ignore_ascii_case text (codes "and") then class.And

@@ -1,4 +1,4 @@
--- What each fault of the words and the brackets says of the text and of the words, without reading them from the left.
+-- The condition of each fault of words and brackets on a text and its words, without reading them from the left.
 use Rattle.std.specs.Prelude.{◌≡◌, ◌≢◌, ℕ, zero, suc, ◌<◌, ◌≤◌, true, false, List, [], ◌∷◌, ◌++◌, length, None, ⊤}
 use Rattle.std.specs.List.{take_while}
 use Rattle.hddl_words.specs.declared.fault.TextFault.{TextFault}
@@ -10,7 +10,7 @@ use Rattle.hddl_words.specs.Words.{Word, is_blank, is_printable, is_word_byte, k
 
 -- ---- words
 
--- a byte stands at this place, between the bytes before it and those after it
+-- a byte is at this place, between the bytes before it and those after it
 abbrev pub ByteAt : (List ℕ → ℕ → List ℕ → Type 0) → List ℕ → ℕ → Type 0
 ByteAt Is text place = (front : List ℕ) × (byte : ℕ) × (rest : List ℕ) × (text ≡ front ++ byte ∷ rest) × (length front ≡ place) × Is front byte rest
 
@@ -30,7 +30,7 @@ WordFaultAt text (TooLong place) = (place ≡ max_bytes) × (max_bytes < length 
 WordFaultAt text OutOfMemory = ⊤
 WordFaultAt text _ = ⊥
 
--- the place that a fault names, 0 for want of memory
+-- the place that a fault names, 0 for refused memory
 abbrev pub place_of : TextFault → ℕ
 place_of (NotAscii place) = place
 place_of (BadWord place) = place
@@ -46,7 +46,7 @@ place_of OutOfMemory = 0
 abbrev pub HasNoWordFault : List ℕ → Type 0
 HasNoWordFault text = (fault : TextFault) → fault ≢ OutOfMemory → WordFaultAt text fault → ⊥
 
--- no other fault of the words stands before this one; a text that is too long is not looked at further
+-- no other fault of the words is before this one; a text that is too long is not examined further
 abbrev pub IsLeftmost : List ℕ → TextFault → Type 0
 IsLeftmost text (TooLong place) = ⊤
 IsLeftmost text OutOfMemory = ⊤
@@ -54,7 +54,7 @@ IsLeftmost text fault = (other : TextFault) → other ≢ OutOfMemory → WordFa
 
 -- ---- brackets
 
--- a word of this kind stands at this place, between the words before it and those after it
+-- a word of this kind is at this place, between the words before it and those after it
 abbrev pub WordAt : Kind → (List Word → List Word → Type 0) → List Word → ℕ → Type 0
 WordAt k Is ws place = (front : List Word) × (w : Word) × (rest : List Word) × (ws ≡ front ++ w ∷ rest) × (w.kind ≡ k) × (w.place ≡ place) × Is front rest
 
@@ -74,7 +74,7 @@ Leads open_now (w ∷ ws) open_then = LeadsBy w.kind open_now (λ next. Leads ne
 abbrev pub IsTooDeep : List Word → List Word → Type 0
 IsTooDeep front rest = Leads 0 front 64
 
--- no bracket is open where the closing one stands
+-- no bracket is open before the closing one
 abbrev pub IsExtraClose : List Word → List Word → Type 0
 IsExtraClose front rest = Leads 0 front 0
 

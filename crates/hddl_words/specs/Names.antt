@@ -9,7 +9,7 @@ use Rattle.hddl_words.specs.Class.{is_left_out}
 abbrev pub is_mark : ℕ → Bool
 is_mark b = b == 63 || b == 58 || b == 45 || b == 61 || b == 60
 
--- whether a name is kept for the grammar or left out of the language
+-- whether a name is reserved for the grammar or left out of the language
 abbrev pub is_reserved_text : List ℕ → Bool
 is_reserved_text text =
     str_eq_ignore_ascii_case text (codes "and") || str_eq_ignore_ascii_case text (codes "not") || str_eq_ignore_ascii_case text (codes "forall") || is_left_out text

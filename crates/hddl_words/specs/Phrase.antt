@@ -1,4 +1,4 @@
--- The operators that the grammar is written with.
+-- The operators in which the grammar is written.
 use Rattle.std.specs.Prelude.{◌≡◌, Bool, true, false, List, [], ◌∷◌, ◌++◌, Option, Some, None}
 use Rattle.hddl_words.specs.declared.class.Class.{Class}
 use Rattle.hddl_words.specs.declared.class.Class.TheVariants as class
@@ -69,7 +69,7 @@ abbrev pub Named : {A : Type 0} → (Word → Phrase A) → ItemPhrase A
 Named P class.Name w = P w
 Named P _ w = Nothing
 
--- what stands at most once: here it stands only if it wasn't met before
+-- a part that occurs at most once: a phrase if the part has not been read yet, else nothing
 abbrev pub IfAbsent : {X A : Type 0} → Option X → Phrase A → Phrase A
 IfAbsent None P = P
 IfAbsent (Some x) P = Nothing

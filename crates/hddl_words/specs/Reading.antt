@@ -7,7 +7,7 @@ use Rattle.hddl_words.specs.declared.class.Class.TheVariants as class
 use Rattle.hddl_words.specs.Words.{Word}
 use Rattle.hddl_words.specs.Class.{class_of}
 
--- what was read and the words after it, or why reading stopped
+-- the value that was read with the words after it, or why reading stopped
 pub data Outcome (A : Type 0) : Type 0 where
   read : A → List Word → Outcome A
   failed : Stop → Outcome A
@@ -16,11 +16,11 @@ pub data Outcome (A : Type 0) : Type 0 where
 abbrev pub refused : {A : Type 0} → Bool → ℕ → Outcome A
 refused unsupported left = failed (Refused unsupported left)
 
--- what reads a value from the front of the words
+-- a reader takes a value from the front of the words
 abbrev pub Reader : Type 0 → Type 0
 Reader A = List Word → Outcome A
 
--- a further reading of what is left, unless reading stopped
+-- a further reader applied to the words that are left, unless reading stopped
 abbrev pub and_then : {A B : Type 0} → Outcome A → (A → Reader B) → Outcome B
 and_then (read a ws) f = f a ws
 and_then (failed e) f = failed e
@@ -58,11 +58,11 @@ pub data Step (A : Type 0) : Type 0 where
   go : Reader A → Step A
   stop : Bool → Step A
 
--- what is done at a word of a class
+-- the step at a word, by its class
 abbrev pub Item : Type 0 → Type 0
 Item A = Class → Word → Step A
 
--- what is done at a word, carried out: reading goes on, or stops at the word
+-- the reader that carries out the step at a word: reading goes on, or stops at the word
 abbrev pub run : {A : Type 0} → Step A → Reader A
 run (go p) = p
 run (stop unsupported) = refuse unsupported
@@ -71,7 +71,7 @@ run (stop unsupported) = refuse unsupported
 abbrev pub next : {A : Type 0} → Item A → Reader A
 next item = take_word >>= (λ w. run (item (class_of w) w))
 
--- what is done at a word, and then a reader
+-- a step at a word, and then a reader
 abbrev pub followed : {A B : Type 0} → Step A → (A → Reader B) → Step B
 followed (go p) f = go (p >>= f)
 followed (stop u) f = stop u
@@ -81,12 +81,12 @@ abbrev pub is_close : Class → Bool
 is_close class.Close = true
 is_close _ = false
 
--- what is done where a test holds; else reading stops
+-- a step where a test holds; else reading stops
 abbrev pub if_holds : {A : Type 0} → Bool → Step A → Step A
 if_holds true s = s
 if_holds false s = stop false
 
--- what the closing bracket completes, or its refusal where something required is missing
+-- the value that the closing bracket completes, or its refusal where something required is missing
 abbrev pub finished : {A : Type 0} → Option A → Step A
 finished (Some a) = go (pure a)
 finished None = stop false
@@ -133,17 +133,17 @@ named p class.Forall w = stop true
 named p class.Reserved w = stop true
 named p _ w = stop false
 
--- what is done where there is no value yet; else reading stops
+-- a step where there is no value yet; else reading stops
 abbrev pub if_absent : {X A : Type 0} → Option X → Step A → Step A
 if_absent None s = s
 if_absent (Some x) s = stop false
 
--- what a function that reads ensures: the reader's outcome, unless memory ran out
+-- the result of a function that reads is the reader's outcome, unless memory ran out
 abbrev pub Reads : {A : Type 0} → Outcome A → Result A Stop → List Word → Type 0
 Reads outcome (Ok a) rest = outcome ≡ read a rest
 Reads outcome (Err e) rest = e ≢ Memory → outcome ≡ failed e
 
--- the same where what was read is added to what stood before
+-- the result of a function that adds to a value is the reader's outcome, unless memory ran out
 abbrev pub Leaves : {A : Type 0} → Outcome A → Result (Unit {0}) Stop → A → List Word → Type 0
 Leaves outcome (Ok done) a rest = outcome ≡ read a rest
 Leaves outcome (Err e) a rest = e ≢ Memory → outcome ≡ failed e

@@ -1,4 +1,4 @@
--- The words of a text, said of each byte and what stands before and after it.
+-- The words of a text, as conditions on each byte and the bytes before and after it.
 use Rattle.std.specs.Prelude.{◌≡◌, ℕ, Bool, true, false, ◌||◌, ◌==◌, ◌⊎◌, if◌then◌else◌, List, [], ◌∷◌, ◌++◌, length, Some}
 use Rattle.std.specs.List.{take_while}
 use Rattle.hddl_words.specs.declared.token.Kind.TheVariants as kind
@@ -9,11 +9,11 @@ abbrev pub is_in_comment : Bool → List ℕ → Bool
 is_in_comment inside [] = inside
 is_in_comment inside (b ∷ bytes) = is_in_comment (if b == 10 then false else (inside || b == 59)) bytes
 
--- what comes after this beginning of the text is no part of a comment
+-- the bytes after this beginning of the text are not in a comment
 abbrev pub IsOutsideComments : List ℕ → Type 0
 IsOutsideComments front = is_in_comment false front ≡ false
 
--- no word goes on after these bytes
+-- the bytes do not end within a word
 abbrev pub IsBetweenWords : List ℕ → Type 0
 IsBetweenWords front = (before : List ℕ) (b : ℕ) → front ≡ before ++ b ∷ [] → is_word_byte b ≡ false
 
@@ -21,7 +21,7 @@ IsBetweenWords front = (before : List ℕ) (b : ℕ) → front ≡ before ++ b �
 abbrev pub IsBracket : ℕ → Word → Type 0
 IsBracket byte w = (((byte ≡ 40) × (w.kind ≡ kind.Open)) ⊎ ((byte ≡ 41) × (w.kind ≡ kind.Close))) × (w.text ≡ byte ∷ [])
 
--- so is a longest run of other printable bytes; its first byte and its length tell its kind
+-- a longest run of other printable bytes is a word; its first byte and its length determine its kind
 abbrev pub IsRun : List ℕ → ℕ → List ℕ → Word → Type 0
 IsRun front byte rest w = IsBetweenWords front × (is_word_byte byte ≡ true) × (w.text ≡ take_while is_word_byte (byte ∷ rest)) × (kind_of byte (length w.text) ≡ Some w.kind)
 

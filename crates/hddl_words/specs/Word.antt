@@ -22,7 +22,7 @@ is_word_byte b = is_printable b && not (b == 40 || b == 41 || b == 59)
 abbrev pub is_comment_byte : ℕ → Bool
 is_comment_byte b = not (b == 10)
 
--- a word of a text: what it begins like, where it stands, and its bytes
+-- a word of a text: its kind, the place of its first byte, and its bytes
 pub record Word : Type 0 where
   pub kind : Kind
   pub place : ℕ

@@ -22,8 +22,8 @@ abbrev pub and_then : Result Word TextFault → (Word → Result (List Word) Tex
 and_then (Ok w) more = before (w ∷ []) (more w)
 and_then (Err fault) more = Err fault
 
--- The words of the bytes from a place on, or the first fault. The number counts the bytes that are left of the word
--- or the comment that was met last.
+-- The words of the bytes from a place on, or the first fault. The number counts the bytes to be skipped: those that are
+-- left of the last word or comment that was met.
 abbrev pub words_from : ℕ → ℕ → List ℕ → Result (List Word) TextFault
 words_from left place [] = Ok []
 words_from (suc left) place (b ∷ bytes) = words_from left (place + 1) bytes
@@ -32,7 +32,7 @@ words_from zero place (b ∷ bytes) =
     else (if b == 59 then words_from (prefix_len is_comment_byte bytes) (place + 1) bytes
     else and_then (word_at place (b ∷ bytes)) (λ w. words_from (length w.text - 1) (place + 1) bytes))
 
--- the words of a text, or its first fault; first of all that it is too long
+-- the words of a text, or its first fault; that it is too long comes before all others
 abbrev pub words : List ℕ → Result (List Word) TextFault
 words text = if nat_lt max_bytes (length text) then Err (TooLong max_bytes) else words_from 0 0 text
 

@@ -6,7 +6,7 @@ ghost use Rattle.hddl_words.specs.Class.{class_by};
 
 use crate::class::Class;
 
-/// The kind of a word. Its first byte and its length tell it.
+/// The kind of a word, which its first byte and its length determine.
 #[derive(Debug, Clone, Copy, PartialEq, Eq)]
 pub enum Kind {
     /// An opening bracket.

@@ -1,4 +1,4 @@
--- Heuristics of a problem: bounds from below on the steps that a configuration still takes.
+-- Heuristics of a problem: lower bounds on the steps that a configuration still takes.
 use Rattle.std.specs.Prelude.{◌≡◌, ℕ, ◌+◌, ◌≤◌, Bool, true, false, cond, List, length, max, Some}
 use Rattle.htn_model.specs.Problem.{Problem}
 use Rattle.htn_model.specs.Machine.{Config, IsDone}
@@ -41,11 +41,11 @@ ConsistentIsAdmissible = (problem : Problem) (low : Config → ℕ) → IsConsis
 abbrev pub OpenNodesAreConsistent : Type 0
 OpenNodesAreConsistent = (problem : Problem) → IsConsistent problem (λ c. length c.open_nodes)
 
--- so is a bound by dead ends
+-- a bound by dead ends is consistent
 abbrev pub DeadEndsAreConsistent : Type 0
 DeadEndsAreConsistent = (problem : Problem) (far : ℕ) (lost : Config → Bool) → AreDeadEnds problem lost → IsConsistent problem (dead_end_bound far lost)
 
--- and so is the greater one of two consistent bounds
+-- the greater one of two consistent bounds is consistent
 abbrev pub GreaterIsConsistent : Type 0
 GreaterIsConsistent = (problem : Problem) (a b : Config → ℕ) → IsConsistent problem a → IsConsistent problem b → IsConsistent problem (greater a b)
 
@@ -55,10 +55,10 @@ GreaterIsEstimate = (problem : Problem) (a b : Config → ℕ) → IsEstimate pr
 
 -- ## Examples
 
--- no bound at all is consistent
+-- the bound 0 is consistent
 abbrev pub NothingIsConsistent : Type 0
 NothingIsConsistent = (problem : Problem) → IsConsistent problem (λ c. 0)
 
--- one step is too many where a configuration is done
+-- the bound 1 is not consistent where some configuration is done
 abbrev pub OneIsTooMany : Type 0
 OneIsTooMany = (problem : Problem) (c : Config) → IsDone problem c → IsConsistent problem (λ d. 1) → ⊥

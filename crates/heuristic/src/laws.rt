@@ -1,4 +1,4 @@
-//! Laws of bounds from below.
+//! Laws of lower bounds.
 ghost use Rattle.heuristic.specs.Heuristic.{ConsistentIsAdmissible, DeadEndsAreConsistent, GreaterIsConsistent, GreaterIsEstimate, NothingIsConsistent, OneIsTooMany, OpenNodesAreConsistent};
 
 /// A consistent bound is admissible (J. Pearl, *Heuristics*, 1984, for unit costs).
@@ -11,7 +11,7 @@ pub fn open_nodes_are_consistent()
     ensures { OpenNodesAreConsistent }
 {}
 
-/// Any number bounds the steps of what never finishes.
+/// Any number is a lower bound on the steps of a configuration that never finishes.
 pub fn dead_ends_are_consistent()
     ensures { DeadEndsAreConsistent }
 {}
@@ -21,12 +21,12 @@ pub fn greater_is_consistent()
     ensures { GreaterIsConsistent }
 {}
 
-/// So are estimates, with any consistent bound beside them.
+/// The maximum of an estimate and any consistent bound is an estimate.
 pub fn greater_is_estimate()
     ensures { GreaterIsEstimate }
 {}
 
-/// Two worked bounds: nothing, and one step everywhere.
+/// Two worked bounds: no step, and one step everywhere.
 pub fn worked_bounds_hold()
     ensures nothing { NothingIsConsistent }
     ensures one { OneIsTooMany }

@@ -1,5 +1,5 @@
-//! What a heuristic of a planning problem is: a bound from below on the steps that a configuration still takes. Each
-//! function here is a law, with an empty body.
+//! Heuristics of a planning problem: lower bounds on the steps that are left of a configuration. Each function here is
+//! a law, with an empty body.
 //!
 //! A search takes any estimate. A further bound joins the others by [`greater_is_estimate`]: its crate proves that it is
 //! consistent or, where it finds configurations that never finish, that these are dead ends

@@ -10,9 +10,8 @@ abbrev pub FinishesLive : {C : Type 0} → WordMachine C → Type 0
 FinishesLive m = (word : List ℕ) → IsFinishing m word → Finishes (IsLiveStep m) (IsDone m) m.initials word
 
 module _ {C : Type 0} (m few : WordMachine C) (initial_of : ℕ → ℕ) (number_of : C → ℕ → ℕ) where
-  -- `few` has some of the numbers that are not dead, in their order: `initial_of` and `number_of` tell which. What it
-  -- leaves out leads where a lower
-  -- number leads that it has
+  -- `few` has some of the numbers that are not dead, in their order, as `initial_of` and `number_of` map its numbers to
+  -- those of `m`; each number that it leaves out leads to the same configuration as a lower one that it has
   pub record HasEnough : Type 0 where
     pub is_done : (c : C) → few.is_done c ≡ m.is_done c
     pub open_len : (c : C) → few.open_len c ≡ m.open_len c
@@ -24,18 +23,18 @@ module _ {C : Type 0} (m few : WordMachine C) (initial_of : ℕ → ℕ) (number
     pub steps_ascend : (c d e : C) (r s : ℕ) → r < s → IsStep few c r d → IsStep few c s e → number_of c r < number_of c s
     pub first_step : (c d : C) (number : ℕ) → IsLiveStep m c number d → (rank : ℕ) × IsStep few c rank d × (number_of c rank ≤ number)
 
-  -- the numbers of the steps, from a configuration on; none from nowhere
+  -- the numbers in `m` of a sequence of steps of `few`, from a configuration on
   abbrev pub numbers_from : Option C → List ℕ → List ℕ
   numbers_from c [] = []
   numbers_from None (rank ∷ ranks) = []
   numbers_from (Some c) (rank ∷ ranks) = number_of c rank ∷ numbers_from (few.step c rank) ranks
 
-  -- the word by the other's numbers
+  -- the word of `few` in the numbers of `m`
   abbrev pub numbers_of : List ℕ → List ℕ
   numbers_of [] = []
   numbers_of (rank ∷ ranks) = initial_of rank ∷ numbers_from (slice_get few.initials rank) ranks
 
-  -- the same was found, and a word is told by the other's numbers
+  -- the two findings are of the same kind, and a word of the second is that of the first in the numbers of `m`
   abbrev pub IsToldBy : Found → Found → Type 0
   IsToldBy (Word ranks) (Word word) = word.items ≡ numbers_of ranks.items
   IsToldBy (Word ranks) NoWord = ⊥

@@ -11,8 +11,8 @@ ghost use Rattle.word_machine.specs.Machine.{IsLawful, WordMachine};
 ghost use Rattle.word_machine.specs.declared.found.Found.{Found};
 ghost use Rattle.std.specs.Prelude.{ℕ};
 
-/// The word machine of a ground problem keeps to what a search needs of it: a step wants an open node and closes at
-/// most one, nothing is open where it is done, and no finishing word has a dead number.
+/// The word machine of a ground problem meets the conditions of a search: a step needs an open node and closes at most
+/// one, nothing is open where it is done, and no finishing word has a dead number.
 pub fn machine_is_lawful()
     ensures lawful { (problem : Problem) → IsGrounded problem → IsLawful (machine_of problem) (IsOwn problem) }
 {}
@@ -26,8 +26,8 @@ pub fn found_answers()
 {}
 
 /// Of numbers that lead to equal configurations only the first can be on the least finishing word. So a machine that
-/// has all others but those that are dead, in their order and counted anew, answers as the whole machine does: with the
-/// least word, told by the whole machine's numbers, with none or with unsolvable.
+/// has all others but the dead ones, in their order and numbered anew, has the answer of the whole machine: the least
+/// word, once it is translated into the whole machine's numbers, none or unsolvable.
 pub fn fewer_numbers_suffice<C>()
     ensures { (m few : WordMachine C) (initial_of : ℕ → ℕ) (number_of : C → ℕ → ℕ) → FinishesLive m → HasEnough m few initial_of number_of
         → (bound : ℕ) (found tells : Found) → IsAnswer few bound found → IsToldBy m few initial_of number_of found tells → IsAnswer m bound tells }

@@ -1,4 +1,4 @@
--- The command line of `htnplan`, as `clap` reads it: what stands under each name, and which texts are refused.
+-- The command line of `htnplan`, as `clap` reads it: the values of each name, and which texts are refused.
 use Rattle.std.specs.Prelude.{◌≡◌, ◌<◌, ◌^◌, ◌&&◌, ◌||◌, ℕ, Bool, true, false, List, [], ◌∷◌, Option, Some, None, codes, is_some, not, if◌then◌else◌}
 use Rattle.std.specs.Str.{bytes_eq}
 use Rattle.std.specs.Str.Parse.{IsNumeral, digits_value, without_leading_plus}
@@ -16,11 +16,11 @@ use Rattle.htn_command.specs.declared.choice.Colour.TheVariants as colour
 use Rattle.htn_command.specs.declared.choice.Drawing.{Drawing}
 use Rattle.htn_command.specs.declared.choice.Drawing.TheVariants as drawing
 
--- a word that has to stand: the name of a file
+-- a required word: the name of a file
 abbrev pub file : Text → Rule
 file id = record (new_rule id) { required = true }
 
--- `--id N`, with N from least to most, and the text that stands for it where it is left out
+-- `--id N`, with N from least to most, and the text that is its default
 abbrev pub number : Text → Text → ℕ → ℕ → Rule
 number id default least most = record (new_rule id) {
   long = Some id;
@@ -33,11 +33,11 @@ number id default least most = record (new_rule id) {
 abbrev pub number_or_none : Text → ℕ → ℕ → Rule
 number_or_none id least most = record (new_rule id) { long = Some id; value_names = 1; parser = Some (Unsigned least most) }
 
--- a word that may stand: the name of a file
+-- an optional word: the name of a file
 abbrev pub file_or_none : Text → Rule
 file_or_none id = new_rule id
 
--- `--id WORD`, and the word that stands for it where it is left out
+-- `--id WORD`, and the word that is its default
 abbrev pub choice : Text → Text → Rule
 choice id default = record (new_rule id) { long = Some id; value_names = 1; defaults = default ∷ [] }
 
@@ -110,7 +110,7 @@ htnplan =
     explain.top)
     tree.top
 
--- the command that the words name, with what they give each of its names
+-- the command that the words name, with the values that they give for each of its names
 unfoldable pub read_by : List Text → Option (Text × List Row)
 read_by words = subcommand_of htnplan words
 
@@ -130,18 +130,18 @@ drawing_named word =
     else (if bytes_eq word (codes "dot") then Some drawing.Dot
     else (if bytes_eq word (codes "svg") then Some drawing.Svg else None))))
 
--- when colours are written, by a word
+-- the times at which colours are written, by a word
 abbrev pub colour_named : Text → Option Colour
 colour_named word =
     if bytes_eq word (codes "auto") then Some colour.Auto
     else (if bytes_eq word (codes "always") then Some colour.Always
     else (if bytes_eq word (codes "never") then Some colour.Never else None))
 
--- whether a flag is there, by the word that stands for it
+-- whether a flag is set, by the word that `clap` stores for it
 abbrev pub flag_named : Text → Option Bool
 flag_named word = if bytes_eq word (codes "true") then Some true else (if bytes_eq word (codes "false") then Some false else None)
 
--- a word is there, and names nothing
+-- whether there is a word, and it names nothing
 abbrev pub is_unknown : {X : Type 0} → (Text → Option X) → Option Text → Bool
 is_unknown named None = false
 is_unknown named (Some word) = not (is_some (named word))
@@ -151,37 +151,37 @@ abbrev pub is_input : Option Text → Bool
 is_input None = false
 is_input (Some word) = bytes_eq word (codes "-")
 
--- the kind of what is refused: a word that names nothing, and else the standard input twice
+-- the kind of the refusal, if there is one: of a word that names nothing, and otherwise of the standard input twice
 abbrev pub refused_kinds : Bool → Bool → Bool → Kinds
 refused_kinds no_format no_colour two_inputs =
     if no_format then InvalidValue ∷ [] else (if no_colour then InvalidValue ∷ [] else (if two_inputs then ArgumentConflict ∷ [] else []))
 
--- what `check` refuses of the words that `clap` takes: a word that names no format, one that names no time for colours,
--- and the standard input twice
+-- the refusal by `check` of words that `clap` accepts: a word that names no format, one that names no time for colours,
+-- or the standard input twice
 abbrev pub check_fault : List Row → Kinds
 check_fault rows =
     refused_kinds (is_unknown format_named (first_of (codes "format") rows)) (is_unknown colour_named (first_of (codes "color") rows))
     (is_input (first_of (codes "DOMAIN") rows) && is_input (first_of (codes "PROBLEM") rows))
 
--- two of three are so
+-- whether at least two of three flags are true
 abbrev pub are_two : Bool → Bool → Bool → Bool
 are_two a b c = (a && b) || ((a || b) && c)
 
--- what `explain` refuses of the words that `clap` takes: a word that names no format, one that names no time for
--- colours, and the standard input twice
+-- the refusal by `explain` of words that `clap` accepts: a word that names no format, one that names no time for
+-- colours, or the standard input twice
 abbrev pub explain_fault : List Row → Kinds
 explain_fault rows =
     refused_kinds (is_unknown format_named (first_of (codes "format") rows)) (is_unknown colour_named (first_of (codes "color") rows))
     (are_two (is_input (first_of (codes "DOMAIN") rows)) (is_input (first_of (codes "PROBLEM") rows)) (is_input (first_of (codes "PLAN") rows)))
 
--- what `tree` refuses of the words that `clap` takes: a word that names no drawing, one that names no time for colours,
--- and the standard input twice
+-- the refusal by `tree` of words that `clap` accepts: a word that names no drawing, one that names no time for colours,
+-- or the standard input twice
 abbrev pub tree_fault : List Row → Kinds
 tree_fault rows =
     refused_kinds (is_unknown drawing_named (first_of (codes "format") rows)) (is_unknown colour_named (first_of (codes "color") rows))
     (are_two (is_input (first_of (codes "DOMAIN") rows)) (is_input (first_of (codes "PROBLEM") rows)) (is_input (first_of (codes "PLAN") rows)))
 
--- what is refused of the words that `clap` takes
+-- the refusal by a command of words that `clap` accepts
 abbrev pub own_fault : Option (Text × List Row) → Kinds
 own_fault None = []
 own_fault (Some found) =
@@ -201,12 +201,12 @@ HelpIsDue words = IsAmong DisplayHelp (faults words)
 abbrev pub VersionIsDue : List Text → Type 0
 VersionIsDue words = IsAmong DisplayVersion (faults words)
 
--- decimal digits, perhaps after a plus, of this value
+-- the text is of decimal digits, perhaps after a plus, and has this value
 abbrev pub IsNumber : Option Text → ℕ → Type 0
 IsNumber text n =
     (digits : Text) × (text ≡ Some digits) × IsNumeral 10 (without_leading_plus digits) × (digits_value 10 (without_leading_plus digits) ≡ n)
 
--- no text, and no number; or a number of 64 bits
+-- there is neither a text nor a number; or the text has this number, which fits 64 bits
 abbrev pub IsNumberIfAny : Option Text → Option ℕ → Type 0
 IsNumberIfAny text None = text ≡ None
 IsNumberIfAny text (Some n) = IsNumber text n × (n < 2 ^ 64)

@@ -29,7 +29,7 @@ asks_for_version words = list_any (λ word. is_version_word (string_bytes word))
 abbrev pub HelpIsAsked : {Z : Type 0} → List (String Z) → Type 0
 HelpIsAsked words = HelpIsDue (map string_bytes words) × (asks_for_help words ≡ true)
 
--- the same of the version
+-- the words ask for the version: it is due, and one of them asks for it
 abbrev pub VersionIsAsked : {Z : Type 0} → List (String Z) → Type 0
 VersionIsAsked words = VersionIsDue (map string_bytes words) × (asks_for_version words ≡ true)
 
@@ -46,7 +46,7 @@ IsPossible words kind = (faults words ≡ []) ⊎ IsAmong kind (faults words)
 abbrev pub AreMistaken : {Z : Type 0} → List (String Z) → Type 0
 AreMistaken words = (kind : ErrorKind) × IsPossible (map string_bytes words) kind × (IsAskedText words kind → ⊥)
 
--- a refusal that the words are the reason of
+-- a refusal for which the words are the reason
 abbrev pub IsOfWords : Refusal → Type 0
 IsOfWords OutOfMemory = ⊥
 IsOfWords _ = ⊤

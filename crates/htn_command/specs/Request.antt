@@ -1,4 +1,4 @@
--- What the words of a command line ask for.
+-- The request for which the words of a command line ask.
 use Rattle.std.specs.Prelude.{◌≡◌, ◌<◌, ◌^◌, List, [], Option, Some, codes, option_and_then, option_map}
 use Rattle.clap.specs.Walk.{Row, Text, first_of, one_of}
 use Rattle.word_machine.specs.Bounds.{AreInRange}
@@ -14,7 +14,7 @@ command_of (Check domain problem format limit is_strict colour) = codes "check"
 command_of (Explain domain problem plan format has_states colour) = codes "explain"
 command_of (Tree domain problem plan drawing colour) = codes "tree"
 
--- what stands under the names of the command
+-- the values of the command's names are those of the request
 abbrev pub IsGiven : List Row → Request → Type 0
 IsGiven rows (Plan domain problem bounds seconds has_progress) =
     (first_of (codes "DOMAIN") rows ≡ Some domain.now)
@@ -51,15 +51,15 @@ IsGiven rows (Tree domain problem plan drawing colour) =
     × (option_and_then drawing_named (first_of (codes "format") rows) ≡ Some drawing)
     × (option_and_then colour_named (first_of (codes "color") rows) ≡ Some colour)
 
--- a command with what it was given is this request
+-- a command with its values is this request
 abbrev pub IsOf : Option (Text × List Row) → Request → Type 0
 IsOf found request = (rows : List Row) × (found ≡ Some (command_of request, rows)) × IsGiven rows request
 
--- what was found on a line is of no request
+-- a command with its values is no request
 abbrev pub IsOfNothing : Option (Text × List Row) → Type 0
 IsOfNothing found = (request : Request) → IsOf found request → ⊥
 
--- the words have no fault, and this is what they ask for
+-- the words have no fault, and ask for this request
 pub record IsAskedBy (words : List Text) (request : Request) : Type 0 where
   pub sound : faults words ≡ []
   pub given : IsOf (read_by words) request
@@ -68,7 +68,7 @@ pub record IsAskedBy (words : List Text) (request : Request) : Type 0 where
 abbrev pub AskNothing : List Text → Type 0
 AskNothing words = (request : Request) → IsAskedBy words request → ⊥
 
--- the same command, over the same files, for a plan within the same bounds, with the same options
+-- two requests have the same command, files, bounds and options
 abbrev pub AreAlike : Request → Request → Type 0
 AreAlike (Plan domain problem bounds seconds has_progress) (Plan other second limits time is_shown) =
     (domain.now ≡ other.now) × (problem.now ≡ second.now)

@@ -36,7 +36,7 @@ impl Misuse {
         }
     }
 
-    // The same of a command that isn't `check`.
+    // The misuse of a command that isn't `check`, if there is one.
     fn of_other(matches: &ArgMatches<'_>) -> Option<Misuse>
         ensures { subcommand_name_of matches.now ≢ Some (codes "check") → spec.kinds_of result ≡ line.own_fault (subcommand_rows_of matches.now) }
     {
@@ -46,7 +46,7 @@ impl Misuse {
         }
     }
 
-    // The same of a command that is neither `check` nor `explain`.
+    // The misuse of a command that is neither `check` nor `explain`, if there is one.
     fn of_pictures(matches: &ArgMatches<'_>) -> Option<Misuse>
         ensures { subcommand_name_of matches.now ≢ Some (codes "check") → subcommand_name_of matches.now ≢ Some (codes "explain")
             → spec.kinds_of result ≡ line.own_fault (subcommand_rows_of matches.now) }

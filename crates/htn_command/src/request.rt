@@ -71,7 +71,7 @@ pub enum Request<'a> {
 // The version of the program.
 const VERSION: &str = "0.1.0";
 
-// What stands below the help of the program, and of each of its commands.
+// The text below the help of the program, and of each of its commands.
 const CALLS: &str = "Examples:
   htnplan check domain.hddl problem.hddl
   htnplan plan domain.hddl problem.hddl --nodes 200 > plan.txt
@@ -362,7 +362,7 @@ fn number_or_none<'a>(alloc: Global, id: &'a str, parser: ValueParser<'a>) -> Ar
         .value_parser(parser)
 }
 
-// The number of an option that may be left out; None where a text stands there that is no number of 64 bits.
+// The number of an option that may be left out; None where its text is no number of 64 bits.
 fn number_if_any(matches: &ArgMatches<'_>, id: &str) -> Option<Option<u64>>
     ensures some { IfSome result (line.IsNumberIfAny (one_of id.now (rows_of (found_of matches.now)))) }
     ensures none { IsNone result → (number : Option ℕ) → line.IsNumberIfAny (one_of id.now (rows_of (found_of matches.now))) number → ⊥ }
@@ -374,7 +374,7 @@ fn number_if_any(matches: &ArgMatches<'_>, id: &str) -> Option<Option<u64>>
     Some(Some(number))
 }
 
-// None where the matches lack a word or a number of a command, which `clap` doesn't let pass.
+// None where the matches do not have a word or a number of a command, which `clap` doesn't let pass.
 fn read_words<'a>(matches: &ArgMatches<'a>) -> Option<Request<'a>>
     ensures some { IfSome result (IsOf (subcommand_rows_of matches.now)) }
     ensures none { IsNone result → IsOfNothing (subcommand_rows_of matches.now) }

@@ -1,4 +1,4 @@
--- Which objects the true atoms of a literal leave to a parameter.
+-- The objects that the true atoms of a literal leave to a parameter.
 use Rattle.std.specs.Prelude.{ℕ, Bool, true, false, not, nat_eq, nat_lt, ◌&&◌, ◌≡◌, List, [], ◌∷◌, ◌++◌, map, length, take, drop}
 use Rattle.std.specs.List.{filter, list_any, remove}
 use Rattle.std.specs.Option.{unwrap_or}
@@ -22,7 +22,7 @@ rows_of state c = unwrap_or c.rows state
 abbrev pub is_excluded : State → Candidates → List ℕ → ℕ → Bool
 is_excluded state c values o = not (contains (rows_of state c) (atom_of (values ++ o ∷ []) c))
 
--- whether that is so of some literal of the next parameter
+-- whether some literal of the next parameter excludes the object
 abbrev pub is_left_out : State → List Candidates → List ℕ → ℕ → Bool
 is_left_out state all values o = list_any (λ c. nat_eq c.depth (length values) && is_excluded state c values o) all
 

@@ -6,10 +6,10 @@ use Rattle.htn_model.specs.Instance.{Instance}
 abbrev pub fitting : ℕ → Option ℕ
 fitting n = cond (nat_lt n (2 ^ 64)) (Some n) None
 
--- values with their number, so far as it fits
+-- values with their number, or none where it does not fit
 abbrev pub fitted : ℕ × List ℕ → Option ℕ × List ℕ
 fitted p = (fitting p.0, p.1)
 
--- an instance with its number, so far as it fits
+-- an instance with its number, or none where it does not fit
 abbrev pub counted : ℕ × Instance → Option ℕ × Instance
 counted p = (fitting p.0, p.1)

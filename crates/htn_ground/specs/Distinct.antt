@@ -30,11 +30,11 @@ is_live t network = not (is_dead (problem_of t) network)
 abbrev pub live_methods : Task → GroundTask → List Instance
 live_methods t g = filter (λ i. is_live t i.network) (methods_of t g)
 
--- each network passes
+-- the test that each network passes
 abbrev pub any_network : Network → Bool
 any_network network = true
 
--- the instances that were kept and then, at these values, each that passes and whose network none before it has
+-- some instances and then, of those at these values, each one that passes the test and whose network no earlier one has
 abbrev pub gathered : (Network → Bool) → (List ℕ → Instance) → List Instance → List (List ℕ) → List Instance
 gathered passes make kept values = insert_all same_network kept (filter (λ i. passes i.network) (map make values))
 
@@ -46,7 +46,7 @@ same_network-laws = on_equiv (λ (i : Instance). i.network) network_eq-laws
 pub same_network-partial : IsPartialEquivalence same_network
 same_network-partial = partial_equiv_from_equiv same_network-laws
 
--- the nodes alone are fed: most networks of one schema have one order
+-- an instance feeds a hasher its nodes alone, since most networks of one schema have the same order
 abbrev pub network_hash : Instance → HashWrites
 network_hash i = children_hash i.network.children
 

@@ -11,7 +11,7 @@ use Rattle.htn_ground.specs.declared.fixed.FixedLiteral.{FixedLiteral}
 abbrev pub schema_of : FixedLiteral → AtomSchema
 schema_of l = record { predicate = l.predicate; arguments = terms_of l.arguments.items }
 
--- it stands in the precondition, outside every `for_all`, and no effect names its predicate
+-- the literal is in the precondition, outside every `for_all`, and no effect names its predicate
 pub record IsFixed (t : Task) (precondition : List Formula) (l : FixedLiteral) : Type 0 where
   pub stands : Contains precondition (literal l.is_positive (schema_of l))
   pub unchanged : is_changed t l.predicate ≡ false

@@ -1,4 +1,4 @@
--- What ground tasks and nodes feed a hasher, and the laws of their equality.
+-- The hashes of ground tasks and nodes, and the laws of their equality.
 use Rattle.std.specs.Prelude.{Bool, List, ◌++◌}
 use Rattle.std.specs.Cmp.{IsEquivalence, IsPartialEquivalence, partial_equiv_from_equiv}
 use Rattle.std.specs.Cmp.Lexicographic.{pointwise, lists_equiv}
@@ -8,14 +8,14 @@ use Rattle.htn_model.specs.Problem.{GroundTask, Child, precondition, action, tas
 use Rattle.htn_model.specs.Equality.{child_eq-decides, child_eq-laws, ground_task_eq-decides}
 use Rattle.htn_state.specs.Views.{literals_hash}
 
--- what a ground task feeds to a hasher
+-- the writes by which a ground task feeds a hasher
 abbrev pub ground_task_hash : GroundTask → HashWrites
 ground_task_hash t = fed.u32 t.name ++ fed.slice fed.u16 t.arguments
 
 pub ground_task_hash-Alike : Alike ground_task_eq ground_task_hash
 ground_task_hash-Alike = same_Alike ground_task_hash ground_task_eq-decides
 
--- the kind of the node, and then what it holds
+-- the writes by which a node feeds a hasher: its kind, and then its contents
 abbrev pub child_hash : Child → HashWrites
 child_hash (precondition literals) = fed.u8 0 ++ literals_hash literals
 child_hash (action g) = fed.u8 1 ++ ground_task_hash g
@@ -30,7 +30,7 @@ child_hash-Alike = same_Alike child_hash child_eq-decides
 abbrev pub children_eq : List Child → List Child → Bool
 children_eq = pointwise child_eq
 
--- what a list of nodes feeds to a hasher
+-- the writes by which a list of nodes feeds a hasher
 abbrev pub children_hash : List Child → HashWrites
 children_hash = fed.slice child_hash
 

@@ -1,4 +1,4 @@
--- The names of a task: what the words of a plan file name in it, and the words of what stands in it.
+-- The names of a task: the objects, tasks and methods that the words of a plan file name, and the words for them.
 use Rattle.std.specs.Prelude.{ℕ, List, [], ◌∷◌, map, get_or, codes, Option, Some, None, option_and_then}
 use Rattle.htn_ground.specs.Methods.{method_of}
 use Rattle.htn_model.specs.PlanFile.{Word, Naming}

@@ -1,4 +1,4 @@
--- Lists of objects of which some are taken that literals rule out.
+-- Lists of objects, narrowed by those that literals rule out.
 use Rattle.std.specs.Prelude.{◌≡◌, ◌&&◌, Bool, List, [], ◌∷◌, false, nat_eq, true, ℕ}
 use Rattle.std.specs.List.{list_any}
 use Rattle.htn_model.specs.Instance.{Instance}

@@ -35,7 +35,7 @@ relation_depth (Different a b) = max a b + 1
 abbrev pub relations_hold : List Relation → List ℕ → Bool
 relations_hold relations values = list_all (λ r. relation_holds r values) relations
 
--- each relation is between the first so many parameters
+-- each relation is between two of the first `parameters` parameters
 abbrev pub AreRelationsOf : List Relation → ℕ → Type 0
 AreRelationsOf relations parameters = All (λ r. relation_depth r ≤ parameters) relations
 
@@ -45,26 +45,26 @@ matches domains relations = filter (relations_hold relations) (assignments domai
 
 -- ## Conditions by the number of their parameters
 
--- what an equality says where it names no parameter
+-- the truth of an equality that names no parameter
 abbrev pub constant_of : Bool → Term → Term → Bool
 constant_of positive (object x) (object y) = beq positive (x == y)
 constant_of positive (object x) (parameter b) = true
 constant_of positive (parameter a) y = true
 
--- what it says of the object at parameter j where it names one parameter
+-- the truth of an equality for the object at parameter j, where it names one parameter
 abbrev pub single_of : Bool → Term → Term → ℕ → ℕ → Bool
 single_of positive (object x) (object y) j o = true
 single_of positive (object x) (parameter b) j o = not (j == b) || beq positive (o == x)
 single_of positive (parameter a) (object y) j o = not (j == a) || beq positive (o == y)
 single_of positive (parameter a) (parameter b) j o = true
 
--- the relation that it is where it names two
+-- the relation of an equality that names two parameters
 abbrev pub relations_of : Bool → Term → Term → List Relation
 relations_of positive (object x) y = []
 relations_of positive (parameter a) (object y) = []
 relations_of positive (parameter a) (parameter b) = cond positive (Same a b) (Different a b) ∷ []
 
--- what the type of a place says of an object there, and of the object at parameter j
+-- the truth of a place's type condition for an object at the place
 abbrev pub place_constant : Task → Term × ℕ → Bool
 place_constant t (object o, type) = has_type t type o
 place_constant t (parameter p, type) = true
@@ -74,7 +74,7 @@ abbrev pub place_single : Task → Term × ℕ → ℕ → ℕ → Bool
 place_single t (object x, type) j o = true
 place_single t (parameter p, type) j o = not (j == p) || has_type t type o
 
--- the equalities between objects hold, and objects have the types of the places that they stand in
+-- the equalities between objects hold, and objects have the types of their places
 abbrev pub constants_hold : Task → Conditions → Bool
 constants_hold t c = list_all (λ e. constant_of e.is_positive e.left e.right) c.equalities && list_all (place_constant t) c.places
 
@@ -86,7 +86,7 @@ equality_singles equalities j o = list_all (λ e. single_of e.is_positive e.left
 abbrev pub place_singles : Task → List (Term × ℕ) → ℕ → ℕ → Bool
 place_singles t places j o = list_all (λ p. place_single t p j o) places
 
--- what the conditions on one parameter say of the object at parameter j
+-- the truth of the conditions on one parameter for the object at parameter j
 abbrev pub singles_of : Task → Conditions → ℕ → ℕ → Bool
 singles_of t c j o = equality_singles c.equalities j o && place_singles t c.places j o
 
@@ -140,7 +140,7 @@ some_starts_at relations place = list_any (λ r. nat_eq (relation_start r) place
 abbrev pub term_after : List ℕ → ℕ → Term
 term_after values p = cond (nat_lt p (length values)) (object (slice_index values p)) (parameter p)
 
--- what a relation says of the object at parameter j, where its other parameter has a value
+-- the truth of a relation for the object at parameter j, where its other parameter has a value
 abbrev pub relation_single : List ℕ → Relation → ℕ → ℕ → Bool
 relation_single values (Same a b) = single_of true (term_after values a) (term_after values b)
 relation_single values (Different a b) = single_of false (term_after values a) (term_after values b)
@@ -154,7 +154,7 @@ abbrev pub product : List (List ℕ) → ℕ
 product [] = 1
 product (objects ∷ domains) = length objects * product domains
 
--- ## Literals that never change
+-- ## Static literals
 
 -- the atom of a literal under values
 abbrev pub fixed_atom : List ℕ → FixedLiteral → Atom
@@ -164,7 +164,7 @@ fixed_atom values l = record { predicate = l.predicate; arguments = map (value_o
 abbrev pub fixed_holds : State → List ℕ → FixedLiteral → Bool
 fixed_holds state values l = literal_holds state (atom l.is_positive (fixed_atom values l))
 
--- whether the first so many parameters are all that the literal names
+-- whether the literal names only the first `count` parameters
 abbrev pub is_bound : ℕ → FixedLiteral → Bool
 is_bound count l = list_all (is_among count) (terms_of l.arguments.items)
 

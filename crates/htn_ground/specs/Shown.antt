@@ -1,4 +1,4 @@
--- Which parameters stand in a schema's network.
+-- The parameters that occur in a schema's network.
 use Rattle.std.specs.Prelude.{◌≡◌, ◌<◌, ◌≤◌, ◌++◌, ◌||◌, ◌∷◌, Bool, List, false, get_or, length, nat_eq, true, ℕ}
 use Rattle.std.specs.List.{list_any}
 use Rattle.htn_model.specs.Instance.{Instance}
@@ -16,13 +16,13 @@ is_parameter place (parameter p) = nat_eq p place
 is_parameter place (object o) = false
 
 abbrev mutual
-  -- whether a parameter stands in a formula
+  -- whether a parameter occurs in a formula
   pub stands_in : ℕ → Formula → Bool
   stands_in place (literal positive a) = list_any (is_parameter place) a.arguments
   stands_in place (equation e) = is_parameter place e.left || is_parameter place e.right
   stands_in place (for_all types body) = stands_in_any place body
 
-  -- the parameter stands in one of the formulas
+  -- whether a parameter occurs in one of the formulas
   pub stands_in_any : ℕ → Formulas → Bool
   stands_in_any place no_formulas = false
   stands_in_any place (formula f fs) = stands_in place f || stands_in_any place fs
@@ -31,7 +31,7 @@ abbrev mutual
 abbrev pub stands_in_task : ℕ → TaskSchema → Bool
 stands_in_task place s = list_any (is_parameter place) s.arguments
 
--- whether a parameter stands in the precondition step or in a subtask
+-- whether a parameter occurs in the precondition step or in a subtask
 abbrev pub is_shown : List Formula → List TaskSchema → ℕ → Bool
 is_shown precondition subtasks place = list_any (stands_in place) (state_formulas precondition) || list_any (stands_in_task place) subtasks
 
@@ -45,7 +45,7 @@ pub record Ignores (state : State) (literals : List FixedLiteral) (shown : List 
 abbrev pub AreHiddenFrom : List Bool → ℕ → Type 0
 AreHiddenFrom shown place = (k : ℕ) → place ≤ k → k < length shown → get_or shown k true ≡ false
 
--- for each of so many parameters whether it is shown
+-- for each of the first `count` parameters whether it is shown
 pub record AreShown (precondition : List Formula) (subtasks : List TaskSchema) (count : ℕ) (shown : List Bool) : Type 0 where
   pub long : length shown ≡ count
   pub each : (k : ℕ) → k < count → get_or shown k true ≡ is_shown precondition subtasks k

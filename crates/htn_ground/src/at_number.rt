@@ -21,7 +21,7 @@ use crate::relation::Relation;
 use htn_task::{MethodSchema, Task};
 use std::alloc::{AllocError, Global};
 
-/// How far a number is past so many, of which the count may not fit; none where it is one of theirs.
+/// The distance of a number past `count`; None where the number is below it, or where the count does not fit 64 bits.
 fn number_past(number: u64, count: Option<u64>) -> Option<u64>
     ensures past { IfSome result (λ left. (n : ℕ) → count ≡ fitting n → number ≡ n + left) }
     ensures within { IfNone result ((n : ℕ) → count ≡ fitting n → number < n) }
@@ -32,8 +32,8 @@ fn number_past(number: u64, count: Option<u64>) -> Option<u64>
     }
 }
 
-/// Gives the next parameter the object that it has in the completion of this number. The number is
-/// then that among those with the object.
+/// Appends the object that the next parameter has in the completion of this number. The number then counts among the
+/// completions with this object.
 fn push_next(
     domains: &[ObjectList],
     relations: &[Relation],
@@ -63,8 +63,8 @@ fn push_next(
     unreachable!()
 }
 
-/// The assignment of a number among those of which all relations hold; none where the number is past
-/// them, and then it is that among what comes after them.
+/// The assignment of a number among those of which all relations hold; None where the number is past them, and then
+/// their count is subtracted from it.
 pub(crate) fn assignment_at(
     alloc: Global,
     domains: &[ObjectList],
@@ -88,8 +88,8 @@ pub(crate) fn assignment_at(
     Ok(Some(values))
 }
 
-/// The values of the instance of a number among a method's for a ground task; none where the number
-/// is past them, and then it is that among what comes after them.
+/// The values of the instance of a number among those of a method for a ground task; None where the number is past
+/// them, and then their count is subtracted from it.
 fn method_values_at(
     alloc: Global,
     task: &Task,

@@ -1,11 +1,11 @@
-//! Instances told apart by their networks.
+//! Instances that compare equal where their networks are equal.
 ghost use Rattle.std.specs.Prelude.{◌≡◌};
 
 use crate::instance::Instance;
 use std::hash::{Hash, Hasher};
 use std::marker::Model;
 
-/// An instance that is equal to each with the same network.
+/// An instance as a key, equal to each instance with the same network.
 #[derive(Drop)]
 pub(crate) struct ByNetwork {
     instance: Instance,

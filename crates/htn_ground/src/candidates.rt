@@ -1,4 +1,4 @@
-//! Which objects the true atoms of an unchanged literal leave to a parameter.
+//! The objects that the true atoms of a static literal leave to a parameter.
 ghost use Rattle.std.specs.Prelude.{◌≡◌, ◌≤◌, ◌<◌, ◌++◌, ◌∷◌, [], List, ℕ, IfOk, IfSome, OnOk, get_or, length, map, true};
 ghost use Rattle.std.specs.List.{All, AllWithin};
 ghost use Rattle.std.specs.List.Sorted.{IsStrictlySortedBy};
@@ -23,8 +23,8 @@ pub(crate) struct Candidates {
     predicate: u16,
     /// The argument of the parameter is the last.
     arguments: Vec<Term>,
-    /// The true atoms with the argument of the parameter behind the others; none where it stands
-    /// there already.
+    /// The true atoms with the argument of the parameter moved behind the others; None where it is the last one
+    /// already.
     rows: Option<State>,
 }
 
@@ -185,8 +185,8 @@ pub(crate) fn last_place(terms: &[Term], parameter: usize) -> Option<usize>
     last
 }
 
-/// What a literal leaves to the parameter at `depth`, where that is the last that it names. Its atoms
-/// are put in another order only if `may_sort`.
+/// The objects that a literal leaves to the parameter at `depth`, if that is the last parameter that it names. Its
+/// atoms are sorted in another order only if `may_sort`.
 fn candidates_of(
     alloc: Global,
     literal: &FixedLiteral,
@@ -224,8 +224,8 @@ fn candidates_of(
     }))
 }
 
-/// Appends what literals leave to the parameter at `depth`. Atoms are put in another order where they
-/// are fewer than the choices of objects that they may spare.
+/// Appends the objects that literals leave to the parameter at `depth`. Atoms are sorted in another order where they
+/// are fewer than the choices of objects that they may exclude.
 fn push_candidates(
     alloc: Global,
     domains: &[ObjectList],
@@ -252,7 +252,7 @@ fn push_candidates(
     Ok(())
 }
 
-/// What literals leave to each parameter.
+/// The objects that literals leave to each parameter.
 pub(crate) fn all_candidates(
     alloc: Global,
     domains: &[ObjectList],

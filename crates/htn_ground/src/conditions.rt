@@ -1,4 +1,4 @@
-//! What a schema asks of the values of its parameters.
+//! The conditions of a schema on the values of its parameters.
 ghost use Rattle.std.specs.Prelude.{◌≡◌, ◌++◌, IfOk, OnOk, length};
 ghost use Rattle.std.specs.List.{filter, flat_map, zip};
 ghost use Rattle.htn_model.specs.Instances as model;
@@ -20,8 +20,8 @@ pub struct Place {
     pub type_number: u16,
 }
 
-/// What a schema asks of the values of its parameters: their types, equalities, and the types of
-/// the places in which parameters and objects stand.
+/// The conditions of a schema on the values of its parameters: the parameters' types, equalities, and the types of the
+/// argument places at which parameters and objects are.
 #[derive(Drop)]
 pub struct Conditions {
     parameters: Vec<u16>,
@@ -61,7 +61,7 @@ impl Conditions {
     }
 }
 
-/// Whether a term is one of the first so many parameters, or an object.
+/// Whether a term is one of the first `count` parameters, or an object.
 pub(crate) fn is_among(count: usize, term: Term) -> bool
     ensures { result ≡ model.is_among count (term_of term) }
 {
@@ -197,7 +197,7 @@ fn copied(equality: &EqualitySchema) -> EqualitySchema
     EqualitySchema::new(equality.is_positive(), equality.left(), equality.right())
 }
 
-/// Appends the equalities of a conjunction that stand outside every `forall`.
+/// Appends the equalities of a conjunction that are outside every `forall`.
 fn push_equalities(
     formulas: &FormulaList,
     equalities: &mut Vec<EqualitySchema>,
@@ -253,7 +253,7 @@ fn method_places(
     Ok(places)
 }
 
-/// What a method asks of its parameters.
+/// The conditions of a method on its parameters.
 pub fn method_conditions(
     alloc: Global,
     task: &Task,
@@ -287,7 +287,7 @@ fn action_places(
     Ok(places)
 }
 
-/// What an action asks of its parameters.
+/// The conditions of an action on its parameters.
 pub(crate) fn action_conditions(
     alloc: Global,
     task: &Task,
@@ -320,7 +320,7 @@ fn initial_places(
     Ok(places)
 }
 
-/// What the initial network asks of its parameters.
+/// The conditions of the initial network on its parameters.
 pub fn initial_conditions(
     alloc: Global,
     task: &Task,

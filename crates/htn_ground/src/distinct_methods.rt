@@ -24,7 +24,7 @@ use htn_task::{FormulaList, InitialSchema, MethodSchema, Task};
 use indexmap::IndexSet;
 use std::alloc::{AllocError, Global};
 
-/// For each parameter of a method whether it stands in the precondition step or in a subtask.
+/// For each parameter of a method whether it occurs in the precondition step or in a subtask.
 fn shown_in_method(alloc: Global, method: &MethodSchema) -> Result<Vec<bool>, AllocError>
     ensures { IfOk result (λ v. AreShown method.now.precondition method.now.network.subtasks (length method.now.parameters) v.items) }
 {
@@ -33,7 +33,7 @@ fn shown_in_method(alloc: Global, method: &MethodSchema) -> Result<Vec<bool>, Al
     Ok(shown)
 }
 
-/// For each parameter of the initial network whether it stands in a subtask.
+/// For each parameter of the initial network whether it occurs in a subtask.
 fn shown_initially(alloc: Global, initial: &InitialSchema) -> Result<Vec<bool>, AllocError>
     ensures { IfOk result (λ v. AreShown [] initial.now.network.subtasks (length initial.now.parameters) v.items) }
 {
@@ -98,9 +98,9 @@ fn instances_in(alloc: Global, found: IndexSet<ByNetwork>) -> Result<Vec<Instanc
     Ok(instances)
 }
 
-/// The instances of a ground task's methods that are not dead, in the order of all, without each whose
-/// network an earlier one has: no plan is better for such a one. None is counted. An error means that
-/// memory was refused, or that the task has more than 65,536 methods, as no checked text has.
+/// The instances of a ground task's methods that are not dead, in the order of all instances, without each one whose
+/// network an earlier one has: no plan is better by such a one. No numbers are counted. An error means that memory was
+/// refused, or that the task has more than 65,536 methods, as no checked text has.
 pub fn distinct_live_methods_of(
     alloc: Global,
     task: &Task,
@@ -135,7 +135,7 @@ fn insert_initials(
     Ok(())
 }
 
-/// The instances of the initial network in order, without each whose network an earlier one has. None is
+/// The instances of the initial network in order, without each one whose network an earlier one has. No numbers are
 /// counted. An error means that memory was refused.
 pub fn distinct_initials(alloc: Global, task: &Task) -> Result<Vec<Instance>, AllocError>
     ensures { IfOk result (λ v. v.items ≡ distinct (model.initials task.now)) }

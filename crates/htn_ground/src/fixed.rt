@@ -1,4 +1,4 @@
-//! Literals that never change, and what they rule out.
+//! Static literals, and the values that they rule out.
 ghost use Rattle.std.specs.Prelude.{◌≡◌, IfOk, IsTrue, not, length};
 ghost use Rattle.htn_ground.specs.Search.{fixed_holds, is_bound, is_ruled_out_so_far};
 
@@ -41,7 +41,7 @@ impl FixedLiteral {
     }
 }
 
-/// Whether a literal with values is false already.
+/// Whether some literal all of whose arguments have values is false.
 pub(crate) fn is_ruled_out(
     literals: &[FixedLiteral],
     state: &State,

@@ -29,7 +29,7 @@ use crate::search::live_assignments;
 use htn_task::{EqualitySchema, Task, Term};
 use std::alloc::{AllocError, Global};
 
-/// What an equality says where it names no parameter.
+/// The truth of an equality that names no parameter.
 fn constant_of(positive: bool, left: Term, right: Term) -> bool
     ensures { result ≡ search.constant_of positive (term_of left) (term_of right) }
 {
@@ -39,7 +39,7 @@ fn constant_of(positive: bool, left: Term, right: Term) -> bool
     }
 }
 
-/// What an equality says of an object at a parameter, where it names one parameter.
+/// The truth of an equality for an object at a parameter, where it names one parameter.
 pub(crate) fn single_of(positive: bool, left: Term, right: Term, place: usize, object: u16) -> bool
     ensures { result ≡ search.single_of positive (term_of left) (term_of right) place object }
 {
@@ -55,7 +55,7 @@ pub(crate) fn single_of(positive: bool, left: Term, right: Term, place: usize, o
     }
 }
 
-/// The relation that an equality is where it names two parameters.
+/// The relation of an equality that names two parameters.
 fn relation_of(positive: bool, left: Term, right: Term) -> Option<Relation>
     ensures { option_to_list result ≡ search.relations_of positive (term_of left) (term_of right) }
 {
@@ -81,7 +81,7 @@ fn has_type(task: &Task, type_number: u16, object: u16) -> bool
     task.objects_of(type_number).binary_search(&object).is_ok()
 }
 
-/// What the type of a place says of an object there.
+/// The truth of a place's type condition for an object at the place.
 fn place_constant(task: &Task, place: Place) -> bool
     ensures { result ≡ search.place_constant task.now (place_of place) }
 {
@@ -91,7 +91,7 @@ fn place_constant(task: &Task, place: Place) -> bool
     }
 }
 
-/// What the type of a place says of an object at a parameter.
+/// The truth of a place's type condition for an object at a parameter.
 fn place_single(task: &Task, place: Place, at: usize, object: u16) -> bool
     ensures { result ≡ search.place_single task.now (place_of place) at object }
 {
@@ -167,7 +167,7 @@ fn singles_hold(task: &Task, conditions: &Conditions, at: usize, object: u16) ->
         && place_singles_hold(task, conditions.places(), at, object)
 }
 
-/// The object that an equality asks of a parameter, if there is one.
+/// The object that an equality requires of a parameter, if there is one.
 fn object_asked(equalities: &[EqualitySchema], at: usize) -> Option<u16>
     ensures { IfSome result (λ x. (o : ℕ) → search.equality_singles equalities.now at o ≡ true → o ≡ x) }
 {
@@ -204,7 +204,7 @@ fn is_of_type(place: Place, at: usize, type_number: u16) -> bool
     }
 }
 
-/// Whether a parameter stands at places of one type alone.
+/// Whether all places of a parameter have this type.
 fn are_of_type(places: &[Place], at: usize, type_number: u16) -> bool
     ensures { IsTrue result → (t : schema.Task) (o : ℕ) → has_type t type_number o ≡ true
         → search.place_singles t (places_of places.now) at o ≡ true }
@@ -365,8 +365,8 @@ pub(crate) fn live_values(
     Ok(found)
 }
 
-/// The values of the instance of a number, in lexicographic order; none where the number is past them,
-/// and then it is that among what comes after them.
+/// The values of the instance of a number, in lexicographic order; None where the number is past them, and then their
+/// count is subtracted from it.
 pub(crate) fn values_at(
     alloc: Global,
     task: &Task,

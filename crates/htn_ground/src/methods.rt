@@ -23,9 +23,9 @@ use htn_state::{Action, Atom, State};
 use htn_task::{ActionSchema, AtomSchema, FormulaList, MethodSchema, Task, TaskSchema};
 use std::alloc::{AllocError, Global};
 
-/// The number of what stands at a place of a list. A task that is checked from texts has at most 65,535
-/// methods, so there each has one. The type of a `Task` doesn't keep that: where the place of a method is past
-/// 16 bits, the answer is want of memory although none was refused.
+/// The place of an element of a list as a 16-bit number. A task that is checked from texts has at most 65,535 methods,
+/// so there each one has a number. The type of a `Task` does not guarantee that: where the place of a method is past 16
+/// bits, the answer is as if memory had been refused.
 pub(crate) fn number_at(place: usize) -> Result<u16, AllocError>
     ensures { IfOk result (λ n. n ≡ place) }
 {

@@ -1,4 +1,4 @@
-//! Which parameters stand in a schema's network.
+//! The parameters that occur in a schema's network.
 ghost use Rattle.std.specs.Prelude.{◌≡◌, IfOk, get_or, not, true};
 ghost use Rattle.std.specs.List.{list_any};
 ghost use Rattle.htn_model.specs.Instances.{state_formulas};
@@ -32,7 +32,7 @@ fn stands_in_terms(terms: &[Term], place: usize) -> bool
     false
 }
 
-/// Whether a parameter stands in a formula.
+/// Whether a parameter occurs in a formula.
 fn stands_in(formula: &Formula, place: usize) -> bool
     ensures { result ≡ stands_in place (formula_of formula.now) }
 {
@@ -52,7 +52,7 @@ fn stands_in(formula: &Formula, place: usize) -> bool
     }
 }
 
-/// Whether a parameter stands in the literals of a precondition step.
+/// Whether a parameter occurs in the literals of a precondition step.
 fn stands_in_step(precondition: &FormulaList, place: usize) -> bool
     ensures { result ≡ list_any (stands_in place) (state_formulas precondition.now) }
 {
@@ -75,7 +75,7 @@ fn stands_in_subtasks(subtasks: &[TaskSchema], place: usize) -> bool
     false
 }
 
-/// For each of so many parameters whether it stands in the precondition step or in a subtask.
+/// For each of the first `count` parameters whether it occurs in the precondition step or in a subtask.
 pub fn shown_parameters(
     alloc: Global,
     precondition: &FormulaList,

@@ -1,4 +1,4 @@
--- Values that stand in several vectors.
+-- The values of several vectors.
 use Rattle.std.specs.Prelude.{List, Vec, flat_map}
 use Rattle.std.specs.declared.alloc.Global.{Global}
 

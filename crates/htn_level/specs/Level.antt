@@ -27,7 +27,7 @@ module _ {S F : Type 0} (has_successors : ℕ → List S → Type 0) (finishes :
   IsExpanded first last (Whole successors) = AreSuccessors has_successors first last successors.items
   IsExpanded first last (Done rank finish) = IsFirstDone first last rank finish
 
-  -- the same of a level, whose successors stand in several vectors
+  -- the ranks of a level were expanded likewise, where its successors are in several vectors
   abbrev pub IsExpandedLevel : (first last : ℕ) → ExpandedLevel S F → Type 0
   IsExpandedLevel first last (level.Whole successors) = AreSuccessors has_successors first last successors
   IsExpandedLevel first last (level.Done rank finish) = IsFirstDone first last rank finish

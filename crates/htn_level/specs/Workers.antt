@@ -1,4 +1,4 @@
--- What workers bring home.
+-- The results of workers.
 use Rattle.std.specs.Prelude.{◌≡◌, ℕ, ◌+◌, ◌*◌, ◌<◌, ◌≤◌, min, true, Option, IfSome, IsSome, Vec, slice_index_or, List, [], ◌∷◌, ◌++◌, length, map, All, Contains, flat_map}
 use Rattle.std.specs.declared.alloc.Global.{Global}
 use Rattle.htn_level.specs.Desk.{DeskState, PassState}
@@ -13,16 +13,16 @@ use Rattle.htn_level.specs.Level.{AreSuccessors, IsExpanded}
 abbrev pub CanExpandAll : (ℕ → Type 0) → (first last : ℕ) → Type 0
 CanExpandAll can_expand first last = (rank : ℕ) → first ≤ rank → rank < last → can_expand rank
 
--- a level is cut into pieces of so many ranks, the last one possibly shorter: where the piece of this number begins,
--- and where it ends
+-- a level is cut into pieces of `size` ranks, the last one possibly shorter; this is the first rank of the piece of a
+-- number
 abbrev pub piece_first : (first size number : ℕ) → ℕ
 piece_first first size number = first + number * size
 
--- the place after the last of a piece: so many places from its first, and none past the end
+-- the rank after the last one of a piece: `size` ranks after its first, and at most the end of the level
 abbrev pub piece_last : (first last size number : ℕ) → ℕ
 piece_last first last size number = min (first + number * size + size) last
 
--- each of so many pieces has a rank of the level
+-- each of the first `count` pieces has a rank of the level
 abbrev pub HasPieces : (first last size count : ℕ) → Type 0
 HasPieces first last size count = (number : ℕ) → number < count → piece_first first size number < last
 
@@ -53,7 +53,7 @@ module _ {S F : Type 0} (has_successors : ℕ → List S → Type 0) (finishes :
     pub places : flat_map (λ p. places_of p.outcome) pieces ≡ reported
     pub outcomes : All (λ p. IsOutcome p.number seen p.outcome) pieces
 
-  -- what a worker brings home: its pass has ended, and the results are those of its pass
+  -- the result of a worker: its pass has ended, and the pieces are those of its pass
   pub record IsWorked (desk : DeskState) (worked : Worked S F) : Type 0 where
     pub desk_is : worked.pass.desk ≡ desk
     pub ended : worked.pass.ended ≡ true

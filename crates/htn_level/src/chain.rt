@@ -1,4 +1,4 @@
-//! Values that stand in several vectors, end to end.
+//! The values of several vectors, end to end.
 ghost use Rattle.std.specs.Prelude.{◌≡◌};
 ghost use Rattle.std.specs.Iterator.{YieldsFirst, item_count};
 ghost use Rattle.htn_level.specs.Joined.{joined};
@@ -27,7 +27,7 @@ impl<S> Model for Chain<S> {
     ghost view = { λ c. into_iter_items c.first ++ joined (into_iter_items c.rest) };
 }
 
-// How many values the vectors have, as far as a number goes.
+// The number of values that the vectors have, at most the greatest `usize`.
 fn total_len<S>(parts: &[Vec<S>]) -> usize {
     let mut total: usize = 0;
     for part in parts {

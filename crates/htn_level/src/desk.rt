@@ -55,7 +55,7 @@ impl Model for Pass {
     ghost invariant = { λ p. (p.seat.me.1 ≡ []) × (p.seat.me.0.seats ≡ 1) × (p.seat.me.0.ended ≡ (if p.ended then 1 else 0)) };
 }
 
-/// What is left of a desk once all its passes have come back.
+/// The result of a desk once all its passes have come back: how many numbers were drawn, and the least place reported.
 #[derive(Drop)]
 pub struct Closed {
     drawn: u64,

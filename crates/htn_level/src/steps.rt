@@ -31,7 +31,7 @@ impl Play<(), View> for Look {
     ghost then = { Looks };
 }
 
-/// One seat goes to a view of its own.
+/// Splits one seat off, with a view of its own.
 pub struct OneSeat;
 
 impl Split<View> for OneSeat {

@@ -11,23 +11,23 @@ IsNoGreater [] w = ⊤
 IsNoGreater (x ∷ v) [] = ⊥
 IsNoGreater (x ∷ v) (y ∷ w) = (x < y) ⊎ ((x ≡ y) × IsNoGreater v w)
 
--- fewer nodes, or as many and no greater code
+-- the first solution has fewer nodes than the second, or as many and no greater code
 abbrev pub IsNoWorse : Problem → Solution → Solution → Type 0
 IsNoWorse problem s other =
     (total_size s.trees < total_size other.trees)
     ⊎ ((total_size s.trees ≡ total_size other.trees) × ((v w : List ℕ) → IsCode problem s v → IsCode problem other w → IsNoGreater v w))
 
--- none if no solution has at most that many nodes, and otherwise the solution of fewest nodes and then of least code
+-- none if no solution is within the bound, and otherwise the solution of fewest nodes and then of least code
 abbrev pub IsAnswer : Problem → ℕ → Option Solution → Type 0
 IsAnswer problem bound None = (s : Solution) → IsSolution problem s → bound < total_size s.trees
 IsAnswer problem bound (Some s) =
     IsSolution problem s × (total_size s.trees ≤ bound) × ((other : Solution) → IsSolution problem other → IsNoWorse problem s other)
 
--- a shorter word, or one as long and no greater
+-- the first word is shorter than the second, or as long and no greater
 abbrev pub IsNoLater : List ℕ → List ℕ → Type 0
 IsNoLater v w = (length v < length w) ⊎ ((length v ≡ length w) × IsNoGreater v w)
 
--- none if no word of at most that many steps finishes, and otherwise the shortest and then least that does
+-- none if no word within the bound on steps finishes, and otherwise the shortest and then least word that does
 abbrev pub IsLeastWord : Problem → ℕ → Option (List ℕ) → Type 0
 IsLeastWord problem bound None = (word : List ℕ) → Finishes problem word → suc bound < length word
 IsLeastWord problem bound (Some word) =

@@ -18,14 +18,14 @@ atom_code =
     code_by (ℕ × List ℕ) (coded× coded_ℕ (coded_list coded_ℕ)) (λ a. (a.predicate, a.arguments))
     (λ p. record { predicate = p.0; arguments = p.1 }) (λ _. refl)
 
--- by the predicate, and then by the arguments in their order
+-- the order of atoms: by the predicate, and then by the arguments in their order
 abbrev pub atom_cmp : Atom → Atom → Ordering
 atom_cmp = then_cmp (on (λ a. a.predicate) nat_cmp) (on (λ a. a.arguments) (slice_cmp nat_cmp))
 
--- whether two atoms are the same
+-- whether two atoms are equal
 abbrev pub atom_eq : Atom → Atom → Bool
 atom_eq = eq_of_both (on (λ a. a.predicate) nat_eq) (on (λ a. a.arguments) (pointwise nat_eq))
 
--- what an atom feeds a hasher
+-- the writes by which an atom feeds a hasher
 abbrev pub atom_hash : Atom → HashWrites
 atom_hash a = fed.u16 a.predicate ++ fed.slice fed.u16 a.arguments

@@ -1,4 +1,4 @@
--- The order of atoms is total and tells all atoms apart; two states are equal where they have the same atoms.
+-- The order of atoms is total and distinguishes all atoms; two states are equal where they have the same atoms.
 use Rattle.std.specs.Prelude.{◌≡◌, ℕ, Bool, true, ◌&&◌, List, Option, Some, None, is_some, refl}
 use Rattle.std.specs.Bool.{Decides}
 use Rattle.std.specs.declared.cmp.Ordering.TheVariants.{Equal}
@@ -16,17 +16,17 @@ use Rattle.htn_model.specs.State.{State, contains, atoms_of, state_eq}
 pub atom_cmp-total : IsTotalOrder atom_cmp
 atom_cmp-total = then_total (on_total (λ a. a.predicate) nat_cmp_total) (on_total (λ a. a.arguments) nat_list_cmp_total)
 
--- atoms that tie are the same
+-- atoms that compare as equal are equal
 pub atom_cmp-same : (x y : Atom) → atom_cmp x y ≡ Equal → x ≡ y
 atom_cmp-same x y tie =
     ap (λ (p : ℕ × List ℕ). record { predicate = p.0; arguments = p.1 })
     (exact_pairs nat_cmp (slice_cmp nat_cmp) exact_unsigned exact_bytes (x.predicate, x.arguments) (y.predicate, y.arguments) tie)
 
--- two tests that hold hold together
+-- two tests that hold are a conjunction that holds
 pub both_true : (a b : Bool) → a ≡ true → b ≡ true → (a && b) ≡ true
 both_true a b h g = λ i. h i && g i
 
--- the test of atoms tells equality
+-- the test of atoms is true exactly of equal atoms
 pub atom_eq-decides : (x y : Atom) → Decides (atom_eq x y) (x ≡ y)
 atom_eq-decides x y = (
   λ e. let predicate = (unsigned_Decides x.predicate y.predicate).0 (first_so _ _ e) in
@@ -39,13 +39,13 @@ atom_eq-decides x y = (
 pub atom_eq-laws : IsEquivalence atom_eq
 atom_eq-laws = decided atom_eq atom_eq-decides
 
--- the same in the sense of `PartialEq`
+-- the test of atoms is an equivalence in the sense of `PartialEq`
 pub atom_eq-partial : IsPartialEquivalence atom_eq
 atom_eq-partial = partial_equiv_from_equiv atom_eq-laws
 
 -- ## States
 
--- two marks are equal where both are there or neither is
+-- two marks are equal where both are present or neither is
 marks : (x y : Option (Unit {0})) → is_some x ≡ is_some y → x ≡ y
 marks None None e = refl
 marks None (Some u) e = cc
@@ -60,7 +60,7 @@ same_state s t alike = same_map atom_cmp-total atom_cmp-same s t (λ q. marks _ 
 pub same_atoms : (s t : State) → atoms_of s ≡ atoms_of t → s ≡ t
 same_atoms s t e = same_state s t (λ q. contains_key-keys s q ∙ ap (list_any (eq_by_cmp atom_cmp q)) e ∙ sym (contains_key-keys t q))
 
--- the test of states tells equality
+-- the test of states is true exactly of equal states
 pub state_eq-decides : (s t : State) → Decides (state_eq s t) (s ≡ t)
 state_eq-decides s t =
     let atoms = pointwise_decides atom_eq-decides (atoms_of s) (atoms_of t) in
@@ -70,6 +70,6 @@ state_eq-decides s t =
 pub state_eq-laws : IsEquivalence state_eq
 state_eq-laws = decided state_eq state_eq-decides
 
--- the same in the sense of `PartialEq`
+-- the test of states is an equivalence in the sense of `PartialEq`
 pub state_eq-partial : IsPartialEquivalence state_eq
 state_eq-partial = partial_equiv_from_equiv state_eq-laws

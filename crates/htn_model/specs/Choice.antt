@@ -20,7 +20,7 @@ is_free n precedes i = is_empty (passing (λ k. precedes k i) n)
 abbrev pub nth_free : ℕ → (ℕ → ℕ → Bool) → ℕ → Option ℕ
 nth_free n precedes k = slice_get (passing (is_free n precedes) n) k
 
--- what stands at a position of a network
+-- the node at a position of a network
 abbrev pub child_of : List Child → ℕ → Child
 child_of children i = get_or children i (precondition [])
 

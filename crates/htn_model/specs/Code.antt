@@ -9,11 +9,11 @@ pub record Placed : Type 0 where
   pub place : Place
   pub node : Node
 
--- what stands in a front where nothing does
+-- a node that serves where a front has none
 abbrev pub nowhere : Placed
 nowhere = record { place = []; node = step [] }
 
--- what stands at a position of a front
+-- the node at a position of a front
 abbrev pub front_at : List Placed → ℕ → Placed
 front_at front i = get_or front i nowhere
 

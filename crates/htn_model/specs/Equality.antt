@@ -1,4 +1,4 @@
--- The tests of equality tell exactly the equal values, and so they have the laws of `==`.
+-- The tests of equality are true exactly of equal values, and so they have the laws of `==`.
 use Rattle.std.specs.Prelude.{◌≡◌, ℕ, true, Option, Some, None, refl, nat_eq}
 use Rattle.std.specs.Bool.{Decides}
 use Rattle.std.specs.Cmp.{IsEquivalence, IsPartialEquivalence, partial_equiv_from_equiv, unsigned_Decides, booleans_Decides, decided, first_so, second_so}
@@ -32,7 +32,7 @@ literal_itself : (l : Literal) → literal_eq l l ≡ true
 literal_itself (atom p a) = both_true _ _ ((booleans_Decides p p).1 refl) ((atom_eq-decides a a).1 refl)
 literal_itself (equality p x y) = both_true _ _ ((booleans_Decides p p).1 refl) (both_true _ _ ((unsigned_Decides x x).1 refl) ((unsigned_Decides y y).1 refl))
 
--- the test of literals tells equality
+-- the test of literals is true exactly of equal literals
 pub literal_eq-decides : (l m : Literal) → Decides (literal_eq l m) (l ≡ m)
 literal_eq-decides l m = (same_literal l m, λ e. sym (ap (literal_eq l) e) ∙ literal_itself l)
 
@@ -40,13 +40,13 @@ literal_eq-decides l m = (same_literal l m, λ e. sym (ap (literal_eq l) e) ∙ 
 pub literal_eq-laws : IsEquivalence literal_eq
 literal_eq-laws = decided literal_eq literal_eq-decides
 
--- the same in the sense of `PartialEq`
+-- the test of literals is an equivalence in the sense of `PartialEq`
 pub literal_eq-partial : IsPartialEquivalence literal_eq
 literal_eq-partial = partial_equiv_from_equiv literal_eq-laws
 
 -- ## Ground tasks
 
--- the test of ground tasks tells equality
+-- the test of ground tasks is true exactly of equal ground tasks
 pub ground_task_eq-decides : (g h : GroundTask) → Decides (ground_task_eq g h) (g ≡ h)
 ground_task_eq-decides g h =
     let names = unsigned_Decides g.name h.name in
@@ -61,7 +61,7 @@ ground_task_eq-decides g h =
 pub ground_task_eq-laws : IsEquivalence ground_task_eq
 ground_task_eq-laws = decided ground_task_eq ground_task_eq-decides
 
--- the same in the sense of `PartialEq`
+-- the test of ground tasks is an equivalence in the sense of `PartialEq`
 pub ground_task_eq-partial : IsPartialEquivalence ground_task_eq
 ground_task_eq-partial = partial_equiv_from_equiv ground_task_eq-laws
 
@@ -85,7 +85,7 @@ child_itself (precondition ls) = (pointwise_decides literal_eq-decides ls ls).1 
 child_itself (action g) = (ground_task_eq-decides g g).1 refl
 child_itself (task t) = (ground_task_eq-decides t t).1 refl
 
--- the test of nodes of a network tells equality
+-- the test of nodes of a network is true exactly of equal nodes
 pub child_eq-decides : (x y : Child) → Decides (child_eq x y) (x ≡ y)
 child_eq-decides x y = (same_child x y, λ e. sym (ap (child_eq x) e) ∙ child_itself x)
 
@@ -93,13 +93,13 @@ child_eq-decides x y = (same_child x y, λ e. sym (ap (child_eq x) e) ∙ child_
 pub child_eq-laws : IsEquivalence child_eq
 child_eq-laws = decided child_eq child_eq-decides
 
--- the same in the sense of `PartialEq`
+-- the test of nodes of a network is an equivalence in the sense of `PartialEq`
 pub child_eq-partial : IsPartialEquivalence child_eq
 child_eq-partial = partial_equiv_from_equiv child_eq-laws
 
 -- ## Orders and networks
 
--- the test of orders tells equality
+-- the test of orders is true exactly of equal orders
 pub order_eq-decides : (o p : Order) → Decides (order_eq o p) (o ≡ p)
 order_eq-decides = pointwise_decides (pointwise_decides booleans_Decides)
 
@@ -107,11 +107,11 @@ order_eq-decides = pointwise_decides (pointwise_decides booleans_Decides)
 pub order_eq-laws : IsEquivalence order_eq
 order_eq-laws = decided order_eq order_eq-decides
 
--- the same in the sense of `PartialEq`
+-- the test of orders is an equivalence in the sense of `PartialEq`
 pub order_eq-partial : IsPartialEquivalence order_eq
 order_eq-partial = partial_equiv_from_equiv order_eq-laws
 
--- the test of networks tells equality
+-- the test of networks is true exactly of equal networks
 pub network_eq-decides : (m n : Network) → Decides (network_eq m n) (m ≡ n)
 network_eq-decides m n =
     let children = pointwise_decides child_eq-decides m.children n.children in
@@ -126,7 +126,7 @@ network_eq-decides m n =
 pub network_eq-laws : IsEquivalence network_eq
 network_eq-laws = decided network_eq network_eq-decides
 
--- the same in the sense of `PartialEq`
+-- the test of networks is an equivalence in the sense of `PartialEq`
 pub network_eq-partial : IsPartialEquivalence network_eq
 network_eq-partial = partial_equiv_from_equiv network_eq-laws
 
@@ -144,7 +144,7 @@ number_itself : (o : Option ℕ) → option_eq nat_eq o o ≡ true
 number_itself None = refl
 number_itself (Some x) = (unsigned_Decides x x).1 refl
 
--- the test of instances tells equality
+-- the test of instances is true exactly of equal instances
 pub instance_eq-decides : (x y : Instance) → Decides (instance_eq x y) (x ≡ y)
 instance_eq-decides x y =
     let values = pointwise_decides unsigned_Decides x.values y.values in
@@ -163,13 +163,13 @@ instance_eq-decides x y =
 pub instance_eq-laws : IsEquivalence instance_eq
 instance_eq-laws = decided instance_eq instance_eq-decides
 
--- the same in the sense of `PartialEq`
+-- the test of instances is an equivalence in the sense of `PartialEq`
 pub instance_eq-partial : IsPartialEquivalence instance_eq
 instance_eq-partial = partial_equiv_from_equiv instance_eq-laws
 
 -- ## Configurations
 
--- the test of configurations tells equality
+-- the test of configurations is true exactly of equal configurations
 pub config_eq-decides : (c d : Config) → Decides (config_eq c d) (c ≡ d)
 config_eq-decides c d =
     let states = state_eq-decides c.state d.state in
@@ -189,7 +189,7 @@ config_eq-decides c d =
 pub config_eq-laws : IsEquivalence config_eq
 config_eq-laws = decided config_eq config_eq-decides
 
--- the same in the sense of `PartialEq`
+-- the test of configurations is an equivalence in the sense of `PartialEq`
 pub config_eq-partial : IsPartialEquivalence config_eq
 config_eq-partial = partial_equiv_from_equiv config_eq-laws
 

@@ -7,7 +7,8 @@ use Rattle.htn_model.specs.Tree.{Solution, IsSolution}
 use Rattle.htn_model.specs.Machine.{Config, Choice, choose, result_of, start, IsDone, Finishes}
 use Rattle.htn_model.specs.Answer.{IsAnswer}
 
--- false in the initial state, and no effect names its predicate; of an equality, false
+-- whether a literal is dead: it is false in the initial state and no effect names its predicate, or it is a false
+-- equality
 abbrev pub is_dead_literal : Problem → Literal → Bool
 is_dead_literal problem (atom positive a) = not (problem.is_changed a.predicate) && not (literal_holds problem.initial_state (atom positive a))
 is_dead_literal problem (equality positive x y) = not (literal_holds problem.initial_state (equality positive x y))
@@ -18,7 +19,7 @@ is_dead_child problem (precondition literals) = list_any (is_dead_literal proble
 is_dead_child problem (action g) = false
 is_dead_child problem (task t) = false
 
--- an instance whose step has a dead literal
+-- whether an instance is dead: its precondition step has a dead literal
 abbrev pub is_dead : Problem → Network → Bool
 is_dead problem network = list_any (is_dead_child problem) network.children
 
@@ -28,7 +29,7 @@ LeadsLive problem [] c last = c ≡ last
 LeadsLive problem (number ∷ word) c last =
     (choice : Choice) × (choose problem c number ≡ Some choice) × (is_dead problem choice.network ≡ false) × LeadsLive problem word (result_of c choice) last
 
--- a configuration is reached from an initial network in so many steps, none of them dead
+-- a configuration is reached from an initial network in this number of steps, none of them dead
 pub record Reaches (problem : Problem) (steps : ℕ) (c : Config) : Type 0 where
   pub number : ℕ
   pub network : Network
@@ -37,7 +38,8 @@ pub record Reaches (problem : Problem) (steps : ℕ) (c : Config) : Type 0 where
   pub long : length word ≡ steps
   pub leads : LeadsLive problem word (start problem network) c
 
--- a configuration that is reached, and in no number of steps that leaves its open nodes within the bound
+-- the bound is met: some configuration is reached, and in no number of steps that leaves its open nodes within the
+-- bound
 pub record IsMet (problem : Problem) (bound : ℕ) : Type 0 where
   pub config : Config
   pub steps : ℕ
@@ -52,7 +54,7 @@ IsUnsolvable problem = (s : Solution) → IsSolution problem s → ⊥
 abbrev pub ExhaustionDecides : Problem → Type 0
 ExhaustionDecides problem = (bound : ℕ) → (IsMet problem bound → ⊥) → IsAnswer problem bound None → IsUnsolvable problem
 
--- a word finishes just where it does so without a dead number
+-- a word finishes, and none of its numbers is dead
 abbrev pub FinishesLive : Problem → List ℕ → Type 0
 FinishesLive problem [] = ⊥
 FinishesLive problem (number ∷ word) =
@@ -66,7 +68,7 @@ FinishesLive problem (number ∷ word) =
 abbrev pub DeadNumbersNeverFinish : Problem → Type 0
 DeadNumbersNeverFinish problem = (word : List ℕ) → Finishes problem word ↔ FinishesLive problem word
 
--- the search's steps without the dead numbers
+-- the step of a number that is not dead
 abbrev pub live_step : Problem → Config → ℕ → Option Config
 live_step problem c number =
     option_and_then (λ choice. cond (is_dead problem choice.network) None (Some (result_of c choice))) (choose problem c number)

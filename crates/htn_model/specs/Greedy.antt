@@ -14,7 +14,7 @@ PlanHasRoom naming problem states [] (plan p plans) a x y = ⊤
 PlanHasRoom naming problem states (b ∷ positions) (plan p plans) a x y = (a ≡ b → Fits naming problem states p x y) × PlanHasRoom naming problem states positions plans a x y
 
 module _ (naming : Naming) (problem : Problem) (states : ℕ → State) (network : Network) (positions : List ℕ) (plans : PlanTrees) where
-  -- what stands at the position has room from gap x to gap y
+  -- the node at the position has room from gap x to gap y
   pub record HasRoomAt (a x y : ℕ) : Type 0 where
     pub forward : x ≤ y
     pub step : (literals : List Literal) → slice_get network.children a ≡ Some (precondition literals) → StepFits states literals x y
@@ -50,7 +50,7 @@ module _ (naming : Naming) (problem : Problem) (states : ℕ → State) (network
     -- no other spans finish earlier anywhere
     pub least : (g h : ℕ) (start finish other_start other_finish : ℕ → ℕ) → IsMatching network.children positions plans → IsGreedy g start finish
         → HaveSpans g h other_start other_finish → (a : ℕ) → finish a ≤ other_finish a
-    -- and there are greedy ones, unless there are none at all
+    -- there are greedy spans, unless there are no spans at all
     pub exist : (g n : ℕ) → IsMatching network.children positions plans → Tables n
         → ((start : ℕ → ℕ) × (finish : ℕ → ℕ) × IsGreedy g start finish) ⊎ ((h : ℕ) (start finish : ℕ → ℕ) → h ≤ n → HaveSpans g h start finish → ⊥)
 
@@ -73,7 +73,7 @@ FitsGreedily naming problem states network plans g h =
 pub record GreedySpansDecide (naming : Naming) (problem : Problem) : Type 0 where
   pub at_positions : (states : ℕ → State) (network : Network) (positions : List ℕ) (plans : PlanTrees) → IsNetwork network
       → GreedyDecides naming problem states network positions plans
-  -- what the tables of the lines tell of what stands at a network's positions
+  -- the tables of the lines give those of a network's positions
   pub tables : (states : ℕ → State) (network : Network) (positions : List ℕ) (plans : PlanTrees) (n : ℕ) → LineTables naming problem states n plans
       → Tables naming problem states network positions plans n
   -- the plans have room in the network exactly where greedy spans have

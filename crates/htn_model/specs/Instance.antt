@@ -1,4 +1,4 @@
--- An instance of a method or of the initial network, as it is handed out: with the method and the values that give it.
+-- An instance of a method or of the initial network, with the method and the values that give it.
 use Rattle.std.specs.Prelude.{ℕ, Bool, List, Option, refl, nat_eq}
 use Rattle.std.specs.Coded.{Coded, code_by, coded×, coded_ℕ, coded_list, coded_option}
 use Rattle.std.specs.Cmp.Lexicographic.{pointwise}

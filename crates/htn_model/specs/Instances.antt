@@ -99,7 +99,7 @@ abbrev mutual
   formulas_places t no_formulas = []
   formulas_places t (formula f fs) = formula_places t f ++ formulas_places t fs
 
--- a term that is one of the first so many parameters, or an object
+-- whether a term is one of the first `count` parameters, or an object
 abbrev pub is_among : ℕ → Term → Bool
 is_among count (parameter p) = nat_lt p count
 is_among count (object o) = true

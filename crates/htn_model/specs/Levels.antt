@@ -75,7 +75,7 @@ kept_level same bound steps seen rs =
     let kept = keep_new same seen (filter (is_within bound steps) rs) in
     record { reached = kept; seen = map (λ r. r.config) kept ++ seen }
 
--- what is reached after so many steps, and all that was seen up to there
+-- the level of this number of steps: the configurations that it reaches first, and all that were seen up to it
 abbrev pub level : Problem → Stepping → (Config → Config → Bool) → ℕ → ℕ → Level
 level problem step same bound zero = kept_level same bound 0 [] (starts problem 0 problem.initials)
 level problem step same bound (suc steps) =

@@ -1,4 +1,4 @@
--- Ground literals and actions: what holds in a state, and what an action makes of it.
+-- Ground literals and actions: when a literal holds in a state, and the state after an action.
 use Rattle.std.specs.Prelude.{◌≡◌, ℕ, Bool, true, false, not, ◌&&◌, List, nat_eq, refl, ◌⊎◌}
 use Rattle.std.specs.Bool.{beq}
 use Rattle.std.specs.Coded.{Coded, code_by, coded×, coded⊎, coded_ℕ, coded_bool, coded_list}
@@ -23,7 +23,7 @@ literal_holds state (equality false x y) = not (nat_eq x y)
 abbrev pub holds : State → List Literal → Bool
 holds state literals = list_all (literal_holds state) literals
 
--- what must hold, and the effects
+-- an action: its precondition, which has to hold, and its effects
 pub record Action : Type 0 where
   pub precondition : List Literal
   pub deletes : State

@@ -25,11 +25,11 @@ config_code =
     code_by (State × (List Child × Order)) (coded× state_code (coded× (coded_list child_code) order_code))
     (λ c. (c.state, (c.open_nodes, c.order))) (λ p. record { state = p.0; open_nodes = p.1.0; order = p.1.1 }) (λ _. refl)
 
--- the order of n nodes that a test tells
+-- the order of n nodes, as a table, in which a is before b where the test is true of a and b
 abbrev pub table : ℕ → (ℕ → ℕ → Bool) → Order
 table n f = map (λ a. map (f a) (range_with_len 0 n)) (range_with_len 0 n)
 
--- the position in the old network of what stands at a, where the node at i was replaced by m nodes
+-- the position in the old network of the node at a in the new one, where the node at i was replaced by m nodes
 abbrev pub origin : ℕ → ℕ → ℕ → ℕ
 origin i m a = cond (ltb a i) a (cond (ltb a (i + m)) i (a + 1 - m))
 
@@ -49,7 +49,7 @@ replaced c i network state =
 abbrev pub no_network : Network
 no_network = record { children = []; order = [] }
 
--- what a number chooses: the node at a position, what takes its place, and the state that follows
+-- the choice of a number: the position of a node, the network that replaces it, and the state that follows
 pub record Choice : Type 0 where
   pub position : ℕ
   pub network : Network
@@ -91,7 +91,7 @@ abbrev pub FinishesFrom : Problem → List ℕ → Config → Type 0
 FinishesFrom problem [] c = IsDone problem c
 FinishesFrom problem (number ∷ word) c = (next : Config) × (step_by problem c number ≡ Some next) × FinishesFrom problem word next
 
--- the configuration that an initial network begins with
+-- the initial configuration of an initial network
 abbrev pub start : Problem → Network → Config
 start problem network = record { state = problem.initial_state; open_nodes = network.children; order = network.order }
 

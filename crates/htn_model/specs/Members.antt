@@ -1,4 +1,4 @@
--- States are sets: which atoms the operations leave true, and that nothing else tells states apart.
+-- States are sets: which atoms are true after each operation, and that states with the same true atoms are equal.
 use Rattle.std.specs.Prelude.{◌≡◌, ◌↔◌, true, not, ◌&&◌, ◌||◌, List}
 use Rattle.std.specs.List.{Contains}
 use Rattle.std.specs.List.Sorted.{IsStrictlySortedBy}

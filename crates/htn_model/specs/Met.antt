@@ -6,17 +6,17 @@ use Rattle.htn_model.specs.Machine.{Config}
 use Rattle.htn_model.specs.Exhaustion.{IsMet, live_step}
 use Rattle.htn_model.specs.Levels.{Reached, Stepping, successors, starts, is_within, level}
 
--- what a level is made from: before the bound is looked at, and before anything is dropped
+-- the candidates for a level, before those beyond the bound and those seen before are dropped
 abbrev pub candidates : Problem → Stepping → (Config → Config → Bool) → ℕ → ℕ → List Reached
 candidates problem step same bound zero = starts problem 0 problem.initials
 candidates problem step same bound (suc steps) = flat_map (successors problem step) (level problem step same bound steps).reached
 
--- what was seen before the level of so many steps
+-- the configurations that were seen before the level of this number of steps
 abbrev pub seen_before : Problem → Stepping → (Config → Config → Bool) → ℕ → ℕ → List Config
 seen_before problem step same bound zero = []
 seen_before problem step same bound (suc steps) = (level problem step same bound steps).seen
 
--- a candidate beyond the bound whose configuration was not seen
+-- a candidate of some level is beyond the bound, and its configuration was not seen before
 pub record LeavesOut (problem : Problem) (step : Stepping) (same : Config → Config → Bool) (bound : ℕ) : Type 0 where
   pub steps : ℕ
   pub position : ℕ
@@ -29,7 +29,7 @@ pub record LeavesOut (problem : Problem) (step : Stepping) (same : Config → Co
 abbrev pub Decides : (Config → Config → Bool) → Type 0
 Decides same = (c d : Config) → (same c d ≡ true) ↔ (c ≡ d)
 
--- the bound is met exactly where the search without dead numbers leaves something out
+-- the bound is met exactly where the search without dead numbers leaves out a new configuration because of the bound
 abbrev pub MetIsLeftOut : Problem → Type 0
 MetIsLeftOut problem =
     (same : Config → Config → Bool) (bound : ℕ) → Decides same → IsMet problem bound ↔ LeavesOut problem (live_step problem) same bound

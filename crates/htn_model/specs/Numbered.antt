@@ -26,14 +26,14 @@ compound_places s = compounds_from [] 0 s.trees
 abbrev pub numbered_places : Solution → List Place
 numbered_places s = action_places s ++ compound_places s
 
--- whether two places are the same
+-- whether two places are equal
 abbrev pub is_same_place : Place → Place → Bool
 is_same_place [] [] = true
 is_same_place [] (j ∷ q) = false
 is_same_place (i ∷ p) [] = false
 is_same_place (i ∷ p) (j ∷ q) = eqb i j && is_same_place p q
 
--- where a place first stands in a list
+-- the first position of a place in a list
 abbrev pub position : Place → List Place → ℕ
 position p [] = 0
 position p (q ∷ qs) = cond (is_same_place p q) 0 (suc (position p qs))
@@ -42,7 +42,7 @@ position p (q ∷ qs) = cond (is_same_place p q) 0 (suc (position p qs))
 abbrev pub id_in : Solution → Place → ℕ
 id_in s p = position p (numbered_places s)
 
--- a task that stands where there is none
+-- a task that serves where there is none
 abbrev pub no_task : GroundTask
 no_task = record { name = 0; arguments = [] }
 

@@ -11,11 +11,11 @@ pub record OneToOne (problem : Problem) : Type 0 where
   -- a solution of n nodes has a code, of n + 1 numbers, which finishes
   pub code : (s : Solution) → IsSolution problem s
       → (word : List ℕ) × IsCode problem s word × (length word ≡ suc (total_size s.trees)) × Finishes problem word
-  -- and no other
+  -- a solution has one code at most
   pub one_code : (s : Solution) (v w : List ℕ) → IsSolution problem s → IsCode problem s v → IsCode problem s w → v ≡ w
   -- a word that finishes is the code of a solution
   pub solution : (word : List ℕ) → Finishes problem word → (s : Solution) × IsSolution problem s × IsCode problem s word
-  -- and of no other
+  -- a word is the code of one solution at most
   pub one_solution : (r s : Solution) (word : List ℕ) → IsSolution problem r → IsSolution problem s → IsCode problem r word → IsCode problem s word → r ≡ s
 
 -- the solution of the least word is the answer, and there is one answer

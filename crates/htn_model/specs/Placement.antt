@@ -24,22 +24,23 @@ duration (Some (leaf g)) = 1
 duration (Some (step literals)) = 0
 duration (Some (compound t number nodes)) = 0
 
--- what is before another has ended where that begins: of two actions the earlier line, of an action and a step the side
--- of the gap, of two steps an earlier gap or the same
+-- the placement respects the order: a node that is before another one has ended where that begins, so of two actions it
+-- is on the earlier line, of an action and a step on its side of the gap, and of two steps in no later gap
 abbrev pub KeepsOrder : Problem → Order → Nodes → Slots → Type 0
 KeepsOrder problem order trees slots =
     (p q : Place) → IsPrimitive (node_at trees p) → IsPrimitive (node_at trees q) → before problem order trees p q ≡ true
     → duration (node_at trees p) + slots p ≤ slots q
 
 abbrev mutual
-  -- the same said from node to node: each network looks at the spans of its own children alone
+  -- the nodes of a tree are placed from a gap to a gap, node by node: the children of each network have spans in its
+  -- order
   pub Sits : Problem → (ℕ → State) → Slots → Node → ℕ → ℕ → Type 0
   Sits problem states slots (leaf task) g h = (g ≤ slots []) × (suc (slots []) ≤ h)
   Sits problem states slots (step literals) g h = (g ≤ slots []) × (slots [] ≤ h) × (holds (states (slots [])) literals ≡ true)
   Sits problem states slots (compound t number nodes) g h =
       (start : ℕ → ℕ) × (finish : ℕ → ℕ) × AreSpans (order_of problem (compound t number nodes)) start finish g h × AllSit problem states slots 0 nodes start finish
 
-  -- the children from position i on
+  -- the children from position i on are placed in their spans
   pub AllSit : Problem → (ℕ → State) → Slots → ℕ → Nodes → (start finish : ℕ → ℕ) → Type 0
   AllSit problem states slots i no_nodes start finish = ⊤
   AllSit problem states slots i (node n ns) start finish =

@@ -26,7 +26,7 @@ pub record PlanFile : Type 0 where
   pub roots : List ℕ
   pub decompositions : List DecompositionLine
 
--- the names of a problem: what the words of a file name in it, and the words of what stands in it
+-- the names of a problem: the actions, tasks and methods that the words of a plan file name, and the words for them
 pub record Naming : Type 0 where
   pub named : Word → List Word → Option GroundTask
   pub task_name : GroundTask → Word
@@ -36,17 +36,17 @@ pub record Naming : Type 0 where
 
 -- ## Lists
 
--- the same members, each as often
+-- two lists have the same members, each as often
 abbrev pub IsRearrangementOf : {X : Type 0} → List X → List X → Type 0
 IsRearrangementOf [] ys = ys ≡ []
 IsRearrangementOf {X = X} (x ∷ xs) ys = (left : List X) × (right : List X) × (ys ≡ left ++ x ∷ right) × IsRearrangementOf xs (left ++ right)
 
--- a value stands in a list
+-- a value is in a list
 abbrev pub IsIn : {X : Type 0} → X → List X → Type 0
 IsIn x [] = ⊥
 IsIn x (y ∷ ys) = (x ≡ y) ⊎ IsIn x ys
 
--- no member stands twice
+-- no member occurs twice
 abbrev pub IsWithoutRepeats : {X : Type 0} → List X → Type 0
 IsWithoutRepeats [] = ⊤
 IsWithoutRepeats (x ∷ xs) = (IsIn x xs → ⊥) × IsWithoutRepeats xs

@@ -3,7 +3,7 @@ use Rattle.std.specs.Prelude.{◌≡◌, ◌≢◌, ℕ, ◌<◌, Bool, true, no
 use Rattle.std.specs.List.{list_all}
 use Rattle.std.specs.Char.{is_ascii_uppercase}
 
--- a byte that parts the words of a line: tab, form feed, carriage return, space and round brackets
+-- a byte that separates the words of a line: tab, form feed, carriage return, space and round brackets
 abbrev pub is_blank : ℕ → Bool
 is_blank b = b == 9 || b == 12 || b == 13 || b == 32 || b == 40 || b == 41
 
@@ -15,7 +15,7 @@ is_printable b = nat_le 33 b && nat_le b 126
 abbrev pub is_name_byte : ℕ → Bool
 is_name_byte b = is_printable b && not (is_blank b) && not (is_ascii_uppercase b)
 
--- the word that parts a task from its method
+-- the word that separates a task from its method
 abbrev pub arrow : List ℕ
 arrow = codes "->"
 

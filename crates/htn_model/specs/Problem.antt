@@ -18,7 +18,7 @@ pub record GroundTask : Type 0 where
   pub name : ℕ
   pub arguments : List ℕ
 
--- what stands in a network: a precondition step, an action, or a compound task
+-- a node of a network: a precondition step, an action, or a compound task
 pub data Child : Type 0 where
   precondition : List Literal → Child
   action : GroundTask → Child
@@ -43,7 +43,7 @@ pub record Network : Type 0 where
   pub children : List Child
   pub order : Order
 
--- no cycle, and transitively closed
+-- an order has no cycle, and is transitively closed
 pub record IsClosed (order : Order) : Type 0 where
   pub irreflexive : (a : ℕ) → is_before order a a ≡ false
   pub transitive : (a b c : ℕ) → is_before order a b ≡ true → is_before order b c ≡ true → is_before order a c ≡ true
@@ -74,7 +74,7 @@ pub record Problem : Type 0 where
 abbrev pub AreChanged : (ℕ → Bool) → State → Type 0
 AreChanged is_changed s = (a : Atom) → contains s a ≡ true → is_changed a.predicate ≡ true
 
--- each network of a problem is one, and effects change only predicates that are said to change
+-- each network has a closed order on its nodes, and effects change only predicates that are said to change
 pub record IsGrounded (problem : Problem) : Type 0 where
   pub initials : (k : ℕ) (network : Network) → slice_get problem.initials k ≡ Some network → IsNetwork network
   pub methods : (t : GroundTask) (k : ℕ) (network : Network) → slice_get (problem.methods_of t) k ≡ Some network → IsNetwork network

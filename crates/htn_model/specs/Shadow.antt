@@ -69,7 +69,7 @@ HasId (Some (leaf g)) = ⊤
 HasId (Some (step literals)) = ⊥
 HasId (Some (compound t number nodes)) = ⊤
 
--- the lines of a file are the actions and compound nodes of a solution, under numbers of their own
+-- the lines of a file are those of the actions and compound nodes of a solution, by numbers that differ
 pub record IsShadow (naming : Naming) (file : PlanFile) (s : Solution) : Type 0 where
   pub id_at : Place → ℕ
   pub one_to_one : (p q : Place) → HasId (node_at s.trees p) → HasId (node_at s.trees q) → id_at p ≡ id_at q → p ≡ q

@@ -46,7 +46,7 @@ pub record FitIsAcceptance (naming : Naming) (problem : Problem) : Type 0 where
 abbrev pub ValidIsAcceptance : Naming → Problem → Type 0
 ValidIsAcceptance naming problem = (file : PlanFile) → IsVerdict naming problem file valid ↔ IsAccepted naming problem file
 
--- so room tells the last two verdicts apart
+-- so, once the other conditions hold, whether the file's lines have room decides between the last two verdicts
 pub record RoomIsVerdict (naming : Naming) (problem : Problem) : Type 0 where
   pub is_valid : (file : PlanFile) (states : ℕ → State) (plans : PlanTrees) → IsForest file → LinesRun naming problem file states → ShowTrees naming file file.roots plans
       → ForestFits naming problem states plans (length file.actions) ↔ IsVerdict naming problem file valid

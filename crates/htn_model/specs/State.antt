@@ -50,6 +50,6 @@ union s t = with_atoms s (atoms_of t)
 abbrev pub state_eq : State → State → Bool
 state_eq s t = pointwise atom_eq (atoms_of s) (atoms_of t)
 
--- what a set feeds a hasher: its atoms in their order
+-- the writes by which a state feeds a hasher: its atoms in their order
 abbrev pub state_hash : State → HashWrites
 state_hash s = fed.slice atom_hash (atoms_of s)

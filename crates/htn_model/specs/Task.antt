@@ -1,4 +1,4 @@
--- A checked planning task: what a domain and a problem declare, by numbers.
+-- A checked planning task: the declarations of a domain and a problem, by numbers.
 use Rattle.std.specs.Prelude.{◌≡◌, ℕ, ◌+◌, ◌<◌, Bool, true, nat_lt, nat_eq, List, [], ◌++◌, length, map, get_or}
 use Rattle.std.specs.List.{flat_map, list_any, All}
 use Rattle.std.specs.List.Sorted.{IsStrictlySortedBy}
@@ -36,7 +36,7 @@ pub record ActionSchema : Type 0 where
   pub deletes : List AtomSchema
   pub adds : List AtomSchema
 
--- the tasks to be done
+-- the initial network: its parameters by type, constraints on them, and the tasks to be done
 pub record InitialSchema : Type 0 where
   pub parameters : List ℕ
   pub constraints : List EqualitySchema
@@ -121,7 +121,7 @@ task_names t = map (λ d. d.name) t.tasks ++ map (λ a. a.name) t.actions
 abbrev pub method_names : Task → List Name
 method_names t = map (λ m. m.name) t.methods
 
--- no name stands twice among those of a kind. Compound tasks and actions are one kind
+-- no name occurs twice among those of a kind; compound tasks and actions are one kind
 pub record HasDistinctNames (t : Task) : Type 0 where
   pub objects : IsWithoutRepeats t.objects
   pub types : IsWithoutRepeats (type_names t)
@@ -131,7 +131,7 @@ pub record HasDistinctNames (t : Task) : Type 0 where
 
 -- ## Well typed
 
--- a parameter or variable among the first so many, or an object of the task
+-- a parameter or variable among the first `count`, or an object of the task
 abbrev pub IsTerm : Task → ℕ → Term → Type 0
 IsTerm t count (parameter p) = p < count
 IsTerm t count (object o) = o < length t.objects
@@ -163,7 +163,7 @@ abbrev mutual
   IsFormula t count (equation e) = IsEqualitySchema t count e
   IsFormula t count (for_all types body) = AreTypes t types × AreFormulas t (count + length types) body
 
-  -- the same of each formula of a list
+  -- each formula of a list is such a formula
   pub AreFormulas : Task → ℕ → Formulas → Type 0
   AreFormulas t count no_formulas = Unit {0}
   AreFormulas t count (formula f fs) = IsFormula t count f × AreFormulas t count fs

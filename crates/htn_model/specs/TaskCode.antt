@@ -1,4 +1,4 @@
--- Tasks as values: each part has a code, by which its values are told apart.
+-- Tasks as values: each part has a code that distinguishes its values.
 use Rattle.std.specs.Prelude.{◌≡◌, ℕ, Bool, List, ◌⊎◌, refl}
 use Rattle.std.proofs.Common.{ap, ap₂}
 use Rattle.std.specs.Coded.{Coded, code_by, coded×, coded⊎, coded_ℕ, coded_bool, coded_list}
@@ -96,7 +96,7 @@ mutual
       let right : formulas_tree body ≡ formulas_tree rest = cc in
       ap₂ for_all (numbers_code.inj types others left) (same_formulas body rest right)
 
-  -- and so are lists of them
+  -- lists of formulas with equal trees are equal
   pub same_formulas : (fs gs : Formulas) → formulas_tree fs ≡ formulas_tree gs → fs ≡ gs
   same_formulas no_formulas no_formulas e = refl
   same_formulas no_formulas (formula g gs) e = absurd cc

@@ -137,7 +137,7 @@ abbrev mutual
   primitives_from place i no_nodes = []
   primitives_from place i (node n ns) = primitives (place ++ i ∷ []) n ++ primitives_from place (suc i) ns
 
--- the same members, each as often
+-- two lists have the same members, each as often
 abbrev pub IsRearrangement : List Place → List Place → Type 0
 IsRearrangement [] qs = qs ≡ []
 IsRearrangement (p ∷ ps) qs = (left : List Place) × (right : List Place) × (qs ≡ left ++ p ∷ right) × IsRearrangement ps (left ++ right)

@@ -9,7 +9,7 @@ use Rattle.htn_model.specs.Examples.{fact, named, makes, needs, idles, nothing, 
 
 -- ## An errand, beside an action that does nothing. The errand is done by rest, by work or backwards
 
--- make a fact, then use it; the tool is a parameter of which neither the task nor the actions tell
+-- make a fact, then use it; the tool is a parameter of the method that neither the task nor the actions have
 abbrev pub work_with : ℕ → Network
 work_with tool = record {
   children = precondition (atom true (record { predicate = 1; arguments = tool ∷ [] }) ∷ []) ∷ action (named 1) ∷ action (named 2) ∷ [];

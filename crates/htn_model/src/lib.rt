@@ -1,7 +1,7 @@
-//! The mathematics of hierarchical task network planning: tasks and their instances, ground problems,
-//! states, task networks, decomposition trees, linearisations, solutions and their codes, the word
-//! machine (progression), the answer for a bound, the search by levels, plan files and verdicts. The
-//! definitions stand in `specs/`; each function here is a law about them, with an empty body.
+//! The mathematics of hierarchical task network planning: tasks and their instances, ground problems, states, task
+//! networks, decomposition trees, linearisations, solutions and their codes, the word machine (progression), the answer
+//! for a bound, the search by levels, plan files and verdicts. The definitions are in `specs/`; each function here is a
+//! law about them, with an empty body.
 #![tactic(auto)]
 
 pub mod grounding;
@@ -72,13 +72,13 @@ pub fn levels_find_least()
         → IsGrounded problem → IsSound same → LevelsFindLeast problem (live_step problem) same bound }
 {}
 
-/// Small problems with their answers, as the definitions give them. An atom both deleted and added is
-/// true. A method's precondition is tested at its step's place. Of solutions of one size the one of
-/// least code answers. An order that goes through a task with an empty network stays. All children of a
-/// decomposed task have its order towards the others. A task that is decomposed into itself for ever
-/// has no solution; neither has one that becomes two of itself, but every bound leaves something out
-/// there. Numbers count initial networks and instances from 0, and those with a false literal that
-/// never changes are dead.
+/// Small problems with their answers, as the definitions give them. An atom both deleted and added is true. A method's
+/// precondition is tested at its step's place. Of solutions of one size the answer is the one of least code. An order
+/// that follows from a task between two others remains where that task is decomposed into an empty network. All
+/// children of a decomposed task have its order towards the others. A task that is always decomposed into itself has no
+/// solution; neither has one that is decomposed into two of itself, but every bound leaves a configuration out there.
+/// Initial networks and instances are numbered from 0, and an instance with a false literal that no effect can change
+/// is dead.
 pub fn worked_examples_hold()
     ensures adds { examples.AddsComeLast }
     ensures steps { examples.StepsAreTestedInPlace }

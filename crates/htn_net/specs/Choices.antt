@@ -1,4 +1,4 @@
--- What the program's choices are to the model.
+-- The choices of the program in terms of the model.
 use Rattle.std.specs.Prelude.{◌≡◌, ℕ, List, Some, false, map, slice_get}
 use Rattle.std.specs.Arc.{arc_value}
 use Rattle.htn_model.specs.Choice.{child_of}
@@ -15,31 +15,31 @@ use Rattle.htn_net.specs.declared.choice.Change.TheVariants.{Decomposed, Perform
 use Rattle.htn_net.specs.declared.choice.Choice.{Choice}
 use Rattle.htn_net.specs.declared.choice.Performance.{Performance}
 
--- what takes the node's place
+-- the network that replaces the node
 abbrev pub network_of : Change → Network
 network_of (Decomposed instance) = instance.network
 network_of (Performed state) = no_network
 
--- the state that follows
+-- the state after a change
 abbrev pub state_then : State → Change → State
 state_then state (Decomposed instance) = state
 state_then state (Performed after) = arc_value after
 
--- what becomes of the open node at a position
+-- the model's choice that corresponds to a change of the open node at a position
 abbrev pub chosen_of : Config → ℕ × Change → model.Choice
 chosen_of c x = record { position = x.0; network = network_of x.1; state = state_then c.state x.1 }
 
--- a choice of the code as the definitions have it
+-- the model's choice that corresponds to a choice of the code
 abbrev pub choice_of : Config → Choice → model.Choice
 choice_of c x = chosen_of c (x.position, x.change)
 
--- the number is that of the instance among all of the compound task at the position; or a step or an action stands
--- there
+-- the number is that of the instance among all of the compound task at the position; or the node there is a step or an
+-- action
 abbrev pub IsNumberOf : Task → Config → ℕ → ℕ × Change → Type 0
 IsNumberOf t c number (position, Decomposed instance) = (g : GroundTask) × (child_of c.open_nodes position ≡ task g) × (slice_get (methods_of t g) number ≡ Some instance)
 IsNumberOf t c number (position, Performed after) = is_compound (child_of c.open_nodes position) ≡ false
 
--- the number chooses this
+-- the number chooses this position and change
 abbrev pub IsChosen : Task → Config → ℕ → ℕ × Change → Type 0
 IsChosen t c number x = (choose (problem_of t) c number ≡ Some (chosen_of c x)) × IsNumberOf t c number x
 

@@ -7,7 +7,7 @@ use htn_ground::Instance;
 use htn_state::State;
 use std::sync::Arc;
 
-/// What a step does with the node that its number chooses.
+/// The change that a step makes at the node that its number chooses.
 #[derive(Drop)]
 pub enum Change {
     /// A compound task is decomposed: the nodes of this instance take its place.
@@ -16,7 +16,7 @@ pub enum Change {
     Performed(Arc<State>),
 }
 
-/// What a number of a configuration stands for: the open node that it chooses, and what the step does with it.
+/// The choice of a number in a configuration: the open node that it chooses, and the change that the step makes there.
 #[derive(Drop)]
 pub struct Choice {
     /// The number of the instance among those of the first free compound task; or, where no compound

@@ -79,10 +79,9 @@ impl Config {
         }
     }
 
-    /// Those choices of this configuration that are not dead, by ascending numbers. An instance is
-    /// dead if its step has a literal that is false at first and that no effect changes. An error means
-    /// that memory was refused, or that the number of an instance that is not dead is past 64 bits: each
-    /// of them is listed with its number.
+    /// The choices of this configuration that are not dead, by ascending numbers. An instance is dead if its step has a
+    /// literal that is false initially and that no effect changes. An error means that memory was refused, or that the
+    /// number of an instance that is not dead is past 64 bits: each of them is listed with its number.
     pub fn live_choices(&self, alloc: Global, task: &Task) -> Result<Vec<Choice>, AllocError>
         ensures each { IfOk result (λ choices. All (IsChoice (problem_of task.now) self.now) choices.items) }
         ensures numbers { IfOk result (λ choices. map (λ x. x.number) choices.items ≡ live_numbers (problem_of task.now) self.now) }

@@ -23,8 +23,7 @@ fn initial_state(alloc: Global, task: &Task) -> Result<Arc<State>, AllocError>
 }
 
 impl Config {
-    /// The configuration at the start with an instance of the initial network: its nodes are open in
-    /// the initial state.
+    /// The initial configuration of an instance of the initial network: its nodes are open in the initial state.
     pub fn start(alloc: Global, task: &Task, instance: &Instance) -> Result<Config, AllocError>
         requires { Contains (model.initials task.now) instance.now }
         ensures { IfOk result (λ c. c ≡ start (problem_of task.now) instance.now.network) }

@@ -37,8 +37,8 @@ fn choose_free(
 }
 
 impl Config {
-    /// What a number chooses: the position of an open node, and what the step does with it; none where the number is
-    /// not one that the configuration allows. No other instance is made, so their numbers need not fit 64 bits. An
+    /// The choice of a number: the position of an open node, and the change that the step makes there; None where the
+    /// configuration does not allow the number. No other instance is made, so their numbers need not fit 64 bits. An
     /// error means that memory was refused, or that the instance's method is past the 65,536th, as none of a checked
     /// text is.
     pub fn choose(
@@ -59,8 +59,8 @@ impl Config {
         Ok(Some((position, Change::Decomposed(instance))))
     }
 
-    /// What a rank chooses in a search, which lists of the instances that are not dead each network
-    /// once; none where it is not one that is listed. No number is counted.
+    /// The choice of a rank in a search, which lists each network of the instances that are not dead once; None where
+    /// no instance of this rank is listed. No numbers are counted.
     pub fn choose_listed(
         &self,
         alloc: Global,

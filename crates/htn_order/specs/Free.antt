@@ -7,7 +7,7 @@ use Rattle.htn_model.specs.Choice.{is_free}
 abbrev pub HasNoneFree : Order → ℕ → Type 0
 HasNoneFree order from = (i : ℕ) → from ≤ i → i < length order → is_free (length order) (is_before order) i ≡ false
 
--- that position is free, and none from the other one up to it is
+-- the position is the first free one from another one on
 pub record IsFirstFree (order : Order) (from position : ℕ) : Type 0 where
   pub low : from ≤ position
   pub high : position < length order

@@ -227,7 +227,7 @@ impl BitRows {
         Ok(counts)
     }
 
-    /// Whether two tables are the same.
+    /// Whether two tables are equal.
     pub fn is_same(&self, other: &BitRows) -> bool
         ensures { IsTrue result ↔ (self.now ≡ other.now) }
     {

@@ -12,7 +12,7 @@ use crate::sequence::best_sequence;
 use std::alloc::{AllocError, Global};
 use thiserror::Error;
 
-/// Why pairs of positions give no order.
+/// Why there is no order with some pairs of positions.
 #[derive(Debug, Drop, Error)]
 pub enum OrderFault {
     /// The first position of the pair at this index leads to itself.
@@ -63,7 +63,7 @@ fn join(rows: &mut BitRows, a: usize, b: usize, is_entered: bool)
     }
 }
 
-/// Adds the pair at an index, if there is one and the order lacks it, with all that follows.
+/// Adds the pair at an index, if there is one and the order does not have it, with all pairs that follow from it.
 fn add_pair(
     rows: &mut BitRows,
     entered: &mut [bool],

@@ -256,7 +256,7 @@ fn numbers_below(alloc: Global, size: usize) -> Result<Vec<usize>, AllocError>
     Ok(numbers)
 }
 
-/// The position before the replacement of what stands at a position after it.
+/// The position before the replacement of the node that is at a position after it.
 fn origin(at: usize, count: usize, position: usize) -> usize
     requires fits { at + count < 2 ^ 64 }
     requires next { position + 1 < 2 ^ 64 }

@@ -22,8 +22,8 @@ pub fn spliced(word: u64, at: usize, count: usize, middle: u64) -> u64
     (above | middle) << at | (word & ones(at))
 }
 
-/// Sets in one word of several the bits that another word has. A call of its own, so that the row that it changes is
-/// told by one name in the proofs.
+/// Sets in word `k` the bits of another word. It is a function of its own, so that the proofs have one name for the row
+/// that it changes.
 pub fn add_bits(words: &mut [u64], k: usize, more: u64)
     requires { k < length words.old }
     ensures { words.new ≡ with_bits words.old k more }

@@ -7,15 +7,15 @@ use Rattle.htn_model.specs.Task.{Task}
 use Rattle.htn_ground.specs.Naming.{task_name, object_name, method_name, numbered_method_name}
 use Rattle.htn_plan.specs.Preorder.{Item, action, step_item, task}
 
--- the name of what decomposes a ground task
+-- the name of the method that decomposes a ground task
 abbrev pub MethodNaming : Type 0 → Type 0
 MethodNaming Method = GroundTask → Method → Word
 
--- that of an instance's method
+-- the name of an instance's method
 abbrev pub by_instance : Task → MethodNaming Instance
 by_instance t g instance = numbered_method_name t instance.method
 
--- that of the method whose instance has the number
+-- the name of the method whose instance has the number
 abbrev pub by_number : Task → MethodNaming ℕ
 by_number t = method_name t
 

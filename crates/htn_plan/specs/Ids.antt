@@ -24,11 +24,11 @@ IsNumbered old new place next id =
 abbrev pub id_among : Solution → List Place → Place → Option ℕ
 id_among s places p = cond (list_any (is_same_place p) places) (Some (id_in s p)) None
 
--- the places of the actions among the first so many of the linearisation
+-- the places of the actions among the first `k` places of the linearisation
 abbrev pub first_actions : Solution → ℕ → List Place
 first_actions s k = filter (λ p. is_leaf (node_at s.trees p)) (take k s.linearisation)
 
--- these are the lines of those actions, and the ids of their places
+-- the lines and the ids of these places are those of the first actions
 abbrev pub AreNumbered : Task → Solution → ℕ → List ActionLine → ActionIds → Type 0
 AreNumbered t s k lines ids =
     (lines ≡ map (action_line_at (naming_of t) s) (first_actions s k)) × AllByRecursion IsActionLine lines × ((p : Place) → id_of ids p ≡ id_among s (first_actions s k) p)

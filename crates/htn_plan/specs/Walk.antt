@@ -5,7 +5,7 @@ use Rattle.htn_tree.specs.Trees.{Numbering, nodes_view}
 use Rattle.htn_plan.specs.declared.preorder.Frame.{Frame}
 use Rattle.htn_plan.specs.Preorder.{Item, items_from}
 
--- the children of one node, of which so many were taken
+-- the children of one node: how many were visited, and the trees that were not
 pub record Level : Type 0 where
   pub taken : ℕ
   pub rest : Nodes

@@ -39,10 +39,10 @@ fn plan_file(
     PlanFile::new(actions, roots, decompositions)
 }
 
-/// The plan file of a solution: its actions, numbered 0, 1, .. in order of execution, and then its
-/// compound nodes in preorder. Roots and children stand in declared order. Precondition steps are
-/// left out. Nodes are named by their instances, which have to be instances of the task. The file of a
-/// solution of the task is a shadow of it. An error comes only where memory was refused.
+/// The plan file of a solution: its actions, numbered 0, 1, .. in order of execution, and then its compound nodes in
+/// preorder. Roots and children are in declared order. Precondition steps are left out. Nodes are named by their
+/// instances, which have to be instances of the task. The file of a solution of the task is a shadow of it. An error
+/// comes only where memory was refused.
 pub fn file_of(alloc: Global, task: &Task, solution: &Solution) -> Result<PlanFile, AllocError>
     ensures value { IfOk result (λ file. AreTrees (problem_of task.now) (solution_of task.now solution.now).trees
         → file ≡ numbered (naming_of task.now) (solution_of task.now solution.now)) }

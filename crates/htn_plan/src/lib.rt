@@ -1,4 +1,4 @@
-//! The plan file of a solution: what the plan writer prints.
+//! The plan file of a solution: the file that the plan writer prints.
 #![tactic(auto)]
 
 mod actions;

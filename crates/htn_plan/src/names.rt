@@ -1,4 +1,4 @@
-//! The names of what stands in a task.
+//! The names of the objects, tasks and methods of a task.
 ghost use Rattle.std.specs.Prelude.{◌≡◌};
 ghost use Rattle.htn_model.specs.PlanWord.{IsName};
 ghost use Rattle.htn_ground.specs.Naming as spec;

@@ -1,4 +1,4 @@
--- What a run of the check answers for a domain's text, and a problem's text if there is one, and what it writes.
+-- The answer of a check of a domain's text, and a problem's text if there is one, and the text that it writes.
 use Rattle.std.specs.Prelude.{◌≡◌, ℕ, Bool, true, false, List, [], ◌∷◌, Option, Some, None, if◌then◌else◌, codes, option_map, ⊤}
 use Rattle.std.specs.Borrow.{Bor}
 use Rattle.std.specs.Str.{bytes_eq}
@@ -42,7 +42,7 @@ domain_text name bytes = record { role = role.Domain; name = name; bytes = bytes
 abbrev pub problem_text : List ℕ → List ℕ → Named
 problem_text name bytes = record { role = role.Problem; name = name; bytes = bytes }
 
--- what holds of the text of a domain and, if one is named, of a problem
+-- the files of a domain and, if one is named, of a problem can be read, and this holds of their texts
 abbrev pub OfTexts : (List ℕ → File) → List ℕ → Option (List ℕ) → (Named → Option Named → Type 0) → Type 0
 OfTexts files domain None P = (d : List ℕ) × MayGive (files (file_of domain)) d × P (domain_text domain d) None
 OfTexts files domain (Some problem) P =

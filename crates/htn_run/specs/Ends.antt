@@ -1,4 +1,4 @@
--- How the run of a command line ends, over what its words ask for and what the files have.
+-- How the run of a command line ends, by the request of its words and the contents of the files.
 use Rattle.std.specs.Prelude.{◌≡◌, ◌⊎◌, ℕ, Bool, List, [], Option, String, codes, map, string_bytes}
 use Rattle.std.specs.Io.KnownBytes.{Appends}
 use Rattle.plan_text.specs.Out.{TakesBeginning}
@@ -12,7 +12,7 @@ use Rattle.htn_run.specs.Requests as request
 use Rattle.htn_run.specs.declared.outcome.RunFault.{RunFault}
 use Rattle.htn_run.specs.declared.stop.Text.{Text}
 
--- what holds of a request that the words ask for
+-- the words ask for a request of which this holds
 abbrev pub Asked : {Z : Type 0} → List (String Z) → (Request → Type 0) → Type 0
 Asked words P = (r : Request) × IsAskedBy (map string_bytes words) r × P r
 
@@ -28,11 +28,11 @@ TextIsAsked words = HelpIsAsked words ⊎ VersionIsAsked words
 abbrev pub PrintsAnswer : {Z : Type 0} → ℕ → List (String Z) → (List ℕ → File) → Option (List ℕ) → Option (List ℕ) → Type 0
 PrintsAnswer status words files old new = Asked words (request.AddsAnswerWith status files old new)
 
--- the same, with what the answer adds to the error output
+-- an answer to the request, of this status, was added to the output, and what accompanies it to the error output
 abbrev pub PrintsBeside : {Z : Type 0} → ℕ → List (String Z) → (List ℕ → File) → Option (List ℕ) → Option (List ℕ) → (List ℕ → Type 0) → Type 0 → Type 0
 PrintsBeside status words files old new Gets Same = Asked words (request.AddsAnswerBeside status files old new Gets Same)
 
--- help or the version was, and it was asked for
+-- help or the version was added to the output, and it was asked for
 abbrev pub PrintsText : {Z : Type 0} → List (String Z) → Option (List ℕ) → Option (List ℕ) → Type 0
 PrintsText words old new = TextIsAsked words × ((text : List ℕ) × Appends old new text)
 
@@ -49,7 +49,7 @@ abbrev pub IsCutShort : {Z : Type 0} → List (String Z) → (List ℕ → File)
 IsCutShort words files old new =
     Asked words (request.IsCutShort files old new) ⊎ (TextIsAsked words × ((text : List ℕ) × TakesBeginning old new text))
 
--- the names of the request's files were read in their order, as far as they were, and no other
+-- a beginning of the list of the request's files was read, and no other file
 abbrev pub ReadsInOrder : {Z : Type 0} → List (String Z) → Option (List (List ℕ)) → Option (List (List ℕ)) → Type 0
 ReadsInOrder words old new = Notes old new [] ⊎ Asked words (λ r. NotesBeginning old new (request.names_of r))
 
@@ -63,21 +63,21 @@ abbrev pub GetsAfter : {Z E : Type 0} → (E → Option (List ℕ)) → (E → B
 GetsAfter {E = E} contents has_failed words files old new line =
     (shown : E) × ShowsProgress contents has_failed words files old shown × GetsLine (contents shown) (contents new) (has_failed new) line
 
--- ## The line on the error output, of which `Gets` says that the output got it
+-- ## The line on the error output, where `Gets` says that the output got a line
 
--- that of a fault which the texts of the request have
+-- the line of a fault that the texts of the request have
 abbrev pub TellsFault : {Z : Type 0} → List (String Z) → (List ℕ → File) → (List ℕ → Type 0) → Type 0
 TellsFault words files Gets =
     Asked words (λ r. (fault : RunFault) × request.TellsFault r fault × IsOfTexts fault × request.Refuses files r fault × Gets (line_of_fault fault))
 
--- that of a want of memory, or of a thread where the request has more than one worker
+-- the line of a refusal of memory, or of a thread where the request has more than one worker
 abbrev pub TellsWant : {Z : Type 0} → List (String Z) → (List ℕ → Type 0) → Type 0
 TellsWant words Gets = Gets (codes "OutOfMemory\n") ⊎ (Asked words request.NeedsThreads × Gets (codes "NoThread\n"))
 
--- that of a file of the request which can't be read
+-- the line of a file of the request that can't be read
 abbrev pub TellsFile : {Z : Type 0} → List (String Z) → (List ℕ → File) → (List ℕ → Type 0) → Type 0
 TellsFile words files Gets = Asked words (λ r. (text : Text) × request.LacksFileOf files r text × Gets (unread_line text))
 
--- that of the output
+-- the line of an output that failed
 abbrev pub TellsOutput : (List ℕ → Type 0) → Type 0
 TellsOutput Gets = Gets (codes "output: cannot be written\n")

@@ -1,4 +1,4 @@
--- What a run of the explanation answers for a domain's text, a problem's text and a plan's text, and what it writes.
+-- The answer of an explanation for a domain's text, a problem's text and a plan's text, and the text that it writes.
 use Rattle.std.specs.Prelude.{◌≡◌, ◌⊎◌, ℕ, List, ◌++◌, Option, Some, codes, option_map}
 use Rattle.htn_model.specs.Task.{Task}
 use Rattle.htn_model.specs.Grounding.{problem_of}
@@ -54,7 +54,7 @@ pub record IsPlanRefusal (domain problem plan : Named) (style : ReportStyle) (by
   pub is_plan : named source ≡ plan
   pub report : report.IsRefusal source cause style bytes
 
--- what the run came to, and the text that it added to the output: the explanation, or why a text is refused
+-- the result of the run, and the text that it added to the output: the explanation, or why a text is refused
 abbrev pub Explains : Named → Named → Named → ReportStyle → Explained → List ℕ → Type 0
 Explains domain problem plan style (Judged v) text = Says domain problem plan style v text
 Explains domain problem plan style Refused text =

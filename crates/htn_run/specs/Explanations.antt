@@ -1,4 +1,4 @@
--- What the run of an explanation is made of, before anything is written.
+-- The parts of an explanation, before anything is written.
 use Rattle.std.specs.Prelude.{◌≡◌, ◌⊎◌, ℕ, List, Option, Some}
 use Rattle.std.specs.Borrow.{Bor}
 use Rattle.check_report.specs.Told.{Named}
@@ -49,6 +49,6 @@ pub record IsExplained (inputs : Inputs) (style : ReportStyle) (x : Explanation)
   pub came : x.came ≡ Judged verdict
   pub says : Says (domain_of inputs) (problem_of inputs) (plan_of inputs) style verdict x.text.items
 
--- what a plan's text is for a pair
+-- the explanation of a plan's text for a pair
 abbrev pub IsExplainedText : Inputs → ReportStyle → Explanation → Type 0
 IsExplainedText inputs style x = IsRefused (plan_of inputs) style x ⊎ IsExplained inputs style x

@@ -1,4 +1,4 @@
--- What a run answers for a domain's text, a problem's text and a bound, and what it writes.
+-- The answer of a run for a domain's text, a problem's text and a bound, and the text that it writes.
 use Rattle.std.specs.Prelude.{◌≡◌, ◌≢◌, ℕ, ◌<◌, List, [], ◌++◌, Option, Some, None, IfSome, codes, ⊤}
 use Rattle.std.specs.Fmt.{decimal}
 use Rattle.hddl_words.specs.Words.{Word}
@@ -47,17 +47,17 @@ Says task bound Unsolvable text = IsUnsolvable (problem_of task) × (IsMet (prob
 abbrev pub number_text : List ℕ → ℕ → List ℕ
 number_text before number = before ++ decimal number
 
--- the same, if there is a number
+-- a number in decimal after some words, if there is one
 abbrev pub within_text : List ℕ → Option ℕ → List ℕ
 within_text before None = []
 within_text before (Some nodes) = number_text before nodes
 
--- `unknown`, and the number of nodes that no solution is within, if one is known
+-- `unknown`, and the number of nodes within which there is no solution, if one is known
 abbrev pub unknown_text : Option ℕ → List ℕ
 unknown_text none_within = codes "unknown" ++ (within_text (codes ": none within ") none_within ++ codes "\n")
 
--- The text of the answer; or that it is unknown, which comes only where the search may be stopped: no solution has at
--- most the number of nodes that is named.
+-- The text of the answer; or that it is unknown, which is possible only where the search may be stopped: no solution
+-- has at most the number of nodes that is named.
 abbrev pub SaysWatched : Task → ℕ → Type 0 → Watched → List ℕ → Type 0
 SaysWatched task bound MayStop (Known outcome) text = Says task bound outcome text
 SaysWatched task bound MayStop (Unknown none_within) text =
@@ -67,7 +67,7 @@ SaysWatched task bound MayStop (Unknown none_within) text =
 abbrev pub Answers : List ℕ → List ℕ → ℕ → Outcome → List ℕ → Type 0
 Answers domain problem bound outcome text = (task : Task) × IsTaskOfTexts domain problem task × Says task bound outcome text
 
--- the same of a search that may be stopped
+-- the text of a search that may be stopped, for the two texts within the bound
 abbrev pub SaysOfTexts : List ℕ → List ℕ → ℕ → Type 0 → Watched → List ℕ → Type 0
 SaysOfTexts domain problem bound MayStop watched text = (task : Task) × IsTaskOfTexts domain problem task × SaysWatched task bound MayStop watched text
 
@@ -75,7 +75,7 @@ SaysOfTexts domain problem bound MayStop watched text = (task : Task) × IsTaskO
 abbrev pub IsUnspelled : {Tree : Type 0} → (List Word → Tree → Type 0) → List ℕ → Type 0
 IsUnspelled {Tree = Tree} Derives text = (tree : Tree) → Spells Derives text tree → ⊥
 
--- no tree is spelled, and this fault stands in the text; want of memory is none
+-- no tree is spelled, and this fault is in the text; a refusal of memory is no such fault
 abbrev pub IsFaulty : {Tree : Type 0} → (List Word → Tree → Type 0) → List ℕ → TextFault → Type 0
 IsFaulty Derives text f = IsUnspelled Derives text × (f ≢ spelling.OutOfMemory) × FaultAt Derives text f
 
@@ -96,14 +96,14 @@ IsWant bounds fault.OutOfMemory = ⊤
 IsWant bounds fault.NoThread = 1 < bounds.workers
 IsWant bounds _ = ⊥
 
--- a beginning of the text that answers was added to the output
+-- a beginning of the text of the answer was added to the output
 pub record IsCutShort (task : Task) (bound : ℕ) (old new : Option (List ℕ)) : Type 0 where
   pub outcome : Outcome
   pub text : List ℕ
   pub says : Says task bound outcome text
   pub begun : TakesBeginning old new text
 
--- the same of a search that may be stopped
+-- a beginning of the text of a search that may be stopped was added to the output
 pub record IsWatchedCutShort (task : Task) (bound : ℕ) (MayStop : Type 0) (old new : Option (List ℕ)) : Type 0 where
   pub watched : Watched
   pub text : List ℕ
@@ -114,6 +114,6 @@ pub record IsWatchedCutShort (task : Task) (bound : ℕ) (MayStop : Type 0) (old
 abbrev pub IsAnswerCutShort : List ℕ → List ℕ → ℕ → Option (List ℕ) → Option (List ℕ) → Type 0
 IsAnswerCutShort domain problem bound old new = (task : Task) × IsTaskOfTexts domain problem task × IsCutShort task bound old new
 
--- the same of a search that may be stopped
+-- a beginning of the text of a search that may be stopped, for the two texts, was added to the output
 abbrev pub IsTextsCutShort : List ℕ → List ℕ → ℕ → Type 0 → Option (List ℕ) → Option (List ℕ) → Type 0
 IsTextsCutShort domain problem bound MayStop old new = (task : Task) × IsTaskOfTexts domain problem task × IsWatchedCutShort task bound MayStop old new

@@ -1,4 +1,4 @@
--- What a run of the verifier answers for a domain's text, a problem's text and a plan's text, and what it writes.
+-- The answer of the verifier for a domain's text, a problem's text and a plan's text, and the text that it writes.
 use Rattle.std.specs.Prelude.{◌≡◌, ◌≢◌, ℕ, List, ◌++◌, Option, Some, None, codes, ⊤}
 use Rattle.std.specs.Fmt.{decimal}
 use Rattle.hddl_tree.specs.declared.domain.DomainText.{DomainText}
@@ -51,7 +51,7 @@ abbrev pub Tells : Task → List ℕ → Verdict → List ℕ → Type 0
 Tells task plan verdict text =
     (file : PlanFile) × FileText file plan × IsVerdict (naming_of task) (problem_of task) file (verdict_of verdict) × (text ≡ verdict_text verdict)
 
--- the text that tells the verdict for the three texts
+-- this is the verdict for the three texts, and this its text
 abbrev pub Judges : List ℕ → List ℕ → List ℕ → Verdict → List ℕ → Type 0
 Judges domain problem plan verdict text = (task : Task) × IsTaskOfTexts domain problem task × Tells task plan verdict text
 
@@ -62,7 +62,7 @@ ShowsSolution domain problem plan =
 
 -- ## Refusals
 
--- the text holds no file, and this fault stands in it; want of memory is none
+-- the text holds no file, and this fault is in it; a refusal of memory is no such fault
 abbrev pub IsFaultyPlan : List ℕ → PlanFault → Type 0
 IsFaultyPlan plan f = ((file : PlanFile) → FileText file plan → ⊥) × (f ≢ reading.OutOfMemory) × FaultAt f plan
 
@@ -93,6 +93,6 @@ pub record IsTellingCutShort (task : Task) (plan : List ℕ) (old new : Option (
   pub tells : Tells task plan verdict text
   pub begun : TakesBeginning old new text
 
--- a beginning of the text that tells the verdict for the three texts was added to the output
+-- a beginning of the text of the verdict for the three texts was added to the output
 abbrev pub IsVerdictCutShort : List ℕ → List ℕ → List ℕ → Option (List ℕ) → Option (List ℕ) → Type 0
 IsVerdictCutShort domain problem plan old new = (task : Task) × IsTaskOfTexts domain problem task × IsTellingCutShort task plan old new

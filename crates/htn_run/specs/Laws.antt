@@ -1,4 +1,4 @@
--- What follows of what a run answers: the texts and the bound determine it.
+-- Consequences for the answers of a run: the texts and the bound determine it.
 use Rattle.std.specs.Prelude.{◌≡◌, ◌↔◌, ◌≤◌, ◌<◌, ◌^◌, ℕ, List, Some, codes, length, ⊤}
 use Rattle.hddl_tree.specs.declared.domain.DomainText.{DomainText}
 use Rattle.hddl_tree.specs.declared.problem.ProblemText.{ProblemText}
@@ -58,7 +58,7 @@ FaultyHaveNoAnswer =
 
 -- ## Verdicts
 
--- for three texts there is one verdict at most, and one text that tells it
+-- for three texts there is at most one verdict, and it has one text
 abbrev pub VerdictsAreUnique : Type 0
 VerdictsAreUnique =
     (domain problem plan : List ℕ) (verdict other : Verdict) (text second : List ℕ)
@@ -70,7 +70,7 @@ IdFits (NoInstance (Some id)) = id < 2 ^ 64
 IdFits (NotExecutable id) = id < 2 ^ 64
 IdFits _ = ⊤
 
--- different verdicts, with ids as plans have them, are told by different texts
+-- different verdicts, with ids as plans have them, have different texts
 abbrev pub VerdictsAreTold : Type 0
 VerdictsAreTold = (verdict other : Verdict) → IdFits verdict → IdFits other → verdict_text verdict ≡ verdict_text other → verdict ≡ other
 
@@ -80,7 +80,7 @@ VerdictsExist =
     (domain problem plan : List ℕ) (task : Task) (file : PlanFile) → IsTaskOfTexts domain problem task → FileText file plan
     → (verdict : Verdict) × (text : List ℕ) × Judges domain problem plan verdict text
 
--- it is `valid` exactly where the plan's text holds the shadow of a solution
+-- the verdict is `valid` exactly where the plan's text holds the shadow of a solution
 abbrev pub ValidIsSolved : Type 0
 ValidIsSolved =
     (domain problem plan : List ℕ) (verdict : Verdict) (text : List ℕ) → Judges domain problem plan verdict text → (verdict ≡ Valid) ↔ ShowsSolution domain problem plan
@@ -97,7 +97,7 @@ PlansAreValid =
     (domain problem : List ℕ) (bound : ℕ) (text : List ℕ) → Answers domain problem bound Found text → length text ≤ max_bytes
     → Judges domain problem text Valid (codes "valid\n")
 
--- unless it has more bytes than a text may have, and then it is refused as that
+-- the text of a plan that has more bytes than a text may have is refused as too long
 abbrev pub LongPlansAreRefused : Type 0
 LongPlansAreRefused =
     (domain problem : List ℕ) (bound : ℕ) (text : List ℕ) → Answers domain problem bound Found text → max_bytes < length text

@@ -1,4 +1,4 @@
--- The line on the error output for each fault: what its `Display` says, and a line feed.
+-- The line on the error output for each fault: the text of its `Display`, and a line feed.
 use Rattle.std.specs.Prelude.{◌≡◌, ◌⊎◌, ℕ, Bool, true, List, [], ◌++◌, Option, Some, None, codes}
 use Rattle.std.specs.Fmt.{decimal}
 use Rattle.std.specs.Io.KnownBytes.{Appends}
@@ -24,7 +24,7 @@ abbrev pub place_text : Option ℕ → List ℕ
 place_text None = []
 place_text (Some place) = codes " at " ++ decimal place
 
--- what the fault is of, its name, and its place
+-- the text that the fault is of, its name, and its place
 abbrev pub fault_line : List ℕ → List ℕ → Option ℕ → List ℕ
 fault_line of name place = of ++ (name ++ (place_text place ++ codes "\n"))
 

@@ -1,4 +1,4 @@
--- The lines that say how a search gets on, and what an output got of them.
+-- The lines that report the progress of a search, and the state of an output that got them.
 use Rattle.std.specs.Prelude.{◌≡◌, ◌⊎◌, ℕ, Bool, false, List, [], ◌∷◌, ◌++◌, Option, Some, None, IfSome, codes, ⊤}
 use Rattle.std.specs.Fmt.{decimal}
 use Rattle.htn_model.specs.Answer.{IsAnswer}
@@ -15,11 +15,11 @@ use Rattle.htn_run.specs.declared.outcome.Watched.TheVariants.{Known, Unknown}
 abbrev pub found_text : Option ℕ → List ℕ
 found_text none_within = codes " configurations" ++ (within_text (codes ", none within ") none_within ++ codes "\n")
 
--- the same from the number of configurations on
+-- the end of a line of progress, from the number of configurations on
 abbrev pub count_text : ℕ → Option ℕ → List ℕ
 count_text configurations none_within = number_text (codes " nodes, ") configurations ++ found_text none_within
 
--- the same from the bound on the nodes on
+-- the end of a line of progress, from the bound on the nodes on
 abbrev pub reach_text : ℕ → ℕ → Option ℕ → List ℕ
 reach_text bound configurations none_within = number_text (codes " s, plans of up to ") bound ++ count_text configurations none_within
 
@@ -47,18 +47,18 @@ IsProgress task line =
     ⊎ ((seconds bound : ℕ) × (watched : Watched) × (text : List ℕ) × (line ≡ end_line seconds watched) × SaysWatched task bound ⊤ watched text)
 
 module _ {E : Type 0} (contents : E → Option (List ℕ)) (has_failed : E → Bool) (IsLine : List ℕ → Type 0) where
-  -- the lines were added to the output one after another; of one that was refused a beginning was, and the output has
-  -- failed
+  -- the lines were added to the output one after another; if a line was refused, a beginning of it was added, and the
+  -- output has failed
   abbrev pub GetsLines : E → List (List ℕ) → E → Type 0
   GetsLines old [] new = new ≡ old
   GetsLines old (line ∷ lines) new =
       (next : E) × IsLine line × GetsLine (contents old) (contents next) (has_failed next) line × GetsLines next lines new
 
-  -- some such lines were, and none where none are to be shown
+  -- some lines of progress were added to the output, and none where none are to be shown
   abbrev pub Shows : Bool → E → E → Type 0
   Shows is_shown old new = (lines : List (List ℕ)) × (is_shown ≡ false → lines ≡ []) × GetsLines old lines new
 
--- what was shown of the task of two texts; nothing where they have none
+-- the lines of progress for the task of two texts were added to the output; none where they have no task
 abbrev pub ShowsOfTexts : {E : Type 0} → (E → Option (List ℕ)) → (E → Bool) → List ℕ → List ℕ → Bool → E → E → Type 0
 ShowsOfTexts contents has_failed domain problem is_shown old new =
     (new ≡ old) ⊎ ((task : Task) × IsTaskOfTexts domain problem task × Shows contents has_failed (IsProgress task) is_shown old new)

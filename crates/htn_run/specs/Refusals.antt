@@ -1,4 +1,4 @@
--- How the words end that ask for no run.
+-- The end of a process whose words ask for no run.
 use Rattle.std.specs.Prelude.{◌≡◌, ◌⊎◌, ℕ, Bool, true, List, Option, codes}
 use Rattle.std.specs.Io.KnownBytes.{Appends}
 use Rattle.plan_text.specs.Out.{TakesBeginning}

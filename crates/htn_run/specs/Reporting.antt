@@ -17,13 +17,13 @@ AddsReport files old new domain problem o (Checked finding) =
     (text : List ℕ) × OfTexts files domain problem (λ d p. Reports d p o finding text) × Appends old new text
 AddsReport files old new domain problem o _ = ⊥
 
--- what a fault says of the texts and leaves of the output
+-- the condition of a fault on the texts, and the output after it
 abbrev pub StopsByFault : {O : Type 0} → (O → Option (List ℕ)) → (O → Bool) → (List ℕ → File) → List ℕ → Option (List ℕ) → Options → O → O → RunFault → Type 0
 StopsByFault contents has_failed files domain problem o old new Output =
     OfTexts files domain problem (λ d p. IsReportCutShort d p o (contents old) (contents new)) × (has_failed new ≡ true)
 StopsByFault contents has_failed files domain problem o old new fault = (fault ≡ OutOfMemory) × (new ≡ old)
 
--- how the run stops without a report
+-- the conditions under which the run stops without a report
 abbrev pub StopsReport : {O : Type 0} → (O → Option (List ℕ)) → (O → Bool) → (List ℕ → File) → List ℕ → Option (List ℕ) → Options → O → O → Stop → Type 0
 StopsReport contents has_failed files domain problem o old new (Unreadable text) = LacksOf files domain problem text × (new ≡ old)
 StopsReport contents has_failed files domain problem o old new (Run fault) = StopsByFault contents has_failed files domain problem o old new fault

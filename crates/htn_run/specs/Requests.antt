@@ -1,4 +1,4 @@
--- What is answered to a request over the files that it names, and why it isn't.
+-- The answer to a request over the files that it names, and why there may be none.
 use Rattle.std.specs.Prelude.{◌≡◌, ℕ, ◌<◌, ◌⊎◌, Bool, true, false, List, [], ◌∷◌, Option, is_some, ⊤}
 use Rattle.std.specs.Io.KnownBytes.{Appends}
 use Rattle.htn_command.specs.declared.choice.Colour.{Colour}
@@ -45,8 +45,8 @@ NeedsThreads (Check domain problem format limit is_strict colour) = ⊥
 NeedsThreads (Explain domain problem plan format has_states colour) = ⊥
 NeedsThreads (Tree domain problem plan drawing colour) = ⊥
 
--- A request that tells this fault of a text by a line on the error output. That of a check or of an explanation stands in
--- its report, and so does that of a tree, but for the plan's.
+-- A request that reports this fault of a text by a line on the error output. With a check or an explanation the fault
+-- is in the report instead, and so it is with a tree, unless it is a fault of the plan's text.
 abbrev pub TellsFault : Request → RunFault → Type 0
 TellsFault (Plan domain problem bounds seconds has_progress) cause = ⊤
 TellsFault (Verify domain problem plan) cause = ⊤
@@ -54,15 +54,15 @@ TellsFault (Check domain problem format limit is_strict colour) cause = ⊥
 TellsFault (Explain domain problem plan format has_states colour) cause = ⊥
 TellsFault (Tree domain problem plan drawing colour) cause = trees.IsOfPlan cause
 
--- what holds of the texts in the files of a domain and a problem
+-- the files of a domain and a problem can be read, and this holds of their texts
 abbrev pub OfTexts : (List ℕ → File) → List ℕ → List ℕ → (List ℕ → List ℕ → Type 0) → Type 0
 OfTexts files domain problem P = (d : List ℕ) × (p : List ℕ) × MayGive (files domain) d × MayGive (files problem) p × P d p
 
--- what holds of them and of the text in the file of a plan
+-- the files of a domain, a problem and a plan can be read, and this holds of their texts
 abbrev pub OfThreeTexts : (List ℕ → File) → List ℕ → List ℕ → List ℕ → (List ℕ → List ℕ → List ℕ → Type 0) → Type 0
 OfThreeTexts files domain problem plan P = OfTexts files domain problem (λ d p. (f : List ℕ) × MayGive (files plan) f × P d p f)
 
--- what holds of three texts, whose files may be the standard input
+-- three files, each of which may be the standard input, can be read, and this holds of their texts
 abbrev pub OfInputs : (List ℕ → File) → List ℕ → List ℕ → List ℕ → (List ℕ → List ℕ → List ℕ → Type 0) → Type 0
 OfInputs files domain problem plan = OfThreeTexts files (checks.file_of domain) (checks.file_of problem) (checks.file_of plan)
 
@@ -141,7 +141,8 @@ LacksFile files (Tree domain problem plan drawing colour) =
     LacksOne files (checks.file_of domain.now) (checks.file_of problem.now)
     ⊎ OfTexts files (checks.file_of domain.now) (checks.file_of problem.now) (λ d p. MayFail (files (checks.file_of plan.now)))
 
--- The domain's file can't be read, or the problem's after it was; what lacks of a plan's file is given.
+-- This file can't be read: the domain's, or the problem's after the domain's was read; for the plan's the condition is
+-- a parameter.
 abbrev pub LacksText : (List ℕ → File) → List ℕ → List ℕ → Type 0 → Text → Type 0
 LacksText files domain problem LacksPlan text.Domain = MayFail (files domain)
 LacksText files domain problem LacksPlan text.Problem = (d : List ℕ) × MayGive (files domain) d × MayFail (files problem)
@@ -164,18 +165,19 @@ LacksFileOf files (Tree domain problem plan drawing colour) text =
 abbrev pub AddsAnswer : (List ℕ → File) → Option (List ℕ) → Option (List ℕ) → Reply → Request → Type 0
 AddsAnswer files old new reply request = (text : List ℕ) × Answers files request reply text × Appends old new text
 
--- the same of an answer with this status
+-- the text of an answer with this status was added to the output
 abbrev pub AddsAnswerWith : ℕ → (List ℕ → File) → Option (List ℕ) → Option (List ℕ) → Request → Type 0
 AddsAnswerWith status files old new request = (reply : Reply) × (status_of reply ≡ status) × AddsAnswer files old new reply request
 
--- What an answer adds to the error output: for a tree without a picture the verdict, or the report on its texts. For
--- any other it stays as it was.
+-- What an answer adds to the error output: the verdict for a tree without a picture, or the report on its texts. For
+-- any other answer the error output is unchanged.
 abbrev pub AddsBeside : Reply → (List ℕ → Type 0) → Type 0 → Type 0
 AddsBeside (Drawn (Judged Structure)) Gets Same = Gets (verdicts.verdict_text Structure)
 AddsBeside (Drawn (Refused report)) Gets Same = Gets report.items
 AddsBeside _ Gets Same = Same
 
--- the text that answers the request was added to the output, with this status, and to the error output what is beside it
+-- the text that answers the request, with this status, was added to the output, and what accompanies it to the error
+-- output
 abbrev pub AddsAnswerBeside : ℕ → (List ℕ → File) → Option (List ℕ) → Option (List ℕ) → (List ℕ → Type 0) → Type 0 → Request → Type 0
 AddsAnswerBeside status files old new Gets Same request =
     (reply : Reply) × (status_of reply ≡ status) × AddsAnswer files old new reply request × AddsBeside reply Gets Same
@@ -196,8 +198,8 @@ IsCutShort files old new (Explain domain problem plan format has_states colour) 
 IsCutShort files old new (Tree domain problem plan drawing colour) =
     OfInputs files domain.now problem.now plan.now (λ d p f. trees.IsPictureCutShort d p f drawing old new)
 
--- what a request shows on the error output while it runs: for a plan the lines of progress, if they are asked for; for
--- any other nothing
+-- the error output of a request while it runs: for a plan the lines of progress, if they are asked for, and nothing for
+-- any other
 abbrev pub ShowsFor : {E : Type 0} → (E → Option (List ℕ)) → (E → Bool) → (List ℕ → File) → Request → E → E → Type 0
 ShowsFor contents has_failed files (Plan domain problem bounds seconds has_progress) old new =
     (new ≡ old) ⊎ OfTexts files domain.now problem.now (λ d p. progress.ShowsOfTexts contents has_failed d p has_progress old new)

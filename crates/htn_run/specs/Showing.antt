@@ -15,7 +15,7 @@ module _ {E : Type 0} (contents : E → Option (List ℕ)) (has_failed : E → B
   pub shows_none : (is_shown : Bool) (a : E) → Shows contents has_failed IsLine is_shown a a
   shows_none is_shown a = ([], λ _. refl, refl)
 
-  -- what was shown, and what was shown then
+  -- lines that were shown, and lines that were shown after them
   pub shows_both : (is_shown : Bool) (a b c : E) → Shows contents has_failed IsLine is_shown a b → Shows contents has_failed IsLine is_shown b c → Shows contents has_failed IsLine is_shown a c
   shows_both is_shown a b c first later =
       (first.0 ++ later.0, λ h. ap₂ (λ x y. x ++ y) (first.1 h) (later.1 h), gets_both first.0 later.0 a b c first.2 later.2)
@@ -24,7 +24,7 @@ module _ {E : Type 0} (contents : E → Option (List ℕ)) (has_failed : E → B
   pub shows_line : (a b : E) (line : List ℕ) → IsLine line → GetsLine (contents a) (contents b) (has_failed b) line → Shows contents has_failed IsLine true a b
   shows_line a b line is gets = (line ∷ [], λ h. absurd cc, (b, is, gets, refl))
 
--- what was shown of a task, and what was shown of the same task then
+-- lines that were shown for a task, and lines that were shown for it after them
 pub shows_on : {E : Type 0} (contents : E → Option (List ℕ)) (has_failed : E → Bool) (first second : Task) → second ≡ first → (is_shown later_shown : Bool)
     → later_shown ≡ is_shown → (a b c : E) → Shows contents has_failed (IsProgress first) is_shown a b → Shows contents has_failed (IsProgress second) later_shown b c
     → Shows contents has_failed (IsProgress first) is_shown a c

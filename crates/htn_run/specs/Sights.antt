@@ -1,4 +1,4 @@
--- What the run of a tree is made of, before anything is written.
+-- The parts of the run that draws a tree, before anything is written.
 use Rattle.std.specs.Prelude.{◌≡◌, ◌⊎◌, ℕ, Bool, false, List, [], Option, Some, None, MatchOption}
 use Rattle.std.specs.Io.KnownBytes.{Appends}
 use Rattle.std.specs.declared.alloc.Global.{Global}
@@ -30,7 +30,7 @@ pub record IsSight (pair : Pair) (file : PlanFile) (form : Drawing) (s : Sight) 
   pub is_verdict : IsVerdict (naming_of pair.task) (problem_of pair.task) file (verdict_of s.verdict)
   pub is_picture : MatchOption s.picture (IsForest file → ⊥) (λ bytes. ArePicture pair.domain pair.problem s.verdict form file bytes.items)
 
--- the same of the file that a text holds
+-- the verdict and the picture of the file that a text holds
 abbrev pub IsSightOfText : Pair → List ℕ → Drawing → Sight → Type 0
 IsSightOfText pair plan form s = (file : PlanFile) × FileText file plan × IsSight pair file form s
 
@@ -47,7 +47,7 @@ IsSightOfTexts domain problem plan form s = Shows domain problem plan form s.ver
 abbrev pub IsShown : Sight → Drawn → Option (List ℕ) → Option (List ℕ) → Type 0
 IsShown s drawn old new = (drawn ≡ Judged s.verdict) × Appends old new (bytes_of s.picture)
 
--- a beginning of it was
+-- a beginning of the picture was added to the output
 abbrev pub IsBegun : Sight → Option (List ℕ) → Option (List ℕ) → Type 0
 IsBegun s old new = TakesBeginning old new (bytes_of s.picture)
 
@@ -56,6 +56,6 @@ abbrev pub IsReported : Named → Named → Bool → Drawn → Type 0
 IsReported domain problem is_coloured (Judged v) = ⊥
 IsReported domain problem is_coloured (Refused report) = IsReport domain problem (report_options Text is_coloured) report.items
 
--- a fault stays as it is, which is not of the pair; or memory was refused
+-- the fault is unchanged, and is not of the pair; or memory was refused
 abbrev pub IsLeft : RunFault → RunFault → Type 0
 IsLeft fault new = (new ≡ OutOfMemory) ⊎ ((new ≡ fault) × (is_of_pair fault ≡ false))

@@ -1,4 +1,4 @@
--- What a run of the tree answers for a domain's text, a problem's text and a plan's text, and what it writes.
+-- The answer of a run that draws a tree, for a domain's, a problem's and a plan's text, and the text that it writes.
 use Rattle.std.specs.Prelude.{◌≡◌, ℕ, Bool, true, false, List, [], ◌++◌, Option, Some, None, codes, map, option_map, ⊤}
 use Rattle.hddl_tree.specs.declared.domain.DomainText.{DomainText}
 use Rattle.hddl_tree.specs.declared.problem.ProblemText.{ProblemText}
@@ -41,7 +41,7 @@ use Rattle.htn_run.specs.declared.tree.Drawn.{Drawn}
 use Rattle.htn_run.specs.declared.tree.Drawn.TheVariants.{Judged, Refused}
 use Rattle.htn_run.specs.declared.tree.Look.{Look}
 
--- ## What is said beside a picture
+-- ## The caption of a picture
 
 -- a mark, with what it holds
 abbrev pub seen_mark : Mark → ℕ × List ℕ
@@ -78,7 +78,7 @@ AreDrawn d p v form picture bytes = (caption : Caption) × IsCaption d p v capti
 abbrev pub ArePicture : DomainText → ProblemText → Verdict → Drawing → PlanFile → List ℕ → Type 0
 ArePicture d p v form file bytes = (picture : Picture) × IsPictureOf file picture × AreDrawn d p v form picture bytes
 
--- the same for a file of some verdict: nothing where its lines are no forest
+-- the bytes of the picture of a file with a verdict; nothing where the file's lines are no forest
 abbrev pub IsDrawn : DomainText → ProblemText → Drawing → PlanFile → Verdict → List ℕ → Type 0
 IsDrawn d p form file Structure bytes = bytes ≡ []
 IsDrawn d p form file v bytes = ArePicture d p v form file bytes
@@ -130,7 +130,7 @@ pub record IsRefusal (domain problem : Named) (plan : List ℕ) (o : Options) (b
   pub refuses : RefusesPlan domain.bytes problem.bytes plan cause
   pub report : IsReport domain problem o bytes
 
--- what the run came to, and the text that it added to the output
+-- the result of the run, and the text that it added to the output
 abbrev pub Draws : Named → Named → List ℕ → Look → Drawn → List ℕ → Type 0
 Draws domain problem plan look (Judged v) text = Shows domain.bytes problem.bytes plan look.drawing v text
 Draws domain problem plan look (Refused report) text = IsRefusal domain problem plan (report_options format.Text look.colour) report.items × (text ≡ [])

@@ -1,4 +1,4 @@
-//! The text that says an answer.
+//! The text of an answer.
 ghost use Rattle.std.specs.Prelude.{◌≡◌, ◌≢◌, List, Option, ℕ, true, IfOk, IfErr, OnOk};
 ghost use Rattle.std.specs.Io.KnownBytes.{Appends};
 ghost use Rattle.htn_search.specs.Answer.{Answers, IsKnown};
@@ -44,8 +44,8 @@ pub(crate) fn write_answer<O: Out>(
     }
 }
 
-/// Writes what is known of a task: the answer, or `unknown` and the number of nodes that no solution is within, if one is
-/// known, with a line feed.
+/// Writes the result of a watched search with a line feed: the answer, or `unknown` and the number of nodes within
+/// which there is no solution, if one is known.
 pub(crate) fn write_known<O: Out>(
     alloc: Global,
     task: &Task,

@@ -1,4 +1,4 @@
-//! What is said beside the picture of a plan.
+//! The caption of the picture of a plan.
 ghost use Rattle.std.specs.Prelude.{◌≡◌, ◌++◌, IfOk, codes, map, option_map, string_bytes};
 ghost use Rattle.std.specs.Fmt.{decimal};
 ghost use Rattle.text_places.specs.Shown as shown_spec;

@@ -6,12 +6,12 @@ use htn_search::{News, Watch};
 use htn_task::Task;
 use std::time::{Clock, Duration, Instant};
 
-/// What a search is watched for.
+/// The purposes for which a search is watched.
 #[derive(Clone, Copy, Debug)]
 pub(crate) struct Watching {
     /// After how many seconds the search is stopped, if it is.
     pub(crate) seconds: Option<u64>,
-    /// Whether lines say how the search gets on.
+    /// Whether lines report the progress of the search.
     pub(crate) has_progress: bool,
 }
 
@@ -110,7 +110,7 @@ impl<'a, R: Clock, E: Out> Stopwatch<'a, R, E> {
         self.has_written = true;
     }
 
-    /// Writes what the search came to, if a line was written before.
+    /// Writes the result of the search, if a line was written before.
     pub(crate) fn end(&mut self, watched: Watched)
         requires says { (bound : ℕ) × (text : List ℕ) × SaysWatched self.old.task.now bound ⊤ watched text }
         ensures same_reference { self.new.err.ghost_name ≡ self.old.err.ghost_name }

@@ -13,7 +13,7 @@ use htn_plan::{Out, Verdict, put_all};
 use plan_report::ReportStyle;
 use std::alloc::Global;
 
-/// What the run of an explanation came to. Its text was written.
+/// The result of an explanation whose text was written.
 #[derive(Clone, Copy, Debug, PartialEq, Eq)]
 pub enum Explained {
     /// The verdict on the plan.

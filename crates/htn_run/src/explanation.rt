@@ -1,4 +1,4 @@
-//! What is said of a plan, before anything is written.
+//! The explanation of a plan, made before anything is written.
 ghost use Rattle.std.specs.Prelude.{◌≡◌, true, IfOk, IfErr};
 ghost use Rattle.htn_run.specs.Checking.{domain_text, problem_text};
 ghost use Rattle.check_report.specs.Told.{named};
@@ -28,7 +28,7 @@ use plan_text::line_places;
 use std::alloc::{AllocError, Global};
 use text_places::Lines;
 
-/// What an explanation came to, and its text.
+/// The result of an explanation, and its text.
 #[derive(Drop)]
 pub(crate) struct Explanation {
     pub(crate) came: Explained,
@@ -43,7 +43,7 @@ pub(crate) struct Inputs<'a> {
     pub(crate) plan: Input<'a>,
 }
 
-/// Reads a domain, a problem and a plan, and says what the plan is for them, and why.
+/// Reads a domain, a problem and a plan, and explains the verdict on the plan.
 pub(crate) fn explanation_of<'a>(
     alloc: Global,
     domain: Input<'a>,
@@ -102,7 +102,7 @@ fn source_of<'a>(alloc: Global, role: Role, input: Input<'a>) -> Result<Source<'
     })
 }
 
-// What a plan's text is for a pair, and why.
+// The explanation of a plan's text for a pair.
 fn explain_plan<'a>(
     alloc: Global,
     pair: &'a Pair,

@@ -22,7 +22,7 @@ fn put_place<O: Out>(out: &mut O, place: Option<usize>) -> Result<(), WriteFault
     }
 }
 
-/// Writes what a fault is of, its name, its place and a line feed.
+/// Writes the text that a fault is of, its name, its place and a line feed.
 fn put_fault_line<O: Out>(
     out: &mut O,
     of: &[u8],
@@ -101,7 +101,7 @@ fn put_plan_fault<O: Out>(out: &mut O, of: &[u8], fault: PlanFault) -> Result<()
     }
 }
 
-/// Writes what the fault of a run says, as its `Display` does, and a line feed. It takes no memory.
+/// Writes the text of a run's fault, as its `Display` does, and a line feed. It takes no memory.
 pub fn write_fault<O: Out>(out: &mut O, fault: RunFault) -> Result<(), WriteFault>
     ensures { Writes (O.contents out.old) (O.contents out.new) (O.has_failed out.old) (O.has_failed out.new) result (line_of_fault fault) }
 {

@@ -1,4 +1,4 @@
-//! What follows from the definitions of an answer and a verdict. Each function here is a law, with an empty body.
+//! Consequences of the definitions of an answer and a verdict. Each function here is a law, with an empty body.
 ghost use Rattle.std.specs.Prelude.{◌≡◌, ℕ, List, false};
 ghost use Rattle.htn_command.specs.declared.request.Request.{Request};
 ghost use Rattle.htn_run.specs.Files.{File};
@@ -8,8 +8,7 @@ ghost use Rattle.htn_run.specs.Requests.{ShowsFor, wants_progress};
 
 use htn_plan::Out;
 
-/// The two texts and the bound determine the answer: no two outcomes answer them, and no two texts. Texts have one task
-/// at most.
+/// The two texts and the bound determine the outcome and the text of the answer. Texts have one task at most.
 pub fn answers_are_unique()
     ensures task { TextsHaveOneTask }
     ensures answer { AnswersAreUnique }
@@ -26,8 +25,7 @@ pub fn faulty_texts_have_no_answer()
     ensures none { FaultyHaveNoAnswer }
 {}
 
-/// The three texts determine the verdict: no two verdicts answer them, and no two texts. Different verdicts are told by
-/// different texts.
+/// The three texts determine the verdict and its text. Different verdicts have different texts.
 pub fn verdicts_are_unique()
     ensures verdict { VerdictsAreUnique }
     ensures told { VerdictsAreTold }

@@ -7,7 +7,7 @@ use htn_search::SearchFault;
 use std::alloc::AllocError;
 use thiserror::Error;
 
-/// What a run found.
+/// The outcome of a run.
 #[derive(Debug, Clone, Copy, PartialEq, Eq)]
 pub enum Outcome {
     /// A plan.
@@ -18,7 +18,7 @@ pub enum Outcome {
     Unsolvable,
 }
 
-/// What a watched run found.
+/// The outcome of a watched run.
 #[derive(Debug, Clone, Copy, PartialEq, Eq)]
 pub enum Watched {
     /// The answer.

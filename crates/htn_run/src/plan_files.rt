@@ -26,7 +26,7 @@ use std::sync::Wait;
 use std::thread::Threads;
 use std::time::Clock;
 
-// Searches a task under a watch of it, and writes what is known of it.
+// Searches a task under a watch, and writes the result.
 fn watch_task<O: Out, E: Out, R: Threads + Wait + Clock + Sync>(
     rt: &R,
     alloc: Global,
@@ -51,7 +51,7 @@ fn watch_task<O: Out, E: Out, R: Threads + Wait + Clock + Sync>(
     Ok(watched)
 }
 
-// Searches a task, watched by the clock, and writes what is known of it.
+// Searches a task, watched by the clock, and writes the result.
 fn plan_task<O: Out, E: Out, R: Threads + Wait + Clock + Sync>(
     rt: &R,
     alloc: Global,
@@ -73,7 +73,7 @@ fn plan_task<O: Out, E: Out, R: Threads + Wait + Clock + Sync>(
     watch_task(rt, alloc, task, bounds, out, &mut watch)
 }
 
-// The same from the texts on.
+// Reads a domain and a problem, searches their task, watched by the clock, and writes the result.
 fn plan_texts<O: Out, E: Out, R: Threads + Wait + Clock + Sync>(
     rt: &R,
     alloc: Global,

@@ -1,4 +1,4 @@
-//! What stands around a run in a process: its words before, and the flush of its output after.
+//! The parts of a process around its run: the words before it, and the flush of its output after it.
 ghost use Rattle.std.specs.Prelude.{◌≡◌, ◌≢◌, ◌≤◌, ◌⊎◌, IfErr, codes};
 ghost use Rattle.htn_run.specs.Lines.{GetsLine};
 
@@ -40,7 +40,7 @@ impl ProcessFault {
     ghost use Rattle.htn_run.specs.Lines.{GetsLine};
     ghost use Rattle.htn_run.specs.Process.{line_of, status_of};
 
-    /// Writes the line on the standard error, and answers the status: 2 for words that are no text, 4 for want of
+    /// Writes the line on the standard error, and returns the status: 2 for words that are no text, 4 for refused
     /// memory, and 5 for the output. A write that fails there changes nothing.
     pub fn tell<E: Out>(&self, err: &mut E) -> u8
         ensures status { result ≡ status_of self.now }

@@ -1,4 +1,4 @@
-//! The lines that say how a search gets on.
+//! The lines that report the progress of a search.
 ghost use Rattle.std.specs.Prelude.{◌++◌, codes};
 ghost use Rattle.plan_text.specs.Out.{Writes};
 ghost use Rattle.htn_run.specs.Headline.{number_text, unknown_text, within_text};
@@ -8,7 +8,7 @@ use crate::outcome::{Outcome, Watched};
 use crate::verdict::put_id;
 use htn_plan::{Out, WriteFault, put_all};
 
-/// How a search gets on.
+/// The progress of a search.
 #[derive(Clone, Copy, Debug)]
 pub(crate) struct Progress {
     pub(crate) seconds: u64,
@@ -27,7 +27,7 @@ fn put_number<O: Out>(out: &mut O, before: &[u8], number: u64) -> Result<(), Wri
     put_id(out, number)
 }
 
-/// Writes a number that no solution has at most as many nodes as, after some words, if there is one.
+/// Writes, after some words, the number of nodes within which there is no solution, if one is known.
 fn put_within<O: Out>(
     out: &mut O,
     before: &[u8],
@@ -41,7 +41,7 @@ fn put_within<O: Out>(
     }
 }
 
-/// The same with a line feed.
+/// Writes, after some words, the number of nodes within which there is no solution, if one is known, and a line feed.
 fn put_tail<O: Out>(out: &mut O, before: &[u8], none_within: Option<u64>) -> Result<(), WriteFault>
     ensures { Writes (O.contents out.old) (O.contents out.new) (O.has_failed out.old) (O.has_failed out.new) result (within_text before.now none_within ++ codes "\n") }
 {
@@ -49,7 +49,7 @@ fn put_tail<O: Out>(out: &mut O, before: &[u8], none_within: Option<u64>) -> Res
     put_all(out, b"\n")
 }
 
-/// Writes `unknown` and the number of nodes that no solution is within, if there is one, with a line feed.
+/// Writes `unknown`, the number of nodes within which there is no solution, if one is known, and a line feed.
 pub(crate) fn put_unknown<O: Out>(out: &mut O, none_within: Option<u64>) -> Result<(), WriteFault>
     ensures { Writes (O.contents out.old) (O.contents out.new) (O.has_failed out.old) (O.has_failed out.new) result (unknown_text none_within) }
 {
@@ -81,7 +81,7 @@ fn put_reach<O: Out>(out: &mut O, progress: Progress) -> Result<(), WriteFault>
     put_count(out, progress)
 }
 
-/// Writes the line that says how a search gets on.
+/// Writes a line of progress.
 pub(crate) fn put_progress<O: Out>(out: &mut O, progress: Progress) -> Result<(), WriteFault>
     ensures { Writes (O.contents out.old) (O.contents out.new) (O.has_failed out.old) (O.has_failed out.new) result
         (progress_line progress.seconds progress.bound progress.configurations progress.none_within) }
@@ -90,7 +90,7 @@ pub(crate) fn put_progress<O: Out>(out: &mut O, progress: Progress) -> Result<()
     put_reach(out, progress)
 }
 
-/// Writes what a search came to, with a line feed.
+/// Writes the result of a search, with a line feed.
 fn put_end_text<O: Out>(out: &mut O, watched: Watched) -> Result<(), WriteFault>
     ensures { Writes (O.contents out.old) (O.contents out.new) (O.has_failed out.old) (O.has_failed out.new) result (end_text watched) }
 {
@@ -102,7 +102,7 @@ fn put_end_text<O: Out>(out: &mut O, watched: Watched) -> Result<(), WriteFault>
     }
 }
 
-/// Writes the line that says what a search came to.
+/// Writes the line with the result of a search.
 pub(crate) fn put_end<O: Out>(out: &mut O, seconds: u64, watched: Watched) -> Result<(), WriteFault>
     ensures { Writes (O.contents out.old) (O.contents out.new) (O.has_failed out.old) (O.has_failed out.new) result (end_line seconds watched) }
 {

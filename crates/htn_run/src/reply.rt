@@ -1,4 +1,4 @@
-//! What a request is answered with.
+//! The answers to requests.
 
 use crate::explain::Explained;
 use crate::outcome::{Outcome, Watched};
@@ -10,15 +10,15 @@ use htn_plan::{Out, Verdict, WriteFault, put_all};
 /// The answer to a request.
 #[derive(Debug, Drop)]
 pub(crate) enum Reply {
-    /// What the search for a plan found.
+    /// The result of the search for a plan.
     Planned(Watched),
     /// The verdict on a plan.
     Verified(Verdict),
-    /// What the check of texts found.
+    /// The result of the check of texts.
     Checked(Finding),
-    /// What the explanation of a plan came to.
+    /// The result of the explanation of a plan.
     Explained(Explained),
-    /// What the tree of a plan came to.
+    /// The result of drawing the tree of a plan.
     Drawn(Drawn),
 }
 
@@ -27,7 +27,7 @@ impl Reply {
     ghost use Rattle.htn_run.specs.Lines.{GetsLine};
     ghost use Rattle.htn_run.specs.Requests.{AddsBeside, status_of};
 
-    /// Writes on the standard error why a tree has no picture, and answers the status of the program. A write that
+    /// Writes on the standard error why a tree has no picture, and returns the status of the program. A write that
     /// fails there changes nothing. For any other answer nothing is written.
     pub(crate) fn conclude<E: Out>(&self, err: &mut E) -> u8
         ensures status { result ≡ status_of self.now }

@@ -21,7 +21,7 @@ use std::thread::Threads;
 /// of workers, size of the pieces and gate, and however the workers take turns. Nothing is written before the answer is
 /// known.
 ///
-/// It is the run of a process: what the search numbered is left to the end of the process (see `run_task`).
+/// It is meant for a process that ends after it: the tables of the search are not freed (see `run_task`).
 ///
 /// The domain is read first, then the problem, and then the pair is checked. `NoThread` never comes with one worker.
 /// After `Output` the output has failed, and a beginning of the answer's text stands in it; after any other fault it is
@@ -48,8 +48,8 @@ pub fn run_plan<O: Out, G: Gate, R: Threads + Wait + Sync>(
 
 /// Searches a task within the bounds, and writes the answer, as `run_plan` does from the texts on.
 ///
-/// It is the run of a process: what the search numbered is left to the end of the process, since to free it takes up to
-/// a tenth of a long search. Who goes on after it, and searches again, calls `htn_search::search`.
+/// It is meant for a process that ends after it: the tables of the search are not freed, since that takes up to a tenth
+/// of a long search. A caller that runs on, and searches again, uses `htn_search::search`.
 pub fn run_task<O: Out, G: Gate, R: Threads + Wait + Sync>(
     rt: &R,
     alloc: Global,

@@ -34,7 +34,8 @@ use std::sync::Wait;
 use std::thread::Threads;
 use std::time::Clock;
 
-/// Does what the words ask for, of which the first is the program's name, and answers the status of the program.
+/// Carries out the request of the words, of which the first is the program's name, and returns the status of the
+/// program.
 ///
 /// | Status | When | On `err` |
 /// |---|---|---|
@@ -42,15 +43,15 @@ use std::time::Clock;
 /// | 1 | `none`, `unsolvable`, or `invalid: ` and why, or a report with a warning that counts | nothing; of a tree without a picture the verdict |
 /// | 2 | the words are refused | the text of `clap` |
 /// | 3 | a text is refused | one line: which text, the fault and its place; after a report nothing; of a tree the report |
-/// | 4 | want of memory, or no thread | one line |
+/// | 4 | memory or a thread was refused | one line |
 /// | 5 | a file can't be read, or the output can't be written | one line |
 /// | 6 | the time for a plan is over | nothing |
 ///
-/// Where a plan is asked for with `--progress`, lines that say how the search gets on stand on `err` before that; what
-/// they say of the task is true. The files are read in the order of the words. Nothing is written to `out` before the
-/// answer is known. A write to `err` that fails changes no status. The picture of a plan has the status of its verdict.
-/// The answer is tied to what the files hold as far as the source's contract says. No clause says what the texts of
-/// `clap` are.
+/// Where a plan is asked for with `--progress`, the lines that report the progress of the search are on `err` before
+/// that, and their claims about the task are true. The files are read in the order of the words. Nothing is written to
+/// `out` before the answer is known. A write to `err` that fails changes no status. The picture of a plan has the
+/// status of its verdict. The answer is that for the contents of the files as far as the source's contract determines
+/// these. No clause determines the texts of `clap`.
 pub fn run_words<S: Source, O: Out, E: Out, R: Threads + Wait + Clock + Sync>(
     rt: &R,
     alloc: Global,

@@ -1,4 +1,4 @@
--- What a search answers of a task's problem.
+-- The answers of a search for a task's problem.
 use Rattle.std.specs.Prelude.{◌≡◌, ◌↔◌, ◌≤◌, ℕ, IfSome, Some, None}
 use Rattle.htn_model.specs.Grounding.{problem_of}
 use Rattle.htn_model.specs.Task.{Task}
@@ -17,8 +17,8 @@ abbrev pub IsPlan : Task → Answer → tree.Solution → Type 0
 IsPlan t answer s = (plan : Solution) × (answer ≡ Plan plan) × (solution_of t plan ≡ s)
 
 -- a plan exactly by the solution that answers for the bound, which has fewest nodes and then the least code; none
--- exactly where no solution is
--- within the bound, which was met; unsolvable exactly where there is no solution, and the bound was not met
+-- exactly where no solution is within the bound, which was met; unsolvable exactly where there is no solution, and the
+-- bound was not met
 pub record Answers (t : Task) (bound : ℕ) (answer : Answer) : Type 0 where
   pub plan : (s : tree.Solution) → IsPlan t answer s ↔ IsAnswer (problem_of t) bound (Some s)
   pub none : (answer ≡ NoPlan) ↔ (IsAnswer (problem_of t) bound None × IsMet (problem_of t) bound)

@@ -8,16 +8,16 @@ use Rattle.htn_model.specs.Tree.{Place}
 abbrev pub places_view : List (Vec ℕ) → List Place
 places_view places = map (λ p. p.items) places
 
--- those of the open nodes, which are kept from the last to the first
+-- the places of the open nodes, which are stored from the last to the first
 abbrev pub open_places : List (Vec ℕ) → List Place
 open_places places = places_view (reverse places)
 
--- those of so many children, from a position on
+-- the places of `count` children of the node at a place, from a position on
 abbrev pub child_places : Place → ℕ → ℕ → List Place
 child_places place position zero = []
 child_places place position (suc count) = (place ++ position ∷ []) ∷ child_places place (suc position) count
 
--- an action and a step are carried out where they stand
+-- the places that a node adds to those that are carried out: its own for an action or a step, none for a compound task
 abbrev pub own_place : Child → Place → List Place
 own_place (precondition literals) place = place ∷ []
 own_place (action g) place = place ∷ []

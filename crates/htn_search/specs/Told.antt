@@ -1,4 +1,4 @@
--- Words of ranks, by which a search goes, as words of numbers.
+-- Words of ranks, which a search finds, translated into words of numbers.
 use Rattle.std.specs.Prelude.{◌≡◌, ℕ, true, List, Some}
 use Rattle.htn_model.specs.Grounding.{problem_of}
 use Rattle.htn_model.specs.Levels.{is_done}
@@ -10,7 +10,7 @@ use Rattle.htn_answer.specs.Machine.{machine_of}
 use Rattle.htn_answer.specs.Fewer.{numbers_from, numbers_of}
 use Rattle.htn_net.specs.Listed.{initial_of, listing_machine, number_of}
 
--- the numbers of ranks, from a configuration on
+-- the numbers of a sequence of ranks, from a configuration on
 abbrev pub told : Task → Config → List ℕ → List ℕ
 told t c ranks = numbers_from (machine_of (problem_of t)) (listing_machine t) (initial_of t) (number_of t) (Some c) ranks
 

@@ -1,4 +1,4 @@
--- The trees before the moves of a word, from those after them.
+-- The trees before the moves of a word, computed from those after them.
 use Rattle.std.specs.Prelude.{◌≡◌, ℕ, suc, ◌+◌, ◌-◌, ◌≤◌, List, [], ◌∷◌, ◌++◌, Option, Some, None, drop, length, take, ⊤}
 use Rattle.htn_model.specs.Problem.{Child, precondition, action, task}
 use Rattle.htn_model.specs.Tree.{Node, leaf, step, compound, no_nodes}
@@ -28,31 +28,31 @@ number_by numbers (action g) instance = 0
 number_by numbers (task g) None = 0
 number_by numbers (task g) (Some instance) = numbers g instance
 
--- the children's trees go under the node, which stands in their place
+-- the trees before a move, from those after it: the children's trees are replaced by one with the move's node over them
 abbrev pub before_move : Numbering → Move → List Node → List Node
 before_move numbers m trees =
     take m.position trees ++ over (node_of numbers m.node) (take m.children (drop m.position trees)) ∷ drop (m.position + m.children) trees
 
--- the trees before the moves, from those after them
+-- the trees before all moves, from those after them
 abbrev pub before_moves : Numbering → List Move → List Node → List Node
 before_moves numbers [] trees = trees
 before_moves numbers (m ∷ moves) trees = before_move numbers m (before_moves numbers moves trees)
 
--- how many trees there are before a move, with so many after it
+-- the number of trees before a move, if there are `count` after it
 abbrev pub count_before : Move → ℕ → ℕ
 count_before m count = suc (count - m.children)
 
--- the same before moves
+-- the number of trees before all moves, if there are `count` after them
 abbrev pub count_before_all : List Move → ℕ → ℕ
 count_before_all [] count = count
 count_before_all (m ∷ moves) count = count_before m (count_before_all moves count)
 
--- the children of each move stand among the trees that are left after it, with so many left after the last
+-- the children of each move are among the trees after it, if there are `count` trees after the last move
 abbrev pub AreWithin : List Move → ℕ → Type 0
 AreWithin [] count = ⊤
 AreWithin (m ∷ moves) count = (m.position + m.children ≤ count_before_all moves count) × AreWithin moves count
 
--- the move records what a number chooses at a configuration
+-- the move records the choice of a number at a configuration
 pub record IsMove (numbers : Numbering) (c : Config) (number : ℕ) (choice : Choice) (m : Move) : Type 0 where
   pub position : m.position ≡ choice.position
   pub node : node_of numbers m.node ≡ bare (child_of c.open_nodes choice.position) number

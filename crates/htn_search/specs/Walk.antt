@@ -12,8 +12,8 @@ use Rattle.htn_search.specs.declared.walk.Walk.{Walk}
 use Rattle.htn_search.specs.Trail.{IsMove, before_moves}
 use Rattle.htn_search.specs.Places.{child_places, open_places, own_place, places_view}
 
--- the walk one number on: where the number leads, with its move recorded, its children's places, and its place where it
--- is carried out
+-- the walk after one number: at the configuration to which the number leads, with its move recorded, the places of its
+-- children added, and its own place added where it is carried out
 pub record IsOneOn (t : Task) (number : ℕ) (old new : Walk) : Type 0 where
   pub choice : Choice
   pub chooses : choose (problem_of t) old.config number ≡ Some choice
@@ -26,7 +26,7 @@ pub record IsOneOn (t : Task) (number : ℕ) (old new : Walk) : Type 0 where
   pub visits : places_view new.visits.items
       ≡ places_view old.visits.items ++ own_place (child_of old.config.open_nodes choice.position) (get_or (open_places old.places.items) choice.position [])
 
--- the walk at the start with an initial network: its children are open, and nothing is recorded yet
+-- the walk at the start, with an initial network: its children are open, and nothing is recorded yet
 pub record IsStart (problem : Problem) (network : Network) (walk : Walk) : Type 0 where
   pub config : walk.config ≡ start problem network
   pub places : open_places walk.places.items ≡ child_places [] 0 (length network.children)

@@ -1,4 +1,4 @@
-//! What a search answers.
+//! The answers of a search.
 
 use htn_tree::Solution;
 
@@ -7,13 +7,13 @@ use htn_tree::Solution;
 pub enum Answer {
     /// The solution of fewest nodes and then of least code.
     Plan(Solution),
-    /// No solution has at most so many nodes. Whether a larger one does is not known.
+    /// No solution is within the bound. Whether a larger one exists is not known.
     None,
     /// There is no solution.
     Unsolvable,
 }
 
-/// What is known of a task once a watched search with a bound on the nodes has ended.
+/// The result of a watched search of a task with a bound on the nodes.
 #[derive(Drop)]
 pub enum Known {
     /// The answer.

@@ -1,4 +1,4 @@
-//! What a rank chooses, by the tables of a search.
+//! The choice of a rank, by the tables of a search.
 ghost use Rattle.std.specs.Prelude.{◌≡◌, ℕ, IfOk, IsSome, Some, slice_get};
 ghost use Rattle.htn_ground.specs.Distinct.{distinct, live_methods};
 ghost use Rattle.htn_net.specs.Choices.{IsChosen};
@@ -12,7 +12,7 @@ use htn_task::Task;
 use std::alloc::{AllocError, Global};
 use task_machine::Tables;
 
-/// The instance of a rank, from the tables; it is found anew only where these don't have it.
+/// The instance of a rank, from the tables; it is computed again only where they do not have it.
 fn listed_instance(
     alloc: Global,
     task: &Task,
@@ -31,7 +31,7 @@ fn listed_instance(
     Ok(listed.swap_remove(rank as usize))
 }
 
-/// The open node that a rank chooses, and what becomes of it.
+/// The open node that a rank chooses, by position, and its change: an instance that replaces it, or the state after it.
 pub(crate) fn choose_by_rank(
     alloc: Global,
     task: &Task,

@@ -1,4 +1,4 @@
-//! The configuration that a walk is at.
+//! The current configuration of a walk.
 ghost use Rattle.std.specs.Prelude.{◌≡◌, ◌<◌, ℕ, Contains, IfOk, IfSome, IsSome, None, Some, false, length, reverse};
 ghost use Rattle.std.specs.Arc.{arc_value};
 ghost use Rattle.std.specs.Option.{option_map};
@@ -20,8 +20,8 @@ use std::alloc::{AllocError, Global};
 use std::marker::Model;
 use std::sync::Arc;
 
-/// A configuration that gives its open nodes away: a step copies none of those that stay, and moves none that is
-/// behind the one that goes.
+/// A configuration that is consumed by a step. The step copies no open node, and does not move those after the node
+/// that it replaces.
 #[derive(Drop)]
 pub(crate) struct Front {
     state: Arc<State>,
@@ -83,7 +83,7 @@ fn performed(
 }
 
 impl Front {
-    /// The configuration at the start with an instance of the initial network.
+    /// The initial configuration of an instance of the initial network.
     pub(crate) fn start(alloc: Global, task: &Task, initial: &Instance) -> Result<Front, AllocError>
         requires { Contains (initials task.now) initial.now }
         ensures { IfOk result (λ front. front ≡ start (problem_of task.now) initial.now.network) }
@@ -171,7 +171,7 @@ impl Front {
         Ok((node, front))
     }
 
-    /// The configuration in which this has become of the open node at a position, and that node.
+    /// The configuration after a change of the open node at a position, and that node.
     pub(crate) fn after(
         self,
         alloc: Global,

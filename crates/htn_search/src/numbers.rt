@@ -34,7 +34,7 @@ fn is_same(a: &Instance, b: &Instance) -> bool
     has_same_source && has_same_network(a, b)
 }
 
-/// The place of an instance among those with their numbers, so far as these fit.
+/// The place of an instance among numbered ones, whose numbers are None where they do not fit.
 fn place_among(numbered: &[(Option<u64>, Instance)], instance: &Instance) -> Option<usize>
     ensures some { IfSome result (λ place. (number : Option ℕ) × (slice_get numbered.now place ≡ Some (number, instance.now))) }
     ensures none { IfNone result (All (λ p. instance_eq p.1 instance.now ≡ false) numbered.now) }
@@ -47,8 +47,8 @@ fn place_among(numbered: &[(Option<u64>, Instance)], instance: &Instance) -> Opt
     None
 }
 
-/// The number of an instance that is not dead, among all of a ground task. The dead ones are skipped. An error
-/// means that memory was refused, or that this number is past 64 bits; those of others may be so.
+/// The number of an instance that is not dead, among all of a ground task. The dead ones are skipped. An error means
+/// that memory was refused, or that this number is past 64 bits; the numbers of other instances may be.
 fn instance_number(
     alloc: Global,
     task: &Task,
@@ -94,8 +94,8 @@ fn initial_number(alloc: Global, task: &Task, instance: &Instance) -> Result<u64
     Ok(place as u64)
 }
 
-/// The number of a rank that chose this: of an instance its number among all of the task, and of a step or an
-/// action the rank itself.
+/// The number that corresponds to a rank: of an instance its number among all of the task, and of a step or an action
+/// the rank itself.
 fn rank_number(
     alloc: Global,
     task: &Task,

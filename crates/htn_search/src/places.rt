@@ -15,7 +15,7 @@ fn child_place(alloc: Global, place: &[usize], position: usize) -> Result<Vec<us
     Ok(child)
 }
 
-/// The places of so many children, from the last to the first. The last child has the parent's own list.
+/// The places of `count` children, from the last to the first. The parent's list is reused for the last child.
 pub(crate) fn child_places(
     alloc: Global,
     mut place: Vec<usize>,
@@ -36,7 +36,8 @@ pub(crate) fn child_places(
     Ok(places)
 }
 
-/// Puts the places of so many children in the place of an open node's. What is behind that node is not moved.
+/// Replaces the place of an open node by the places of its `count` children. The places of later open nodes are not
+/// moved.
 pub(crate) fn open_children(
     alloc: Global,
     places: &mut Vec<Vec<usize>>,
@@ -56,7 +57,7 @@ pub(crate) fn open_children(
     Ok(())
 }
 
-/// Takes the place of an open node out. What is behind that node is not moved.
+/// Removes and returns the place of an open node. The places of later open nodes are not moved.
 pub(crate) fn take_place(places: &mut Vec<Vec<usize>>, position: usize) -> Vec<usize>
     requires { position < length places.old.items }
     ensures place { result.items ≡ get_or (open_places places.old.items) position [] }

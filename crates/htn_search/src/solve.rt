@@ -26,10 +26,10 @@ use word_machine::{
     Bounds, Effort, Ending, Found, Gate, Machine, NoWatch, SearchFault, Watch, find_word_watched,
 };
 
-// How much is listed at most to find sizes and needs, and how many configurations a search by these keeps at most,
-// before more is listed. To list as much as a stage does takes no longer than to keep some times as many
-// configurations; so little is listed where little is needed, nothing where a search by the open nodes alone ends soon,
-// and no search takes much longer by what is listed for it.
+// The limits of a stage: how much of the decomposition graph is listed for sizes, needs and reachability, and how many
+// configurations a search by these stores before more is listed. To list as much as a stage does takes no longer than
+// to store several times its number of configurations. So little is listed where little is needed, nothing where a
+// search by the open nodes alone ends soon, and no search takes much longer by what is listed for it.
 #[derive(Clone, Copy)]
 struct Stage {
     listed: u64,
@@ -56,14 +56,14 @@ const LAST_STAGE: Stage = Stage {
     kept: usize::MAX,
 };
 
-/// How a search ended, and the tables that it went by.
+/// The ending of a search, and its tables.
 #[derive(Drop)]
 struct Searched<T> {
     ending: Ending,
     tables: T,
 }
 
-/// How the watched search of a machine ends, with its tables; no word finishes in fewer steps than `known`.
+/// The ending of the watched search of a machine, with its tables; no word finishes in fewer steps than `known`.
 fn search_by<M: Machine, G: Gate, W: Watch, R: Threads + Wait + Sync>(
     rt: &R,
     alloc: Global,
@@ -98,9 +98,9 @@ fn search_by<M: Machine, G: Gate, W: Watch, R: Threads + Wait + Sync>(
     Ok(Searched { ending, tables })
 }
 
-/// The limits of the searches of a stage. Where more would not be listed with a greater limit, no search is given up.
-/// Where nothing is listed, few configurations are kept, and growing bounds would spare nothing: so the first search has
-/// the whole bound.
+/// The limits of the searches of a stage. No search is given up where a greater limit would list no more. Where nothing
+/// is listed, few configurations are stored and growing bounds would save nothing, so the first search has the whole
+/// bound.
 fn effort_of(stage: Stage, is_cut: bool, bounds: Bounds) -> Effort
     ensures cut { is_cut ≡ true → result.most_kept ≡ stage.kept }
     ensures whole { is_cut ≡ false → result.most_kept ≡ 2 ^ 64 - 1 }
@@ -118,8 +118,8 @@ fn effort_of(stage: Stage, is_cut: bool, bounds: Bounds) -> Effort
     }
 }
 
-/// How a stage of the search for the least finishing word of ranks of a task ends, with its tables. It is given up where
-/// more would be known if more was listed.
+/// The ending of one stage of the search for a task's least finishing word of ranks, with its tables. The stage is
+/// given up only where a greater limit would list more.
 fn search_stage<G: Gate, W: Watch, R: Threads + Wait + Sync>(
     rt: &R,
     alloc: Global,
@@ -156,8 +156,8 @@ fn given_up(ending: &Ending) -> Option<u64>
     }
 }
 
-/// How the search for the least finishing word of ranks of a task ends, with the tables of its last stage. Each stage
-/// knows the number of steps below which the stages before it found that no word finishes.
+/// The ending of the search for a task's least finishing word of ranks, with the tables of its last stage. Each stage
+/// is given the number of steps below which the stages before it found that no word finishes.
 fn find_ranks<G: Gate, W: Watch, R: Threads + Wait + Sync>(
     rt: &R,
     alloc: Global,
@@ -182,7 +182,7 @@ fn find_ranks<G: Gate, W: Watch, R: Threads + Wait + Sync>(
             None => return Ok(searched),
         }
     }
-    // It is never given up, since no list holds more.
+    // The last stage is never given up, since no list is longer than the greatest number.
     search_stage(rt, alloc, task, LAST_STAGE, bounds, known, gate, watch)
 }
 
@@ -234,7 +234,7 @@ fn answer_from(
     }
 }
 
-/// What is known once a search has ended.
+/// The result of a search that has ended.
 fn known_from(
     alloc: Global,
     task: &Task,
@@ -261,9 +261,9 @@ fn known_from(
     }
 }
 
-/// The answer of `search`, or what is known where the watch stopped the search, and the tables of all that the search
-/// numbered. To free these takes up to a tenth of a long search: a process that ends after it may leave them to its
-/// end. The watch is given a number of nodes below which the task has no solution.
+/// The answer of `search`, or the proved bound where the watch stopped the search, and the tables of all that the
+/// search numbered. To free these takes up to a tenth of a long search: a process that ends after it may leave them to
+/// its end. The watch is given a number of nodes below which the task has no solution.
 pub fn search_watched<G: Gate, W: Watch, R: Threads + Wait + Sync>(
     rt: &R,
     alloc: Global,

@@ -1,4 +1,4 @@
-//! What the numbers of a word chose, and the trees that grow from it backwards.
+//! The moves of a word, and the trees that are built from them backwards.
 ghost use Rattle.std.specs.Prelude.{◌≡◌, ◌+◌, ◌≤◌, ◌++◌, [], IfOk, OnOk, drop, length, reverse, take};
 ghost use Rattle.htn_tree.specs.Trees.{Numbering, nodes_view};
 ghost use Rattle.htn_search.specs.Trail.{AreWithin, before_move, before_moves};
@@ -6,20 +6,20 @@ ghost use Rattle.htn_search.specs.Trail.{AreWithin, before_move, before_moves};
 use htn_tree::Node;
 use std::alloc::{AllocError, Global};
 
-/// What a number of a word chose: one of the open nodes, in whose place its children came.
+/// The choice of one number of a word: an open node, which its children replaced.
 #[derive(Drop)]
 pub(crate) struct Move {
-    /// Where the node stood among the open nodes.
+    /// The position of the node among the open nodes.
     pub(crate) position: usize,
     /// A compound task with its instance, or the action or the precondition step that was carried out;
     /// without children.
     pub(crate) node: Node,
-    /// How many children came in its place; none for an action or a step.
+    /// The number of children that replaced it; 0 for an action or a step.
     pub(crate) children: usize,
 }
 
-/// Takes the trees of a node's children out, from a position on, in their order. The trees are kept from the
-/// last to the first: none that is behind them is moved.
+/// Removes and returns the trees of a node's children, from a position on, in their order. The trees are stored from
+/// the last to the first, so those after the children are not moved.
 fn take_out(
     alloc: Global,
     trees: &mut Vec<Node>,
@@ -42,7 +42,7 @@ fn take_out(
     Ok(row)
 }
 
-/// Puts the node of a move back over the trees of its children.
+/// Replaces the trees of a move's children by one tree with the move's node over them.
 fn put_back(alloc: Global, trees: &mut Vec<Node>, last: Move) -> Result<(), AllocError>
     requires { last.position + last.children ≤ length trees.old.items }
     ensures { OnOk result ((numbers : Numbering) → nodes_view numbers (reverse trees.new.items)

@@ -27,19 +27,19 @@ use htn_tree::Node;
 use std::alloc::{AllocError, Global};
 use task_machine::Tables;
 
-/// A walk along a word: where it is, and what it saw on the way.
+/// A walk along a word: its current configuration, and the choices so far.
 #[derive(Drop)]
 pub(crate) struct Walk {
     config: Front,
     /// The places of the open nodes, from the last to the first.
     places: Vec<Vec<usize>>,
-    /// What each number chose.
+    /// The move of each number.
     pub(crate) trail: Vec<Move>,
     /// The places of the actions and steps that were carried out, in their order.
     pub(crate) visits: Vec<Vec<usize>>,
 }
 
-/// How many nodes take the place of the one that is chosen.
+/// The number of nodes that replace the chosen one.
 fn children_len(change: &Change) -> usize
     ensures { result ≡ length (network_of change.now).children }
 {
@@ -49,8 +49,8 @@ fn children_len(change: &Change) -> usize
     }
 }
 
-/// Gives the children of a compound node their places, or takes the place of an action or a step as
-/// the next that is carried out.
+/// Adds the places of a compound node's children, or appends the place of an action or a step to those that were
+/// carried out.
 fn leave(
     alloc: Global,
     places: &mut Vec<Vec<usize>>,
@@ -91,7 +91,7 @@ fn closed(alloc: Global, node: Child, change: Change) -> Node
 }
 
 impl Walk {
-    /// One choice on: what becomes of the open node at a position.
+    /// The walk after one choice: a change of the open node at a position.
     fn take(
         self,
         alloc: Global,
@@ -127,7 +127,7 @@ impl Walk {
         })
     }
 
-    /// One rank on, an instance being taken from the tables where these have it.
+    /// The walk after one rank, whose instance is taken from the tables if they have it.
     fn follow_listed(
         self,
         alloc: Global,
@@ -145,7 +145,7 @@ impl Walk {
     }
 }
 
-/// One number on, and the configuration to which it leads: what a number chooses is found there.
+/// The walk after one number, whose choice is computed at the current configuration.
 fn follow(
     alloc: Global,
     task: &Task,

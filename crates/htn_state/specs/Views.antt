@@ -45,7 +45,7 @@ literals_hash = fed.slice literal_hash
 pub literals_eq-laws : IsEquivalence literals_eq
 literals_eq-laws = lists_equiv literal_eq-laws
 
--- the same in the sense of `PartialEq`
+-- the test of lists of literals is an equivalence in the sense of `PartialEq`
 pub literals_eq-partial : IsPartialEquivalence literals_eq
 literals_eq-partial = partial_equiv_from_equiv literals_eq-laws
 

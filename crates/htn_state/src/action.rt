@@ -4,7 +4,7 @@ use crate::literal::LiteralList;
 use crate::state::State;
 use std::marker::Model;
 
-/// A ground action: what has to hold, and what it changes.
+/// A ground action: its precondition and its effects.
 #[derive(Drop)]
 pub struct Action {
     pub precondition: LiteralList,

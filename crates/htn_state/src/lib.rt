@@ -1,4 +1,4 @@
-//! Ground atoms, sets of them, and what a state says of literals and actions.
+//! Ground atoms, sets of them, and the truth of literals and the results of actions in a state.
 #![tactic(auto)]
 
 pub mod action;

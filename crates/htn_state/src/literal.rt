@@ -14,7 +14,7 @@ pub enum Literal {
     Positive(Atom),
     /// The atom is false.
     Negative(Atom),
-    /// Two objects are the same.
+    /// Two objects are equal.
     Same(u16, u16),
     /// Two objects are different.
     Different(u16, u16),

@@ -1,4 +1,4 @@
--- The numbers of names: the places at which they stand among the names of their kind.
+-- The numbers of names: their first places among the names of their kind.
 use Rattle.std.specs.Prelude.{◌≡◌, ℕ, cond, is_some, List, [], ◌∷◌, ◌++◌, map, position, Option, Vec}
 use Rattle.std.specs.Map.{lookup}
 use Rattle.std.specs.Str.{bytes_eq}
@@ -14,7 +14,7 @@ number_of names name = position (bytes_eq name) names
 abbrev pub Entries : Type 0
 Entries = List (Name × ℕ)
 
--- what vectors with numbers hold, as entries
+-- vectors with numbers as entries
 abbrev pub entries_of : {A : Type 0} → List (Vec ℕ A × ℕ) → Entries
 entries_of es = map (λ e. (e.0.items, e.1)) es
 
@@ -22,7 +22,7 @@ entries_of es = map (λ e. (e.0.items, e.1)) es
 abbrev pub entry_of : Entries → Name → Option ℕ
 entry_of es name = lookup (bytes_eq name) es
 
--- with a number for one more name, unless it has one
+-- the entries with a number for one more name, unless it has one
 abbrev pub with_number : Entries → Name → ℕ → Entries
 with_number es name number = cond (is_some (entry_of es name)) es (es ++ (name, number) ∷ [])
 

@@ -1,4 +1,4 @@
-//! Checked planning tasks: what a domain and a problem declare, by numbers.
+//! Checked planning tasks: the declarations of a domain and a problem, by numbers.
 #![tactic(auto)]
 
 mod dead;

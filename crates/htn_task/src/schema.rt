@@ -229,7 +229,7 @@ impl ActionSchema {
     }
 }
 
-/// The tasks to be done.
+/// The initial network: its parameters, constraints on them, and the tasks to be done.
 #[derive(Drop)]
 pub struct InitialSchema {
     parameters: Vec<u16>,

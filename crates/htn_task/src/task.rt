@@ -95,7 +95,7 @@ impl Declaration {
     }
 }
 
-/// What a task is made of.
+/// The parts of a task.
 #[derive(Drop)]
 pub struct TaskParts {
     /// The objects, by first declaration.
@@ -107,7 +107,7 @@ pub struct TaskParts {
     pub methods: Vec<MethodSchema>,
     pub actions: Vec<ActionSchema>,
     pub initial_network: InitialSchema,
-    /// The atoms that are true at first.
+    /// The atoms that are true initially.
     pub initial_atoms: State,
     pub goal: FormulaList,
 }
@@ -225,7 +225,7 @@ impl Task {
         &self.parts.initial_network
     }
 
-    /// The atoms that are true at first.
+    /// The atoms that are true initially.
     pub fn initial_atoms(&self) -> &State
         ensures value { result.now ≡ self.now.initial_atoms }
         ensures typed { IsWellTyped self.now }

@@ -67,7 +67,8 @@ fn declaration_numbers(
     Ok(numbers)
 }
 
-/// The sum of two counts of what stands in memory. One that doesn't fit could not stand there either.
+/// The sum of two counts of things that are in memory. It fits, since things past the greatest `usize` would not be in
+/// memory; otherwise the answer is as if memory had been refused.
 fn sum(a: usize, b: usize) -> Result<usize, AllocError>
     ensures { IfOk result (λ n. n ≡ a + b) }
 {

@@ -4,7 +4,7 @@ ghost use Rattle.htn_task.specs.Views.{term_of, terms_of};
 
 use std::marker::Model;
 
-/// What stands in the place of an argument.
+/// An argument: a parameter or a quantified variable by its number, or an object.
 #[derive(Clone, Copy, Debug)]
 pub enum Term {
     /// A parameter of the schema, by its place. The variables of a `forall` are numbered on after

@@ -54,7 +54,7 @@ over (tree.compound g number nodes) children = tree.compound g number (tree.node
 abbrev pub size_of : Node → ℕ
 size_of n = tree.size (node_of (λ g instance. 0) n)
 
--- the same of a tree, if there is one
+-- the size of a tree, 0 where there is none
 abbrev pub size_of_any : Option Node → ℕ
 size_of_any None = 0
 size_of_any (Some n) = size_of n

@@ -16,7 +16,7 @@ use Rattle.plan_room.specs.Lines.{Lines}
 use Rattle.plan_run.specs.Turns.{History, IsHistory, literals_truth}
 use Rattle.htn_verify.specs.Tasks.{task_at}
 
--- the state after so many of the action lines, where they run
+-- the state after the first `k` action lines, if they can be carried out
 abbrev pub state_after : Naming → Problem → List ActionLine → ℕ → State
 state_after naming problem lines k = unwrap_or (run_lines naming problem problem.initial_state (take k lines)) problem.initial_state
 

@@ -23,6 +23,6 @@ pub record RunsAreOfLines (naming : Naming) (problem : Problem) : Type 0 where
   -- otherwise the lines run, and the goal holds if it does in the last gap
   pub ends : (file : PlanFile) (tasks : List GroundTask) (h : History) → AreTasksOf naming file.actions tasks → IsHistoryOf problem tasks h
       → Ends naming problem file (literals_truth h problem.goal (length file.actions))
-  -- and literals hold in the states between them as they do in the gaps
+  -- literals hold in the states between the lines exactly where they hold in the gaps
   pub states : (file : PlanFile) (tasks : List GroundTask) (h : History) (states : ℕ → State) → AreTasksOf naming file.actions tasks → IsHistoryOf problem tasks h
       → LinesRun naming problem file states → (k : ℕ) → k ≤ length file.actions → (literals : List Literal) → holds (states k) literals ≡ literals_truth h literals k

@@ -55,7 +55,8 @@ fn arranged_cause(
     Ok(cause)
 }
 
-/// The same for a forest of lines that have instances, with the lines' tasks; none where they don't run to the goal.
+/// The cause of a missing arrangement for a forest of lines that have instances, with the lines' tasks; None where the
+/// lines do not run to the goal.
 fn run_cause(
     alloc: Global,
     task: &Task,

@@ -1,6 +1,6 @@
 //! The verdict on a plan file.
 
-/// What a plan file is for a task: the first of these that holds.
+/// The verdict on a plan file for a task: the first of these conditions that holds.
 #[derive(Debug, Clone, Copy, PartialEq, Eq)]
 pub enum Verdict {
     /// Its lines are no forest: an id is defined twice, listed twice, listed but not defined, or not reached from the

@@ -48,7 +48,7 @@ fn run_verdict(
     Ok(Verdict::Valid)
 }
 
-/// The verdict of a plan file for a task: the first that holds of all that a file can have.
+/// The verdict on a plan file for a task: the first of all conditions that holds.
 pub fn verify(alloc: Global, task: &Task, file: &PlanFile) -> Result<Verdict, AllocError>
     ensures { IfOk result (λ verdict. IsVerdict (naming_of task.now) (problem_of task.now) file.now (verdict_of verdict)) }
 {

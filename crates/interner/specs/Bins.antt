@@ -23,7 +23,7 @@ module _ {T : Type 0} where
     pub taken : new.taken.items ≡ old.taken.items
     pub numbers : HasGrown old.numbers.items new.numbers.items
 
-  -- values were added, and may have numbers; what there was is known, and stands at the front
+  -- values were appended, and some values may have got numbers; the count of earlier values is stored
   pub record HasAdded (old new : Bin T) : Type 0 where
     pub known : new.known ≡ length old.values.keys
     pub keys : HasGrown old.values.keys new.values.keys
@@ -35,7 +35,7 @@ module _ {T : Type 0} where
       pub grown : (more : List T) × (new ≡ old ++ more) × All (Contains batch) more
       pub numbers : AreNumbersOf eq new batch taken
 
-    -- a bin took a batch, or was refused memory; what it has taken goes last
+    -- a bin appended the new values of a batch, unless memory was refused
     pub record TakesPending (batch : List T) (old new : Bin T) : Type 0 where
       pub known : new.known ≡ length old.values.keys
       pub numbers : new.numbers.items ≡ old.numbers.items

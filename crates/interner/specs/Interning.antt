@@ -32,7 +32,7 @@ values_at lists spots = flat_map (λ (s : Spot). take 1 (drop s.index (get_or li
 abbrev pub AreWithin : {T : Type 0} → List (List T) → List Spot → Type 0
 AreWithin lists spots = (n : ℕ) (s : Spot) → n < length spots → (get_or spots n s).index < length (get_or lists (get_or spots n s).shard [])
 
--- each value stands in the list that is its home
+-- each value is in the list that is its home
 abbrev pub AreHome : {T : Type 0} → (T → HashWrites) → List (List T) → Type 0
 AreHome feed lists = (k i : ℕ) (d : _) → i < length (get_or lists k []) → home (feed (get_or (get_or lists k []) i d)) SHARDS ≡ k
 

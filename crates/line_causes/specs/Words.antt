@@ -40,7 +40,7 @@ pub record HasCount (t : Task) (compound : Bool) (name : Word) (arguments : List
   pub kind : IsOfKind t compound name number
   pub count : length arguments ≡ length (task_types t number)
 
--- and each of these words names an object
+-- the words have such a form, and each argument names an object
 abbrev pub HasForm : Task → (compound : Bool) → Word → List Word → Type 0
 HasForm t compound name arguments = HasCount t compound name arguments × HasNone (NamesNoObject t) arguments
 
@@ -50,7 +50,7 @@ pub record IsCounted (t : Task) (compound : Bool) (name : Word) (arguments : Lis
   pub kind : is_compound t g.name ≡ compound
   pub count : length g.arguments ≡ length (task_types t g.name)
 
--- and each object has the type of its place
+-- the words name this task, and each object has the type of its place
 abbrev pub IsTyped : Task → (compound : Bool) → Word → List Word → GroundTask → Type 0
 IsTyped t compound name arguments g = IsCounted t compound name arguments g × HasNone (IsOtherType t) (zip (task_types t g.name) g.arguments)
 

@@ -14,8 +14,8 @@ use plan_text::Word;
 use std::alloc::{AllocError, Global};
 
 /// The number of the compound task or the action with a name. A task that is checked from texts has at most 65,535 of
-/// each. Where a number is past 32 bits, in a `Task` that is made otherwise, the answer is want of memory although none
-/// was refused.
+/// each. Where a number is past 32 bits, in a `Task` that is made otherwise, the answer is as if memory had been
+/// refused.
 fn number_of(task: &Task, name: &Word) -> Result<Option<u32>, AllocError>
     ensures { IfOk result (λ r. r ≡ numbers.number_of (task_names task.now) name.now) }
 {

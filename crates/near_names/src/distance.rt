@@ -49,8 +49,8 @@ fn score_at(distance: usize, limit: usize) -> Option<usize>
     }
 }
 
-/// The distance from a name to a candidate, if the candidate may be meant. Lengths that differ by more than the limit
-/// tell that it may not.
+/// The distance from a name to a candidate; None where it is 0 or past the limit. Lengths that differ by more than the
+/// limit show the latter at once.
 pub(crate) fn score(
     alloc: Global,
     name: &[u8],

@@ -1,4 +1,4 @@
--- What totally ordered networks need, by the ids of wants.
+-- The needs of totally ordered networks, by the ids of wants.
 use Rattle.std.specs.Prelude.{◌≡◌, ◌≤◌, ◌<◌, ◌&&◌, ◌||◌, ℕ, Bool, true, false, not, List, [], map, filter, get_or, length, eqb, ltb, Option, None, Some}
 use Rattle.std.specs.List.{list_all, list_any}
 use Rattle.htn_model.specs.Literal.{Literal, literal_holds}
@@ -24,81 +24,81 @@ use Rattle.needs_table.specs.declared.wants.Want.{Want}
 
 -- ## Ids
 
--- the want of an id; past the last one that of a literal without a number, which never holds
+-- the want of an id; past the last one a literal without a number that never holds
 abbrev pub want_at : List Want → ℕ → Want
 want_at wants id = get_or wants id (record { number = None; literal = Decided false })
 
--- more wants have ids, and what had one keeps it
+-- wants were added, and the earlier ones have the same ids as before
 pub record AreMoreWants (old new : List Want) : Type 0 where
   pub longer : length old ≤ length new
   pub same : (id : ℕ) → id < length old → want_at new id ≡ want_at old id
 
--- they are ids of wants
+-- all of these ids are ids of wants
 abbrev pub AreIds : List Want → List ℕ → Type 0
 AreIds wants ids = list_all (λ id. ltb id (length wants)) ids ≡ true
 
--- whether the wants of all these ids pass
+-- whether the wants of all these ids pass a test
 abbrev pub all_pass : (Want → Bool) → List Want → List ℕ → Bool
 all_pass test wants ids = list_all (λ id. test (want_at wants id)) ids
 
--- whether an id is one of some
+-- whether an id is among others
 abbrev pub is_in : List ℕ → ℕ → Bool
 is_in ids id = list_any (λ other. eqb other id) ids
 
--- those that a node doesn't give by its row, and that are not among its own
+-- the ids of the wants that a node doesn't give by its row and that are not among its own
 abbrev pub left_of : Needs → Spot → List Want → List ℕ → List ℕ → List ℕ
 left_of n spot wants own = filter (λ id. not (gives_by (row_at n spot) (want_at wants id).number) && not (is_in own id))
 
--- ## What they stand for
+-- ## What ids stand for
 
--- whether a want holds in a set, or its number is one of those that are passed over
+-- whether a want holds in a set of atoms, or its number passes a test of numbers to skip
 abbrev pub is_met_or : (Option ℕ → Bool) → List ℕ → Want → Bool
 is_met_or skips words w = skips w.number || is_met words w.literal
 
--- whether a literal holds in a state, or its number is one of those that are passed over
+-- whether a literal holds in a state, or its number passes a test of numbers to skip
 abbrev pub holds_or : Needs → (Option ℕ → Bool) → State → Literal → Bool
 holds_or n skips s l = skips (literal_number n l) || literal_holds s l
 
--- whichever numbers are passed over, the wants hold where these literals do, by this table of atoms and later ones
+-- whichever numbers are skipped, the wants hold exactly where these literals do, by this table of atoms and later ones
 pub record AreListed (n : Needs) (atoms : Table) (wants : List Want) (ids : List ℕ) (literals : List Literal) : Type 0 where
   pub have : AreIds wants ids
   pub met : (later : Table) → IsLater atoms later → (words : List ℕ) (skips : Option ℕ → Bool)
       → all_pass (is_met_or skips words) wants ids ≡ list_all (holds_or n skips (state_of later words)) literals
 
--- what a network needs, and the ids of what it needs, if it may end
+-- the needs of a network are right, and so are their ids unless one of its nodes never ends
 abbrev pub IsListed : Prospects → List Literal → Table → List Want → Network → Option CompiledLiterals → List ℕ → Type 0
 IsListed p goal atoms wants n None ids = IsKept (outlook_by p) goal atoms n None
 IsListed p goal atoms wants n (Some needed) ids =
     IsKept (outlook_by p) goal atoms n (Some needed) × AreListed p.needs atoms wants ids (all_needed (outlook_by p) goal n)
 
--- the ids at a number; none past the last one
+-- the ids that are stored for the network of a number; none past the last one
 abbrev pub list_at : NeedsTable → ℕ → List ℕ
 list_at t number = get_or (map (λ ids. ids.items) t.lists.items) number []
 
--- what is kept at a number is that of a network
+-- the needs and the ids that are stored at a number are right for this network
 abbrev pub IsListedAt : Prospects → Table → NeedsTable → ℕ → Network → Type 0
 IsListedAt p atoms t number n = IsListed p t.goal atoms t.wanted.wants.items n (get_or t.needs.items number None) (list_at t number)
 
--- so it is with those of the first networks that a test tells
+-- the stored needs and ids of the first networks are right for each network that passes a test
 pub record AreChainsListed (p : Prospects) (atoms : Table) (is_chain : ℕ → Bool) (network : ℕ → Network) (t : NeedsTable) : Type 0 where
   pub as_many : length t.lists.items ≡ length t.needs.items
   pub each : (number : ℕ) → number < length t.needs.items → is_chain number ≡ true → IsListedAt p atoms t number (network number)
 
--- whether the nodes of a network stand one after another
+-- whether a network is totally ordered in the order of its list
 abbrev pub chain_at : NetworkTable → ℕ → Bool
 chain_at networks n = order_eq (numbered_at networks n).order (chain (length (numbered_at networks n).nodes))
 
--- so it is with the chains among the networks
+-- the stored needs and ids are right for each chain among the first networks
 abbrev pub AreChainsOf : Prospects → Table → NetworkTable → NeedsTable → Type 0
 AreChainsOf p atoms networks t = AreChainsListed p atoms (chain_at networks) (network_at networks) t
 
--- what is found once for all networks: of the first nodes, and of the goal; and what the first chains need by ids
+-- all that later updates of the table rest on is right: the compiled nodes and goal, and the needs of chains by ids
 pub record AreNoted (p : Prospects) (atoms : Table) (networks : NetworkTable) (t : NeedsTable) : Type 0 where
   pub nodes : AreNodes p atoms networks t.nodes.items
   pub goals : AreFirstWants p.needs atoms t.goals.items t.goal
   pub chains : AreChainsOf p atoms networks t
 
--- more is kept, and all that is is right, if it was and all is known of nodes and the goal
+-- needs may have been added, and all stored needs are right if they were before and the nodes and the goal are compiled
 pub record AreFollowed (p : Prospects) (networks : NetworkTable) (old new : NeedsTable) : Type 0 where
   pub goal : new.goal ≡ old.goal
   pub goals : new.goals ≡ old.goals

@@ -1,4 +1,4 @@
--- What is known before a search of how nodes and configurations end.
+-- Prospects: facts about nodes, found before a search, that show which configurations may end.
 use Rattle.std.specs.Prelude.{◌≡◌, ℕ, List, Bool, true, false, not, ◌&&◌, ◌||◌, cond, max, Option, None, Some, IfSome}
 use Rattle.std.specs.List.{All}
 use Rattle.htn_model.specs.Exhaustion.{live_step}
@@ -17,43 +17,43 @@ use Rattle.needs_table.specs.declared.prospects.Prospects.{Prospects}
 
 -- ## Nodes
 
--- whether nothing ends a node by what is reached, where that is known
+-- whether a node is known never to end by relaxed reachability, where that was computed
 abbrev pub is_unreached : Option RelaxedReach → Child → Bool
 is_unreached None x = false
 is_unreached (Some r) x = is_lost_node (reach_of r) x
 
--- whether nothing ever ends a node
+-- whether a node never ends
 abbrev pub is_lost : Prospects → Child → Bool
 is_lost p x = blocks p.needs x || is_unreached p.reach x
 
--- what nodes want and give, and which never end
+-- the outlook by prospects: what nodes want and give, and which of them never end
 abbrev pub outlook_by : Prospects → Outlook
 outlook_by p = record { wants = (outlook_of p.needs).wants; gives = (outlook_of p.needs).gives; is_blocked = is_lost p }
 
 -- ## Configurations
 
--- whether a configuration may be one that is reached
+-- whether a configuration may be reached in the delete relaxation
 abbrev pub may_be_reached : Option RelaxedReach → Config → Bool
 may_be_reached None c = true
 may_be_reached (Some r) c = is_reached (reach_of r) c
 
--- whether a configuration may end by what is reached
+-- whether a configuration may end by relaxed reachability
 abbrev pub may_end_reached : Option RelaxedReach → Config → Bool
 may_end_reached None c = true
 may_end_reached (Some r) c = may_end_by (reach_of r) c
 
--- whether it never does: what no effect names is as at first, and it may not end by what is reached
+-- whether a configuration never ends: its static atoms are the initial ones, and it may not end by relaxed reachability
 abbrev pub is_out : Problem → Option RelaxedReach → Config → Bool
 is_out problem reach c = is_as_at_first problem c.state && not (may_end_reached reach c)
 
--- the bound by a measure and by needs, but past the greatest bound where a configuration never ends by what is reached
+-- the bound by a measure and by needs, but past the greatest bound where a configuration never ends by relaxed
+-- reachability
 abbrev pub prospects_bound : Problem → (Child → ℕ) → ℕ → Prospects → Config → ℕ
 prospects_bound problem size cap p c = max (needs_bound problem size cap (outlook_of p.needs) c) (cond (is_out problem p.reach c) out_of_reach 0)
 
--- ## What is known is right
+-- ## Soundness
 
--- what nodes want and give is so of a problem, and what is reached, where that is known; by which its configurations at
--- the start may be reached
+-- the prospects are right for a problem, and its initial configurations are reached, where reachability was computed
 pub record AreProspects (problem : Problem) (starts : List Config) (p : Prospects) : Type 0 where
   pub outlook : IsOutlook problem (outlook_of p.needs)
   pub reach : IfSome p.reach (λ r. IsRelaxedReach problem (reach_of r))
@@ -61,9 +61,9 @@ pub record AreProspects (problem : Problem) (starts : List Config) (p : Prospect
 
 -- ## Laws
 
--- the bound is one from below on the steps that are left; the configurations at the start may be reached, and where what
--- no effect names is as at first, a live step leads from what may be reached to what may be; and such a configuration may
--- end just where its nodes and its state tell so
+-- the bound is a lower bound on the steps that are left; the initial configurations may be reached, and where the
+-- static atoms are the initial ones, a live step leads from what may be reached to what may be reached; and whether a
+-- configuration that may be reached may end is determined by its nodes and its state
 pub record ProspectsHold (problem : Problem) (starts : List Config) (size : Child → ℕ) (cap : ℕ) (p : Prospects) : Type 0 where
   pub first : All (λ c. may_be_reached p.reach c ≡ true) starts
   pub bound : IsEstimate problem (prospects_bound problem size cap p)
@@ -72,7 +72,7 @@ pub record ProspectsHold (problem : Problem) (starts : List Config) (size : Chil
   pub told : (c : Config) → may_be_reached p.reach c ≡ true
       → (may_end problem (outlook_of p.needs) c && may_end_reached p.reach c) ≡ may_end problem (outlook_by p) c
 
--- so it is with all that are right
+-- right prospects of any grounded problem have these laws
 abbrev pub AllProspectsHold : Type 0
 AllProspectsHold =
     (problem : Problem) (starts : List Config) (size : Child → ℕ) (cap : ℕ) (p : Prospects) → IsGrounded problem → IsLowerMeasure problem size

@@ -1,4 +1,4 @@
-//! What chains need, put together from what their later nodes need.
+//! The needs of chains, derived from those of their later nodes.
 ghost use Rattle.std.specs.Prelude.{◌≡◌, ◌<◌, ◌&&◌, not, [], ◌∷◌, ◌++◌, ℕ, Bool, true, List, cond, get_or};
 ghost use Rattle.std.specs.Prelude.{is_some, length, map, IfOk, OnOk};
 ghost use Rattle.htn_model.specs.Choice.{child_of};
@@ -25,14 +25,14 @@ use network_needs::{Needs, Place};
 use state_table::CompiledLiterals;
 use std::alloc::{AllocError, Global};
 
-/// Whether an id is one of some.
+/// Whether an id is among others.
 fn is_among(ids: &[u32], id: u32) -> bool
     ensures { result ≡ is_in ids.now id }
 {
     ids.iter().any(|other| *other == id)
 }
 
-/// Adds an id to others, if it is to be kept.
+/// Adds an id to others, if the flag says so.
 fn push_if(ids: &mut Vec<u32>, id: u32, is_kept: bool) -> Result<(), AllocError>
     ensures { OnOk result (ids.new.items ≡ ids.old.items ++ cond is_kept (id ∷ []) []) }
 {
@@ -43,14 +43,14 @@ fn push_if(ids: &mut Vec<u32>, id: u32, is_kept: bool) -> Result<(), AllocError>
     Ok(())
 }
 
-/// Whether the id of a want is to be kept: the node of a place does not give it, and it is not among its own.
+/// Whether a chain needs a want of its later nodes: its first node does not give the want, and does not want it itself.
 fn is_left(needs: &Needs, place: Place, want: Want, own: &[u32], id: u32) -> bool
     ensures { result ≡ (not (gives_by (row_at needs.now place.spot) want.number) && not (is_in own.now id)) }
 {
     !needs.gives_at(place, want.number) && !is_among(own, id)
 }
 
-/// The ids of wants that the node of a place does not give, but for those that stand among its own.
+/// The ids of the wants that the node of a place does not give and that are not among its own wants.
 fn ungiven(
     alloc: Global,
     needs: &Needs,
@@ -69,7 +69,7 @@ fn ungiven(
     Ok(left)
 }
 
-/// What a chain needs with a node before it, by the ids of wants, from what it needs without that node.
+/// The needs of a chain with a node before it, by the ids of wants, from the needs of the chain without that node.
 pub(crate) fn needed_before(
     alloc: Global,
     prospects: &Prospects,
@@ -99,7 +99,7 @@ pub(crate) fn needed_before(
     Ok(ids)
 }
 
-/// The ids at a number, none past the last one.
+/// The ids of a network's needs, by the number of the network; none past the last network.
 fn ids_at(lists: &[Vec<u32>], number: usize) -> &[u32]
     ensures { result.now ≡ get_or (map (λ ids. ids.items) lists.now) number [] }
 {
@@ -109,7 +109,7 @@ fn ids_at(lists: &[Vec<u32>], number: usize) -> &[u32]
     }
 }
 
-/// Whether something stands at a number.
+/// Whether needs are stored for the network of a number: no node of it is known never to end.
 fn has_needs(needs: &[Option<CompiledLiterals>], number: usize) -> bool
     ensures { result ≡ is_some (get_or needs.now number None) }
 {
@@ -119,7 +119,7 @@ fn has_needs(needs: &[Option<CompiledLiterals>], number: usize) -> bool
     }
 }
 
-/// What a chain needs, also by the ids of wants; nothing where one of its nodes never ends.
+/// The needs of a chain as compiled literals and by the ids of wants; None where one of its nodes never ends.
 #[derive(Drop)]
 pub(crate) struct Chained {
     pub(crate) needed: Option<CompiledLiterals>,
@@ -127,7 +127,7 @@ pub(crate) struct Chained {
 }
 
 impl Chained {
-    /// One of the nodes never ends.
+    /// The needs of a chain with a node that never ends.
     fn never(alloc: Global) -> Chained
         ensures { result.needed ≡ None }
     {
@@ -139,7 +139,7 @@ impl Chained {
 }
 
 impl NeedsTable {
-    /// What the network without nodes needs: all of the goal.
+    /// The needs of the network without nodes: all literals of the goal.
     pub(crate) fn needed_at_end(&mut self, alloc: Global) -> Result<Chained, AllocError>
         ensures listed { IfOk result (λ c. (known : Known) (atoms : Table) (n : Network) → n.children ≡ []
             → AreWants known.needs atoms self.old.goals.items self.old.goal
@@ -155,7 +155,8 @@ impl NeedsTable {
         })
     }
 
-    /// What a chain needs with a node before it, from what is kept of it without that node.
+    /// The needs of a chain that consists of a first node and a chain in the table, from the stored needs of the
+    /// latter.
     pub(crate) fn needed_before(
         &mut self,
         alloc: Global,
@@ -188,7 +189,7 @@ impl NeedsTable {
         })
     }
 
-    /// Keeps what the next network needs, and the ids of it if that is a chain.
+    /// Stores the needs of the network of the next number, with the ids of its needs if it is a chain.
     pub(crate) fn keep_next(&mut self, found: Chained) -> Result<(), AllocError>
         ensures needs { OnOk result (self.new.needs.items ≡ self.old.needs.items ++ found.needed ∷ []) }
         ensures lists { OnOk result (self.new.lists.items ≡ self.old.lists.items ++ found.ids ∷ []) }

@@ -24,7 +24,8 @@ pub(crate) struct Found {
 }
 
 impl NeedsTable {
-    /// Adds what the network of a number needs, but of a chain, whose needs come from those of its rest.
+    /// Adds the needs of the network of a number, unless it is a chain, whose needs are derived from those of a shorter
+    /// one.
     fn find_one(
         &self,
         alloc: Global,
@@ -39,7 +40,7 @@ impl NeedsTable {
         requires found { All (IsFound prospects.now self.now networks.now) found.old.items }
         ensures { OnOk result (All (IsFound prospects.now self.now networks.now) found.new.items) }
     {
-        // A network past 32 bits has no number, and nothing is found of it.
+        // A number past 32 bits belongs to no network, so nothing is added for it.
         let Ok(number) = u32::try_from(number) else {
             return Ok(());
         };
@@ -54,7 +55,7 @@ impl NeedsTable {
         Ok(())
     }
 
-    /// What so many networks need from a number on, but of chains.
+    /// The needs of at most `size` networks from a number on, without those of chains.
     fn find(
         &self,
         alloc: Global,
@@ -75,7 +76,7 @@ impl NeedsTable {
         Ok(found)
     }
 
-    /// What networks need that is not known, but of chains, by so many workers.
+    /// The needs of all networks that have none stored yet, without those of chains, by `workers` workers.
     fn find_all<R: Threads + Sync>(
         &self,
         rt: &R,
@@ -101,7 +102,8 @@ impl NeedsTable {
         map_indices(rt, alloc, workers, &find)
     }
 
-    /// Puts down what was found of a network, after what those before it need.
+    /// Stores the needs that were found of a network, after those of all networks before it. They are dropped if the
+    /// network's needs are stored already.
     fn put_down(
         &mut self,
         alloc: Global,
@@ -124,7 +126,7 @@ impl NeedsTable {
         Ok(())
     }
 
-    /// Puts down what a worker found.
+    /// Stores the needs that a worker found.
     #[tactic(auto, using(crate::proofs::Found::followed_itself))]
     fn put_part(
         &mut self,
@@ -144,8 +146,8 @@ impl NeedsTable {
         Ok(())
     }
 
-    /// Sees that each network that has a number has what it needs, by so many workers, where all is
-    /// known of nodes and the goal.
+    /// Stores the needs of each network of the table that has none yet, by `workers` workers, once all nodes and the
+    /// goal are compiled.
     #[tactic(auto, using(crate::proofs::Found::followed_itself))]
     fn keep_networks_all<R: Threads + Sync>(
         &mut self,
@@ -169,7 +171,7 @@ impl NeedsTable {
         Ok(())
     }
 
-    /// Sees that each network that has a number has what it needs, by so many workers.
+    /// Stores the needs of each network of the table that has none yet, by `workers` workers.
     pub fn keep_up_all<R: Threads + Sync>(
         &mut self,
         rt: &R,

@@ -1,10 +1,10 @@
-//! What task networks need from the start, by their numbers.
+//! What task networks need initially, by their numbers.
 //!
-//! A [`NeedsTable`] keeps beside a table of networks what each of them needs ([`network_needs`]), by the numbers of
-//! atoms: so a look at a state tells whether a configuration may end. What a node wants, where its row stands and
-//! whether it never ends, also by what is reached ([`relaxed_reach`]), is found once for each numbered node, and a
-//! network's needs are put together from that. What a totally ordered network needs is put together from its first node
-//! and what is known of the network of the others.
+//! A [`NeedsTable`] stores the needs ([`network_needs`]) of each network of a table as compiled literals, so a test of
+//! a state decides whether a configuration may end. The row of a node, its wants and whether it never ends, also by
+//! relaxed reachability ([`relaxed_reach`]), are found once for each numbered node, and a network's needs are derived
+//! from those of its nodes. The needs of a totally ordered network are derived from its first node and the needs of the
+//! network of the others.
 #![tactic(auto)]
 
 mod chained;

@@ -1,4 +1,4 @@
-//! The needs of a network, put together from what its nodes want.
+//! The needs of a network, derived from the wants of its nodes.
 ghost use Rattle.std.specs.Prelude.{◌≡◌, ◌<◌, ◌&&◌, All, cond, ℕ, List, true, OnOk, length};
 ghost use Rattle.htn_model.specs.Choice.{child_of};
 ghost use Rattle.htn_model.specs.Literal as model;
@@ -24,7 +24,7 @@ use network_table::Network;
 use state_table::{CompiledLiteral, CompiledLiterals};
 use std::alloc::AllocError;
 
-/// Adds a literal to others, if it is to be kept.
+/// Adds a literal to others, if the flag says so.
 fn push_if(
     found: &mut CompiledLiterals,
     literal: CompiledLiteral,
@@ -40,7 +40,8 @@ fn push_if(
     Ok(())
 }
 
-/// Adds what a network needs for the node at a position: what it wants and no other node gives that isn't after it.
+/// Adds the needs of a network for the node at a position: the literals that this node wants and that no other node,
+/// unless it comes after this one, gives.
 pub(crate) fn push_needed_at(
     found: &mut CompiledLiterals,
     needs: &Needs,
@@ -65,7 +66,7 @@ pub(crate) fn push_needed_at(
     Ok(())
 }
 
-/// Adds what a network needs for its nodes.
+/// Adds the needs of a network for its nodes.
 pub(crate) fn push_needed(
     found: &mut CompiledLiterals,
     prospects: &Prospects,
@@ -102,7 +103,7 @@ pub(crate) fn push_needed(
     Ok(())
 }
 
-/// Adds what a network needs for a goal: those of its literals that no node gives.
+/// Adds the needs of a network for a goal: the literals of the goal that no node gives.
 pub(crate) fn push_needed_goal(
     found: &mut CompiledLiterals,
     given: &Given,

@@ -1,4 +1,4 @@
-//! What is known of numbered nodes.
+//! Nodes by number, with their wants and the places of their rows.
 ghost use Rattle.std.specs.Prelude.{◌≡◌, ◌<◌, All, IfOk, OnOk, length};
 ghost use Rattle.htn_ground.specs.Views.{child_view};
 ghost use Rattle.network_needs.specs.Needs.{has_blocked};
@@ -19,7 +19,7 @@ use network_table::Network;
 use state_table::AtomTable;
 use std::alloc::{AllocError, Global};
 
-/// What is known of a node, found once for all networks that have it.
+/// The place of a node's row and its wants, found once for all networks that have the node.
 #[derive(Drop)]
 pub(crate) struct Node {
     pub(crate) place: Place,
@@ -29,7 +29,7 @@ pub(crate) struct Node {
 }
 
 impl Node {
-    /// What is known of a node, where atoms may get their numbers only now.
+    /// The place of a node's row and its wants. Atoms without numbers get them.
     pub(crate) fn of(
         alloc: Global,
         prospects: &Prospects,
@@ -52,7 +52,7 @@ impl Node {
     }
 }
 
-/// What is known of the nodes of a network, whose numbers are those of places in a list.
+/// The places of a network's nodes, in their order, from a list of nodes by number.
 pub(crate) fn places_of(
     alloc: Global,
     nodes: &[Node],

@@ -1,4 +1,4 @@
-//! What is known before a search of how nodes end.
+//! Prospects: facts about nodes, found before a search, that show which configurations may end.
 ghost use Rattle.std.specs.Prelude.{◌≡◌, IfOk, map};
 ghost use Rattle.htn_ground.specs.Distinct.{distinct};
 ghost use Rattle.htn_ground.specs.Views.{child_view};
@@ -15,15 +15,15 @@ use relaxed_reach::RelaxedReach;
 use std::alloc::{AllocError, Global};
 use task_graph::TaskGraph;
 
-/// What is known before a search of how nodes end: what they want and give, and what is reached at all, if that is
-/// known.
+/// Facts about nodes that are found before a search: the literals that they want and give, and what is reached in the
+/// delete relaxation, if that was computed.
 #[derive(Drop)]
 pub struct Prospects {
     pub needs: Needs,
     pub reach: Option<RelaxedReach>,
 }
 
-/// Whether nothing ends a node by what is reached.
+/// Whether a node never ends by relaxed reachability; false where that was not computed.
 fn is_unreached(reach: &Option<RelaxedReach>, child: &Child) -> bool
     ensures { result ≡ is_unreached reach.now (child_view child.now) }
 {
@@ -34,7 +34,7 @@ fn is_unreached(reach: &Option<RelaxedReach>, child: &Child) -> bool
 }
 
 impl Prospects {
-    /// By what was enumerated of a task.
+    /// The prospects by a part of a task's decomposition graph.
     pub fn of(alloc: Global, task: &Task, graph: &TaskGraph) -> Result<Prospects, AllocError>
         ensures { IfOk result (λ p. IsGraph task.now graph.now → AreProspects (problem_of task.now)
             (map (λ i. start (problem_of task.now) i.network) (distinct (initials task.now))) p) }

@@ -1,4 +1,4 @@
-//! What networks need, by number.
+//! The needs of networks, by number.
 ghost use Rattle.std.specs.Prelude.{◌≡◌, ◌<◌, ◌≤◌, ◌+◌, [], true, All, length, IfOk, OnOk};
 ghost use Rattle.htn_model.specs.Problem as model;
 ghost use Rattle.network_needs.specs.Needs.{may_end, Outlook};
@@ -22,24 +22,24 @@ use network_table::{Entry, Network, NetworkTable};
 use state_table::{AtomTable, BitState, CompiledLiterals};
 use std::alloc::{AllocError, Global};
 
-/// What each network of a table needs from the start, for its nodes and for a goal.
+/// The needs of each network of a table: the literals that have to hold initially, for its nodes and for a goal.
 #[derive(Drop)]
 pub struct NeedsTable {
     pub(crate) goal: LiteralList,
-    /// The goal's literals by numbers; none before the first network.
+    /// The goal's literals, compiled; empty until the table is first updated.
     pub(crate) goals: Vec<Want>,
-    /// By the number of a node, what is known of it.
+    /// By the number of a node, the place of its row and its wants.
     pub(crate) nodes: Vec<Node>,
-    /// By the number of a network; nothing where one of its nodes never ends.
+    /// By the number of a network, its needs; None where one of its nodes never ends.
     pub(crate) needs: Vec<Option<CompiledLiterals>>,
-    /// What nodes and the goal want, by ids.
+    /// The wants of nodes and of the goal, by ids.
     pub(crate) wanted: WantTable,
-    /// By the number of a network, the ids of what it needs, where it is a chain.
+    /// By the number of a network, the ids of its needs if it is a chain.
     pub(crate) lists: Vec<Vec<u32>>,
 }
 
 impl NeedsTable {
-    /// Of no network.
+    /// The table of no network, for a goal.
     pub fn new(alloc: Global, goal: LiteralList) -> NeedsTable
         ensures goal { result.goal ≡ goal }
         ensures none { result.needs.items ≡ [] }
@@ -57,14 +57,14 @@ impl NeedsTable {
         }
     }
 
-    /// Of how many networks it is known what they need.
+    /// The number of networks whose needs are stored.
     pub fn len(&self) -> usize
         ensures { result ≡ length self.now.needs.items }
     {
         self.needs.len()
     }
 
-    /// Sees that the goal's literals stand there by numbers.
+    /// Compiles the goal's literals, unless they are compiled already.
     pub(crate) fn keep_goal(
         &mut self,
         alloc: Global,
@@ -88,7 +88,7 @@ impl NeedsTable {
         Ok(())
     }
 
-    /// Sees that it is known of each node that has a number where its row stands and what it wants.
+    /// Adds the row's place and the wants of each numbered node that the table does not have yet.
     pub(crate) fn keep_nodes(
         &mut self,
         alloc: Global,
@@ -112,7 +112,7 @@ impl NeedsTable {
         Ok(())
     }
 
-    /// What a network needs, from what is known of its nodes.
+    /// The needs of a network, derived from its nodes; None where one of them never ends.
     pub(crate) fn needed_by(
         &self,
         alloc: Global,
@@ -140,8 +140,8 @@ impl NeedsTable {
         Ok(Some(found))
     }
 
-    /// What the network of the next number needs, where all is known of nodes and the goal: of a chain from what its
-    /// rest needs.
+    /// The needs of the network of the next number, once all nodes and the goal are compiled. Those of a chain are
+    /// derived from the needs of its rest.
     fn needed_of(
         &mut self,
         alloc: Global,
@@ -182,7 +182,7 @@ impl NeedsTable {
         }
     }
 
-    /// Keeps what the network of the next number needs, where all is known of nodes and the goal.
+    /// Stores the needs of the network of the next number, once all nodes and the goal are compiled.
     fn keep_number(
         &mut self,
         alloc: Global,
@@ -206,7 +206,8 @@ impl NeedsTable {
         Ok(())
     }
 
-    /// Sees that each network whose number is below an end has what it needs, where all is known of nodes and the goal.
+    /// Stores the needs of each network whose number is below an end and that has none yet, once all nodes and the goal
+    /// are compiled.
     pub(crate) fn keep_until(
         &mut self,
         alloc: Global,
@@ -226,7 +227,7 @@ impl NeedsTable {
         Ok(())
     }
 
-    /// Sees that each network that has a number has what it needs.
+    /// Stores the needs of each network of the table that has none yet.
     pub fn keep_up(
         &mut self,
         alloc: Global,
@@ -249,8 +250,8 @@ impl NeedsTable {
         Ok(())
     }
 
-    /// Whether a configuration may end: the network of a number has no node that never does, and the state lacks
-    /// nothing that it needs. It takes no memory.
+    /// Whether a configuration may end: its network, given by number, has no node that never ends, and each literal
+    /// that the network needs holds in the state. It takes no memory.
     pub fn may_end(&self, number: u32, state: &BitState) -> bool
         requires { number < length self.now.needs.items }
         ensures { (problem : model.Problem) (o : Outlook) (atoms : Table) (networks : Networks) → IsTable atoms

@@ -10,15 +10,15 @@ use state_table::{CompiledLiteral, CompiledLiterals};
 use std::alloc::{AllocError, Global};
 use std::collections::HashMap;
 
-/// Wants by ids: a want that comes again mostly gets the id that it has. Nothing rests on that.
+/// Wants by ids. A want that is added again mostly gets the id that it has, and no proof rests on that.
 #[derive(Drop)]
 pub(crate) struct WantTable {
     pub(crate) wants: Vec<Want>,
-    /// By the codes of literals. Nothing rests on it: what stands at an id is compared.
+    /// An id by the code of a literal, as a hint: the want of the id is compared.
     ids: HashMap<u64, u32>,
 }
 
-/// A number for a literal, which no other has.
+/// The code of a literal, which no other literal has.
 fn code_of(literal: CompiledLiteral) -> u64 {
     match literal {
         CompiledLiteral::Decided(holds) => u64::from(holds),
@@ -27,7 +27,7 @@ fn code_of(literal: CompiledLiteral) -> u64 {
     }
 }
 
-/// Whether two literals are the same.
+/// Whether two literals are equal.
 fn is_same_literal(literal: CompiledLiteral, other: CompiledLiteral) -> bool
     ensures { IsTrue result → literal ≡ other }
 {
@@ -39,7 +39,7 @@ fn is_same_literal(literal: CompiledLiteral, other: CompiledLiteral) -> bool
     }
 }
 
-/// Whether two numbers of literals are the same.
+/// Whether two optional numbers of literals are equal.
 fn is_same_number(number: Option<usize>, other: Option<usize>) -> bool
     ensures { IsTrue result → number ≡ other }
 {
@@ -76,7 +76,7 @@ fn has_at(wants: &[Want], id: u32, want: Want) -> bool
 }
 
 impl WantTable {
-    /// No want has an id.
+    /// The table without wants.
     pub(crate) fn new(alloc: Global) -> WantTable
         ensures { result.wants.items ≡ [] }
     {
@@ -99,14 +99,14 @@ impl WantTable {
         }
     }
 
-    /// A want gets the next id.
+    /// Adds a want, by the next id.
     fn add(&mut self, want: Want) -> Result<u32, AllocError>
         ensures more { OnOk result (AreMoreWants self.old.wants.items self.new.wants.items) }
         ensures within { IfOk result (λ id. id < length self.new.wants.items) }
         ensures same { IfOk result (λ id. want_at self.new.wants.items id ≡ want) }
     {
-        // At most 2^32 literals have ids. Past them a search answers `OutOfMemory` although no memory was refused.
-        // An entry of the map alone takes 12 bytes or more: so many literals take more than 50 GB.
+        // At most 2^32 literals have ids. Past them a search answers `OutOfMemory` although no memory was refused. An
+        // entry of the map alone takes at least 12 bytes, so the literals would have taken more than 50 GB by then.
         let Ok(id) = u32::try_from(self.wants.len()) else {
             return Err(AllocError);
         };
@@ -116,7 +116,7 @@ impl WantTable {
         Ok(id)
     }
 
-    /// The id of a want, which it may get only now.
+    /// The id of a want, which is added if it is not found.
     fn id(&mut self, want: Want) -> Result<u32, AllocError>
         ensures more { OnOk result (AreMoreWants self.old.wants.items self.new.wants.items) }
         ensures within { IfOk result (λ id. id < length self.new.wants.items) }
@@ -129,7 +129,7 @@ impl WantTable {
         Ok(id)
     }
 
-    /// The ids of wants, in their order, where they may get them only now.
+    /// The ids of wants, in their order. Wants that are not found are added.
     pub(crate) fn ids_of(&mut self, alloc: Global, wants: &[Want]) -> Result<Vec<u32>, AllocError>
         ensures more { OnOk result (AreMoreWants self.old.wants.items self.new.wants.items) }
         ensures ids { IfOk result (λ ids. AreIds self.new.wants.items ids.items) }

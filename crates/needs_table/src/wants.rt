@@ -1,4 +1,4 @@
-//! Wanted literals by numbers.
+//! Wanted literals, compiled.
 ghost use Rattle.std.specs.Prelude.{◌≡◌, IfOk, OnOk};
 ghost use Rattle.htn_state.specs.Views.{literals_of};
 ghost use Rattle.state_table.specs.Table.{IsLater};
@@ -9,7 +9,7 @@ use network_needs::Needs;
 use state_table::{AtomTable, CompiledLiteral};
 use std::alloc::{AllocError, Global};
 
-/// A literal that has to hold at some time.
+/// A literal that has to hold at some time before a node, or the whole network, has ended.
 #[derive(Clone, Copy, Drop)]
 pub(crate) struct Want {
     /// Its number among those that nodes give.
@@ -17,7 +17,7 @@ pub(crate) struct Want {
     pub(crate) literal: CompiledLiteral,
 }
 
-/// Literals by numbers, where their atoms may get theirs only now.
+/// Compiles wanted literals. Atoms without numbers get them.
 pub(crate) fn wants_of(
     alloc: Global,
     needs: &Needs,

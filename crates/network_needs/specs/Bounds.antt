@@ -1,4 +1,4 @@
--- Bounds from below that see what a configuration lacks.
+-- Lower bounds that are past every bound where a configuration never ends by its needs.
 use Rattle.std.specs.Prelude.{ℕ, Bool, not, ◌&&◌, cond, max}
 use Rattle.htn_model.specs.Problem.{Child, IsGrounded, Problem}
 use Rattle.htn_model.specs.Machine.{Config}
@@ -7,7 +7,7 @@ use Rattle.tree_sizes.specs.Measure.{IsLowerMeasure, is_as_at_first, lower_bound
 use Rattle.tree_sizes.specs.Sizes.{out_of_reach}
 use Rattle.network_needs.specs.Needs.{IsOutlook, Outlook, may_end}
 
--- whether a configuration never ends: what no effect names is as at first, and it may not end by what it needs
+-- whether a configuration never ends: its static atoms are the initial ones, and it may not end by its needs
 abbrev pub is_lost : Problem → Outlook → Config → Bool
 is_lost problem o c = is_as_at_first problem c.state && not (may_end problem o c)
 

@@ -1,4 +1,4 @@
--- What is checked of rows.
+-- The conditions that are checked of rows.
 use Rattle.std.specs.Prelude.{◌≡◌, ℕ, ◌⊎◌, ⊤, true, false, All, Contains, Option, Some, slice_get}
 use Rattle.htn_model.specs.Atom.{Atom}
 use Rattle.htn_model.specs.Grounding.{problem_of}
@@ -42,18 +42,18 @@ abbrev pub AreLeavesRight : Task → Needs → Type 0
 AreLeavesRight t n =
     (k : ℕ) (r : Row) → slice_get n.rows.leaf_rows.items k ≡ Some r → (x : Node) → slice_get n.rows.leaves.keys k ≡ Some x → IsLeafRight t n (child_view x) r
 
--- each compound task that has a row is within its decompositions
+-- each compound task is within each of its decompositions, but for those with a node that never ends
 abbrev pub AreAllowed : Needs → TaskGraph → Type 0
 AreAllowed n g = (j : ℕ) (d : Decomposition) (h : GroundTask) → slice_get g.decompositions.items j ≡ Some d → task_at g d.task.index ≡ Some h → IsAllowed n h (network_of d)
 
--- all that is checked of rows: those of compound tasks are of listed ones, and all are right; those of actions by what
--- these are ground to
+-- all conditions on rows: compound tasks have rows only if their decompositions are listed, and all rows are right,
+-- those of actions by the actions' groundings
 pub record AreRowsRight (n : Needs) (g : TaskGraph) : Type 0 where
   pub tasks : All (λ h. is_task_listed g h ≡ true) n.tasks.keys
   pub leaves : (t : Task) → IsGraph t g → AreLeavesRight t n
   pub allowed : AreAllowed n g
 
--- all that is known of what the needs say
+-- all that was checked of needs: their rows, and the actions that are never carried out
 pub record IsChecked (n : Needs) (g : TaskGraph) : Type 0 where
   pub rows : AreRowsRight n g
   pub barred : AreBarredActions g n.barred.keys

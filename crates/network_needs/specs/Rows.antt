@@ -1,4 +1,4 @@
--- What nodes want and give, by rows.
+-- The literals that nodes want and give, by rows.
 use Rattle.std.specs.Prelude.{ℕ, ◌/◌, ◌%◌, Bool, true, false, List, [], get_or, Option, Some, None, slice_get, option_and_then}
 use Rattle.std.specs.List.{list_any, position}
 use Rattle.htn_model.specs.Literal.{Literal as ModelLiteral, literal_eq}
@@ -10,11 +10,11 @@ use Rattle.network_needs.specs.Needs.{Outlook}
 use Rattle.network_needs.specs.declared.needs.Needs.{Needs}
 use Rattle.network_needs.specs.declared.rows.Row.{Row}
 
--- whether a ground task is one of these
+-- whether a ground task is in a list
 abbrev pub is_among : List GroundTask → GroundTask → Bool
 is_among tasks g = list_any (ground_task_eq g) tasks
 
--- the place of a ground task among these
+-- the position of a ground task in a list, if it is there
 abbrev pub number_of : List GroundTask → GroundTask → Option ℕ
 number_of tasks g = position (ground_task_eq g) tasks
 
@@ -32,33 +32,33 @@ row_of n (precondition literals) = leaf_row n (precondition literals)
 row_of n (action g) = leaf_row n (action g)
 row_of n (task g) = task_row n g
 
--- what a node wants by its row; nothing without one
+-- the literals that a node wants by its row; none without a row
 abbrev pub wants_by : Option Row → List ModelLiteral
 wants_by None = []
 wants_by (Some r) = literals_of r.wants.items
 
--- whether a mark stands at a number, by the bits of words
+-- whether a number is marked, as a bit of a list of words; no number is not
 abbrev pub is_marked : List ℕ → Option ℕ → Bool
 is_marked marks None = false
 is_marked marks (Some number) = is_set (get_or marks (number / 64) 0) (number % 64)
 
--- whether a node gives the literal of a number by its row; all without one
+-- whether a node gives the literal of a number by its row; a node without a row gives every literal
 abbrev pub gives_by : Option Row → Option ℕ → Bool
 gives_by None number = true
 gives_by (Some r) number = is_marked r.gives.items number
 
--- whether nothing ever ends a task by its row
+-- whether a task never ends by its row
 abbrev pub blocked_by : Option Row → Bool
 blocked_by None = false
 blocked_by (Some r) = r.is_blocked
 
--- whether nothing ever ends a node: an action that is never carried out, or a task by its row
+-- whether a node never ends: an action that is never carried out, or a task by its row
 abbrev pub blocks : Needs → Child → Bool
 blocks n (precondition literals) = false
 blocks n (action g) = is_among n.barred.keys g
 blocks n (task g) = blocked_by (task_row n g)
 
--- the number of a literal
+-- the number of a literal among those of the rows, if it has one
 abbrev pub literal_number : Needs → ModelLiteral → Option ℕ
 literal_number n l = position (λ m. literal_eq l (literal_of m)) n.rows.literals.keys
 

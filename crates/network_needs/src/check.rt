@@ -1,4 +1,4 @@
-//! Whether rows are an outlook.
+//! The check that rows are an outlook.
 ghost use Rattle.std.specs.Prelude.{◌≡◌, ◌<◌, ℕ, true, false, Some, All, Contains, IfOk, IsTrue, length};
 ghost use Rattle.std.specs.List.{list_any};
 ghost use Rattle.std.specs.Option.{option_map};
@@ -48,7 +48,8 @@ fn are_among(literals: &[Literal], others: &[Literal]) -> bool
 }
 
 impl Needs {
-    /// Whether the node at a position may make a literal true for another one: it isn't after it, and gives it.
+    /// Whether the node at a position may make a literal true for another one: it is not after that node, and gives the
+    /// literal.
     fn may_give(
         &self,
         children: &[Child],
@@ -64,7 +65,7 @@ impl Needs {
         at != position && !order.is_before(at, position) && self.gives(&children[position], literal)
     }
 
-    /// Whether no node may make a literal true for the one at a position: none but itself and those after it gives it.
+    /// Whether no other node may make a literal true for the node at a position.
     fn is_ungiven(&self, children: &[Child], order: &Order, at: usize, literal: &Literal) -> bool
         ensures { result ≡ is_ungiven (outlook_of self.now)
             (record { children = children_of children.now; order = order.now }) at (literal_of literal.now) }
@@ -127,7 +128,7 @@ impl Needs {
         false
     }
 
-    /// Whether a node gives only what a row does.
+    /// Whether a node gives only literals that a row gives.
     fn gives_within(&self, child: &Child, row: &Row) -> bool
         ensures { IsTrue result → GivesWithin self.now (child_view child.now) row.now }
     {
@@ -137,7 +138,7 @@ impl Needs {
         are_marked_too(inner.gives.as_slice(), row.gives.as_slice())
     }
 
-    /// Whether nodes give only what a row does.
+    /// Whether nodes give only literals that a row gives.
     fn give_within(&self, children: &[Child], row: &Row) -> bool
         ensures { IsTrue result → All (λ x. GivesWithin self.now (child_view x) row.now) children.now }
     {
@@ -233,7 +234,7 @@ impl Needs {
         Ok(adds && deletes)
     }
 
-    /// Whether the row of an action is right. Any is for one that no objects satisfy.
+    /// Whether the row of an action is right; every row is for an action that has no instance.
     fn is_ground_right(&self, action: Option<&Action>, row: &Row) -> Result<bool, AllocError>
         ensures { IfOk result (λ b. IsTrue b
             → (a : model.Action) → option_map (λ x. x.now) action.entry ≡ Some a → IsActionRight self.now a row.now) }
@@ -244,7 +245,7 @@ impl Needs {
         }
     }
 
-    /// Whether the row of a step or an action is right, by what actions are ground to in the graph.
+    /// Whether the row of a step or an action is right, by the actions' groundings in the graph.
     fn is_leaf_right(&self, graph: &TaskGraph, leaf: &Child, row: &Row) -> Result<bool, AllocError>
         ensures { IfOk result (λ b. IsTrue b → (t : tasks.Task) → IsGraph t graph.now
             → IsLeafRight t self.now (child_view leaf.now) row.now) }

@@ -19,7 +19,8 @@ const MOST_ROUNDS: usize = 1_000;
 /// The most marks that the rows have together.
 const MOST_MARKS: usize = 1 << 26;
 
-/// The most pairs of nodes that the decompositions have together: whether a network needs a literal is asked of pairs.
+/// The most pairs of nodes of one decomposition, added over all decompositions: the search compares pairs to find
+/// whether a network needs a literal.
 const MOST_PAIRS: usize = 1 << 22;
 
 /// A node by its number among the compound tasks, or among the others.
@@ -29,7 +30,7 @@ enum Node {
     Leaf(u32),
 }
 
-/// What is known while rows are sought.
+/// The state of the search for rows.
 #[derive(Drop)]
 struct Search {
     leaves: Leaves,
@@ -39,7 +40,7 @@ struct Search {
     nodes: Vec<Vec<Node>>,
     /// By task, the marks of the literals that it gives.
     gives: Vec<Vec<u64>>,
-    /// By task, the literals that it wants, once some decomposition tree of it is known.
+    /// By task, the literals that it wants; None until the search has found a decomposition tree of the task.
     wants: Vec<Option<Vec<u32>>>,
 }
 
@@ -51,7 +52,7 @@ fn task_number(tasks: &IndexSet<GroundTask>, goal: &GroundTask) -> u32 {
     }
 }
 
-/// The number of pairs of nodes that the decompositions have together.
+/// The number of pairs of nodes of one decomposition, added over all decompositions.
 fn pairs_in(decompositions: &[Decomposition]) -> usize {
     let mut pairs = 0usize;
     for decomposition in decompositions {
@@ -61,7 +62,7 @@ fn pairs_in(decompositions: &[Decomposition]) -> usize {
     pairs
 }
 
-/// The numbers of a list that stand in another one too.
+/// The numbers that two lists have in common, in the order of the first.
 fn common(alloc: Global, numbers: &[u32], others: &[u32]) -> Result<Vec<u32>, AllocError> {
     let mut both = Vec::new(alloc);
     for number in numbers {
@@ -79,7 +80,7 @@ fn marks_of(alloc: Global, literals: usize, numbers: &[u32]) -> Result<Vec<u64>,
     Ok(marks)
 }
 
-/// Sets the marks of some numbers. Whether one of them wasn't set.
+/// Sets the marks of some numbers, and returns whether one of them was not set before.
 fn set_marks(marks: &mut [u64], numbers: &[u32]) -> bool {
     let mut is_more = false;
     for number in numbers {
@@ -92,7 +93,7 @@ fn set_marks(marks: &mut [u64], numbers: &[u32]) -> bool {
     is_more
 }
 
-/// Sets the marks that others have. Whether one of them wasn't set.
+/// Sets the marks that others have, and returns whether one of them was not set before.
 fn join_marks(marks: &mut [u64], others: &[u64]) -> bool {
     let mut is_more = false;
     for (word, other) in marks.iter_mut().zip(others) {
@@ -102,7 +103,7 @@ fn join_marks(marks: &mut [u64], others: &[u64]) -> bool {
     is_more
 }
 
-/// Sets all marks. Whether one of them wasn't set.
+/// Sets all marks, and returns whether one of them was not set before.
 fn set_all(marks: &mut [u64]) -> bool {
     let mut is_more = false;
     for word in marks.iter_mut() {
@@ -168,7 +169,7 @@ impl Search {
         }
     }
 
-    /// Adds to what a task gives what a node gives. Whether that is more.
+    /// Adds the literals that a node gives to those of a task, and returns whether that added any.
     fn join(&self, marks: &mut [u64], node: Node) -> bool {
         match node {
             Node::Leaf(number) => match self.leaves.gives.get(number as usize) {
@@ -182,7 +183,7 @@ impl Search {
         }
     }
 
-    /// Adds to what a task gives what the nodes of an instance give. Whether that is more.
+    /// Adds the literals that the nodes of an instance give to those of the task, and returns whether that added any.
     fn join_instance(&mut self, alloc: Global, task: u32, instance: usize) -> bool {
         let Some(own) = self.gives.get_mut(task as usize) else {
             return false;
@@ -200,7 +201,7 @@ impl Search {
         is_more
     }
 
-    /// What compound tasks give: the least that fits, from nothing on.
+    /// Finds the literals that compound tasks give: the least fixed point, by passes that begin with none.
     fn find_gives(&mut self, alloc: Global, tasks: usize) -> Result<(), AllocError> {
         let literals = self.leaves.literals.len();
         for _ in 0..tasks {
@@ -218,7 +219,7 @@ impl Search {
         Ok(())
     }
 
-    /// What a node wants; None of a compound task of which no tree is known.
+    /// The literals that a node wants; None for a compound task without a known decomposition tree.
     fn wants(&self, node: Node) -> Option<&[u32]> {
         match node {
             Node::Leaf(number) => match self.leaves.wants.get(number as usize) {
@@ -243,7 +244,7 @@ impl Search {
         true
     }
 
-    /// What an instance needs; None where no tree of one of its nodes is known.
+    /// The literals that an instance needs; None where one of its nodes has no known decomposition tree.
     fn needs(
         &self,
         alloc: Global,
@@ -264,7 +265,8 @@ impl Search {
         Ok(Some(needs))
     }
 
-    /// Lowers what a task wants to what an instance of it needs. Whether that is less.
+    /// Intersects the literals that a task wants with those that an instance of it needs, where all literals stand for
+    /// a task without a known decomposition tree, and returns whether that changed them.
     fn lower(&mut self, alloc: Global, task: u32, needs: Vec<u32>) -> Result<bool, AllocError> {
         let Some(own) = self.wants.get_mut(task as usize) else {
             return Ok(false);
@@ -279,7 +281,7 @@ impl Search {
         Ok(is_less)
     }
 
-    /// What compound tasks want: the most that fits, from all on.
+    /// Finds the literals that compound tasks want: the greatest fixed point, by passes that begin with all.
     fn find_wants(
         &mut self,
         alloc: Global,
@@ -306,14 +308,14 @@ impl Search {
         Ok(())
     }
 
-    /// Whether there are not too many marks, nor pairs of nodes.
+    /// Whether marks and pairs of nodes are within their limits.
     fn fits(&self, graph: &TaskGraph, tasks: usize) -> bool {
         let rows = tasks.saturating_add(self.leaves.leaves.len());
         rows.saturating_mul(self.leaves.literals.len()) <= MOST_MARKS
             && pairs_in(graph.decompositions()) <= MOST_PAIRS
     }
 
-    /// The literals of some numbers.
+    /// The literals of these numbers.
     fn literals_of(&self, alloc: Global, numbers: &[u32]) -> Result<Vec<Literal>, AllocError> {
         let mut literals = Vec::new(alloc);
         for number in numbers {

@@ -1,4 +1,4 @@
-//! What the nodes of a network give together.
+//! The literals that at least one node of a network gives.
 ghost use Rattle.std.specs.Prelude.{◌≡◌, ◌||◌, ℕ, Option, IfOk, OnOk};
 ghost use Rattle.std.specs.Option.{option_map};
 ghost use Rattle.htn_model.specs.Problem.{Network};
@@ -14,14 +14,14 @@ use std::alloc::{AllocError, Global};
 /// The numbers of the literals that one of some nodes gives.
 #[derive(Drop)]
 pub struct Given {
-    /// One of them has no row: it gives everything.
+    /// One of the nodes has no row, so it gives every literal.
     is_all: bool,
     /// As the bits of words.
     marks: Vec<u64>,
 }
 
 impl Given {
-    /// Adds what a node gives by its row.
+    /// Adds the literals that a node gives by its row.
     fn add(&mut self, row: Option<&Row>) -> Result<(), AllocError>
         ensures { OnOk result ((number : Option ℕ) → has_given self.new number
             ≡ (has_given self.old number || gives_by (option_map (λ r. r.now) row.entry) number)) }
@@ -48,7 +48,7 @@ impl Given {
 }
 
 impl Needs {
-    /// What the nodes of some places give together.
+    /// The literals that at least one node of these places gives.
     pub fn given_at(&self, alloc: Global, places: &[Place]) -> Result<Given, AllocError>
         ensures { IfOk result (λ given. (n : Network) → ArePlaces self.now places.now n → AreGiven self.now n given) }
     {

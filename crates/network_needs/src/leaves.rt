@@ -37,11 +37,11 @@ impl Leaves {
         }
     }
 
-    /// The number of a literal, which is added if it has none yet.
+    /// The number of a literal, which is added if it is new.
     fn number(&mut self, literal: Literal) -> Result<u32, AllocError> {
         let (place, _) = self.literals.insert_full(literal)?;
-        // This never fails: an `IndexSet` takes at most 9 * 2^28 values, and answers want of memory past them
-        // although none was refused. So many literals take more than 25 GB.
+        // This never fails: an `IndexSet` takes at most 9 * 2^28 values, and answers past them as if memory had been
+        // refused. That many literals take more than 25 GB.
         u32::try_from(place).map_err(|_| AllocError)
     }
 

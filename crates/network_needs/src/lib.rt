@@ -1,10 +1,10 @@
-//! What task networks need.
+//! Necessary conditions of task networks.
 //!
-//! A node wants literals to hold before it ends, and other literals may become true through it. What some node of a
-//! network wants, and no other one that may come before it gives, has to be true from the start; so has what the goal
-//! wants and no node gives. A configuration that lacks such a literal never ends, and neither does any after it
-//! ([`needs_stay`]). [`Needs`] are what the nodes of a task's instances want and give. How they are found is not
-//! proved: they are checked.
+//! A node *wants* the literals that have to hold at some time before it has ended, and *gives* the literals that may
+//! become true through it. A network *needs* a literal, which has to hold initially, if some node wants it and no other
+//! node that may come before gives it, or if the goal wants it and no node gives it. A configuration in which a need is
+//! false never ends, and neither does any after it ([`needs_stay`]). [`Needs`] have the wants and the gifts of the
+//! nodes of a task's instances. The search for them is not proved: its results are checked.
 #![tactic(auto)]
 
 mod check;

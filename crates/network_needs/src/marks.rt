@@ -1,4 +1,4 @@
-//! Marks at numbers, as the bits of words of 64. Past the last word there is none.
+//! Sets of numbers as bits of 64-bit words. A number past the last word is not marked.
 ghost use Rattle.std.specs.Prelude.{◌≡◌, ◌<◌, ◌≤◌, ◌||◌, ℕ, true, bit_or, cond, eqb, get_or, length};
 ghost use Rattle.std.specs.Prelude.{IsTrue, OnOk, Option, Some};
 ghost use Rattle.network_needs.specs.Rows.{is_marked};
@@ -12,14 +12,14 @@ fn word(words: &[u64], k: usize) -> u64
     words.get(k).copied().unwrap_or(0)
 }
 
-/// Whether a mark stands at a number.
+/// Whether a number is marked.
 pub(crate) fn is_marked(marks: &[u64], number: usize) -> bool
     ensures { result ≡ is_marked marks.now (Some number) }
 {
     (word(marks, number / 64) >> (number % 64)) & 1 == 1
 }
 
-/// Whether others have all marks of the first.
+/// Whether all marks of the first set are in the second.
 pub(crate) fn are_marked_too(marks: &[u64], others: &[u64]) -> bool
     ensures { IsTrue result → (number : Option ℕ)
         → is_marked marks.now number ≡ true → is_marked others.now number ≡ true }
@@ -33,7 +33,7 @@ pub(crate) fn are_marked_too(marks: &[u64], others: &[u64]) -> bool
     true
 }
 
-/// Adds the marks of one word to those at a place, which may be the next one.
+/// Adds the marks of one word to those at a place, which is at most the first one past the words.
 fn add_word(marks: &mut Vec<u64>, k: usize, more: u64) -> Result<(), AllocError>
     requires { k ≤ length marks.old.items }
     ensures len { OnOk result (k < length marks.new.items) }

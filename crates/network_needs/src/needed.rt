@@ -1,4 +1,4 @@
-//! What the nodes of a network give one another.
+//! The literals that the nodes of a network give one another.
 ghost use Rattle.std.specs.Prelude.{◌≡◌, ◌<◌, length};
 ghost use Rattle.htn_model.specs.Literal as model;
 ghost use Rattle.htn_model.specs.Problem.{Network};
@@ -12,8 +12,8 @@ use crate::places::Place;
 use htn_order::Order;
 
 impl Needs {
-    /// Whether the node at a position may make the literal of a number true for another one: it isn't after it, and
-    /// gives it.
+    /// Whether the node at a position may make the literal of a number true for another one: it is not after that node,
+    /// and gives the literal.
     fn may_give_at(
         &self,
         places: &[Place],
@@ -28,8 +28,8 @@ impl Needs {
         at != position && self.gives_at(places[position], number) && !order.is_before(at, position)
     }
 
-    /// Whether no node may make the literal of a number true for the one at a position, where it is known what all
-    /// give together.
+    /// Whether no other node may make the literal of a number true for the node at a position. `given` are the literals
+    /// that at least one of the nodes gives: the nodes are compared only for one of these.
     pub fn is_ungiven_at(
         &self,
         places: &[Place],

@@ -1,4 +1,4 @@
-//! What nodes want and give.
+//! The literals that nodes want and give.
 ghost use Rattle.std.specs.Prelude.{◌≡◌};
 ghost use Rattle.std.specs.Option.{option_map};
 ghost use Rattle.htn_ground.specs.Views.{child_view};
@@ -11,7 +11,7 @@ use htn_ground::{Child, GroundTask};
 use htn_state::Literal;
 use indexmap::IndexSet;
 
-/// What the nodes of networks want and give. A node without a row wants nothing and gives everything.
+/// The literals that the nodes of networks want and give. A node without a row wants none and gives all.
 #[derive(Drop)]
 pub struct Needs {
     /// Compound tasks by number, of which the first have rows.
@@ -48,7 +48,7 @@ impl Needs {
         }
     }
 
-    /// What a node wants.
+    /// The literals that a node wants.
     pub fn wants(&self, child: &Child) -> &[Literal]
         ensures { literals_of result.now ≡ (outlook_of self.now).wants (child_view child.now) }
     {
@@ -71,7 +71,7 @@ impl Needs {
         }
     }
 
-    /// Whether nothing ever ends a node.
+    /// Whether a node is known never to end.
     pub fn is_blocked(&self, child: &Child) -> bool
         ensures { result ≡ (outlook_of self.now).is_blocked (child_view child.now) }
     {

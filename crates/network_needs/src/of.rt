@@ -55,8 +55,8 @@ impl Needs {
         Ok(are_leaves_right)
     }
 
-    /// What the nodes of a graph want and give. Where too much would be kept nothing is known of any node, but for the
-    /// actions that are never carried out.
+    /// The needs of the nodes of a graph. Where rows would be too large, or fail their check, no node has one, and only
+    /// actions that are never carried out are known never to end.
     pub fn of(alloc: Global, task: &Task, graph: &TaskGraph) -> Result<Needs, AllocError>
         ensures { IfOk result (λ n. IsGraph task.now graph.now → IsOutlook (problem_of task.now) (outlook_of n)) }
     {

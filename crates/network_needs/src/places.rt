@@ -1,4 +1,4 @@
-//! Where rows stand.
+//! The places of rows.
 ghost use Rattle.std.specs.Prelude.{◌≡◌};
 ghost use Rattle.std.specs.Option.{option_map};
 ghost use Rattle.htn_ground.specs.Views.{child_view};
@@ -12,27 +12,27 @@ use crate::rows::Row;
 use htn_ground::{Child, GroundTask};
 use htn_state::Literal;
 
-/// Where the row of a node stands, if it has one.
+/// The place of a node's row, if it has one.
 #[derive(Clone, Copy, Drop)]
 pub(crate) enum Spot {
     Nowhere,
-    /// That of the compound task of this number.
+    /// The row of the compound task of this number.
     Task(usize),
-    /// That of the step or action of this number.
+    /// The row of the step or action of this number.
     Leaf(usize),
 }
 
-/// What is known of a node, so that it needn't be sought again.
+/// The place of a node's row and whether the node never ends, so that each is looked up once.
 #[derive(Clone, Copy, Drop)]
 pub struct Place {
-    /// Where its row stands.
+    /// The place of its row.
     pub(crate) spot: Spot,
-    /// Nothing ever ends it.
+    /// It is known never to end.
     pub(crate) is_blocked: bool,
 }
 
 impl Needs {
-    /// Where the row of a compound task stands.
+    /// The place of a compound task's row.
     fn task_spot(&self, goal: &GroundTask) -> Spot
         ensures { row_at self.now result ≡ task_row self.now goal.now }
     {
@@ -42,7 +42,7 @@ impl Needs {
         }
     }
 
-    /// Where the row of a step or an action stands.
+    /// The place of a step's or an action's row.
     fn leaf_spot(&self, leaf: &Child) -> Spot
         ensures { row_at self.now result ≡ leaf_row self.now (child_view leaf.now) }
     {
@@ -52,7 +52,7 @@ impl Needs {
         }
     }
 
-    /// Where the row of a node stands.
+    /// The place of a node's row.
     fn spot(&self, child: &Child) -> Spot
         ensures { row_at self.now result ≡ row_of self.now (child_view child.now) }
     {
@@ -84,7 +84,7 @@ impl Needs {
         }
     }
 
-    /// What the node of a place wants.
+    /// The literals that the node of a place wants.
     pub fn wants_at(&self, place: Place) -> &[Literal]
         ensures { literals_of result.now ≡ wants_by (row_at self.now place.spot) }
     {

@@ -1,4 +1,4 @@
--- What becomes of many networks is remembered, one after another.
+-- The expansions of many networks are stored, one after another.
 use Rattle.std.proofs.Common.{◌≡◌, ℕ, suc, ◌+◌, ◌<◌, List, [], ◌∷◌, ◌++◌, length, map, get_or, set, take, refl, sym, ap, ap₂, subst, ◌∙◌, arith, All, Option, Some, None, IfSome, IsSome, Ok, Err, Result, true≢false, slice_get, length-append}
 use Rattle.std.proofs.Math.Seq.{take-suc}
 use Rattle.std.proofs.lemmas.List.{get_or-set_other, get_or_append_left, length-set}
@@ -133,7 +133,7 @@ remembered_more s t jobs whole whole' more = record {
 pub remembered_after : (s t u : NetworkTable) (jobs : List Job) → IsWhole s → IsWhole t → AllKnown s jobs → IsMore s t → AreRemembered t u jobs → AreRemembered s u jobs
 remembered_after s t u jobs tidy whole known more are = remembered_then s t u jobs tidy known (remembered_more s t jobs tidy whole more) are
 
--- what becomes of one job's network is known now
+-- the expansion of one job's network is stored now
 pub remembered_one : (s t : NetworkTable) (jobs : List Job) (k : ℕ) (job : Job) → k < length jobs → job ≡ get_or jobs k job → IsWhole t → IsGrown s t → t.children ≡ s.children
     → ((live : Live) → AreInstances live s job.network job.instances.now → IsSound live s → IsSound live t)
     → ((n : ℕ) → (n ≡ job.network → ⊥) → expansion_at t n ≡ expansion_at s n) → AreRemembered s t jobs
@@ -145,7 +145,7 @@ remembered_one s t jobs k job inside is whole grown same sound others = record {
   others = λ n apart. others n (subst (λ (j : Job). n ≡ j.network → ⊥) (sym is) (apart k job inside));
 }
 
--- more may be known, and then what becomes of all jobs' networks is
+-- more expansions may be stored, and then those of all jobs' networks are
 pub expanded_then : (s t u : NetworkTable) (jobs : List Job) → IsWhole s → AllKnown s jobs → AreRemembered s t jobs → AreExpanded t u jobs → AreExpanded s u jobs
 expanded_then s t u jobs tidy known first second =
     let all = remembered_then s t u jobs tidy known first (record { whole = second.whole; grown = second.grown; children = second.children; sound = second.sound; others = second.others }) in
@@ -153,7 +153,7 @@ expanded_then s t u jobs tidy known first second =
 
 -- ## What was found
 
--- what becomes of the network of the job at a place
+-- the expansion of the network of the job at a place
 pub found_right : (t : NetworkTable) (jobs : List Job) (k : ℕ) (job : Job) (e : Expansion) → k < length jobs → job ≡ get_or jobs k job
     → ((live : Live) → AreInstances live t job.network job.instances.now → IsExpansion live t job.network e) → IsFound t jobs (record { job = k; expansion = e })
 found_right t jobs k job e inside is right = (
@@ -176,7 +176,7 @@ pub holds_kept : (s t : NetworkTable) (jobs : List Job) (r : Result (Vec Found G
 holds_kept s t jobs (Ok v) tidy known are holds = all_more (IsFound s jobs) (IsFound t jobs) (λ found right. found_kept s t jobs found tidy known are right) v.items holds
 holds_kept s t jobs (Err e) tidy known are holds = tt
 
--- a table is whole after what becomes of a network is put down
+-- a table is whole after the expansion of a network is stored
 pub whole_after : (s t : NetworkTable) (n : ℕ) (e : Option Expansion) → IsWhole s → t.children ≡ s.children → t.networks ≡ s.networks → t.open_lens.items ≡ s.open_lens.items
     → t.bounds.items ≡ s.bounds.items → t.expansions.items ≡ set s.expansions.items n e → IsWhole t
 whole_after s t n e whole children_are networks_are open_lens_are bounds_are expansions_are = record {
@@ -203,7 +203,7 @@ put_down s t jobs found job tidy whole known (inside, right) is none children_ar
 
 -- ## One after another
 
--- what becomes of the first jobs' networks is known, while the rest are left
+-- the expansions of the first jobs' networks are stored, while the rest are left
 pub record AreFirst (s t : NetworkTable) (jobs : List Job) (k : ℕ) : Type 0 where
   pub are : AreRemembered s t jobs
   pub ready : All (λ (j : Job). IsSome (expansion_at t j.network)) (take k jobs)

@@ -1,4 +1,4 @@
--- What becomes of a network.
+-- The expansion of a network: its successors by rank.
 use Rattle.std.specs.Prelude.{◌≡◌, ◌<◌, ℕ, List, map, length, get_or, All, Option, Some, None}
 use Rattle.htn_model.specs.Problem.{Child, GroundTask, Network, Order, task, is_before}
 use Rattle.htn_model.specs.Choice.{child_of, first_free_compound, passing, is_free}
@@ -24,15 +24,15 @@ free_positions n order = passing (is_free n (is_before order)) n
 
 -- ## By the numbers of the nodes
 
--- the node that goes, and the network without it
+-- the node that is removed, and the network without it
 abbrev pub removal_at : NetworkTable → Removal → ℕ × Numbered
 removal_at t r = (r.node, numbered_at t r.network)
 
--- the same of a free position
+-- the node at a free position, by its number, and the network without it
 abbrev pub removed_at : Numbered → ℕ → ℕ × Numbered
 removed_at n position = (get_or n.nodes position 0, replaced_numbered n position nothing)
 
--- its network and its node have numbers
+-- the network and the node of a removal have numbers
 abbrev pub IsKnownRemoval : NetworkTable → Removal → Type 0
 IsKnownRemoval t r = Knows t r.network × (r.node < length (children t))
 
@@ -42,18 +42,18 @@ pub record AreDecompositions (t : NetworkTable) (n : Numbered) (position : ℕ) 
   pub known : All (Knows t) successors
   pub each : map (numbered_at t) successors ≡ map (replaced_numbered n position) instances
 
--- one for each position, in their order
+-- a removal for each free position, in their order
 pub record AreRemovals (t : NetworkTable) (n : Numbered) (free : List ℕ) (removals : List Removal) : Type 0 where
   pub known : All (IsKnownRemoval t) removals
   pub each : map (removal_at t) removals ≡ map (removed_at n) free
 
 -- ## By what the numbers stand for
 
--- the node that goes, and the network without it
+-- the node that is removed, and the network without it
 abbrev pub removal_network : NetworkTable → Removal → Child × Network
 removal_network t r = (child_of (children t) r.node, network_at t r.network)
 
--- the same of a free position
+-- the node at a free position, and the network without it
 abbrev pub position_network : Network → ℕ → Child × Network
 position_network n position = (child_of n.children position, replaced_network n position no_network)
 
@@ -73,7 +73,7 @@ pub record IsPerformed (t : NetworkTable) (n : ℕ) (removals : List Removal) : 
       ≡ map (position_network (network_at t n))
       (free_positions (length (network_at t n).children) (network_at t n).order)
 
--- what becomes of a network
+-- the expansion of a network: decompositions of the first free compound task or, where none is free, removals
 abbrev pub IsExpansion : Live → NetworkTable → ℕ → Expansion → Type 0
 IsExpansion live t n (Decomposed position successors) = IsDecomposed live t n position successors.items
 IsExpansion live t n (Performed removals) = IsPerformed t n removals.items

@@ -35,7 +35,7 @@ abbrev pub numbered_code : Coded Numbered
 numbered_code = code_by (List ℕ × Order) (coded× (coded_list coded_ℕ) order_code) (λ n. (n.nodes, n.order))
     (λ p. record { nodes = p.0; order = p.1 }) (λ _. refl)
 
--- the test tells exactly the equal ones
+-- the test is true exactly of equal networks
 pub numbered_eq-decides : (m n : Numbered) → Decides (numbered_eq m n) (m ≡ n)
 numbered_eq-decides m n =
     let numbers = pointwise_decides unsigned_Decides m.nodes n.nodes in
@@ -46,11 +46,11 @@ numbered_eq-decides m n =
       λ e. both_true _ _ (numbers.1 (ap (λ (x : Numbered). x.nodes) e)) (orders.1 (ap (λ (x : Numbered). x.order) e)),
     )
 
--- it has the laws of an equality
+-- the test has the laws of an equality
 pub numbered_eq-laws : IsEquivalence numbered_eq
 numbered_eq-laws = decided numbered_eq numbered_eq-decides
 
--- and of a partial one
+-- the test has the laws of a partial equality
 pub numbered_eq-partial : IsPartialEquivalence numbered_eq
 numbered_eq-partial = partial_equiv_from_equiv numbered_eq-laws
 

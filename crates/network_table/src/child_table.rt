@@ -9,7 +9,7 @@ use htn_ground::Child;
 use indexmap::IndexSet;
 use std::alloc::{AllocError, Global};
 
-/// Nodes with numbers, each with a bound from below on the steps that it takes; the caller supplies the bound.
+/// Nodes with numbers, each with a lower bound on the steps that it takes; the caller supplies the bound.
 #[derive(Drop)]
 pub struct ChildTable {
     children: IndexSet<Child>,
@@ -64,7 +64,7 @@ impl ChildTable {
         self.bounds[id as usize]
     }
 
-    /// The number of a node, which it may get only now, with this bound.
+    /// The number of a node, which is added with this bound if it is new.
     pub(crate) fn keep(&mut self, child: Child, bound: u32) -> Result<u32, AllocError>
         requires { AreWhole self.old }
         ensures whole { OnOk result (AreWhole self.new) }
@@ -77,8 +77,8 @@ impl ChildTable {
         if is_new {
             self.bounds.push(bound)?;
         }
-        // This never fails: an `IndexSet` takes at most 9 * 2^28 values, and answers want of memory past them
-        // although none was refused. That many nodes take more than 25 GB.
+        // This never fails: an `IndexSet` takes at most 9 * 2^28 values, and answers past them as if memory had been
+        // refused. That many nodes take more than 25 GB.
         let Ok(id) = u32::try_from(place) else {
             return Err(AllocError);
         };

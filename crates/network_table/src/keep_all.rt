@@ -57,7 +57,7 @@ impl NetworkTable {
         }
     }
 
-    /// The same of the network `offset` places after another.
+    /// The measure of the network `at` places after the first one.
     fn measure_after(&self, first: usize, at: usize) -> Measure
         requires measurable { AreMeasurable self.now first }
         requires placed { at < length (drop first self.now.networks) }
@@ -67,7 +67,7 @@ impl NetworkTable {
         self.measure(first + at)
     }
 
-    /// The same of each network from a place on, written into slots by at most `workers` workers.
+    /// Writes the measure of each network from a place on into slots, by at most `workers` workers.
     fn measure_each<R: Threads + Sync>(
         &self,
         rt: &R,
@@ -92,7 +92,7 @@ impl NetworkTable {
         for_each_mut(rt, slots, workers, &measure);
     }
 
-    /// The same of each network from a place on, by at most `workers` workers.
+    /// The measure of each network from a place on, by at most `workers` workers.
     fn measures<R: Threads + Sync>(
         &self,
         rt: &R,

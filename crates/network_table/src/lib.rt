@@ -1,11 +1,10 @@
 //! Task networks by numbers, and the successors of each in a search.
 //!
-//! A [`ChildTable`] gives each node a number, and a [`NetworkTable`] each network of such numbers
-//! with its order; totally ordered networks share their nodes ([`Entry`]). With a network's number
-//! stand how many nodes it has, the sum of a bound on its nodes and, once asked for, its
-//! [`Expansion`]: the networks in which an instance stands in the place of the first free compound
-//! task or, where none is free, those without one of the free nodes. An expansion is the same in
-//! every state, so it is found once.
+//! A [`ChildTable`] gives each node a number, and a [`NetworkTable`] each network of such numbers with its order;
+//! totally ordered networks share their nodes ([`Entry`]). By its number a network has its count of nodes, the sum of a
+//! bound on its nodes and, once it is found, its [`Expansion`]: the networks in which an instance replaces the first
+//! free compound task or, where none is free, those without one of the free nodes. An expansion is the same in every
+//! state, so it is found once.
 #![tactic(auto)]
 
 mod assemble;

@@ -1,4 +1,4 @@
-//! Networks, none twice, of which the totally ordered ones share their nodes.
+//! Networks, none of them twice, of which the totally ordered ones share their nodes.
 ghost use Rattle.std.specs.Prelude.{◌≡◌, ◌<◌, ◌≤◌, ◌++◌, ◌∷◌, [], ℕ, List, All, Contains, IfNone, IfOk, IfSome, OnOk, cond, length, get_or, true};
 ghost use Rattle.htn_model.specs.PlanFile.{IsWithoutRepeats};
 ghost use Rattle.network_table.specs.Numbered.{Numbered, nothing};
@@ -70,7 +70,7 @@ impl Hash for Entry {
     }
 }
 
-/// Networks in the order in which they were added, none twice.
+/// Networks in the order in which they were added, none of them twice.
 #[derive(Drop)]
 pub struct NetworkSet {
     entries: Interner<Entry>,

@@ -20,8 +20,8 @@ use htn_ground::Child;
 use htn_order::Order;
 use std::alloc::{AllocError, Global};
 
-/// Networks with numbers, each with its count of nodes, a bound from below on the steps that it takes, and its
-/// expansion once it is known.
+/// Networks with numbers, each with its count of nodes, a lower bound on the steps that it takes, and its expansion
+/// once it is found.
 #[derive(Drop)]
 pub struct NetworkTable {
     pub(crate) children: ChildTable,
@@ -54,7 +54,7 @@ pub(crate) fn sum_bounds(children: &ChildTable, network: &Network) -> u64
 }
 
 impl NetworkTable {
-    /// No network has a number.
+    /// The table of no network.
     pub fn new(alloc: Global) -> Result<NetworkTable, AllocError>
         ensures whole { IfOk result IsWhole }
         ensures bounds { IfOk result (λ t. (measure : model.Child → ℕ) → AreBounds measure t.children) }
@@ -160,7 +160,7 @@ impl NetworkTable {
         self.bounds[number as usize]
     }
 
-    /// The expansion of the network of a number, once it is known.
+    /// The expansion of the network of a number, once it is found.
     pub fn expansion(&self, number: u32) -> Option<&Expansion>
         requires whole { IsWhole self.now }
         requires known { Knows self.now number }

@@ -46,14 +46,14 @@ is_fine f x = cond f.is_open (not (is_barred_node f x)) (is_known_fine f x)
 abbrev pub AreNodesFine : Task → Fine → Type 0
 AreNodesFine t f = InSolutions (problem_of t) (λ n. is_fine f (root n) ≡ true)
 
--- and if there is a solution, the goal is possible by the facts
+-- each node of each solution is fine, and if there is a solution, the goal is possible by the facts
 pub record AreFine (t : Task) (f : Fine) : Type 0 where
   pub nodes : AreNodesFine t f
   pub goal : (s : Solution) → IsSolution (problem_of t) s → are_possible (facts_of f.facts) (problem_of t).goal ≡ true
 
 -- ## What a plan may use
 
--- an instance's method and nodes are
+-- whether an instance's method and nodes may be used
 abbrev pub has_instance : Usable → Instance → Bool
 has_instance u i = has_method u i.method && list_all (has_node u) i.network.children
 
@@ -68,8 +68,8 @@ IsActionRight t f g = (a : Action) → (problem_of t).action_of g ≡ Some a →
 abbrev pub IsTaskRight : Task → Fine → GroundTask → Type 0
 IsTaskRight t f g = All (λ i. list_all (is_fine f) i.network.children ≡ true → is_among f.tasks.keys g ≡ true) (live_methods t g)
 
--- what is found fine is so by what is used: the facts allow the initial state and what its actions do, and what may be
--- fine is
+-- the nodes that are fine are right by the used ones: the facts allow the initial state and the effects of the actions,
+-- and each node that may be fine is
 pub record IsRight (t : Task) (u : Usable) (f : Fine) : Type 0 where
   pub known : f.is_open ≡ false
   pub within : is_within (facts_of f.facts) t.initial_atoms ≡ true
@@ -82,15 +82,15 @@ pub record IsRight (t : Task) (u : Usable) (f : Fine) : Type 0 where
 abbrev pub IsInstanceUsed : Fine → Usable → Instance → Type 0
 IsInstanceUsed f u i = list_all (is_fine f) i.network.children ≡ true → has_instance u i ≡ true
 
--- so is each live instance of a task
+-- each live instance of a task whose nodes are all fine is used
 abbrev pub IsTaskUsed : Task → Fine → Usable → GroundTask → Type 0
 IsTaskUsed t f u g = All (IsInstanceUsed f u) (live_methods t g)
 
--- so is each initial network whose nodes are all fine
+-- the nodes of an initial network whose nodes are all fine are used
 abbrev pub IsStartUsed : Fine → Usable → Instance → Type 0
 IsStartUsed f u i = list_all (is_fine f) i.network.children ≡ true → list_all (has_node u) i.network.children ≡ true
 
--- what is used has all that arises from it by fine nodes
+-- the used tasks, actions and methods are closed under decomposition by instances whose nodes are all fine
 pub record IsClosed (t : Task) (f : Fine) (u : Usable) : Type 0 where
   pub starts : All (IsStartUsed f u) (distinct (initials t))
   pub tasks : All (IsTaskUsed t f u) u.tasks.keys

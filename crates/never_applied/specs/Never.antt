@@ -1,4 +1,4 @@
--- What no plan uses.
+-- The methods and actions that no plan uses.
 use Rattle.std.specs.Prelude.{◌≡◌, ℕ, ◌+◌, length, IsSome, Some, slice_get}
 use Rattle.std.specs.List.{All}
 use Rattle.htn_model.specs.Exhaustion.{IsUnsolvable}
@@ -17,7 +17,7 @@ Applies t method (leaf g) = ⊥
 Applies t method (step literals) = ⊥
 Applies t method (compound g number nodes) = (i : Instance) × (slice_get (methods_of t g) number ≡ Some i) × (i.method ≡ Some method)
 
--- no node of any solution is
+-- no node of any solution is the action
 abbrev pub IsNeverApplied : Task → ℕ → Type 0
 IsNeverApplied t method = InSolutions (problem_of t) (λ n. Applies t method n → ⊥)
 
@@ -31,8 +31,8 @@ Performs t action (compound g number nodes) = ⊥
 abbrev pub IsNeverPerformed : Task → ℕ → Type 0
 IsNeverPerformed t action = InSolutions (problem_of t) (λ n. Performs t action n → ⊥)
 
--- no solution of any size uses these methods and actions; each uses what is usable only; and where a reason is given
--- there is none
+-- no solution of any size uses these methods and actions; each solution uses usable tasks, actions and methods only;
+-- and where a reason is given, there is no solution
 pub record AreFindings (t : Task) (r : Findings) : Type 0 where
   pub methods : All (λ x. IsNeverApplied t x.place) r.methods.items
   pub actions : All (λ x. IsNeverPerformed t x.place) r.actions.items

@@ -1,4 +1,4 @@
-//! What is said of a task.
+//! The findings about a task.
 
 use crate::usable::Usable;
 use htn_state::Literal;
@@ -14,7 +14,8 @@ pub enum NoPlan {
     Initial,
 }
 
-/// Why no plan uses a method or an action, by what arises from the initial networks before anything falls away.
+/// Why no plan uses a method or an action, by the tasks and actions that are reachable from the initial networks before
+/// any are removed.
 #[derive(Clone, Copy)]
 pub enum Cause {
     /// It follows from what else no plan uses.
@@ -35,7 +36,7 @@ pub struct Unused {
     pub cause: Cause,
 }
 
-/// What no plan of a task uses, whatever its size.
+/// The methods and actions that no plan of a task uses, whatever its size.
 #[derive(Drop)]
 pub struct Findings {
     /// Why there is no plan; none where there may be one.
@@ -44,7 +45,7 @@ pub struct Findings {
     pub methods: Vec<Unused>,
     /// Actions that no plan uses, and that some network has as a subtask.
     pub actions: Vec<Unused>,
-    /// What a plan may use.
+    /// The tasks, actions and methods that a plan may use.
     pub usable: Usable,
     /// The number of atoms that may be true, each on its own.
     pub facts: usize,

@@ -239,8 +239,8 @@ fn findings_in(
     }
 }
 
-/// What no plan of a task uses, whatever its size. It is none where more than a million instances would have to be
-/// listed, or a decomposition graph of more than four million tasks, networks and nodes.
+/// The methods and actions that no plan of a task uses, whatever its size. None where more than a million instances
+/// would have to be listed, or a decomposition graph of more than four million tasks, networks and nodes.
 pub fn find_unused(alloc: Global, task: &Task) -> Result<Option<Findings>, AllocError>
     ensures { IfOk result (λ o. IfSome o (AreFindings task.now)) }
 {

@@ -1,4 +1,4 @@
--- What a diagnostic of a fault is: its code, and the place that it is about.
+-- The code of a fault's diagnostic, and the place that it is about.
 use Rattle.std.specs.Prelude.{◌≡◌, ℕ, min, List, drop, length, Option, Some, None, codes}
 use Rattle.std.specs.List.{take_while}
 use Rattle.hddl_words.specs.Word.{is_word_byte}
@@ -26,7 +26,7 @@ code_of (fault.UnknownSubtask at) = codes "UnknownSubtask"
 code_of (fault.TooMany at) = codes "TooMany"
 code_of fault.OutOfMemory = codes "OutOfMemory"
 
--- where a fault stands, unless memory was refused
+-- the place of a fault, unless memory was refused
 abbrev pub at_of : CheckFault → Option At
 at_of (fault.Duplicate at) = Some at
 at_of (fault.UnknownType at) = Some at

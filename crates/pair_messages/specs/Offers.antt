@@ -111,7 +111,7 @@ abbrev pub IsForOrdering : NetworkText → ℕ → List ℕ → Type 0
 IsForOrdering n place name =
     (x : Name) × IsIn x (ordering_names n) × (x.place ≡ place) × IsNearest x.text (texts (label_mentions n)) name
 
--- the same of one of the networks of a text
+-- the name may be meant for a label in one of the networks of a text
 abbrev pub IsForLabel : DomainText → ProblemText → At → List ℕ → Type 0
 IsForLabel d p at name = (n : ℕ × NetworkText) × IsIn n (networks_in d p at.source) × IsForOrdering n.1 at.place name
 

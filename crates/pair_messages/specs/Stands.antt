@@ -1,4 +1,4 @@
--- What stands at a place of a text: the name of a use, an argument of one, or a side of an equality.
+-- The item at a place of a text: the name of a use, an argument of one, or a side of an equality.
 use Rattle.std.specs.Prelude.{◌≡◌, ℕ, List, [], ◌∷◌, ◌++◌, slice_get, Some}
 use Rattle.std.specs.List.{flat_map}
 use Rattle.hddl_tree.specs.declared.term.Term.{Term}
@@ -52,14 +52,14 @@ uses_of_kind kind.Predicate s = s.atoms
 uses_of_kind kind.Compound s = s.decomposed
 uses_of_kind kind.Task s = s.subtasks
 
--- what stands at a place of a schema
+-- the item at a place of a schema
 abbrev pub StandsIn : Schema → ℕ → Stand → Type 0
 StandsIn s place (stand.Name u) = IsIn (use_of u) (uses_of_kind u.kind s) × (u.atom.now.name.place ≡ place)
 StandsIn s place (stand.Argument u position) =
     IsIn (use_of u) (uses_of_kind u.kind s) × ((t : Term) → slice_get u.atom.now.terms position ≡ Some t → term_place t ≡ place)
 StandsIn s place (stand.Side scope t) = IsIn (record { variables = in_force scope; term = t.now }) s.sides × (term_place t.now ≡ place)
 
--- what stands at a place of a pair
+-- the item at a place of a pair
 abbrev pub StandsAt : DomainText → ProblemText → At → Stand → Type 0
 StandsAt d p at found = (s : Schema) × IsIn s (schemas_in d p at.source) × StandsIn s at.place found
 
@@ -104,11 +104,11 @@ schema_of_subtasks variables n =
       quantifiers = [];
     }
 
--- what stands at a place of a domain
+-- the item at a place of a domain
 abbrev pub StandsInDomain : DomainText → ℕ → Stand → Type 0
 StandsInDomain d place found = (s : Schema) × IsIn s (domain_schemas d) × StandsIn s place found
 
--- what stands at a place of a problem
+-- the item at a place of a problem
 abbrev pub StandsInProblem : ProblemText → ℕ → Stand → Type 0
 StandsInProblem p place found = (s : Schema) × IsIn s (problem_schemas p) × StandsIn s place found
 

@@ -47,7 +47,7 @@ fn push_wanted<'a>(parts: &mut Vec<Part<'a>>, slot: Slot<'a>) -> Result<(), Allo
     Ok(())
 }
 
-/// What is said of a variable in a place.
+/// The diagnostic's content for a variable in a place.
 fn variable_clash<'a>(
     alloc: Global,
     index: &PairIndex<'a>,
@@ -102,7 +102,7 @@ fn push_types<'a>(
     push_names(parts, names.as_slice(), " and ")
 }
 
-/// What is said of an object in a place.
+/// The diagnostic's content for an object in a place.
 fn object_clash<'a>(
     alloc: Global,
     index: &PairIndex<'a>,
@@ -129,7 +129,7 @@ fn object_clash<'a>(
     Ok(saying)
 }
 
-/// What is said of a term in a place.
+/// The diagnostic's content for a term in a place.
 fn term_clash<'a>(
     alloc: Global,
     index: &PairIndex<'a>,

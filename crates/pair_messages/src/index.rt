@@ -57,7 +57,7 @@ pub(crate) struct Called<'a> {
     pub(crate) methods: ByName<&'a MethodText>,
 }
 
-/// The texts of a pair with what they declare, by name: made once for all faults of the pair.
+/// The texts of a pair with their declarations by name, made once for all faults of the pair.
 #[derive(Drop)]
 pub struct PairIndex<'a> {
     pub(crate) texts: &'a PairTexts<'a>,
@@ -298,7 +298,8 @@ fn names_len(typed: &Typed<'_>, called: &Called<'_>) -> usize {
 }
 
 impl<'a> PairIndex<'a> {
-    /// What a pair declares, or an error where memory was refused. Takes time and memory that are linear in the trees.
+    /// The declarations of a pair. An error means that memory was refused. Takes time and memory that are linear in the
+    /// trees.
     pub fn new(alloc: Global, texts: &'a PairTexts<'a>) -> Result<PairIndex<'a>, AllocError>
         ensures { IfOk result (λ index. index.texts.now ≡ texts.now) }
     {

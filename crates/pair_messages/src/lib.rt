@@ -1,4 +1,4 @@
-//! What is said of the faults of a domain and a problem, and what the two declare, counted.
+//! Diagnostics of the faults of a domain and a problem, and counts of the declarations of the two.
 #![tactic(auto)]
 
 mod arguments;

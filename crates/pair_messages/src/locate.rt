@@ -1,5 +1,5 @@
-//! What stands at a place of a tree. Each list of a tree is in the order of its text, so all is found by halving; a
-//! thing counts only if it stands at the very place.
+//! The items at a place of a tree. Each list of a tree is in the order of its text, so each is found by binary search;
+//! an item counts only if it begins at the place itself.
 
 ghost use Rattle.std.specs.Prelude.{◌≡◌, ◌⊎◌, Contains, IfSome, Some, slice_get};
 ghost use Rattle.hddl_tree.specs.declared.term.Term.{Term};

@@ -26,7 +26,7 @@ fn no_predicate<'a>(index: &PairIndex<'a>, text: &[u8]) -> Option<&'a str> {
     None
 }
 
-/// What a word is instead of what may stand there.
+/// What a word names in place of a thing of the kind that is required there.
 fn other_kind<'a>(
     alloc: Global,
     index: &PairIndex<'a>,
@@ -92,7 +92,7 @@ fn help_declare<'a>(
     Ok(())
 }
 
-/// What may stand there.
+/// The words for a missing thing of a kind.
 fn kind_words<'a>(kind: Kind) -> &'a str {
     match kind {
         Kind::Predicate => "no predicate is named ",

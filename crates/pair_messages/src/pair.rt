@@ -105,7 +105,7 @@ fn unknown_term<'a>(
     }
 }
 
-/// What stands at a place.
+/// The item at a place.
 fn stand_of<'a>(
     alloc: Global,
     index: &PairIndex<'a>,
@@ -161,7 +161,7 @@ fn unknown_stand<'a>(
     }
 }
 
-/// A name that isn't declared, if something stands at its place.
+/// The diagnostic of a name that isn't declared, if there is an item at its place.
 fn unknown_at<'a>(
     alloc: Global,
     index: &PairIndex<'a>,
@@ -249,7 +249,7 @@ fn unknown_type_at<'a>(
     Ok(saying)
 }
 
-/// What is said of a fault.
+/// The message of a fault with its remarks and notes.
 fn saying_of<'a>(
     alloc: Global,
     index: &PairIndex<'a>,
@@ -276,12 +276,12 @@ fn saying_of<'a>(
     }
 }
 
-/// What is said of a fault of a pair: an error at the fault's place, with the fault's name as its code. An error where
-/// memory was refused.
+/// The diagnostic of a fault of a pair: an error at the fault's place, with the fault's name as its code. An error
+/// where memory was refused.
 ///
-/// Names are shown as they are written. Of a typed list the first 1,024 variables are looked at, and the first 32 are
-/// shown. The rank is the number of faults before it: near names are offered for the first 200 faults, and for fewer
-/// where that would compare names with more than some 100 million pairs of bytes.
+/// Names are shown as they are written. Only the first 1,024 variables of a typed list are examined, and the first 32
+/// are shown. The rank is the number of faults before it: near names are offered for the first 200 faults, and for
+/// fewer where that would compare names with more than some 100 million pairs of bytes.
 pub fn pair_diagnostic<'a>(
     alloc: Global,
     index: &PairIndex<'a>,
@@ -292,9 +292,9 @@ pub fn pair_diagnostic<'a>(
     ensures code { IfOk result (λ d. d.code.now ≡ spec.code_of fault) }
     // A place past the end of a text is shown at its end.
     ensures place { IfOk result (λ d. spec.IsAbout index.now.texts.now (spec.at_of fault) d.about) }
-    // Each name that is asked for by `did you mean` is declared, is of the kind that may stand there, and none is nearer.
+    // Each name that `did you mean` offers is declared and of the kind that is required there, and none is nearer.
     ensures offers { IfOk result (λ d. OffersMeant index.now.texts.now fault d.remarks.items) }
-    // Each note stands at a declaration: of a name, a type, a parameter or a subtask, of `:htn`, or at a pair of an order.
+    // Each note is at a declaration: of a name, a type, a parameter or a subtask, of `:htn`, or at a pair of an order.
     ensures notes { IfOk result (λ d. All (λ note. IsAtDeclaration index.now.texts.now note.spot) d.notes.items) }
 {
     let saying = saying_of(alloc, index, rank, fault)?;

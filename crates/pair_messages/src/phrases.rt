@@ -85,7 +85,7 @@ pub(crate) fn push_section<'a>(
     }
 }
 
-/// Adds what stands before a name of a list: nothing before the first one, and the word before the last one.
+/// Adds the words before a name of a list: nothing before the first one, and the word before the last one.
 #[tactic(auto, using(crate::proofs::Questions::opening_more))]
 fn push_separator<'a>(
     parts: &mut Vec<Part<'a>>,

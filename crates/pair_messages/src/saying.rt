@@ -1,4 +1,4 @@
-//! What is said of a fault, apart from its place and its code.
+//! The content of a fault's diagnostic, apart from its place and its code.
 
 ghost use Rattle.std.specs.Prelude.{◌≡◌, [], ◌++◌, OnOk};
 ghost use Rattle.near_names.specs.Near.{names_of};
@@ -8,7 +8,7 @@ use crate::phrases::did_you_mean;
 use diagnostics::{Note, Part, Remark, RemarkKind, Spot};
 use std::alloc::{AllocError, Global};
 
-/// What is said of a fault.
+/// The content of a fault's diagnostic: its message, label, remarks and notes.
 #[derive(Drop)]
 pub(crate) struct Saying<'a> {
     pub(crate) message: Vec<Part<'a>>,

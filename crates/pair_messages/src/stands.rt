@@ -1,4 +1,4 @@
-//! What stands at a place: a name or an argument of a use, or a side of an equality.
+//! The item at a place: a name or an argument of a use, or a side of an equality.
 
 ghost use Rattle.std.specs.Prelude.{◌≡◌, IfOk, IfSome};
 ghost use Rattle.hddl_meaning.specs.Uses as uses;
@@ -43,7 +43,7 @@ pub(crate) struct Use<'a> {
     pub(crate) atom: &'a AtomText,
 }
 
-/// What stands at a place.
+/// The item at a place.
 #[derive(Drop)]
 pub(crate) enum Stand<'a> {
     /// The name of a use.
@@ -64,7 +64,7 @@ fn parameters_of<'a>(alloc: Global, section: Section<'a>) -> InForce<'a>
     }
 }
 
-/// What stands at a place of an atom.
+/// The item at a place of an atom.
 fn in_atom<'a>(
     scope: InForce<'a>,
     kind: Kind,
@@ -80,7 +80,7 @@ fn in_atom<'a>(
     Some(Stand::Argument(Use { kind, scope, atom }, position))
 }
 
-/// What stands at a place of an equality.
+/// The item at a place of an equality.
 fn in_equality<'a>(
     scope: InForce<'a>,
     equality: &'a EqualityText,
@@ -97,7 +97,7 @@ fn in_equality<'a>(
     None
 }
 
-/// What stands at a place of a condition.
+/// The item at a place of a condition.
 fn in_conditions<'a>(
     alloc: Global,
     section: Section<'a>,
@@ -128,7 +128,7 @@ fn in_conditions<'a>(
     Ok(None)
 }
 
-/// What stands at a place of the constraints of a network.
+/// The item at a place of the constraints of a network.
 fn in_constraints<'a>(
     alloc: Global,
     section: Section<'a>,
@@ -141,7 +141,7 @@ fn in_constraints<'a>(
     in_equality(parameters_of(alloc, section), equality, place)
 }
 
-/// What stands at a place of the subtasks of a network.
+/// The item at a place of the subtasks of a network.
 fn in_subtasks<'a>(
     alloc: Global,
     section: Section<'a>,
@@ -155,7 +155,7 @@ fn in_subtasks<'a>(
     in_atom(scope, Kind::Task, &subtask.task, place)
 }
 
-/// What stands at a place of a network.
+/// The item at a place of a network.
 fn in_network<'a>(
     alloc: Global,
     section: Section<'a>,
@@ -170,7 +170,7 @@ fn in_network<'a>(
     }
 }
 
-/// What stands at a place of a method.
+/// The item at a place of a method.
 fn in_methods<'a>(
     alloc: Global,
     domain: &'a DomainText,
@@ -193,7 +193,7 @@ fn in_methods<'a>(
     Ok(found)
 }
 
-/// What stands at a place of an action.
+/// The item at a place of an action.
 fn in_actions<'a>(
     alloc: Global,
     domain: &'a DomainText,
@@ -215,7 +215,7 @@ fn in_actions<'a>(
     Ok(found)
 }
 
-/// What stands at a place of a domain.
+/// The item at a place of a domain.
 fn in_domain<'a>(
     alloc: Global,
     domain: &'a DomainText,
@@ -229,7 +229,7 @@ fn in_domain<'a>(
     in_actions(alloc, domain, place)
 }
 
-/// What stands at a place of a problem.
+/// The item at a place of a problem.
 fn in_problem<'a>(
     alloc: Global,
     problem: &'a ProblemText,
@@ -251,7 +251,7 @@ fn in_problem<'a>(
     Ok(found)
 }
 
-/// What stands at a place of a pair, if it is a name, an argument or a side.
+/// The item at a place of a pair, if it is a name, an argument or a side.
 pub(crate) fn stand_at<'a>(
     alloc: Global,
     domain: &'a DomainText,

@@ -56,7 +56,8 @@ fn push_parents<'a>(
     Ok(())
 }
 
-/// Whether a type is below another, as far as the first 64 types above it tell.
+/// Whether a type is another one or below it. Only the first `MOST_STEPS` types from it upwards are visited; false
+/// where the other one is not among these.
 pub(crate) fn is_below<'a>(
     alloc: Global,
     index: &PairIndex<'a>,

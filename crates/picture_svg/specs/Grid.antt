@@ -44,7 +44,7 @@ abbrev pub middle_of : (ℕ → ℕ) → ℕ → List ℕ → ℕ
 middle_of middle place [] = 31 + 38 * place
 middle_of middle place (first ∷ others) = (middle first + middle (get_or (first ∷ others) (length others) 0)) / 2
 
--- so lie the lines of rows, of which the first comes to some place
+-- the middles of the lines of rows are right, where the first row begins at a place
 abbrev pub AreCentred : (ℕ → List ℕ) → (ℕ → ℕ) → ℕ → List Row → Type 0
 AreCentred children middle place [] = Unit {0}
 AreCentred children middle place (row ∷ rows) =

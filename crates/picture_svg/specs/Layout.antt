@@ -24,7 +24,7 @@ abbrev pub start : Area → Grid → ℕ → Option ℕ → ℕ
 start problem grid depth None = problem.x + problem.width
 start problem grid depth (Some parent) = grid.left (depth - 1) + grid.width parent
 
--- and how far from the top
+-- the distance from the top at which the edge to a line begins
 abbrev pub start_middle : Area → Grid → Option ℕ → ℕ
 start_middle problem grid None = problem.y + 17
 start_middle problem grid (Some parent) = grid.middle parent

@@ -7,7 +7,7 @@ use Rattle.picture_svg.specs.declared.layout.Layout.{Layout}
 use Rattle.picture_svg.specs.Layout.{IsLayoutOf}
 use Rattle.picture_svg.specs.Svg.{svg_bytes}
 
--- all that is in two layouts is the same
+-- two layouts have equal parts
 pub record AreSame (a b : Layout) : Type 0 where
   pub problem : a.problem ≡ b.problem
   pub boxes : a.boxes.items ≡ b.boxes.items

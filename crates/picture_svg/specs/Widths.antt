@@ -17,7 +17,7 @@ abbrev pub line_width : ℕ → Line → ℕ
 line_width digits (action line) = 32 + 7 * (digits + length (words_of (action line)))
 line_width digits (task line) = box_width (length (words_of (task line))) (length line.method)
 
--- the same if there is such a line
+-- the width of a line's box, 0 where there is no such line
 abbrev pub width_or_zero : ℕ → Option Line → ℕ
 width_or_zero digits None = 0
 width_or_zero digits (Some line) = line_width digits line

@@ -229,7 +229,7 @@ fn title(alloc: Global, caption: &Caption<'_>) -> Result<Vec<u8>, AllocError>
     Ok(title)
 }
 
-/// What stands before the picture itself.
+/// The text before the picture itself.
 fn say_head(
     out: &mut Vec<u8>,
     alloc: Global,

@@ -35,7 +35,7 @@ pub struct Edge {
     pub to_y: usize,
 }
 
-/// Where all is.
+/// The places and sizes of a picture's parts.
 #[derive(Debug, Drop)]
 pub struct Layout {
     /// The box of the problem.
@@ -227,7 +227,7 @@ fn arranged(
     })
 }
 
-/// The same for a picture.
+/// The layout of a picture, from the measures of its parts.
 fn measured(
     alloc: Global,
     caption: &Caption<'_>,

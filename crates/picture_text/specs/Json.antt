@@ -45,12 +45,12 @@ node_json file children row line =
     object_of ((codes "id", count (id_of line)) ∷ (codes "parent", parent_json file row.parent)
     ∷ line_members file (children_at (length file.actions) children row.line) row.line line)
 
--- that of a row, if there is such a line
+-- the value of a row's line, if there is such a line
 abbrev pub nodes_json : PlanFile → List (List ℕ) → Row → Option Line → List Data
 nodes_json file children row None = []
 nodes_json file children row (Some line) = node_json file children row line ∷ []
 
--- what the picture is of
+-- the members for the caption of a picture
 abbrev pub caption_members : Caption → List Named
 caption_members caption =
     (codes "format", string (codes "htnplan-tree")) ∷ (codes "version", count 1) ∷ (codes "domain", string caption.domain.now)

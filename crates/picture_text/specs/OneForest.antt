@@ -21,7 +21,7 @@ row_ids picture = map (λ r. id_at picture.file.now r.line) picture.rows.items
 abbrev pub child_ids : PlanFile → List (List ℕ) → ℕ → List ℕ
 child_ids file children line = map (id_at file) (children_at (length file.actions) children line)
 
--- and those of each row
+-- the ids of the children of each row
 abbrev pub family_ids : Picture → List (List ℕ)
 family_ids picture = map (λ r. child_ids picture.file.now (lists_of picture.children.items) r.line) picture.rows.items
 

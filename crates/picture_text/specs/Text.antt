@@ -14,14 +14,14 @@ use Rattle.picture_text.specs.Lines.{Line, action, task, id_of, line_at}
 use Rattle.picture_text.specs.Words.{task_words, mark_of}
 use Rattle.plan_picture.specs.Seen.{seen}
 
--- what stands before a line: `├─ `, or `└─ ` before the last of its siblings
+-- the signs before a line: `├─ `, or `└─ ` before the last of its siblings
 abbrev pub branch : Glyphs → Bool → List ℕ
 branch Unicode false = 226 ∷ 148 ∷ 156 ∷ 226 ∷ 148 ∷ 128 ∷ 32 ∷ []
 branch Unicode true = 226 ∷ 148 ∷ 148 ∷ 226 ∷ 148 ∷ 128 ∷ 32 ∷ []
 branch Ascii false = codes "|- "
 branch Ascii true = codes "`- "
 
--- what stands below a line, before what is below it: `│  `, or blanks below the last of its siblings
+-- the signs below a line, before the lines below it: `│ `, or blanks below the last of its siblings
 abbrev pub bar : Glyphs → Bool → List ℕ
 bar glyphs true = codes "   "
 bar Unicode false = 226 ∷ 148 ∷ 130 ∷ 32 ∷ 32 ∷ []
@@ -32,7 +32,7 @@ abbrev pub cut : ℕ → List ℕ
 cut zero = []
 cut (suc n) = codes "+" ++ decimal (suc n) ++ codes " "
 
--- all that stands before a row's words
+-- all signs before a row's words
 abbrev pub front : Glyphs → Row → List ℕ
 front glyphs row = flat_map (bar glyphs) row.above ++ (cut (row.depth - length row.above) ++ branch glyphs row.is_last)
 

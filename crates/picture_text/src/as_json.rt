@@ -207,8 +207,8 @@ fn picture_value(
     Ok(Value::Object(map))
 }
 
-/// The picture as tools read it: one object of JSON on one line, whose members stand in the order of their names. Its
-/// lines are a flat list, so nothing nests as deep as the plan.
+/// The picture for tools: one object of JSON on one line, whose members are in the order of their names. Its lines are
+/// a flat list, so nothing nests as deep as the plan.
 pub fn json(
     alloc: Global,
     caption: &Caption<'_>,

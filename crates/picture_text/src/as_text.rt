@@ -22,7 +22,7 @@ pub enum Glyphs {
     Ascii,
 }
 
-/// What stands before a line.
+/// The signs before a line.
 fn branch(glyphs: Glyphs, is_last: bool) -> &'static [u8]
     ensures { result.now ≡ spec.branch glyphs is_last }
 {
@@ -34,7 +34,7 @@ fn branch(glyphs: Glyphs, is_last: bool) -> &'static [u8]
     }
 }
 
-/// What stands below a line, before what is below it.
+/// The signs below a line, before the lines below it.
 fn bar(glyphs: Glyphs, is_last: bool) -> &'static [u8]
     ensures { result.now ≡ spec.bar glyphs is_last }
 {
@@ -46,7 +46,7 @@ fn bar(glyphs: Glyphs, is_last: bool) -> &'static [u8]
     }
 }
 
-/// What stands below the lines that a row is below.
+/// The signs below the lines that are above a row in the tree.
 fn say_bars(out: &mut Vec<u8>, glyphs: Glyphs, above: &[bool]) -> Result<(), AllocError>
     ensures { OnOk result (out.new.items ≡ out.old.items ++ flat_map (spec.bar glyphs) above.now) }
 {
@@ -68,7 +68,7 @@ fn say_cut(out: &mut Vec<u8>, count: usize) -> Result<(), AllocError>
     out.extend_from_slice(b" ")
 }
 
-/// All that stands before a row's words.
+/// All signs before a row's words.
 fn say_front(out: &mut Vec<u8>, glyphs: Glyphs, row: &Row) -> Result<(), AllocError>
     ensures { OnOk result (out.new.items ≡ out.old.items ++ spec.front glyphs (seen row.now)) }
 {

@@ -1,6 +1,6 @@
-//! What is said beside a picture.
+//! The caption of a picture.
 
-/// What a picture is of, and what the verdict on it is.
+/// The plan's domain and problem, and the verdict on it.
 #[derive(Clone, Copy, Debug)]
 pub struct Caption<'a> {
     /// The domain's name.
@@ -13,11 +13,11 @@ pub struct Caption<'a> {
     pub mark: Option<Mark<'a>>,
 }
 
-/// A line with what is wrong there.
+/// A line with the word for its fault.
 #[derive(Clone, Copy, Debug)]
 pub struct Mark<'a> {
     /// The line's id.
     pub id: u64,
-    /// The word for what is wrong, as `NotExecutable`.
+    /// The word for the line's fault, as `NotExecutable`.
     pub cause: &'a str,
 }

@@ -26,7 +26,7 @@ pub fn graph_is_tame()
 {}
 
 /// In the language of graphviz a label ends at its own last quote, whatever its words are: it is the first quote that
-/// stands after no backslash. So do the problem's words.
+/// stands after no backslash. The problem's words end there likewise.
 pub fn labels_end_at_quotes()
     ensures labels { (number : ℕ) (line : Line) (rest : List ℕ) → past_quote false (label_rest number line ++ rest) ≡ rest }
     ensures words { (words rest : List ℕ) → past_quote false (quoted_rest words ++ rest) ≡ rest }

@@ -71,6 +71,6 @@ IsNextSetter problem tasks l from (Some n) = (from ≤ n) × (is_setter problem 
 
 -- ---- what the code computes
 
--- how a literal stands in a gap of a history
+-- the truth of a literal in a gap of a history, and since when
 abbrev pub StandsIn : History → ℕ → Literal → Standing → Type 0
 StandsIn h gap l standing = Stands (λ k b. literal_truth h l k ≡ b) gap standing

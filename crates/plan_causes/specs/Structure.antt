@@ -8,7 +8,7 @@ abbrev pub IsRepeated : List ℕ → ℕ → Type 0
 IsRepeated [] id = ⊥
 IsRepeated (x ∷ ids) id = ((id ≡ x) × IsIn id ids) ⊎ IsRepeated ids id
 
--- a number stands in one list and not in the other
+-- a number is in one list and not in the other
 abbrev pub IsMissing : (those these : List ℕ) → ℕ → Type 0
 IsMissing those these id = IsIn id these × (IsIn id those → ⊥)
 

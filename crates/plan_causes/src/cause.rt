@@ -18,13 +18,13 @@ pub enum RunCause {
     /// The number of the first task that can't be carried out when it comes, and how each literal of its precondition
     /// stands there; none where it is no action.
     Fails(usize, Vec<Standing>),
-    /// How each literal of the goal stands at the end; not all hold.
+    /// The truth of each literal of the goal at the end; not all hold.
     GoalFails(Vec<Standing>),
     /// All are carried out, and the goal holds at the end.
     Holds,
 }
 
-/// How the literals of a task's precondition stand in a gap; none where it is no action.
+/// The truth of the literals of a task's precondition in a gap; None where it is no action.
 fn precondition_in(
     alloc: Global,
     task: &Task,

@@ -1,4 +1,4 @@
-//! How literals stand in a gap of a run.
+//! The truth of literals in a gap of a run, and since when.
 
 ghost use Rattle.std.specs.Prelude.{IfOk};
 ghost use Rattle.htn_state.specs.Views.{literal_of, literals_of};
@@ -9,7 +9,7 @@ use htn_state::Literal;
 use plan_run::Turns;
 use std::alloc::{AllocError, Global};
 
-/// How a literal stands after some actions of a run.
+/// The truth of a literal after some actions of a run, and since when it is false.
 #[derive(Clone, Copy, PartialEq, Eq, Debug)]
 pub enum Standing {
     /// It holds.
@@ -20,7 +20,7 @@ pub enum Standing {
     FalseSince(usize),
 }
 
-/// How a literal stands in a gap.
+/// The truth of a literal in a gap, and since when it is false.
 fn standing_in(turns: &Turns<'_>, literal: &Literal, gap: usize) -> Standing
     requires { IsHistory turns.now }
     ensures { StandsIn turns.now gap (literal_of literal.now) result }
@@ -32,7 +32,7 @@ fn standing_in(turns: &Turns<'_>, literal: &Literal, gap: usize) -> Standing
     }
 }
 
-/// How each of some literals stands in a gap.
+/// The truth of each of some literals in a gap.
 pub(crate) fn standings_in(
     alloc: Global,
     turns: &Turns<'_>,

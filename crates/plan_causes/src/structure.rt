@@ -11,13 +11,13 @@ use std::alloc::{AllocError, Global};
 /// Numbers of lines with which something is wrong, each once.
 #[derive(Drop)]
 pub struct WrongIds {
-    /// Those that two lines have.
+    /// Numbers that two lines have.
     pub defined_twice: Vec<u64>,
-    /// Those that are listed twice, as roots or as children.
+    /// Numbers that are listed twice, as roots or as children.
     pub listed_twice: Vec<u64>,
-    /// Those that are listed and no line has.
+    /// Numbers that are listed and that no line has.
     pub undefined: Vec<u64>,
-    /// Those that a line has and that are listed nowhere.
+    /// Numbers that a line has and that are listed nowhere.
     pub unlisted: Vec<u64>,
 }
 

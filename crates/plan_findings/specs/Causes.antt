@@ -39,15 +39,15 @@ pub record IsFailed (t : Task) (file : PlanFile) (tasks : List GroundTask) (n : 
   pub literals : (action : Action) → option_and_then (problem_of t).action_of (slice_get tasks n) ≡ Some action
       → AreFalsities t action.precondition standings failed.literals.items
 
--- the same as what comes of the run: the first action that can't be carried out, or exactly the literals of the goal
--- that are false at the end
+-- the cause is that of the run: the first action that can't be carried out, or exactly the literals of the goal that
+-- are false at the end
 abbrev pub IsCauseOf : Task → PlanFile → List GroundTask → RunCause → Cause → Type 0
 IsCauseOf t file tasks (run.Fails n standings) (cause.NotExecutable failed) = IsFailed t file tasks n standings.items failed
 IsCauseOf t file tasks (run.GoalFails standings) (cause.GoalFails literals) = AreFalsities t (problem_of t).goal standings.items literals.items
 IsCauseOf t file tasks run.Holds cause.Valid = Unit {0}
 IsCauseOf t file tasks _ _ = ⊥
 
--- what comes of the run of the action lines
+-- the cause is that of the run of the action lines
 abbrev pub IsRunReason : Task → PlanFile → Cause → Type 0
 IsRunReason t file c = (found : RunCause) × IsRunCause (problem_of t) (tasks_of t file) found × IsCauseOf t file (tasks_of t file) found c
 

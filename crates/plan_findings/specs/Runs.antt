@@ -60,7 +60,7 @@ pub record AreChangesOf (t : Task) (tasks : List GroundTask) (changes : List Cha
 abbrev pub IsChangeIn : Task → History → ℕ → Action → Change → Type 0
 IsChangeIn t h k action c = (before : State) → ((a : Atom) → contains before a ≡ truth h a k) → IsChange t before (after before action) c
 
--- the same of a ground task, if it can be carried out there
+-- the change is that of a ground task, if it can be carried out there
 abbrev pub IsChangeBy : Task → History → ℕ → GroundTask → Change → Type 0
 IsChangeBy t h k g c =
     (before : State) → (next : State) → ((a : Atom) → contains before a ≡ truth h a k) → perform_action before ((problem_of t).action_of g) ≡ Some next → IsChange t before next c

@@ -76,7 +76,7 @@ fn written_atom(alloc: Global, task: &Task, atom: &Atom) -> Result<Vec<u8>, Allo
     bracketed(alloc, task, name, atom.arguments())
 }
 
-/// What a literal says to be true or false, as `(at truck junction)` or `(= a b)`.
+/// The atom or the equality of a literal, without its sign, as `(at truck junction)` or `(= a b)`.
 pub fn core_text(alloc: Global, task: &Task, literal: &Literal) -> Result<Vec<u8>, AllocError>
     ensures { IfOk result (λ v. v.items ≡ spec.core_text task.now (literal_of literal.now)) }
 {

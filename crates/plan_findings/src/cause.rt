@@ -187,7 +187,8 @@ fn goal_fails(
     Ok(Cause::GoalFails(falsities))
 }
 
-/// What comes of the run of tasks.
+/// The cause that a run of tasks gives: a task that can't be carried out, literals of the goal that are false at the
+/// end, or none.
 fn reason_of(
     alloc: Global,
     case: &PlanCase<'_>,

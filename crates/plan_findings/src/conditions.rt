@@ -91,7 +91,7 @@ fn push_places(
     }
 }
 
-/// The same of a condition of a precondition, if it holds in states.
+/// Adds the places of a condition of a precondition, unless it is an equality outside every `forall`.
 fn push_held(
     alloc: Global,
     task: &Task,

@@ -1,4 +1,4 @@
-//! What is found of a plan file's verdict: numbers of lines, literals that are false, and what its run changes.
+//! The findings behind a plan file's verdict: numbers of lines, literals that are false, and the changes of its run.
 #![tactic(auto)]
 
 mod atoms;

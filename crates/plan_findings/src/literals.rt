@@ -35,7 +35,7 @@ fn unchanged_name(alloc: Global, task: &Task, atom: &Atom) -> Result<Option<Vec<
     Ok(Some(name))
 }
 
-/// The same of a literal that wants an atom.
+/// The name of the predicate of a positive literal, if no effect names the predicate.
 fn unchanged_in(
     alloc: Global,
     task: &Task,

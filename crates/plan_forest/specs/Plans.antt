@@ -16,7 +16,7 @@ trees_of tree (line ∷ lines) = plan (tree line) (trees_of tree lines)
 abbrev pub method_at : PlanFile → ℕ → Word
 method_at file line = get_or (map (λ l. l.method) file.decompositions) (line - length file.actions) []
 
--- the tree of a line below which no decomposition stands deeper than so many
+-- the tree of a line, in which the lines `depth` levels below it are leaves
 abbrev pub tree_within : ℕ → (ℕ → GroundTask) → PlanFile → Forest → ℕ → PlanTree
 tree_within zero task_at file forest line = action_at (task_at line) line
 tree_within (suc depth) task_at file forest line =

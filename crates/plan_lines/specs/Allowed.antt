@@ -23,7 +23,7 @@ abbrev pub has_type_so_far : Task → ℕ → Option ℕ → Bool
 has_type_so_far t type None = true
 has_type_so_far t type (Some o) = has_type t type o
 
--- what stands in the place has its type, or has no value yet
+-- the argument of the place has its type, or has no value yet
 abbrev pub place_so_far : Task → List (Option ℕ) → Term × ℕ → Bool
 place_so_far t given p = has_type_so_far t p.1 (object_of given p.0)
 
@@ -39,7 +39,7 @@ IsInstanceWith t c given values = Extends values given × (is_instance t c value
 abbrev pub HasInstanceWith : Task → Conditions → List (Option ℕ) → Type 0
 HasInstanceWith t c given = (values : List ℕ) × IsInstanceWith t c given values
 
--- each of the first so many parameters has a value
+-- each of the first `count` parameters has a value
 abbrev pub IsFilled : List (Option ℕ) → ℕ → Type 0
 IsFilled given count = (p : ℕ) → p < count → get_or given p (Some 0) ≡ None → ⊥
 

@@ -23,11 +23,11 @@ AreEverTrue h atoms values = (a : AtomSchema) → IsIn a atoms → IsEverTrue h 
 abbrev pub MayFit : Task → Conditions → History → List AtomSchema → List (Option ℕ) → List ℕ → Type 0
 MayFit t c h atoms given values = IsInstanceWith t c given values × AreEverTrue h atoms values
 
--- each of the first so many parameters that are shown has a value
+-- each shown one of the first `count` parameters has a value
 abbrev pub AreShownFilled : List Bool → List (Option ℕ) → ℕ → Type 0
 AreShownFilled shown given count = (p : ℕ) → p < count → get_or shown p true ≡ true → get_or given p (Some 0) ≡ None → ⊥
 
--- beside the old ones there are none but values that are allowed, and one like each that is wanted
+-- the new list has the old values, otherwise only allowed ones, and for each wanted one a value like it
 pub record AreFound (Alike : List ℕ → List ℕ → Type 0) (IsAllowed IsWanted : List ℕ → Type 0) (old new : List (List ℕ)) : Type 0 where
   pub kept : (values : List ℕ) → IsIn values old → IsIn values new
   pub each : (values : List ℕ) → IsIn values new → IsIn values old ⊎ IsAllowed values

@@ -12,7 +12,7 @@ abbrev pub once : Bool → ℕ
 once true = 1
 once false = 0
 
--- how many times a task stands in a list
+-- the number of times that a task occurs in a list
 abbrev pub times : GroundTask → List GroundTask → ℕ
 times g [] = 0
 times g (x ∷ xs) = once (ground_task_eq g x) + times g xs

@@ -61,7 +61,7 @@ pub(crate) fn may_be_true(
     Ok(true)
 }
 
-/// Whether the values that are given are those of no instance that may fit, as far as they tell.
+/// Whether the given values rule out every instance that may fit; false is possible although none fits.
 pub(crate) fn is_ruled_out(
     alloc: Global,
     search: &Search<'_, '_>,

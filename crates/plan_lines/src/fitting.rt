@@ -20,7 +20,7 @@ use plan_text::Word;
 use std::alloc::{AllocError, Global};
 
 /// The number of a method at a place. A task that is checked from texts has at most 65,535 methods. Past them, in a
-/// `Task` that is made otherwise, the answer is want of memory although none was refused.
+/// `Task` that is made otherwise, the answer is as if memory had been refused.
 fn method_number(place: usize) -> Result<u16, AllocError>
     ensures { IfOk result (λ n. n ≡ place) }
 {

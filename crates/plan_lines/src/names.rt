@@ -43,7 +43,7 @@ impl<'t> Names<'t> {
 }
 
 /// The number of an object. A task that is checked from texts has at most 65,535 objects. Past them, in a `Task` that
-/// is made otherwise, the answer is want of memory although none was refused.
+/// is made otherwise, the answer is as if memory had been refused.
 fn object_number(number: usize) -> Result<u16, AllocError>
     ensures { IfOk result (λ n. n ≡ number) }
 {
@@ -54,7 +54,7 @@ fn object_number(number: usize) -> Result<u16, AllocError>
 }
 
 /// The number of a task or an action. A task that is checked from texts has at most 65,535 of each. Where a number is
-/// past 32 bits, in a `Task` that is made otherwise, the answer is want of memory although none was refused.
+/// past 32 bits, in a `Task` that is made otherwise, the answer is as if memory had been refused.
 fn task_number(number: usize) -> Result<u32, AllocError>
     ensures { IfOk result (λ n. n ≡ number) }
 {

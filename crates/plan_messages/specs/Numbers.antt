@@ -10,6 +10,6 @@ abbrev pub IsSightingOf : PlacedPlan → List (ℕ × ℕ) → ℕ → Option Si
 IsSightingOf p lines id None = IsPlaceOf p lines id None
 IsSightingOf p lines id (Some s) = IsPlaceOf p lines id (Some s.first) × ((place : ℕ) → s.second ≡ Some place → IsPlaceOf p lines id (Some place))
 
--- the same of each of some numbers
+-- the sightings are those of these ids, in order
 abbrev pub HasSightings : PlacedPlan → List (ℕ × ℕ) → List ℕ → List (Option Sighting) → Type 0
 HasSightings p lines ids seen = AllZip (IsSightingOf p lines) ids seen

@@ -250,8 +250,8 @@ fn push_action_lines(
     Ok(())
 }
 
-/// The lines of a run of a plan's action lines: what is true at first and may change, and then for each action what it
-/// makes true and what it makes false. An error where memory was refused.
+/// The lines of a run of a plan's action lines: the atoms that are true initially and may change, and then for each
+/// action the atoms that it makes true and those that it makes false. An error where memory was refused.
 pub fn run_lines(alloc: Global, file: &PlanFile, run: &Run<'_>) -> Result<Vec<u8>, AllocError>
     ensures { IfOk result (λ v. v.items ≡ spec.run_text file.now run.now) }
 {

@@ -1,4 +1,4 @@
-//! What is said of an error beside its message.
+//! The remarks and notes of an error, beside its message.
 
 ghost use Rattle.std.specs.Prelude.{◌≡◌, ◌++◌, ◌∷◌, [], OnOk};
 ghost use Rattle.diagnostics.specs.declared.diagnostic.RemarkKind.TheVariants as kind;
@@ -6,7 +6,7 @@ ghost use Rattle.diagnostics.specs.declared.diagnostic.RemarkKind.TheVariants as
 use diagnostics::{Note, Part, Remark, RemarkKind, Spot};
 use std::alloc::{AllocError, Global};
 
-/// What is said of an error beside its message.
+/// The remarks and notes of an error, beside its message.
 #[derive(Drop)]
 pub(crate) struct Saying<'a> {
     pub(crate) remarks: Vec<Remark<'a>>,

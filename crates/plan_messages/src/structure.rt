@@ -36,7 +36,7 @@ impl Wrong {
     }
 }
 
-/// What stands before the number in the message.
+/// The words before the number in the message.
 fn words_before<'a>(wrong: Wrong) -> &'a str {
     match wrong {
         Wrong::DefinedTwice => "two lines have the number ",
@@ -45,7 +45,7 @@ fn words_before<'a>(wrong: Wrong) -> &'a str {
     }
 }
 
-/// What stands after the number in the message.
+/// The words after the number in the message.
 fn words_after<'a>(wrong: Wrong) -> &'a str {
     match wrong {
         Wrong::DefinedTwice | Wrong::Undefined => "",
@@ -55,7 +55,7 @@ fn words_after<'a>(wrong: Wrong) -> &'a str {
     }
 }
 
-/// What stands beside the carets, if anything.
+/// The label beside the carets; empty where there is none.
 fn label_words<'a>(wrong: Wrong) -> &'a str {
     match wrong {
         Wrong::Unlisted => "neither a root nor a child",
@@ -64,7 +64,7 @@ fn label_words<'a>(wrong: Wrong) -> &'a str {
     }
 }
 
-/// What is said of the first place, where the second is shown.
+/// The words of the note on the first place, where the error is at the second.
 fn note_words<'a>(wrong: Wrong) -> &'a str {
     match wrong {
         Wrong::DefinedTwice => "the first one",

@@ -2,8 +2,9 @@
 use Rattle.std.specs.Prelude.{ℕ, zero, suc, ◌+◌, Bool, true, false, nat_lt, if◌then◌else◌, List, [], ◌∷◌, ◌++◌, length, Option, Some, None}
 use Rattle.std.specs.List.{flat_map}
 
--- A line in its place: its number, its parent's, how many lines it is below, and whether it is the last of its siblings.
--- Of the lines that it is below, from the top, it says the same for as many as have bars.
+-- A line in the forest: its number, its parent's, the number of lines above it, and whether it is the last of its
+-- siblings; and, for as many of the lines above it as have bars, from the top, whether each is the last of its
+-- siblings.
 pub record Row : Type 0 where
   pub line : ℕ
   pub parent : Option ℕ
@@ -15,16 +16,16 @@ pub record Row : Type 0 where
 abbrev pub max_bars : ℕ
 max_bars = 40
 
--- what is said of the lines above a row's children
+-- for the lines above a row's children, whether each is the last of its siblings
 abbrev pub with_bar : List Bool → Bool → List Bool
 with_bar above is_last = if nat_lt (length above) max_bars then above ++ is_last ∷ [] else above
 
--- whether nothing follows
+-- whether a list is at its end
 abbrev pub is_end : List ℕ → Bool
 is_end [] = true
 is_end (line ∷ lines) = false
 
--- siblings, of which that is the last which none follows
+-- the rows of siblings, of which the one without a successor is the last
 abbrev pub siblings : Option ℕ → ℕ → List Bool → List ℕ → List Row
 siblings parent depth above [] = []
 siblings parent depth above (line ∷ lines) =
@@ -45,7 +46,7 @@ pub data ArePreorder (children : ℕ → List ℕ) : (rows all : List Row) → T
   next : (row : Row) (rows below after : List Row) → ArePreorder children (child_rows children row) below → ArePreorder children rows after
       → ArePreorder children (row ∷ rows) (row ∷ (below ++ after))
 
--- the same, to the given depth below the rows
+-- the rows from the top down, to a depth below the given ones
 abbrev pub rows_within : (ℕ → List ℕ) → ℕ → List Row → List Row
 rows_within children zero rows = []
 rows_within children (suc deep) rows = flat_map (λ row. row ∷ rows_within children deep (child_rows children row)) rows

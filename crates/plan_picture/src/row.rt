@@ -23,7 +23,7 @@ pub struct Row {
     pub is_last: bool,
 }
 
-/// What is said of the lines above the children of a row.
+/// For the lines above the children of a row, whether each is the last of its siblings.
 pub(crate) fn bars_below(row: &Row) -> Result<Vec<bool>, AllocError>
     ensures { IfOk result (λ bars. bars.items ≡ spec.with_bar row.now.above.items row.now.is_last) }
 {

@@ -1,4 +1,5 @@
-//! What is found of a plan file's verdict, as data: numbers of lines, literals that are false, and what a run changes.
+//! The findings behind a plan file's verdict, as data: numbers of lines, literals that are false, and the changes of a
+//! run.
 #![tactic(auto)]
 
 mod cause;

@@ -1,14 +1,14 @@
 //! Literals that are false where they have to hold.
 
 use plan_causes::Standing;
-/// What a literal wants.
+/// The sign of a literal.
 #[derive(Clone, Copy, Debug, PartialEq, Eq)]
 pub enum Sign {
     /// An atom is true.
     Positive,
     /// An atom is false.
     Negative,
-    /// Two objects are the same.
+    /// Two objects are equal.
     Same,
     /// Two objects are different.
     Different,
@@ -19,7 +19,7 @@ pub enum Sign {
 pub struct FalseLiteral {
     /// As it is written at objects: `(at truck junction)`, `(not (full box))`.
     pub text: Vec<u8>,
-    /// The same without `not`.
+    /// The text without `not`.
     pub atom: Vec<u8>,
     pub sign: Sign,
     /// Since when it is false.

@@ -6,20 +6,20 @@ pub struct Fact<'a> {
     pub words: Vec<&'a [u8]>,
 }
 
-/// What an action changes.
+/// The changes of an action.
 #[derive(Drop)]
 pub struct Change<'a> {
-    /// What it makes true that was false, in the order of the words.
+    /// The atoms that it makes true and that were false, in the order of the words.
     pub added: Vec<Fact<'a>>,
-    /// What it makes false that was true, in the order of the words.
+    /// The atoms that it makes false and that were true, in the order of the words.
     pub deleted: Vec<Fact<'a>>,
 }
 
 /// The run of a plan's action lines, as far as they can be carried out.
 #[derive(Drop)]
 pub struct Run<'a> {
-    /// What is true at first and may change, in the order of the words.
+    /// The atoms that are true initially and may change, in the order of the words.
     pub start: Vec<Fact<'a>>,
-    /// What each action changes, in turn.
+    /// The changes of each action, in turn.
     pub changes: Vec<Change<'a>>,
 }

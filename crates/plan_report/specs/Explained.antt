@@ -105,7 +105,7 @@ IsWrittenIn format.Short task file v words style ds bytes =
     (run : List ℕ) × AreRunLines task file (has_run v style) run × (bytes ≡ short_bytes words run ds)
 IsWrittenIn format.Json task file v words style ds bytes = bytes ≡ explained_bytes (Some words) ds
 
--- the same in the format that is asked for
+-- the words of a verdict and its errors in the format that is asked for
 abbrev pub IsWritten : Task → PlanFile → Verdict → List ℕ → ReportStyle → List Diagnostic → List ℕ → Type 0
 IsWritten task file v words style ds bytes = IsWrittenIn style.format task file v words style ds bytes
 
@@ -128,7 +128,7 @@ fault_code (fault.NotAscii place) = codes "NotAscii"
 fault_code (fault.TooLong place) = codes "TooLong"
 fault_code fault.OutOfMemory = codes "OutOfMemory"
 
--- where a fault stands, if it stands at a place
+-- the place of a fault, if it has one
 abbrev pub fault_place : PlanFault → Option ℕ
 fault_place (fault.BadLine place) = Some place
 fault_place (fault.TwoRoots place) = Some place

@@ -109,7 +109,7 @@ fn has_step(scene: &Scene<'_>, line: Option<usize>) -> bool {
     }
 }
 
-/// What is said of a line that has to be done before another.
+/// The message about a line that has to be done before another, with its place.
 fn line_before(
     scene: &Scene<'_>,
     line: usize,
@@ -130,7 +130,7 @@ fn line_before(
     Ok((mark, message))
 }
 
-/// What is said of a precondition that has to hold before a line.
+/// The message about a precondition that has to hold before a line, with its place.
 fn precondition_before(
     scene: &Scene<'_>,
     line: Option<usize>,

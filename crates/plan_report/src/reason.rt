@@ -19,7 +19,7 @@ pub(crate) struct Mark {
     pub(crate) len: usize,
 }
 
-/// What is said of a place.
+/// A message about a place.
 #[derive(Drop)]
 pub(crate) struct Saying {
     pub(crate) mark: Mark,

@@ -27,7 +27,7 @@ use std::alloc::{AllocError, Global};
 #[derive(Clone, Copy, Debug)]
 pub struct ReportStyle {
     pub format: Format,
-    /// Whether it has what is true at the start, and what each action makes true and false.
+    /// Whether it has the atoms that are true initially, and those that each action makes true and false.
     pub has_states: bool,
     /// Whether the text has colours.
     pub colour: bool,

@@ -1,4 +1,4 @@
--- Lines that have no room, whatever stands beside them, and the deepest of these.
+-- Lines that have no room, whatever is beside them, and the deepest of these.
 use Rattle.std.specs.Prelude.{◌≡◌, ◌⊎◌, ℕ, ◌≤◌, Option, Some, None}
 use Rattle.htn_model.specs.PlanFile.{IsIn}
 use Rattle.plan_room.specs.Frames.{IsLine}

@@ -39,7 +39,7 @@ abbrev pub SomeFits : Lines → List ℕ → List Instance → ℕ → ℕ → �
 SomeFits l children instances number g h =
     (i : ℕ) × (i < number) × (instance : Instance) × (slice_get instances i ≡ Some instance) × NetworkHasRoom l children instance.network g h
 
--- the work that is kept, if any is
+-- the stored work, if there is any
 abbrev pub unboxed : Option (Box Work) → Option Work
 unboxed None = None
 unboxed (Some kept) = Some kept.value
@@ -50,10 +50,10 @@ pub record IsFrame (l : Lines) (frame : Frame) : Type 0 where
   pub within : frame.question.gap ≤ l.actions
   pub candidates : AreCandidates l (IsOneOf l frame.question.line) (children_of l frame.question.line) (networks_of (cow_slice_items frame.networks))
   pub low : frame.tried ≤ length (cow_slice_items frame.networks)
-  -- the best is that of the networks that are done with
+  -- the best finish is that of the networks that were tried
   pub found : IsFound (SomeFits l (children_of l frame.question.line) (cow_slice_items frame.networks) frame.tried frame.question.gap) l.actions frame.best
   pub none_better : (h : ℕ) → h ≤ l.actions → SomeFits l (children_of l frame.question.line) (cow_slice_items frame.networks) frame.tried frame.question.gap h → IsBeaten frame.best h
-  -- and none is better than the least
+  -- no network at all can have finished before the gap `least`
   pub lower : IsLower l (children_of l frame.question.line) frame.question.gap frame.least
   pub work : (instance : Instance) → slice_get (cow_slice_items frame.networks) frame.tried ≡ Some instance
       → IsWork l (children_of l frame.question.line) instance.network frame.question.gap (unboxed frame.work)

@@ -29,7 +29,7 @@ pub record AreNext (task_of : ℕ → GroundTask) (from n : ℕ) (after : List �
   pub same : (c : ℕ) → c < n → get_or after c 0 < n → task_of c ≡ task_of (get_or after c 0)
   pub next : (c d : ℕ) → from ≤ c → c < d → d < n → task_of c ≡ task_of d → get_or after c 0 ≤ d
 
--- where a node's task comes first; past all for one that comes nowhere, and for a step
+-- a place if there is one, and otherwise the number past all
 abbrev pub place_or : Option ℕ → ℕ → ℕ
 place_or None n = n
 place_or (Some place) n = place

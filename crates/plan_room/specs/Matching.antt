@@ -33,9 +33,8 @@ HasRoomWith w m h = HaveRoom (λ a. w.room (m a)) w.order w.gap h
 abbrev pub HasMatchedRoom : Seating → ℕ → Type 0
 HasMatchedRoom w h = (m : ℕ → ℕ) × IsSeated w m × HasRoomWith w m h
 
--- who has room has it forwards, and from earlier on too; who can stand somewhere does in each matching; and positions
--- that a
--- choice can stand at have all their choices in common
+-- a choice with room has it forwards, and from earlier gaps too; a choice that suits some position is used by each
+-- matching; and positions that one choice suits have all their choices in common
 pub record IsSeating (w : Seating) : Type 0 where
   pub sequence : IsSequence w.order w.sequence
   pub square : IsSquare (length w.order) w.order
@@ -45,7 +44,7 @@ pub record IsSeating (w : Seating) : Type 0 where
   pub used : (m : ℕ → ℕ) → IsSeated w m → (a c : ℕ) → a < length w.order → c < w.count → w.suits a c ≡ true → (b : ℕ) × (b < length w.order) × (m b ≡ c)
   pub alike : (a b c d : ℕ) → w.suits a c ≡ true → w.suits b c ≡ true → w.suits a d ≡ true → w.suits b d ≡ true
 
--- the same positions are before both, and after both
+-- two positions have the same positions before them, and the same after them
 abbrev pub AreTwins : Order → ℕ → ℕ → Type 0
 AreTwins order a b = ((x : ℕ) → is_before order x a ≡ is_before order x b) × ((x : ℕ) → is_before order a x ≡ is_before order b x)
 
@@ -60,7 +59,7 @@ IsFixed w a = (i j c : ℕ) → i < j → j < length w.sequence → get_or w.seq
     → AreTwins w.order a (get_or w.sequence j 0)
     ⊎ ((is_before w.order a (get_or w.sequence j 0) ≡ true) × ((d : ℕ) → c < d → w.suits a d ≡ true → IsBlockedBy w c d))
 
--- none that comes between them can stand at the position, or it is fixed
+-- no choice between the two suits the position, unless it is fixed
 pub record IsNextChoice (w : Seating) (a c next : ℕ) : Type 0 where
   pub more : c < next
   pub within : next ≤ w.count

@@ -5,7 +5,7 @@ use Rattle.htn_model.specs.Fits.{AreSpans}
 use Rattle.plan_room.specs.declared.rooms.Finish.{Finish}
 use Rattle.plan_room.specs.declared.rooms.Finish.TheVariants.{Unknown, Never, At}
 
--- room for what stands at a position, from a gap to a gap
+-- the condition under which the choice at a position has room from a gap to a gap
 abbrev pub Room : Type 1
 Room = ℕ → ℕ → ℕ → Type 0
 
@@ -21,7 +21,7 @@ IsFinish Holds n (Unknown question) = ⊤
 IsFinish Holds n Never = (k : ℕ) → k ≤ n → Holds k → ⊥
 IsFinish Holds n (At h) = IsFirst Holds n h
 
--- each position has a span with room for what stands there
+-- each position has a span in which its choice has room
 pub record HaveSpans (room : Room) (order : Order) (g h : ℕ) (start finish : ℕ → ℕ) : Type 0 where
   pub spans : AreSpans order start finish g h
   pub rooms : (a : ℕ) → a < length order → room a (start a) (finish a)
@@ -70,7 +70,7 @@ pub record IsPlaced (room : Room) (order : Order) (n g : ℕ) (finishes : List �
   pub fits : room a start (get_or finishes a g)
   pub least : (h : ℕ) (other_start other_finish : ℕ → ℕ) → HaveSpans room order g h other_start other_finish → get_or finishes a g ≤ other_finish a
 
--- that many positions of the sequence are placed
+-- the first `placed` positions of the sequence are placed
 pub record ArePlaced (room : Room) (order : Order) (sequence : List ℕ) (n g : ℕ) (finishes : List ℕ) (placed : ℕ) : Type 0 where
   pub size : length finishes ≡ length order
   pub within : placed ≤ length sequence

@@ -28,7 +28,7 @@ IsOneAt false l i network = IsInitial l network
 abbrev pub IsOneOf : Lines → ℕ → Network → Type 0
 IsOneOf l i = IsOneAt (ltb i l.count) l i
 
--- what stands below the line, or below the roots, has room between two gaps
+-- everything below the line, or below the roots, has room between two gaps
 abbrev pub FitAt : Bool → Lines → ℕ → ℕ → ℕ → Type 0
 FitAt true l i g h = Fits l.naming l.problem l.states (l.plan_of i) g h
 FitAt false l i g h = (network : Network) × IsInitial l network × NetworkFits l.naming l.problem l.states network (plans_of l.plan_of l.roots) g h
@@ -39,12 +39,12 @@ LineFits l i = FitAt (ltb i l.count) l i
 
 -- ## Choices: the children by their places in the list, and then a step for each position
 
--- the node that stands there, if one does, is this one
+-- the node at the position, if there is one, is this one
 abbrev pub is_child_at : Option Child → Child → Bool
 is_child_at None c = false
 is_child_at (Some b) c = child_eq b c
 
--- a precondition step stands there
+-- the node at the position is a precondition step
 abbrev pub is_step_at : Option Child → Bool
 is_step_at None = false
 is_step_at (Some (precondition literals)) = true

@@ -10,11 +10,11 @@ use crate::lines::PlanLines;
 use crate::memo::Memo;
 use crate::rooms::Finish;
 
-/// A gap before which not all children can have finished, as far as they are looked at.
+/// A gap before which not all of the considered children can have finished.
 #[derive(Drop)]
 pub(crate) struct Bound {
     pub end: usize,
-    /// So many of them are looked at.
+    /// The number of children that were considered.
     pub seen: usize,
 }
 

@@ -1,4 +1,4 @@
-//! The deepest line that has no room, whatever stands beside it.
+//! The deepest line that has no room, whatever is beside it.
 ghost use Rattle.std.specs.Prelude.{◌↔◌, IfOk, IsTrue, MatchOption, OnOk};
 ghost use Rattle.plan_room.specs.Deepest.{DeepestBlock, DeepestExist, HasOwnRoom, IsChildWithoutRoom, IsDeepest, RoomIsPassedOn};
 ghost use Rattle.plan_room.specs.Frames.{IsLine};

@@ -77,7 +77,7 @@ pub(crate) fn line_end<L: PlanLines>(
     }
 }
 
-/// How early lines can have finished that start at given gaps, as far as it was asked.
+/// The earliest gaps by which lines that start at given gaps can have finished, for the questions that were asked.
 #[derive(Drop)]
 pub struct Ends {
     memo: Memo,

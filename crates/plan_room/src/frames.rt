@@ -37,8 +37,8 @@ pub(crate) struct Work {
     is_settled: bool,
 }
 
-/// Work among no more children than these is begun anew rather than kept while a question is open: of the frames that
-/// wait there may be as many as lines.
+/// Work on at most this number of children is begun again rather than stored while a question is open: there may be as
+/// many waiting frames as lines.
 const FEW: usize = 4;
 
 /// A line whose finish is asked, with the networks that may fit it.
@@ -46,7 +46,7 @@ const FEW: usize = 4;
 pub(crate) struct Frame<'a> {
     pub question: Question,
     networks: CowSlice<'a, Instance>,
-    /// So many of them are done with.
+    /// The number of networks that were tried.
     tried: usize,
     /// The first gap by which one of these can have finished.
     best: Option<usize>,

@@ -17,10 +17,10 @@ use std::alloc::{AllocError, Global};
 /// More children than these are sorted alone.
 const MOST: usize = 1024;
 
-/// So many rounds times children at most.
+/// The most rounds times children.
 const ROUNDS: usize = 2097152;
 
-/// So many rounds after an exchange its positions keep their children.
+/// For this number of rounds after an exchange its positions keep their children.
 const REST: usize = 3;
 
 /// The gaps that a child takes at least: from its first action to its earliest finish.
@@ -169,7 +169,7 @@ fn seats_of(
     Ok(seats)
 }
 
-/// Whether what stands at a place ends only after a gap.
+/// Whether the child at a place ends only after a gap.
 fn ends_after(spans: &[Span], place: usize, gap: usize) -> bool {
     match spans.get(place) {
         Some(span) => gap < span.end,
@@ -177,7 +177,7 @@ fn ends_after(spans: &[Span], place: usize, gap: usize) -> bool {
     }
 }
 
-/// Whether what stands at a place begins before a gap.
+/// Whether the child at a place begins before a gap.
 fn begins_before(spans: &[Span], place: usize, gap: usize) -> bool {
     match spans.get(place) {
         Some(span) => span.first < gap,
@@ -185,7 +185,7 @@ fn begins_before(spans: &[Span], place: usize, gap: usize) -> bool {
     }
 }
 
-/// With how many others what stands at a place is out of order.
+/// The number of others with which the child at a place is out of order.
 fn clashes(seats: &[Seat], spans: &[Span], place: usize) -> usize {
     let Some(seat) = seats.get(place) else {
         return 0;
@@ -217,7 +217,7 @@ fn next_clash(seats: &[Seat], spans: &[Span], from: usize) -> Option<usize> {
     None
 }
 
-/// Exchanges what stands at two places.
+/// Exchanges the children at two places.
 fn exchange(spans: &mut [Span], a: usize, b: usize) {
     if a < spans.len() && b < spans.len() {
         spans.swap(a, b);

@@ -8,8 +8,7 @@ ghost use Rattle.plan_room.specs.Trials.{AreDismissed, IsAsked, IsTried, StepSay
 use crate::rooms::{Finish, Question};
 use std::alloc::{AllocError, Global};
 
-/// What can stand at the positions of a network, by number: a line for a subtask, and one choice of
-/// its own for a step.
+/// The choices for the positions of a network, by number: a line for a subtask, and one choice of its own for a step.
 pub trait Choices {
     ghost use Rattle.plan_room.specs.Matching.{HasMatchedRoom, IsFixed, Seating};
     ghost use Rattle.plan_room.specs.Placing.{IsAhead};
@@ -291,8 +290,8 @@ pub fn start<C: Choices>(alloc: Global, choices: &C) -> Result<Trial, AllocError
     })
 }
 
-/// Goes on trying the matchings. It stops where the finish of a line has to be known first, and else
-/// says by which gap the network can have finished, in whichever matching.
+/// Continues the search among the matchings. It stops where the finish of a line has to be known first, and otherwise
+/// returns the gap by which the network can have finished, in whichever matching.
 pub fn best_matching<C: Choices>(trial: &mut Trial, choices: &C) -> Finish
     requires sound { C.is_sound choices.now }
     requires seating { IsSeating (C.seating choices.now) }

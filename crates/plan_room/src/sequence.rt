@@ -20,7 +20,7 @@ fn is_chain(order: &Order) -> bool
     true
 }
 
-/// So many empty lists.
+/// `count` empty lists.
 fn empty_lists(alloc: Global, count: usize) -> Result<Vec<Vec<usize>>, AllocError>
     ensures { IfOk result (λ v. lists_of v.items ≡ replicate count []) }
 {

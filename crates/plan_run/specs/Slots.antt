@@ -1,4 +1,4 @@
--- Slots are equal where they are the same.
+-- The test of slots is true exactly of equal slots.
 use Rattle.std.specs.Prelude.{◌≡◌, ◌&&◌, ℕ, Bool, nat_eq}
 use Rattle.std.specs.Bool.{Decides}
 use Rattle.std.specs.Cmp.{IsEquivalence, IsPartialEquivalence, partial_equiv_from_equiv, unsigned_Decides, decided, first_so, second_so}
@@ -9,7 +9,7 @@ use Rattle.plan_run.specs.EverTrue.{slot_eq, slot_hash}
 use Rattle.plan_run.specs.declared.ever_true.Slot.{Slot}
 use Rattle.plan_run.specs.declared.ever_true.Slot.TheVariants.{Predicate, Argument}
 
--- the test tells exactly the equal slots
+-- the test is true exactly of equal slots
 pub slot_eq-decides : (x y : Slot) → Decides (slot_eq x y) (x ≡ y)
 slot_eq-decides (Predicate p) (Predicate q) = let d = unsigned_Decides p q in (λ e. ap Predicate (d.0 e), λ e. d.1 (let same : p ≡ q = cc in same))
 slot_eq-decides (Predicate p) (Argument q j r) = (λ e. absurd cc, λ e. absurd cc)
@@ -30,11 +30,11 @@ slot_eq-decides (Argument p i o) (Argument q j r) =
           both_true _ _ (ps.1 a) (both_true _ _ (is.1 b) (os.1 c)),
     )
 
--- it has the laws of an equality
+-- the test has the laws of an equality
 pub slot_eq-laws : IsEquivalence slot_eq
 slot_eq-laws = decided slot_eq slot_eq-decides
 
--- and of a partial one
+-- the test has the laws of a partial equality
 pub slot_eq-partial : IsPartialEquivalence slot_eq
 slot_eq-partial = partial_equiv_from_equiv slot_eq-laws
 

@@ -22,13 +22,13 @@ pub record IsRising (last : ℕ) (turns : List ℕ) : Type 0 where
   pub rising : (i j : ℕ) → i < j → j < length turns → get_or turns i 0 < get_or turns j 0
   pub low : (i : ℕ) → i < length turns → get_or turns i 0 ≤ last
 
--- so many of the gaps are up to this one
+-- exactly the first `passed` gaps are at this one or before it
 pub record Splits (turns : List ℕ) (gap passed : ℕ) : Type 0 where
   pub low : (i : ℕ) → i < passed → get_or turns i 0 ≤ gap
   pub high : (i : ℕ) → passed ≤ i → i < length turns → gap < get_or turns i 0
   pub within : passed ≤ length turns
 
--- in this gap it is turned over, and before it nothing changes
+-- the truth is negated from this gap on, and before it nothing changes
 pub record IsTurnedOver (old new : List ℕ) (gap : ℕ) : Type 0 where
   pub rising : IsRising gap new
   pub before : (first : Bool) (k : ℕ) → k < gap → is_true_in first new k ≡ is_true_in first old k

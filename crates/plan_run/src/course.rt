@@ -8,7 +8,7 @@ use htn_ground::{GroundTask, action_of};
 use htn_task::Task;
 use std::alloc::{AllocError, Global};
 
-/// What comes of a run.
+/// The outcome of a run.
 #[derive(Drop)]
 pub enum Outcome<'a> {
     /// The number of the first task that is no action, or an action whose literals don't hold when it comes.

@@ -15,7 +15,7 @@ use indexmap::IndexSet;
 use std::alloc::{AllocError, Global};
 use std::marker::Model;
 
-/// What has come of the atoms of an initial state, gap by gap.
+/// The truth of atoms gap by gap, from an initial state on.
 #[derive(Drop)]
 pub struct Turns<'a> {
     initial: &'a State,
@@ -130,7 +130,7 @@ fn set_of(alloc: Global, atoms: &[Atom]) -> Result<IndexSet<Atom>, AllocError>
     Ok(set)
 }
 
-/// So many lists of no turns.
+/// `count` lists without turns.
 fn no_turns(alloc: Global, count: usize) -> Result<Vec<Vec<usize>>, AllocError>
     ensures many { IfOk result (λ v. length v.items ≡ count) }
     ensures none { IfOk result (λ v. (i : ℕ) → get_or (map (λ turns. turns.items) v.items) i [] ≡ []) }

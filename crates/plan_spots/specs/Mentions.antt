@@ -1,4 +1,4 @@
--- Where numbers of lines stand in a plan's text.
+-- The places of numbers of lines in a plan's text.
 use Rattle.std.specs.Prelude.{◌≡◌, ℕ, List, [], ◌∷◌, ◌++◌, map, Option, Some, None}
 use Rattle.std.specs.List.{zip}
 use Rattle.htn_model.specs.PlanFile.{DecompositionLine, action_ids, decomposition_ids}

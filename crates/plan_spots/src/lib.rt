@@ -1,4 +1,4 @@
-//! The words of a plan's lines, and where numbers stand in them.
+//! The words of a plan's lines, and the places of numbers in them.
 #![tactic(auto)]
 
 mod mentions;

@@ -1,4 +1,4 @@
-//! Where numbers stand in a plan's text.
+//! The places of numbers in a plan's text.
 
 ghost use Rattle.std.specs.Prelude.{◌≡◌, ◌++◌, List, ℕ, IfOk, OnOk, slice_get};
 ghost use Rattle.std.specs.List.{AllZip, zip};
@@ -99,7 +99,7 @@ pub fn definitions(alloc: Global, plan: &PlacedPlan<'_>) -> Result<Vec<Mention>,
     Ok(mentions)
 }
 
-/// Where a line goes on after some of its words.
+/// The place on a line after its first `count` words.
 fn after_words(text: &[u8], line: usize, count: usize) -> usize
     ensures { IsOnLine text.now line result }
 {

@@ -38,13 +38,13 @@ before_end (line ∷ lines) = if is_marker end_marker line then Some [] else opt
 abbrev pub body : List ℕ → Option (List Piece)
 body text = option_and_then before_end (after_start (lines text))
 
--- The lines hold the file: each is a line of some kind, and just one names the roots.
+-- The lines hold the file: each is a line of some kind, and exactly one names the roots.
 pub record HoldsFile (file : PlanFile) (between : List Piece) : Type 0 where
   pub kinds : List LineKind
   pub each : AreLines between kinds
   pub contents : contents_of kinds ≡ record { actions = file.actions; root_lists = file.roots ∷ []; decompositions = file.decompositions }
 
--- The text holds the file: it is not too long, and the lines between its markers do.
+-- The text holds the file: it is not too long, and the lines between its markers hold the file.
 pub record FileText (file : PlanFile) (text : List ℕ) : Type 0 where
   pub short : length text ≤ max_bytes
   pub between : List Piece

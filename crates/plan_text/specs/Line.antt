@@ -1,4 +1,4 @@
--- The kinds of line that stand between the markers, and what each gives to the file.
+-- The kinds of line between the markers, and the lines of the file that each gives.
 use Rattle.std.specs.Prelude.{◌≡◌, ℕ, ◌^◌, ◌<◌, Bool, true, false, not, ◌||◌, nat_lt, List, [], ◌∷◌, ◌++◌, map, codes, ⊤}
 use Rattle.std.specs.List.{list_all, flat_map}
 use Rattle.std.specs.Char.{is_ascii_digit, to_ascii_lowercase}
@@ -9,7 +9,7 @@ use Rattle.plan_text.specs.Piece.{Piece, words}
 use Rattle.htn_model.specs.PlanFile.{Word, ActionLine, DecompositionLine}
 use Rattle.htn_model.specs.PlanWord.{arrow}
 
--- a kind of line, with those of its words that say something
+-- a kind of line, with the words that have a content
 pub data LineKind : Type 0 where
   blank : LineKind
   roots : (numbers : List Piece) → LineKind
@@ -73,7 +73,7 @@ numbers_of (decomposition id task arguments method children) = id ∷ children
 abbrev pub number : Piece → ℕ
 number w = digits_value 10 w.bytes
 
--- the number fits an id
+-- the number fits 64 bits, as an id has to
 abbrev pub is_small : Piece → Bool
 is_small w = nat_lt (number w) (2 ^ 64)
 
@@ -91,7 +91,7 @@ pub record IsLine (line : Piece) (kind : LineKind) : Type 0 where
   pub of_kind : IsOfKind (words line) kind
   pub small : list_all is_small (numbers_of kind) ≡ true
 
--- line by line
+-- each line is of the kind at its place in the list
 abbrev pub AreLines : List Piece → List LineKind → Type 0
 AreLines [] [] = ⊤
 AreLines [] (kind ∷ kinds) = ⊥
@@ -126,13 +126,13 @@ decompositions_of (action id name arguments) = []
 decompositions_of (decomposition id task arguments method children) =
     record { id = number id; task = folded task; arguments = map folded arguments; method = folded method; children = map number children } ∷ []
 
--- what the lines give together, each in the order in which it stands
+-- the lines of a file that several lines give together, by kind, each kind in the order of the lines
 pub record Contents : Type 0 where
   pub actions : List ActionLine
   pub root_lists : List (List ℕ)
   pub decompositions : List DecompositionLine
 
--- what lines give together, each kind in the order of the lines
+-- the lines of the file that these lines give, by kind, each kind in the order of the lines
 abbrev pub contents_of : List LineKind → Contents
 contents_of kinds = record {
   actions = flat_map actions_of kinds;

@@ -7,7 +7,7 @@ use Rattle.htn_model.specs.PlanWord.{is_blank}
 abbrev pub max_bytes : ℕ
 max_bytes = 16777216
 
--- a part of a text, and where its first byte stands in the text, counted from 0
+-- a part of a text, with the place of its first byte in the text, counted from 0
 pub record Piece : Type 0 where
   pub place : ℕ
   pub bytes : List ℕ
@@ -21,8 +21,8 @@ abbrev pub with_front : ℕ → ℕ → List Piece → List Piece
 with_front place b [] = piece place (b ∷ []) ∷ []
 with_front place b (p ∷ ps) = piece place (b ∷ p.bytes) ∷ ps
 
--- The pieces of the bytes that stand at a place, cut at each byte that passes the test and without these bytes:
--- one piece more than there are such bytes.
+-- The pieces of the bytes from a place on, cut at each byte that passes the test and without these bytes: one piece
+-- more than there are such bytes.
 abbrev pub pieces : (ℕ → Bool) → ℕ → List ℕ → List Piece
 pieces is_cut place [] = piece place [] ∷ []
 pieces is_cut place (b ∷ bytes) =

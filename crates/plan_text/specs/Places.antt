@@ -1,4 +1,4 @@
--- Where the lines of a plan file stand in its text.
+-- The places of a plan file's lines in its text.
 use Rattle.std.specs.Prelude.{◌≡◌, ℕ, Bool, true, false, if◌then◌else◌, List, [], ◌∷◌, Some, ⊤}
 use Rattle.htn_model.specs.PlanFile.{PlanFile}
 use Rattle.plan_text.specs.FileText.{body}

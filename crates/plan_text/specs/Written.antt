@@ -1,4 +1,4 @@
--- The one text that a plan file is written as.
+-- The one text as which a plan file is written.
 use Rattle.std.specs.Prelude.{ℕ, List, [], ◌∷◌, ◌++◌, map, codes}
 use Rattle.std.specs.List.{flat_map}
 use Rattle.std.specs.Fmt.{decimal}
@@ -10,7 +10,7 @@ use Rattle.plan_text.specs.FileText.{start_marker, end_marker}
 abbrev pub spaced : Word → List ℕ
 spaced w = 32 ∷ w
 
--- words parted by one space each, and a line feed
+-- words separated by one space each, and a line feed
 abbrev pub line_of : List Word → List ℕ
 line_of [] = 10 ∷ []
 line_of (w ∷ ws) = w ++ flat_map spaced ws ++ 10 ∷ []

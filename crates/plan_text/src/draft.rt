@@ -45,7 +45,7 @@ impl Draft {
         }
     }
 
-    /// Adds what a line says that begins at the place.
+    /// Adds the content of the line that begins at the place.
     pub fn add(
         &mut self,
         alloc: Global,

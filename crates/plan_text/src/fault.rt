@@ -3,7 +3,7 @@
 use std::alloc::{AllocError, AllocFailed};
 use thiserror::Error;
 
-/// What is wrong with a plan text. Places are bytes from the text's beginning, counted from 0.
+/// The faults of plan texts. Places are bytes from the text's beginning, counted from 0.
 #[derive(Clone, Copy, Debug, Error, PartialEq, Eq)]
 pub enum PlanFault {
     /// No line is the start marker `==>`.

@@ -12,7 +12,7 @@ pub fn one_file()
     ensures { (text : List ℕ) (file other : PlanFile) → FileText file text → FileText other text → other ≡ file }
 {}
 
-/// What is written reads back as the file that was written, where it is not too long.
+/// The text of a file reads back as that file, where it is not too long.
 pub fn reads_back()
     ensures { (file : PlanFile) → IsPlanFile file → length (written file) ≤ max_bytes → FileText file (written file) }
 {}

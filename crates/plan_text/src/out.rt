@@ -53,7 +53,7 @@ impl<W> Sink<W> {
         }
     }
 
-    /// The same over a writer to a terminal, which takes colours.
+    /// An output over a writer to a terminal, which takes colours.
     pub fn coloured(writer: W) -> Sink<W>
         ensures writer { sink_writer result ≡ writer }
         ensures works { sink_failed result ≡ false }

@@ -1,4 +1,4 @@
-//! Where the lines of a plan file stand in its text.
+//! The places of a plan file's lines in its text.
 
 ghost use Rattle.std.specs.Prelude.{◌≡◌, ◌≤◌, ◌++◌, length, List, Some, true, false, MatchOption, OnOk, IfOk, IfSome, IfNone};
 ghost use Rattle.htn_model.specs.PlanFile.{PlanFile};

@@ -40,7 +40,7 @@ pub(crate) fn skip_start(lines: &mut Lines<'_>) -> bool
     false
 }
 
-/// How many lines stand before the end marker.
+/// The number of lines before the end marker.
 pub(crate) fn count_to_end(lines: &Lines<'_>) -> Option<usize>
     ensures { MatchOption result (before_end lines.now ≡ None) (λ count. before_end lines.now ≡ Some (take count lines.now)) }
 {
@@ -145,9 +145,9 @@ fn body_of(text: &[u8]) -> Result<Lines<'_>, PlanFault>
 
 /// Reads a plan text of the hierarchical track of the International Planning Competition 2020.
 ///
-/// The plan stands between a line `==>` and a line `<==`. Blank lines, blanks, round brackets, the case of letters, the
-/// order of lines of different kinds and leading zeros are free. An `Err` other than `OutOfMemory` names the first
-/// fault.
+/// ` and a line `<==`. => The plan is between a line `==>` and a line `<==`.=>` and a line `<==`. Blank lines, blanks,
+/// round brackets, the case of letters, the order of lines of different kinds and leading zeros are free. An `Err`
+/// other than `OutOfMemory` names the first fault.
 pub fn read_plan(alloc: Global, text: &[u8]) -> Result<PlanFile, PlanFault>
     // What is read is what the text holds, and it holds nothing else.
     ensures found { IfOk result (λ file. FileText file text.now) }

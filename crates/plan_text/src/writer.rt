@@ -140,7 +140,7 @@ fn put_decompositions<O: Out>(out: &mut O, lines: &[DecompositionLine]) -> Resul
 
 /// Writes a plan file, and takes no memory for it.
 ///
-/// An `Err` comes only where the output has failed. A beginning of the text then stands in it.
+/// An `Err` comes only where the output has failed. A beginning of the text is then in it.
 pub fn write_plan<O: Out>(file: &PlanFile, out: &mut O) -> Result<(), WriteFault>
     ensures { Writes (O.contents out.old) (O.contents out.new) (O.has_failed out.old) (O.has_failed out.new) result (written file.now) }
 {

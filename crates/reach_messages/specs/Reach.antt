@@ -1,4 +1,4 @@
--- Warnings of what no plan of a problem uses, and the numbers of the lines that count what a plan may use.
+-- Warnings of methods and actions that no plan uses, and the numbers of the lines that count what a plan may use.
 use Rattle.std.specs.Prelude.{◌≡◌, ℕ, ◌==◌, ◌&&◌, Bool, true, false, not, if◌then◌else◌, List, [], ◌∷◌, ◌++◌, map, codes, length, Option, Some, None, slice_get, count_by}
 use Rattle.std.specs.List.{AllZip, flat_map}
 use Rattle.hddl_meaning.specs.declared.fault.At.{At}
@@ -36,7 +36,7 @@ is_cause cause.NoInstance = true
 is_cause (cause.Literal place instances) = true
 is_cause (cause.EachInstance instances) = true
 
--- where the names of the methods stand, and those of the actions
+-- the places of the names of the methods and of the actions
 abbrev pub method_places : DomainText → List ℕ
 method_places d = map (λ m. m.name.place) d.methods
 
@@ -48,15 +48,15 @@ abbrev pub listed : Option ℕ → List ℕ
 listed None = []
 listed (Some place) = place ∷ []
 
--- where the name of a method or an action stands, if it is unused for a reason of its own
+-- the place of the name of a method or an action, if it is unused for a reason of its own
 abbrev pub cause_place : List ℕ → Unused → List ℕ
 cause_place names u = if is_cause u.cause then listed (slice_get names u.place) else []
 
--- where the names of those stand that are unused for a reason of their own
+-- the places of the names of those that are unused for a reason of their own
 abbrev pub causes : List ℕ → List Unused → List ℕ
 causes names unused = flat_map (cause_place names) unused
 
--- a warning of a method or an action whose name stands at this place of the domain
+-- a warning of a method or an action whose name is at this place of the domain
 abbrev pub IsNeverAppliedWarning : PairTexts → ℕ → Diagnostic → Type 0
 IsNeverAppliedWarning texts place = IsWarningAt never_applied_code texts (record { source = side.Domain; place = place })
 
@@ -64,12 +64,12 @@ IsNeverAppliedWarning texts place = IsWarningAt never_applied_code texts (record
 abbrev pub IsNoPlanWarning : PairTexts → ℕ → Diagnostic → Type 0
 IsNoPlanWarning texts place = IsWarningAt no_plan_code texts (record { source = side.Problem; place = place })
 
--- one where there is no plan, and else none
+-- the warning that there is no plan, where there is none
 abbrev pub AreNoPlanWarnings : PairTexts → Option NoPlan → List Diagnostic → Type 0
 AreNoPlanWarnings texts None ds = ds ≡ []
 AreNoPlanWarnings texts (Some why) ds = (place : ℕ) × (d : Diagnostic) × (ds ≡ d ∷ []) × IsNoPlanWarning texts place d
 
--- the warnings of what is found: of methods, of actions, and of the problem
+-- the warnings of the findings: of methods, of actions, and of the problem
 pub record AreReachWarnings (texts : PairTexts) (f : Findings) (ds : List Diagnostic) : Type 0 where
   pub methods : List Diagnostic
   pub actions : List Diagnostic

@@ -1,4 +1,5 @@
-//! What no plan of a problem uses, as warnings, and what a plan may use, as lines of a summary.
+//! Warnings of methods and actions that no plan of a problem uses, and the lines of a summary about what a plan may
+//! use.
 #![tactic(auto)]
 
 mod causes;

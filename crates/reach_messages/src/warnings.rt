@@ -90,9 +90,8 @@ fn no_plan_warnings<'a>(
     }
 }
 
-/// The warnings of what no plan uses: of each method and then of each action that is unused for a reason of its own,
-/// about its name, and of a problem that has no plan, about what is never so. The task is that of the texts. An error
-/// where memory was refused.
+/// The warnings of each method and then of each action that no plan uses for a reason of its own, about its name, and
+/// of a problem that has no plan, about the reason. The task is that of the texts. An error where memory was refused.
 pub fn reach_warnings<'a>(
     alloc: Global,
     texts: &PairTexts<'a>,

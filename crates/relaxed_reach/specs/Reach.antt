@@ -57,8 +57,8 @@ is_reached r c = list_any (bars r) c.open_nodes || (is_within r.facts c.state &&
 abbrev pub is_lost_node : Reach → Child → Bool
 is_lost_node r x = r.is_blocked x || bars r x
 
--- where what no effect names is as at first: what may end after a live step might before it, what is done may end, and
--- so might all that leads there
+-- where the static atoms are the initial ones: a configuration may end if one after a live step may, a done one may
+-- end, and so may each one from which live steps lead to a done one
 pub record ReachLasts (problem : Problem) (r : Reach) : Type 0 where
   pub step : (c d : Config) (number : ℕ) → live_step problem c number ≡ Some d → is_as_at_first problem c.state ≡ true
       → may_end_by r d ≡ true → may_end_by r c ≡ true
@@ -66,17 +66,17 @@ pub record ReachLasts (problem : Problem) (r : Reach) : Type 0 where
   pub ends : (word : List ℕ) (c last : Config) → LeadsLive problem word c last → IsDone problem last → is_as_at_first problem c.state ≡ true
       → may_end_by r c ≡ true
 
--- so it is with every relaxed reach
+-- each relaxed reach of a grounded problem has these laws
 abbrev pub ReachStays : Type 0
 ReachStays = (problem : Problem) (r : Reach) → IsGrounded problem → IsRelaxedReach problem r → ReachLasts problem r
 
--- where what no effect names is as at first: a live step leads from what may be reached to what may be; and such a
--- configuration may end just where none of its nodes is one that never does
+-- where the static atoms are the initial ones: a live step from a configuration that may be reached leads to one that
+-- may be; and such a configuration may end exactly where none of its nodes never ends
 pub record ReachedStay (problem : Problem) (r : Reach) : Type 0 where
   pub stays : (c d : Config) (number : ℕ) → live_step problem c number ≡ Some d → is_as_at_first problem c.state ≡ true
       → is_reached r c ≡ true → is_reached r d ≡ true
   pub told : (c : Config) → is_reached r c ≡ true → may_end_by r c ≡ not (list_any (is_lost_node r) c.open_nodes)
 
--- so it is with every relaxed reach
+-- each relaxed reach of a grounded problem keeps these properties
 abbrev pub ReachedStays : Type 0
 ReachedStays = (problem : Problem) (r : Reach) → IsGrounded problem → IsRelaxedReach problem r → ReachedStay problem r

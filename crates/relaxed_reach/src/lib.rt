@@ -1,4 +1,5 @@
-//! Relaxed reachability: which literals may become true in the delete relaxation, and which nodes never end by that.
+//! Relaxed reachability: which literals may become true in the delete relaxation, and which nodes never end because of
+//! that.
 //!
 //! Each fact is on its own: an action whose preconditions may all be true makes its effects possible, and an atom that
 //! becomes false may still be true. An action or a precondition step with an impossible literal is never carried out,

@@ -110,7 +110,7 @@ impl RelaxedReach {
         false
     }
 
-    /// Whether nothing ever ends a node of a configuration that may be reached.
+    /// Whether a node of a configuration that may be reached never ends.
     pub fn is_lost_node(&self, child: &Child) -> bool
         ensures { result ≡ is_lost_node (reach_of self.now) (child_view child.now) }
     {

@@ -47,7 +47,7 @@ pub record IsOrderConflict (l : Lines) (line : ℕ) (c : OrderConflict) : Type 0
   pub second : IsChildAt l line instance.network c.after c.second
   pub not_before : IsNotBefore l c.first c.from
   pub blocked : IsBlockedFrom l c.second c.from
-  -- and the actions that show it, if there are some
+  -- the actions and the precondition that show the conflict, if there are some
   pub late : MatchOption c.late ((action : ℕ) → IsJustBefore l c.first c.from action → ⊥) (IsJustBefore l c.first c.from)
   pub early : IsEarly l c.second c.from c.early
   pub unmet : MatchOption c.unmet ⊤ (IsUnmet l c.second c.from)

@@ -1,4 +1,4 @@
--- What stands at a position of a network, when it can be done, and which actions are below a line.
+-- The node at a position of a network, when it can be done, and which actions are below a line.
 use Rattle.std.specs.Prelude.{◌≡◌, ◌⊎◌, ℕ, ◌+◌, ◌≤◌, ◌<◌, List, Option, Some, None, false, slice_get, ⊤}
 use Rattle.htn_model.specs.Fits.{child_of}
 use Rattle.htn_model.specs.Literal.{Literal, holds, literal_holds}
@@ -38,7 +38,7 @@ IsWidened (Some old) action span =
 abbrev pub IsChildAt : Lines → (top : ℕ) → Network → (position line : ℕ) → Type 0
 IsChildAt l top network a line = IsIn line (children_of l top) × (slice_get network.children a ≡ Some (child_of (l.plan_of line)))
 
--- such a child stands there, or a precondition with these literals
+-- the node at the position is such a child, or a precondition with these literals
 abbrev pub StandsAt : Lines → (top : ℕ) → Network → (position : ℕ) → Node → Type 0
 StandsAt l top network a (Line line) = IsChildAt l top network a line
 StandsAt l top network a (Precondition literals) = slice_get network.children a ≡ Some (precondition literals)

@@ -8,11 +8,11 @@ use htn_state::LiteralList;
 pub struct RoomCause {
     /// The number of a line that has no room, although each line below it has; none for the root line.
     pub line: Option<usize>,
-    /// What is in the way of the lines below it; none where no single conflict was found.
+    /// The conflict of the lines below it; None where no single conflict was found.
     pub conflict: Option<Conflict>,
 }
 
-/// What is in the way of the lines below one.
+/// A conflict of the lines below one.
 #[derive(Drop)]
 pub enum Conflict {
     /// The line's precondition holds nowhere.

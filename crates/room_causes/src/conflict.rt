@@ -60,7 +60,7 @@ fn soonest_end<L: PlanLines>(
     Ok(None)
 }
 
-/// The same of each node of a network.
+/// For each node of a network the earliest gap at which it may have ended.
 fn soonest_ends<L: PlanLines>(
     alloc: Global,
     lines: &L,

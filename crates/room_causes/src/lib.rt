@@ -1,4 +1,4 @@
-//! Why the lines of a plan file have no room: the deepest line that has none, and what is in its way.
+//! Why the lines of a plan file have no room: the deepest line that has none, and the conflict below it.
 #![tactic(auto)]
 
 mod actions;

@@ -1,4 +1,4 @@
-//! What stands at a position of a network, and when it can be done.
+//! The node at a position of a network, and when it can be done.
 ghost use Rattle.std.specs.Prelude.{◌≤◌, ◌<◌, ⊤, IfOk, MatchOption, OnOk};
 ghost use Rattle.plan_room.specs.Ends.{AreEnds};
 ghost use Rattle.plan_room.specs.Frames.{IsLine};

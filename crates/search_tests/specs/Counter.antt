@@ -11,7 +11,7 @@ go_on rest value (suc zero) = Some record { tasks = suc rest; value = (value * 2
 go_on rest value (suc (suc zero)) = Some record { tasks = suc rest; value = value; stuck = true }
 go_on rest value (suc (suc (suc number))) = None
 
--- and of any
+-- the step of a tally by a number, if it has one
 abbrev pub go_by : Bool → ℕ → ℕ → ℕ → Option Tally
 go_by true tasks value number = None
 go_by false zero value number = None

@@ -16,7 +16,7 @@ allowed : (tallies more : List Tally) (r : Reached) → is_written tallies r →
 allowed tallies more (Known c) known = omega (arith, length-append tallies more)
 allowed tallies more (New tally) known = tt
 
--- and stands for the same
+-- a known configuration stands for the same tally after tallies are appended
 same_reached : (tallies more : List Tally) (r : Reached) → is_written tallies r → written (tallies ++ more) r ≡ written tallies r
 same_reached tallies more (Known c) known = get_or_append_left tallies more nothing c.number known
 same_reached tallies more (New tally) known = refl

@@ -130,7 +130,7 @@ module _ (target : ℕ) (initials : List Tally) where
     dead_never = λ c d e n ns own dead step leads done. stuck_never d e ns (given_up c.stuck c.tasks c.value n d (eqb-true n 2 dead) step) leads done;
   }
 
-  -- its estimate is a bound from below
+  -- its estimate is a lower bound
   pub bounded : IsLowerBound (counting target initials) (estimate target)
   bounded = record {
     lowers_one = λ c d n step. lowers_one target c.stuck c.tasks c.value n d (λ two. step.1 (ap (λ k. nat_eq k 2) two)) step.0;
@@ -166,7 +166,7 @@ module _ (target : ℕ) (initials : List Tally) where
       all (suc (suc zero)) d step = absurd (step.1 refl)
       all (suc (suc (suc n))) d step = absurd (none-some d (sym (go_open c.stuck c.tasks c.value (suc (suc (suc n))) free some) ∙ step.0))
 
-  -- and none where it was given up or all is carried out
+  -- there are no live numbers where the tally is stuck or has no task
   pub no_numbers : (c : Tally) → (c.stuck ≡ true) ⊎ (c.tasks ≡ 0) → IsLiveNumbers (counting target initials) c []
   no_numbers c over = record {
     ascending = λ k inside. absurd (omega arith);
@@ -184,7 +184,7 @@ module _ (target : ℕ) (initials : List Tally) where
 pub carries_out : (c : Tally) → c.stuck ≡ false → 0 < c.tasks → go_by c.stuck c.tasks c.value 0 ≡ Some (carried c)
 carries_out c free some = go_open c.stuck c.tasks c.value 0 free some
 
--- and by the second
+-- the step by the second number
 pub doubles : (c : Tally) → c.stuck ≡ false → 0 < c.tasks → go_by c.stuck c.tasks c.value 1 ≡ Some (doubled c)
 doubles c free some =
     let e : suc (c.tasks - 1) ≡ c.tasks = omega arith in
@@ -200,7 +200,7 @@ module _ (target : ℕ) (initials : List Tally) (c : Tally) (free : c.stuck ≡ 
     least = λ k d less step finish. omega arith;
   }
 
-  -- and where it is not, these are the successors
+  -- where carrying out is not done, these are the two successors
   pub both_successors : (beyond : Tally → Type 0) (rank : ℕ) (s t : Successor Tally) → s.origin ≡ Stepped rank 0 → s.configuration ≡ carried c → t.origin ≡ Stepped rank 1 → t.configuration ≡ doubled c
       → (IsDone (counting target initials) (carried c) → ⊥)
       → IsExpansionOf (IsLiveStep (counting target initials)) (IsDone (counting target initials)) beyond rank c (s ∷ t ∷ [])

@@ -59,7 +59,8 @@ fn is_wanted(target: u64, tally: Tally) -> bool
     !tally.stuck && tally.tasks == 0 && tally.value == target
 }
 
-// At least so many steps are left: one for each task, and one to double where the value does not come out otherwise.
+// A lower bound on the steps that are left: one for each task, and one to double where the value does not come out
+// otherwise.
 fn steps_left(target: u64, tally: Tally) -> u64
     requires few { tally.tasks < 1000000 }
     requires small { tally.value < 1000000 }

@@ -61,7 +61,7 @@ impl Expand for Twice {
     }
 }
 
-// The nth time that piece 0 comes, it waits until piece `later` came n times, for so many turns.
+// The nth call for piece 0 waits until piece `later` was called n times, for at most `TURNS` turns.
 #[derive(Drop)]
 struct WaitsFor {
     later: u64,

@@ -70,7 +70,7 @@ impl Tallies {
         Some(Numbered { number })
     }
 
-    /// The number of a tally, which it may get only now.
+    /// The number of a tally, which is added if it is new.
     pub fn number(&mut self, tally: Tally) -> Result<Numbered, AllocError>
         ensures distinct { OnOk result (AreDistinct self.new.tallies.keys) }
         ensures grown { OnOk result ((more : List Tally) × (self.new.tallies.keys ≡ self.old.tallies.keys ++ more)) }

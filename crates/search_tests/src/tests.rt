@@ -121,7 +121,7 @@ fn the_shortest_word(rt: HostRuntime) -> Result<(), Fail> {
     expect(&rt, &machine, 2, "none")
 }
 
-// From 5 tasks, or 6, the bound from below is far from the 12 steps of the word: the bounds grow.
+// From 5 tasks, or 6, the lower bound is far from the 12 steps of the word: the bounds grow.
 #[test]
 fn a_word_past_several_bounds(rt: HostRuntime) -> Result<(), Fail> {
     let machine = counter(rt.alloc(), 517, tally(6, 1), tally(5, 2));
@@ -179,9 +179,9 @@ fn expect_calls_of_one<R: Threads + Wait + Sync + Abort>(
     Ok(())
 }
 
-// What is stuck leads nowhere: so there is one level, whose one piece goes through the gate once, however far the
-// bound. One task at the value 0 leads to the same tally where it is doubled, and to none and the value 1 where it is
-// carried out, which is not wanted: so there are two levels, each with one piece.
+// A stuck tally has no successor, so there is one level, whose one piece passes the gate once, whatever the bound. One
+// task at the value 0 leads to the same tally where it is doubled, and to no task and the value 1 where it is carried
+// out, which is not wanted: so there are two levels, each with one piece.
 #[test]
 fn each_piece_passes_the_gate_once(rt: HostRuntime) -> Result<(), Fail> {
     let alloc: Global = rt.alloc();
@@ -196,8 +196,8 @@ fn each_piece_passes_the_gate_once(rt: HostRuntime) -> Result<(), Fail> {
     expect_calls_of_one(&rt, &machine, 10_000, "unsolvable", 2)
 }
 
-// A search whose first bound is the whole one goes through each level once: from two tasks at the value 0 the word has
-// 4 steps, and 3 are known to be left at least. With a bound that grows, the first levels are searched twice.
+// A search whose first bound is the whole one expands each level once: from two tasks at the value 0 the word has 4
+// steps, and the lower bound is 3. With a bound that grows, the first levels are searched twice.
 #[test]
 fn one_search_within_the_whole_bound(rt: HostRuntime) -> Result<(), Fail> {
     let alloc: Global = rt.alloc();
@@ -256,7 +256,7 @@ const WIDTHS: [usize; 23] = [
     19587, 27374, 34462, 35786,
 ];
 
-// How many levels have a piece of this number, where a piece has so many ranks.
+// The number of levels that have a piece of this number, where a piece has `piece` ranks.
 fn levels_with(number: usize, piece: usize) -> u64
     requires { 0 < piece }
 {
@@ -321,8 +321,8 @@ fn a_search_tells_unsolvable(rt: HostRuntime) -> Result<(), Fail> {
     expect_calls(&rt, &machine, 1, "unsolvable", 1)
 }
 
-// Two configurations are kept at the start, so a search that may keep one is given up, and another goes on with its
-// tables.
+// Two configurations are stored at the start, so a search that may store one is given up, and another one continues
+// with its tables.
 #[test]
 fn a_search_is_given_up(rt: HostRuntime) -> Result<(), Fail> {
     let alloc: Global = rt.alloc();

@@ -35,19 +35,19 @@ has_changed words deletes adds x = (has words x && not (list_any (eqb x) deletes
 abbrev pub words_eq : List ℕ → List ℕ → Bool
 words_eq = pointwise nat_eq
 
--- it tells exactly the equal words
+-- the test is true exactly of equal words
 pub words_eq-decides : (v w : List ℕ) → Decides (words_eq v w) (v ≡ w)
 words_eq-decides v w = pointwise_decides unsigned_Decides v w
 
--- it has the laws of an equality
+-- the test has the laws of an equality
 pub words_eq-laws : IsEquivalence words_eq
 words_eq-laws = decided words_eq words_eq-decides
 
--- and of a partial one
+-- the test has the laws of a partial equality
 pub words_eq-partial : IsPartialEquivalence words_eq
 words_eq-partial = partial_equiv_from_equiv words_eq-laws
 
--- what words feed a hasher
+-- the writes by which words feed a hasher
 abbrev pub words_hash : List ℕ → HashWrites
 words_hash words = fed.slice fed.u64 words
 

@@ -17,7 +17,8 @@ is_met words (Decided holds_always) = holds_always
 is_met words (Positive number) = has words number
 is_met words (Negative number) = not (has words number)
 
--- it holds in a set where the literal holds in the state that it stands for, by this table and later ones
+-- a compiled literal holds in a set exactly where the literal holds in the state that the set stands for, by this table
+-- and later ones
 abbrev pub IsCompiledLiteral : Table → CompiledLiteral → Literal → Type 0
 IsCompiledLiteral t c l = (later : Table) → IsLater t later → (words : List ℕ) → is_met words c ≡ literal_holds (state_of later words) l
 
@@ -26,7 +27,8 @@ abbrev pub all_hold : List ℕ → CompiledLiterals → Bool
 all_hold words c =
     not c.is_never && (list_all (has words) c.positives.items && list_all (λ x. not (has words x)) c.negatives.items)
 
--- they hold in a set where the literals hold in the state that it stands for, by this table and later ones
+-- compiled literals hold in a set exactly where the literals hold in the state that the set stands for, by this table
+-- and later ones
 abbrev pub AreCompiled : Table → CompiledLiterals → List Literal → Type 0
 AreCompiled t c literals =
     (later : Table) → IsLater t later → (words : List ℕ) → all_hold words c ≡ holds (state_of later words) literals

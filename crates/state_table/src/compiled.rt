@@ -14,7 +14,7 @@ use crate::literal::CompiledLiteral;
 use htn_state::{Action, Atom, Literal};
 use std::alloc::{AllocError, Global};
 
-/// A conjunction of literals by the numbers of its fluent atoms. What static atoms and equalities say is decided.
+/// A conjunction of literals by the numbers of its fluent atoms. Static atoms and equalities are decided.
 #[derive(Drop)]
 pub struct CompiledLiterals {
     /// Some literal can never hold.
@@ -25,7 +25,8 @@ pub struct CompiledLiterals {
     negatives: Vec<u32>,
 }
 
-/// What must hold, and the numbers of the atoms that become false, and then of those that become true.
+/// The literals that must hold, the numbers of the atoms that become false, and those of the atoms that become true
+/// after that.
 #[derive(Drop)]
 pub struct CompiledAction {
     precondition: CompiledLiterals,

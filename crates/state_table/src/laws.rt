@@ -1,7 +1,7 @@
 //! Laws of the definitions that the contracts use.
 ghost use Rattle.state_table.specs.StandFor.{NumbersStandForStates};
 
-/// What numbers stand for stays as tables grow, and no state has two numbers.
+/// A number stands for the same state as tables grow, and no state has two numbers.
 pub fn numbers_stand_for_states()
     ensures { NumbersStandForStates }
 {}

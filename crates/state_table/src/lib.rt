@@ -1,10 +1,9 @@
 //! States as sets of fluent atoms by number, a bit for each, and states by number.
 //!
-//! An [`AtomTable`] knows which predicates some effect names: their atoms are fluent and get
-//! numbers as they are met, all others are static and stand in no state. A [`BitState`] is the set
-//! of the numbers of the fluent atoms that are true. Literals and actions are compiled to numbers
-//! once: what they say of static atoms and of equalities is decided then, and what was compiled
-//! stays right as the table grows. A [`StateTable`] gives equal sets one number.
+//! An [`AtomTable`] knows which predicates some effect names: their atoms are fluent and get numbers as they are met,
+//! all others are static and are in no state. A [`BitState`] is the set of the numbers of the fluent atoms that are
+//! true. Literals and actions are compiled to numbers once: their static atoms and equalities are decided then, and the
+//! compiled forms stay right as the table grows. A [`StateTable`] gives equal sets one number.
 #![tactic(auto)]
 
 mod atom_table;

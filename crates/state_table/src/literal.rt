@@ -11,7 +11,7 @@ use crate::atom_table::AtomTable;
 use htn_state::{Atom, Literal};
 use std::alloc::AllocError;
 
-/// A literal by the number of its fluent atom. What static atoms and equalities say is decided.
+/// A literal by the number of its fluent atom. Static atoms and equalities are decided.
 #[derive(Clone, Copy, Drop)]
 pub enum CompiledLiteral {
     /// Whether it holds, in every state.

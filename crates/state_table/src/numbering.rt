@@ -63,7 +63,7 @@ impl StateTable {
     {
         if self.states.len() > u32::MAX as usize {
             // Every number is given. In a search this never comes: an `IndexSet` takes at most 9 * 2^28 values, and
-            // answers want of memory past them although none was refused. That many states take more than 25 GB.
+            // answers past them as if memory had been refused. That many states take more than 25 GB.
             return self.number_of(&state).ok_or(AllocError);
         }
         let (place, _) = self.states.insert_full(state)?;

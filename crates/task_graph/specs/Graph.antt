@@ -34,7 +34,7 @@ grounding_of t (precondition literals) = record { action = None; is_barred = fal
 grounding_of t (action g) = record { action = (problem_of t).action_of g; is_barred = is_barred (problem_of t) g }
 grounding_of t (task g) = record { action = None; is_barred = false }
 
--- each node's grounding stands at its id
+-- each node's grounding is at its id
 abbrev pub IsGrounded : Task → TaskGraph → Type 0
 IsGrounded t g = g.groundings.items ≡ map (grounding_of t) (nodes_of g)
 
@@ -122,7 +122,7 @@ listing_cost t (task g) = 1 + sum_by (λ n. 1 + length n.children) (live_network
 abbrev pub network_of : Decomposition → Network
 network_of d = record { children = d.children; order = d.order }
 
--- it with the id of its task
+-- the network of a decomposition with the id of its task
 abbrev pub entry_of : Decomposition → ℕ × Network
 entry_of d = (d.task.index, network_of d)
 
@@ -136,7 +136,7 @@ IsNumbered nodes d = AreIds nodes d.nodes.items d.children
 abbrev pub AreStartsThere : Task → List Child → Type 0
 AreStartsThere t nodes = All (λ i. All (λ x. is_some (id_of nodes x) ≡ true) i.network.children) (distinct (initials t))
 
--- a part of the task's decomposition graph: the decompositions are just those of the first nodes, so many as are listed
+-- a part of the task's decomposition graph: the decompositions are exactly those of the first `listed` nodes
 pub record IsGraph (t : Task) (g : TaskGraph) : Type 0 where
   pub starts : AreStartsThere t (nodes_of g)
   pub grounded : IsGrounded t g

@@ -102,7 +102,7 @@ impl TaskGraph {
         self.decompositions.as_slice()
     }
 
-    /// What an action is ground to; none for another node, and where no objects satisfy the action's schema.
+    /// The grounding of an action; None for another node, and where no objects satisfy the action's schema.
     pub fn action(&self, id: NodeId) -> Option<&Action>
         ensures { option_map (λ a. a.now) result ≡ option_and_then (λ g. g.action) (slice_get self.now.groundings.items id.index) }
     {

@@ -26,8 +26,8 @@ impl TaskGraph {
         if is_new {
             self.groundings.push(Grounding::of(alloc, task, node)?)?;
         }
-        // This never fails: an `IndexSet` takes at most 9 * 2^28 values, and answers want of memory past them although
-        // none was refused. So many nodes take more than 25 GB.
+        // This never fails: an `IndexSet` takes at most 9 * 2^28 values, and answers past them as if memory had been
+        // refused. So many nodes take more than 25 GB.
         let Ok(index) = u32::try_from(place) else {
             return Err(AllocError);
         };

@@ -7,7 +7,7 @@
 //! ones the first, but for those with an action that is never carried out.
 //!
 //! [`TaskGraph::extend`] lists further compound tasks, in the order of their ids, up to a limit on what all listed ones
-//! take together. It goes on where the last call ended: ids stay, and nothing is listed twice.
+//! take together. It continues where the last call ended: ids stay valid, and nothing is listed twice.
 #![tactic(auto)]
 
 mod decomposition;

@@ -52,12 +52,12 @@ noted_stays false keys n m has = by (list_any (nat_eq n) keys)
     by true = has
     by false = Contains-append_left keys (n ∷ []) m has
 
--- a network is noted where it is not known what becomes of it
+-- a network is noted where its expansion is not known
 pub noted_there : (e : Option Expansion) (keys : List ℕ) (n : ℕ) → e ≡ None → Contains (if is_some e then keys else insert_key nat_eq keys n) n
 noted_there None keys n none = Contains-insert_key nat_eq (λ x y same. eqb-true x y same) keys n
 noted_there (Some e) keys n none = absurd (none-some e (sym none))
 
--- what becomes of each is known, if it was or the network was noted
+-- the expansion of each network is known, if it was before or the network was noted
 pub all_ready : (old new : NetworkTable) → IsGrown old new → (keys : List ℕ) (at : List Configuration)
     → All (λ (c : Configuration). expansion_at old c.network ≡ None → Contains keys c.network) at
     → All (λ n. IsSome (expansion_at new n)) keys → All (λ (c : Configuration). IsSome (expansion_at new c.network)) at
@@ -256,7 +256,7 @@ module _ (t : Task) (s : Tables) (own : AreTables t s) (block : List ℕ) (found
 
 -- ## Block by block
 
--- the tables are right, and what becomes of all networks is known but of the rest
+-- the tables are right, and the expansions of all networks but the rest are known
 pub record ArePrepared (t : Task) (sizes : TreeSizes) (known : Prospects) (old new : Tables) (all rest : List ℕ) : Type 0 where
   pub owned : AreOwned t sizes known new
   pub later : AreLater old new

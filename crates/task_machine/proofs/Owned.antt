@@ -281,7 +281,7 @@ networks_listed t g =
     ap (map (λ (i : Instance). i.network)) (sym (listed_instances t g))
     ∙ map-map (λ (i : Instance). i.network) (λ (p : ℕ × Instance). p.1) (listed_methods t g)
 
--- ## What becomes of a network is found
+-- ## The expansion of a network is found
 
 -- the nodes that go have numbers
 pub known_expansion : (live : Live) (t : NetworkTable) (n : ℕ) (e : Expansion) → IsExpansion live t n e → IsKnownExpansion t e

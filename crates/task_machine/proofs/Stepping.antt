@@ -1,4 +1,4 @@
--- What becomes of a network tells which steps its configurations have.
+-- The expansion of a network determines the steps of its configurations.
 use Rattle.std.proofs.Common.{◌≡◌, ℕ, List, map, length, slice_get, Option, Some, None, refl, sym, ap, ◌∙◌, option_map, option_and_then}
 use Rattle.std.proofs.lemmas.Option.{slice_get-map}
 use Rattle.htn_model.specs.Choice.{child_of}

@@ -31,11 +31,11 @@ listed_for listings (Some node) = listed_at listings node
 abbrev pub job_view : Job → ℕ × List Numbered
 job_view j = (j.network, j.instances.now)
 
--- the same of a network to expand
+-- the job of a network to expand: its number, and the listed networks of its first free compound task
 abbrev pub listed_job : List (Option Listing) → Listed → ℕ × List Numbered
 listed_job listings l = (l.network, listed_for listings l.node)
 
--- the networks of what is listed
+-- the numbers of the networks to expand
 abbrev pub networks_of : List Listed → List ℕ
 networks_of listed = map (λ (l : Listed). l.network) listed
 
@@ -45,11 +45,11 @@ IsPart networks block p =
     (take p.first block ++ networks_of p.listed.items ≡ take (p.first + length p.listed.items) block)
     × All (λ (l : Listed). IsFirst networks l.network l.node) p.listed.items
 
--- and these are the first ones
+-- these are the first networks of a block, each with its first free compound task
 abbrev pub AreListed : NetworkTable → List ℕ → List Listed → Type 0
 AreListed networks block listed =
     (networks_of listed ≡ take (length listed) block) × All (λ (l : Listed). IsFirst networks l.network l.node) listed
 
--- a worker found a part, if its memory did not run out
+-- a worker found a part of the block, unless memory was refused
 abbrev pub HoldsPart : {E : Type 0} → NetworkTable → List ℕ → Result Part E → Type 0
 HoldsPart networks block r = IfOk r (IsPart networks block)

@@ -38,11 +38,11 @@ most_steps = 10000
 pub estimate-prop : (problem : Problem) (low : Config → ℕ) → IsProp (IsEstimate problem low)
 estimate-prop problem low = hlevel (le_prop, ℕ_set)
 
--- what the open nodes take together, and more than any bound where the state lacks what they need
+-- the least steps of the open nodes together, and more than any bound where the configuration may not end by its needs
 abbrev pub bound_by : Problem → (Child → ℕ) → Outlook → Config → ℕ
 bound_by problem size o c = max (estimate size most_steps c) (cond (not (may_end problem o c)) out_of_reach 0)
 
--- two tests in turn are both at once
+-- to raise a bound by two tests in turn is to raise it by their conjunction
 both_tests : (e x : ℕ) (a b : Bool) → max (max e (cond (not a) x 0)) (cond (not b) x 0) ≡ max e (cond (not (a && b)) x 0)
 both_tests e x true true = omega arith
 both_tests e x true false = omega arith
@@ -110,7 +110,7 @@ belonging_lawful t size p grounded holds =
       dead_never = λ c d e rank ranks belongs dead step leads done. m.dead_never c d e rank ranks belongs.0 dead step leads done;
     }
 
--- what is a bound from below for the machine by numbers is one for that by ranks
+-- what is a lower bound for the machine by numbers is one for that by ranks
 pub bounded : (t : Task) (low : Config → ℕ) → IsEstimate (problem_of t) low → IsLowerBound (listing_machine t) low
 bounded t low law = record {
   lowers_one = λ c d rank step. (let s = live_rank t c d rank step.0 in law.consistent.lowers_one c d s.0 s.1);

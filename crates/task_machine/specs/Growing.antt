@@ -13,11 +13,11 @@ pub record IsWider (old new : NetworkTable) : Type 0 where
   pub remembered : (n : ℕ) → expansion_at new n ≡ expansion_at old n
   pub sound : (live : Live) → IsSound live old → IsSound live new
 
--- its nodes have numbers, and by them it is this network
+-- the numbered network stands for this one
 abbrev pub StandsFor : NetworkTable → Numbered → model.Network → Type 0
 StandsFor t n network = IsWithin (children t) n × (network_of (children t) n ≡ network)
 
--- so it is of each of some, in their order
+-- the numbered networks stand for these, in their order
 abbrev pub StandFor : NetworkTable → List Numbered → List model.Network → Type 0
 StandFor t ns networks = All (IsWithin (children t)) ns × (map (network_of (children t)) ns ≡ networks)
 

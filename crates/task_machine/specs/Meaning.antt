@@ -19,20 +19,21 @@ config_in t words network = config_at (state_of t.atoms words) (network_at t.net
 abbrev pub state_at : Tables → ℕ → State
 state_at t n = state_of t.atoms (get_or t.states n [])
 
--- both numbers are there
+-- the state and the network of a configuration have numbers
 abbrev pub knows : Tables → Configuration → Type 0
 knows t c = (c.state < length t.states) × Knows t.networks c.network
 
--- what they stand for
+-- the configuration that the numbers stand for
 abbrev pub point : Tables → Configuration → Config
 point t c = config_in t (get_or t.states c.state []) c.network
 
--- the same of a configuration whose state may have no number
+-- a configuration that was reached is allowed: its network has a number, and so has its state, or that is a set of
+-- atoms
 abbrev pub allows : Tables → Reached → Type 0
 allows t (Known state network) = knows t (record { state = state; network = network })
 allows t (New state network) = IsSetOf t.atoms state.value × Knows t.networks network
 
--- what it stands for
+-- the configuration for which a reached one stands
 abbrev pub point_of : Tables → Reached → Config
 point_of t (Known state network) = point t (record { state = state; network = network })
 point_of t (New state network) = config_in t state.value network

@@ -13,7 +13,7 @@ use Rattle.tree_sizes.specs.declared.tree_sizes.TreeSizes.{TreeSizes}
 use Rattle.task_machine.specs.Tables.{AreTables}
 use Rattle.task_machine.specs.declared.tables.Tables.{Tables}
 
--- each node stands there with its size
+-- each node is in the table with its size
 abbrev pub HasSizes : TreeSizes → NetworkTable → Type 0
 HasSizes sizes t = AreBounds (size_of sizes) t.children
 

@@ -28,18 +28,18 @@ pub record IsSite (t : Task) (p : Prospects) (site : Site) : Type 0 where
 abbrev pub point_at : Site → ℕ → Config
 point_at site network = point site.tables.now (record { state = site.from.state; network = network })
 
--- a number leads there, if it leads on
+-- the number leads from the site's configuration to this one, or nowhere
 abbrev pub LeadsTo : Task → Site → ℕ → Option Config → Type 0
 LeadsTo t site number to = (listing_machine t).step (point site.tables.now site.from) number ≡ to
 
--- a number leads where this free node goes
+-- the number carries out this free node, which is compiled
 pub record LeadsBy (t : Task) (site : Site) (number : ℕ) (removal : Removal) : Type 0 where
   pub known : IsKnownRemoval site.tables.now.networks removal
   pub performer : IsSome (slot site.tables.now.performers.items removal.node)
   pub leads : LeadsTo t site number (removed t site.tables.now.networks (state_at site.tables.now site.from.state) removal)
 
 module _ (t : Task) (sizes : TreeSizes) (p : Prospects) (site : Site) where
-  -- what a list got by the numbers below a bound
+  -- a list got the successors by the numbers below a bound
   abbrev pub HasMade : ℕ → List (Measured Reached) → List (Measured Reached) → Type 0
   HasMade bound old new =
       IsMade (listing_machine t) (meaning site.tables.now) (lies_beyond t sizes p site.horizon)
@@ -50,7 +50,7 @@ module _ (t : Task) (sizes : TreeSizes) (p : Prospects) (site : Site) where
   EndsAt number =
       IsLeastDone (IsLiveStep (listing_machine t)) (IsDone (listing_machine t)) (point site.tables.now site.from) number
 
-  -- the next number was taken: it leads to a done one, or what a list got goes on
+  -- the next number was taken: it leads to a done configuration, or the list has the successors by the numbers up to it
   pub record Takes (number : ℕ) (is_done : Bool) (old new : List (Measured Reached)) : Type 0 where
     pub goes_on : is_done ≡ false → (first : List (Measured Reached)) → HasMade number first old → HasMade (number + 1) first new
     pub ends : is_done ≡ true → (first : List (Measured Reached)) → HasMade number first old → EndsAt number

@@ -1,4 +1,4 @@
--- Which steps a configuration of the task's machine has, by what becomes of its network.
+-- The steps of a configuration of the task's machine, by the expansion of its network.
 use Rattle.std.specs.Prelude.{ℕ, length, map, Option, slice_get, option_map, option_and_then}
 use Rattle.htn_model.specs.Choice.{child_of}
 use Rattle.htn_model.specs.Grounding.{problem_of}
@@ -19,13 +19,13 @@ use Rattle.network_table.specs.declared.table.NetworkTable.{NetworkTable}
 abbrev pub live_networks : Task → Live
 live_networks t g = map (λ p. p.1.network) (listed_methods t g)
 
--- where a free node goes, if it can be performed
+-- the configuration after a free node is carried out, if it can be
 abbrev pub removed : Task → NetworkTable → State → Removal → Option Config
 removed t networks state r =
     option_map (λ after. config_at after (network_at networks r.network))
     (perform (problem_of t) state (child_of (children networks) r.node))
 
--- where a rank leads in a state, by what becomes of the network
+-- the configuration to which a rank leads in a state, by the expansion of the network
 abbrev pub step_after : Task → NetworkTable → State → Expansion → ℕ → Option Config
 step_after t networks state (Decomposed position successors) rank =
     option_map (λ n. config_at state (network_at networks n)) (slice_get successors.items rank)

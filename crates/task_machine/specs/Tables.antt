@@ -29,13 +29,14 @@ use Rattle.task_machine.specs.declared.performer.Performer.{Performer}
 use Rattle.task_machine.specs.declared.performer.Performer.TheVariants.{Step, Action as Acts, Never}
 use Rattle.task_machine.specs.declared.tables.Tables.{Tables}
 
--- what stands at a number, where there is something
+-- the value of a number in a sparse table, if it has one
 abbrev pub slot : {A : Type 0} → List (Option A) → ℕ → Option A
 slot slots n = get_or slots n None
 
 -- ## Nodes
 
--- this tells when the node can be performed, and what the state is then, by this table and later ones
+-- the compiled form of a node determines when the node can be carried out and the state after it, by this table of
+-- atoms and later ones
 abbrev pub IsPerformer : Task → Table → Child → Performer → Type 0
 IsPerformer t atoms child (Step literals) =
     (model : List Literal) × (child ≡ precondition model) × AreCompiled atoms literals model
@@ -43,18 +44,18 @@ IsPerformer t atoms child (Acts compiled) =
     (g : GroundTask) × (model : ModelAction) × (child ≡ action g) × ((problem_of t).action_of g ≡ Some model) × IsCompiled atoms compiled model
 IsPerformer t atoms child Never = (state : State) → perform (problem_of t) state child ≡ None
 
--- each one that is there is its node's
+-- each compiled form is that of the node of its number
 abbrev pub ArePerformers : Task → Table → NetworkTable → List (Option Performer) → Type 0
 ArePerformers t atoms networks performers =
     (n : ℕ) (p : Performer) → slot performers n ≡ Some p
     → (n < length (children networks)) × IsPerformer t atoms (child_of (children networks) n) p
 
--- each node that can go has its own
+-- each node that can be carried out next is compiled
 abbrev pub HasPerformers : List (Option Performer) → Expansion → Type 0
 HasPerformers performers (Decomposed position successors) = Unit {0}
 HasPerformers performers (Performed removals) = All (λ r. IsSome (slot performers r.node)) removals.items
 
--- the nodes that can go have numbers
+-- the nodes that can be carried out next have numbers
 abbrev pub IsKnownExpansion : NetworkTable → Expansion → Type 0
 IsKnownExpansion networks (Decomposed position successors) = Unit {0}
 IsKnownExpansion networks (Performed removals) = All (λ r. r.node < length (children networks)) removals.items
@@ -70,17 +71,17 @@ pub record IsListing (t : Task) (table : NetworkTable) (g : GroundTask) (found :
   pub networks : StandFor table found.networks.items (live_networks t g)
   pub sources : found.sources.items ≡ map source_of (distinct (live_methods t g))
 
--- those that are there are their compound task's
+-- each listing is that of the compound task of its number
 abbrev pub AreListings : Task → NetworkTable → List (Option Listing) → Type 0
 AreListings t table listings =
     (n : ℕ) (found : Listing) → slot listings n ≡ Some found
     → (n < length (children table)) × ((g : GroundTask) → child_of (children table) n ≡ task g → IsListing t table g found)
 
--- the networks of those at a number; none where nothing is
+-- the networks of the listing at a number; none where there is no listing
 abbrev pub listed_at : List (Option Listing) → ℕ → List Numbered
 listed_at listings n = unwrap_or (option_map (λ (l : Listing). l.networks.items) (slot listings n)) []
 
--- they have these instances of a compound task, by the number of its node
+-- the tables have this listing of a compound task, by the number of its node
 abbrev pub HasListing : Tables → GroundTask → Listing → Type 0
 HasListing tables g found =
     (n : ℕ) × (n < 2 ^ 32) × IsNumber tables.networks.children n (task g) × (slot tables.instances.items n ≡ Some found)
@@ -96,8 +97,8 @@ pub record IsFirstTask (networks : NetworkTable) (network node : ℕ) : Type 0 w
 
 -- ## All of them
 
--- the atoms are told apart as the task does: those of a predicate that some effect names are fluent, and of the others
--- those that are true at first are static
+-- the table classifies atoms as the task does: those of a predicate that some effect names are fluent, and of the
+-- others those that are true initially are static
 pub record AreAtoms (t : Task) (atoms : Table) : Type 0 where
   pub table : IsTable atoms
   pub fluents : (predicate : ℕ) → is_changed atoms.fluents predicate ≡ ground.is_changed t predicate
@@ -115,7 +116,7 @@ pub record AreTables (t : Task) (tables : Tables) : Type 0 where
   pub performed : (n : ℕ) (e : Expansion) → expansion_at tables.networks n ≡ Some e → HasPerformers tables.performers.items e
   pub instances : AreListings t tables.networks tables.instances.items
 
--- the same, but that the nodes may have no performers that go from some networks
+-- the tables of a task's machine, where the nodes that pending networks may perform next need not be compiled
 pub record AreExpanded (t : Task) (tables : Tables) (pending : List ℕ) : Type 0 where
   pub atoms : AreAtoms t tables.atoms
   pub numbering : IsNumbering tables.states

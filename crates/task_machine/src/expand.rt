@@ -73,11 +73,11 @@ struct Site<'a> {
     from: Configuration,
     /// The state of its number.
     before: &'a BitState,
-    /// What has more steps left is left out.
+    /// Successors with more steps left than this are dropped.
     horizon: Horizon,
 }
 
-// What a list gets for the successor by a number, of which so many steps are left at least.
+// The entry of a successor list for the successor by a number, with a lower bound on the steps that are left of it.
 fn measured(site: &Site, number: usize, configuration: Reached, left: u64) -> Measured<Reached>
     ensures { result ≡ record {
       successor = record { origin = Step site.now.rank number; configuration = configuration };
@@ -95,7 +95,7 @@ fn measured(site: &Site, number: usize, configuration: Reached, left: u64) -> Me
     Measured { successor, left }
 }
 
-// Whether so many steps are more than the horizon has.
+// Whether a number of steps is greater than the horizon's, if it has one.
 fn is_past(horizon: Horizon, left: u64) -> bool
     ensures past { result ≡ true → (most : ℕ) × (horizon.most_left ≡ Some most) × (most < left) }
     ensures within { result ≡ false → ((most : ℕ) × (horizon.most_left ≡ Some most) × (most < left)) → ⊥ }
@@ -107,7 +107,7 @@ fn is_past(horizon: Horizon, left: u64) -> bool
 }
 
 impl<'a> TaskMachine<'a> {
-    /// How many steps are left at least of a configuration, by a measure.
+    /// A lower bound on the steps that are left of a configuration, by a measure.
     fn left_in(&self, tables: &Tables, state: &BitState, network: u32, measure: Measure) -> u64
         requires own { AreOwned self.now.task.now self.now.sizes self.now.prospects tables.now }
         requires known { Knows tables.now.networks network }
@@ -221,8 +221,8 @@ impl<'a> TaskMachine<'a> {
         }
     }
 
-    /// Adds the successors by all ranks of a network that becomes these. If one is done, it returns the least number
-    /// that leads to a done one.
+    /// Adds the successors by all ranks of a network that is decomposed into these networks. If one is done, it returns
+    /// the least number that leads to a done one.
     fn add_decomposed(
         &self,
         site: &Site,
@@ -248,8 +248,8 @@ impl<'a> TaskMachine<'a> {
         Ok(None)
     }
 
-    /// Adds the successors by all ranks of a network whose free nodes go. If one is done, it returns the least number
-    /// that leads to a done one.
+    /// Adds the successors by all ranks of a network without a free compound task, one for each free node. If one is
+    /// done, it returns the least number that leads to a done one.
     fn add_removed(
         &self,
         site: &Site,

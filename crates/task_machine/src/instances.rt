@@ -69,7 +69,7 @@ pub(crate) fn number_networks(
     Ok(found)
 }
 
-/// The number of an instance's network, which it may get only now.
+/// The number of an instance's network, which is added if it is new.
 fn keep_network(
     alloc: Global,
     networks: &mut NetworkTable,

@@ -1,4 +1,4 @@
-//! What is kept of the instances that are listed for a compound task.
+//! The listed instances of a compound task, as they are stored.
 ghost use Rattle.std.specs.Prelude.{◌≡◌, ◌<◌, ◌≤◌, All, IfNone, IfOk, IfSome, Some, length, map, slice_get};
 ghost use Rattle.std.specs.Option.{option_map};
 ghost use Rattle.htn_ground.specs.Distinct.{distinct, live_methods};
@@ -57,7 +57,7 @@ fn nodes_of(alloc: Global, networks: &NetworkTable, ids: &[u32]) -> Result<Child
     Ok(nodes)
 }
 
-/// The instance that comes from there and has this network.
+/// The instance of a source, with this network.
 fn instance_from(
     alloc: Global,
     networks: &NetworkTable,
@@ -77,7 +77,7 @@ fn instance_from(
     Ok(Instance::new(source.method, values, nodes, order))
 }
 
-/// What stands at a number.
+/// The listing of the node of a number, if it has one.
 fn listing_at(listings: &[Option<Listing>], node: u32) -> Option<&Listing>
     ensures { option_map (λ l. l.now) result ≡ slot listings.now node }
 {
@@ -88,7 +88,7 @@ fn listing_at(listings: &[Option<Listing>], node: u32) -> Option<&Listing>
 }
 
 impl Tables {
-    /// What is kept of a compound task's instances, if they were listed.
+    /// The listing of a compound task's instances, if they were listed.
     fn listing(&self, alloc: Global, goal: &GroundTask) -> Result<Option<&Listing>, AllocError>
         requires whole { IsWhole self.now.networks }
         ensures some { IfOk result (λ o. IfSome o (λ l. HasListing self.now goal.now l.now)) }

@@ -1,4 +1,4 @@
-//! What a step or an action does, by the numbers of its atoms.
+//! Steps and actions compiled to the numbers of their atoms.
 ghost use Rattle.std.specs.Prelude.{◌≡◌, ◌<◌, ℕ, All, IfOk, IsSome, OnOk, Some, length};
 ghost use Rattle.htn_ground.specs.Views.{child_view};
 ghost use Rattle.network_table.specs.Networks.{children, expansion_at, IsWhole, Knows};
@@ -13,17 +13,17 @@ use network_table::{Expansion, NetworkTable, Removal};
 use state_table::{AtomTable, CompiledAction, CompiledLiterals};
 use std::alloc::{AllocError, Global};
 
-/// What performing a node wants of the state, and what it makes of it.
+/// A node as it is carried out: its precondition and its effects.
 #[derive(Drop)]
 pub enum Performer {
-    /// A step wants that its literals hold, and leaves the state.
+    /// A precondition step: its literals have to hold, and it changes nothing.
     Step(CompiledLiterals),
     Action(CompiledAction),
     /// A compound task, or an action at arguments of which it has no instance.
     Never,
 }
 
-/// What performing a node does.
+/// Compiles a node. Its atoms get numbers if they have none.
 fn performer_of(
     alloc: Global,
     task: &Task,
@@ -52,7 +52,7 @@ fn performer_of(
     }
 }
 
-/// Sees that a node has its performer.
+/// Compiles a node, unless it is compiled already.
 fn prepare_node(
     alloc: Global,
     task: &Task,
@@ -78,7 +78,7 @@ fn prepare_node(
     Ok(())
 }
 
-/// Sees that the nodes that go have their performers.
+/// Compiles the nodes that some removals carry out, but for those that are compiled already.
 fn prepare_nodes(
     alloc: Global,
     task: &Task,
@@ -102,7 +102,7 @@ fn prepare_nodes(
     Ok(())
 }
 
-/// Sees that the nodes have their performers that go from the network of a number.
+/// Compiles the actions and steps that a network may perform next, if its expansion is known and consists of removals.
 pub(crate) fn prepare_performers(
     alloc: Global,
     task: &Task,
@@ -129,7 +129,7 @@ pub(crate) fn prepare_performers(
     Ok(())
 }
 
-/// The same for a block of networks, by their numbers.
+/// Compiles the actions and steps that the networks of a block may perform next, for each whose expansion is known.
 pub(crate) fn prepare_all_performers(
     alloc: Global,
     task: &Task,

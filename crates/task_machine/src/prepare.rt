@@ -37,7 +37,7 @@ pub(crate) fn first_task(networks: &NetworkTable, network: u32) -> Option<u32>
     Some(networks.node_at(network, position))
 }
 
-/// The networks of the instances that stand at a number; none where nothing does.
+/// The networks of the instances that are listed for the node of a number; none where no instances were listed for it.
 pub(crate) fn listed(instances: &[Option<Listing>], node: u32) -> &[Network]
     ensures { result.now ≡ listed_at instances.now node }
 {
@@ -72,7 +72,7 @@ impl Tables {
         Ok(initials)
     }
 
-    /// Sees that the instances of a compound task are listed, by the number of its node.
+    /// Lists the instances of a compound task, by the number of its node, unless they are listed already.
     pub(crate) fn prepare_instances(
         &mut self,
         alloc: Global,
@@ -102,7 +102,7 @@ impl Tables {
         Ok(())
     }
 
-    /// Sees that it is known what each network needs that has a number.
+    /// Finds the needs of each network of the table that has none yet.
     pub(crate) fn prepare_needs(
         &mut self,
         alloc: Global,

@@ -1,4 +1,4 @@
-//! What the steps at many configurations need, found by several workers.
+//! Prepares the steps at many configurations by several workers: expansions, compiled actions and steps, and needs.
 ghost use Rattle.std.specs.Prelude.{◌≡◌, ◌<◌, ℕ, All, Contains, IfOk, IsSome, List, None, OnOk, is_some, map, nat_eq, if◌then◌else◌};
 ghost use Rattle.htn_model.specs.Grounding.{problem_of};
 ghost use Rattle.htn_model.specs.Task as model;
@@ -27,10 +27,11 @@ use std::thread::Threads;
 use tree_sizes::TreeSizes;
 use workers::{map_indices, workers_for};
 
-/// How many networks are expanded together at most: what is listed of them is kept until they are.
+/// At most this many networks are expanded together: the list of their first free compound tasks is held until they
+/// are.
 const BLOCK: usize = 32_768;
 
-/// Of several workers each has so many networks at least: to start one for fewer takes longer.
+/// Where several workers share a block, each has at least this many networks: to start a worker for fewer takes longer.
 const LEAST_SHARED: usize = 500;
 
 /// A network to expand, with the number of the node of its first free compound task, if it has one.
@@ -40,14 +41,14 @@ struct Listed {
     node: Option<u32>,
 }
 
-/// What is listed of a block's networks from a place on.
+/// Consecutive networks of a block, from the place `first` on, each with its first free compound task.
 #[derive(Drop)]
 struct Part {
     first: usize,
     listed: Vec<Listed>,
 }
 
-/// Notes a network if it is not known what becomes of it.
+/// Adds a network to those that are to be expanded, unless the table has its expansion.
 fn note_unexpanded(
     networks: &NetworkTable,
     todo: &mut IndexSet<u32>,
@@ -66,7 +67,7 @@ fn note_unexpanded(
     Ok(())
 }
 
-/// The networks of configurations, each once, of which it is not known what becomes of them.
+/// The networks of configurations whose expansions the table does not have, each once.
 fn unexpanded(
     alloc: Global,
     networks: &NetworkTable,
@@ -85,7 +86,7 @@ fn unexpanded(
     Ok(todo)
 }
 
-/// The job of a network, with the instances that are listed.
+/// The job of expanding a network, with the listed instances of its first free compound task.
 fn job_of(instances: &[Option<Listing>], one: Listed) -> Job
     ensures { job_view result ≡ listed_job instances.now one }
 {
@@ -101,7 +102,7 @@ fn job_of(instances: &[Option<Listing>], one: Listed) -> Job
     }
 }
 
-/// The jobs of networks, in their order.
+/// The jobs of expanding networks, in the order of the networks.
 fn jobs_of<'a>(
     alloc: Global,
     instances: &'a [Option<Listing>],
@@ -127,7 +128,7 @@ fn list_one(networks: &NetworkTable, network: u32) -> Listed
     Listed { network, node }
 }
 
-/// So many networks of a block from a place on, each with its first free compound task.
+/// At most `size` networks of a block from the place `first` on, each with its first free compound task.
 fn list_part(
     alloc: Global,
     networks: &NetworkTable,
@@ -146,7 +147,7 @@ fn list_part(
     Ok(Part { first, listed })
 }
 
-/// The parts of a block, listed by so many workers.
+/// The parts of a block, one for each of `workers` workers, each with an error of its own where its memory was refused.
 fn list_parts<R: Threads + Sync>(
     rt: &R,
     alloc: Global,
@@ -167,7 +168,7 @@ fn list_parts<R: Threads + Sync>(
     map_indices(rt, alloc, workers, &list)
 }
 
-/// Puts down a part, if it is that of the networks that come next.
+/// Appends a part if it begins with the network at which the list ends; any other part is dropped.
 fn put_part(listed: &mut Vec<Listed>, part: Part) -> Result<(), AllocError>
     ensures { OnOk result ((networks : Networks) (block : List ℕ) → AreListed networks block listed.old.items
         → IsPart networks block part → AreListed networks block listed.new.items) }
@@ -183,7 +184,7 @@ fn put_part(listed: &mut Vec<Listed>, part: Part) -> Result<(), AllocError>
     Ok(())
 }
 
-/// The networks of a block, each with its first free compound task, by so many workers.
+/// The networks of a block, each with its first free compound task, by `workers` workers.
 fn list_block<R: Threads + Sync>(
     rt: &R,
     alloc: Global,
@@ -209,7 +210,7 @@ fn list_block<R: Threads + Sync>(
 }
 
 impl Tables {
-    /// Sees that the instances of a network's first free compound task are listed, if it has one.
+    /// Lists the instances of a network's first free compound task, if it has one and they are not listed yet.
     fn prepare_first(
         &mut self,
         alloc: Global,
@@ -236,7 +237,7 @@ impl Tables {
         Ok(())
     }
 
-    /// The same for many networks.
+    /// Lists the instances of the first free compound tasks of many networks.
     fn prepare_firsts(
         &mut self,
         alloc: Global,
@@ -260,7 +261,7 @@ impl Tables {
         Ok(())
     }
 
-    /// Finds what becomes of a block of networks, by so many workers.
+    /// Finds the expansions of a block of networks, by at most `workers` workers.
     fn expand_block<R: Threads + Sync>(
         &mut self,
         rt: &R,
@@ -289,8 +290,8 @@ impl Tables {
         Ok(())
     }
 
-    /// Sees that it is known what becomes of a block of networks, and what the nodes do that go, by so many
-    /// workers.
+    /// Expands the networks of a block, by at most `workers` workers, and compiles the actions and steps that they may
+    /// perform next.
     fn prepare_block<R: Threads + Sync>(
         &mut self,
         rt: &R,
@@ -322,7 +323,7 @@ impl Tables {
         Ok(())
     }
 
-    /// Sees that it is known what each network needs that has a number, by so many workers.
+    /// Finds the needs of each network of the table that has none yet, by at most `workers` workers.
     fn prepare_needs_all<R: Threads + Sync>(
         &mut self,
         rt: &R,
@@ -354,8 +355,8 @@ impl Tables {
         Ok(())
     }
 
-    /// Sees that it is known what becomes of the networks of configurations, what the nodes do that go, and
-    /// what each network needs that has a number, by so many workers.
+    /// Expands the networks of configurations, compiles the actions and steps that they may perform next, and finds the
+    /// needs of each network of the table, all by at most `workers` workers.
     pub(crate) fn prepare_all<R: Threads + Sync>(
         &mut self,
         rt: &R,

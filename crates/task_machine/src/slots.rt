@@ -1,10 +1,10 @@
-//! What stands at numbers, of which most have nothing.
+//! Sparse tables: values by number, where most numbers have none.
 ghost use Rattle.std.specs.Prelude.{◌≡◌, ℕ, Some, is_some, OnOk};
 ghost use Rattle.task_machine.specs.Tables.{slot};
 
 use std::alloc::AllocError;
 
-/// Whether something stands at a number.
+/// Whether a number has a value.
 pub(crate) fn is_taken<T>(slots: &[Option<T>], number: u32) -> bool
     ensures { result ≡ is_some (slot slots.now number) }
 {
@@ -14,7 +14,7 @@ pub(crate) fn is_taken<T>(slots: &[Option<T>], number: u32) -> bool
     }
 }
 
-/// Puts something at a number.
+/// Sets the value of a number.
 pub(crate) fn put<T: Drop>(
     slots: &mut Vec<Option<T>>,
     number: u32,

@@ -1,4 +1,4 @@
-//! What a search has numbered.
+//! The tables of a search: atoms, states and networks by number, with what is derived from them.
 ghost use Rattle.std.specs.Prelude.{◌≡◌, ◌<◌, [], IfOk, length};
 ghost use Rattle.htn_model.specs.Grounding.{problem_of};
 ghost use Rattle.htn_model.specs.Levels.{is_done};
@@ -25,13 +25,13 @@ use network_table::NetworkTable;
 use state_table::{AtomTable, BitState, CompiledLiterals, StateTable};
 use std::alloc::{AllocError, Global};
 
-/// The most steps that a plan may have, and as far as a bound on them goes.
+/// The most steps that a plan may have. The bound by the sizes of nodes is capped there.
 const MOST_STEPS: u64 = 10_000;
 
 /// More steps than any plan may have.
 const OUT_OF_REACH: u64 = 10_001;
 
-/// The atoms, states and task networks that a search has met, by number, and what it keeps about them.
+/// The atoms, states and task networks that a search has met, by number, and what is stored beside them.
 #[derive(Drop)]
 pub struct Tables {
     pub(crate) atoms: AtomTable,
@@ -95,8 +95,8 @@ impl Tables {
         open_len.max(bound.min(MOST_STEPS))
     }
 
-    /// How many steps are left at least: what the network takes, and more than any bound where the state lacks what it
-    /// needs.
+    /// A lower bound on the steps that are left: the steps of the network, and more than any plan may have where a
+    /// literal that the network needs is false in the state.
     pub(crate) fn lower_bound(&self, state: &BitState, network: u32) -> u64
         requires whole { IsWhole self.now.networks }
         requires known { Knows self.now.networks network }

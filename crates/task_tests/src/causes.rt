@@ -100,7 +100,7 @@ fn setter_of(
     Ok(next_setter(alloc, task, tasks.as_slice(), literal, from)?)
 }
 
-// The same for the task of a pair.
+// The answer of `setter_of` for the task of a pair.
 fn setter_in(
     alloc: Global,
     pair: Pair,

@@ -128,7 +128,7 @@ live
 6: Some(1)[3, 1, 2, 2] step: 1[3, 1] 0[1, 2] action 1[3, 1, 2] task 0[3, 2]
 ";
 
-// Of the three methods the first never has an instance, and the last has one only where both objects are the same.
+// Of the three methods the first never has an instance, and the last has one only where both objects are equal.
 const SAME_LINES: &str = "0: Some(1)[0, 0]
 1: Some(2)[0]
 live
@@ -246,7 +246,7 @@ fn equal_networks_are_listed_once(rt: HostRuntime) -> Result<(), Fail> {
     Ok(())
 }
 
-/// The same of the initial network.
+/// The distinct instances of the initial network, a line for each.
 pub fn distinct_initials_text(alloc: Global, task: &Task) -> Result<String, Fail> {
     lines(alloc, &distinct_initials(alloc, task)?)
 }

@@ -7,7 +7,7 @@ use std::sync::Wait;
 use std::test::Fail;
 use std::thread::Threads;
 
-// A problem with so many things and these atoms, in which the task `t` is to be done.
+// A problem with `things` objects and these atoms, in which the task `t` is to be done.
 fn problem_text(alloc: Global, things: u64, atoms: &str) -> Result<String, Fail> {
     let mut text = String::from_str(alloc, "(define (problem x) (:domain d) (:objects")?;
     for thing in 0..things {
@@ -79,7 +79,7 @@ const BESIDE: &str = "(define (domain d) (:types thing) (:predicates (p ?x - thi
 // Two instances are not dead: number 0, and one whose number is past 64 bits.
 const ONE_NUMBERED: (&str, u64, &str) = (BESIDE, 256, "(p o255)");
 
-// What is asked of a task with so many things.
+// The answer to a question about a task with a number of objects.
 fn asked<R: Threads + Wait + Sync>(
     rt: &R,
     alloc: Global,

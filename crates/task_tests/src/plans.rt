@@ -14,7 +14,7 @@ use std::sync::Wait;
 use std::test::Fail;
 use std::thread::Threads;
 
-// Takes so many bytes in all.
+// A writer that takes at most `room` bytes in all.
 #[derive(Drop)]
 struct Narrow {
     taken: Vec<u8>,
@@ -57,7 +57,7 @@ pub fn answer_text<R: Threads + Wait + Sync>(
     }
 }
 
-/// The same of a search by one worker for plans of at most so many nodes.
+/// The answer of a search by one worker for plans of at most `nodes` nodes.
 pub fn answer_within<R: Threads + Wait + Sync>(
     rt: &R,
     alloc: Global,
@@ -74,13 +74,13 @@ fn plan_file(alloc: Global, task: &Task, word: &[u64]) -> Result<PlanFile, Fail>
     Ok(file_of(alloc, task, &solution)?)
 }
 
-// The same for a pair.
+// The plan file of the solution of a word, for a pair.
 fn plan_file_of(alloc: Global, pair: Pair, word: &[u64]) -> Result<PlanFile, Fail> {
     let task = task_of(alloc, pair)?;
     plan_file(alloc, &task, word)
 }
 
-// What an output with so much room takes of a plan file, and whether it fails.
+// The bytes of a plan file that an output with room for `room` bytes takes, and whether it fails.
 fn write_into(alloc: Global, file: &PlanFile, room: usize) -> (Vec<u8>, Result<(), WriteFault>) {
     let mut out = Sink::new(Narrow {
         taken: Vec::new(alloc),
@@ -90,7 +90,8 @@ fn write_into(alloc: Global, file: &PlanFile, room: usize) -> (Vec<u8>, Result<(
     (out.into_inner().taken, written)
 }
 
-// The same of the plan file of the solution of a word.
+// The bytes of the plan file of a word's solution that an output with room for `room` bytes takes, and whether it
+// fails.
 fn write_word(
     alloc: Global,
     pair: Pair,

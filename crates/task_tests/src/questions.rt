@@ -29,9 +29,9 @@ pub enum Question<'a> {
     Action(u32, &'a [u16]),
     /// The instances of the first compound task whose network no earlier one has.
     DistinctInstances,
-    /// The same of the initial network.
+    /// The distinct instances of the initial network.
     DistinctInitials,
-    /// What is reached, where so much is kept of instances.
+    /// Relaxed reachability, where the instances are listed up to this limit.
     Reach(u64),
     /// What no plan uses.
     Never,
@@ -57,7 +57,7 @@ pub enum Question<'a> {
     Rebuilt(&'a [u64]),
     /// The depth of the solution of a word.
     Depth(&'a [u64]),
-    /// The plan of at most so many nodes that one worker finds.
+    /// The plan of at most this number of nodes that one worker finds.
     Within(u64),
     /// The least word.
     LeastWord(Bounds),

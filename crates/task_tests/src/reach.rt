@@ -18,8 +18,8 @@ fn node_text(reach: &RelaxedReach, child: &Child) -> &'static str {
     }
 }
 
-/// Whether it is known what is reached, where so much is kept of instances; and which nodes of the initial networks
-/// never end by that.
+/// Whether relaxed reachability is known, where the instances are listed up to a limit; and which nodes of the initial
+/// networks never end by it.
 pub fn reach_text(alloc: Global, task: &Task, limit: u64) -> Result<String, Fail> {
     let found = enumerate(alloc, task, limit)?;
     let mut text = String::new(alloc);

@@ -199,7 +199,8 @@ const SHUT: Pair = Pair {
 
 const CAREFUL_PLAN: &str = "==>\n0 unlock\n1 lose\nroot 2\n2 t -> by-care 0 1\n<==\n";
 
-// What lacks what its network needs is passed over, and the answers are those of the open nodes.
+// Configurations in which a need of their network is false are pruned, and the answers are those of a search by the
+// open nodes.
 #[test]
 fn needs_change_no_answer(rt: HostRuntime) -> Result<(), Fail> {
     let rows = [
@@ -315,7 +316,7 @@ fn words_have_solutions(rt: HostRuntime) -> Result<(), Fail> {
     Ok(())
 }
 
-// Decomposes the task into itself so many times, and at last into nothing.
+// The word that decomposes the task `levels` times into itself, and at last into nothing.
 fn ending_word(alloc: Global, levels: usize) -> Result<Vec<u64>, AllocError> {
     let mut word = Vec::new(alloc);
     for _ in 0..levels {

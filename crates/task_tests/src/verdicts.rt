@@ -17,7 +17,7 @@ fn verdict_of(alloc: Global, task: &Task, text: &str) -> Result<Verdict, Fail> {
     Ok(verify(alloc, task, &file)?)
 }
 
-// The same for the task of a pair.
+// The verdict on a plan's text for the task of a pair.
 fn verdict_on(alloc: Global, pair: Pair, text: &str) -> Result<Verdict, Fail> {
     let task = task_of(alloc, pair)?;
     verdict_of(alloc, &task, text)
@@ -195,7 +195,7 @@ fn other_files_have_no_arrangement(rt: HostRuntime) -> Result<(), Fail> {
     expect_verdicts(&rt, rt.alloc(), &rows)
 }
 
-// The text of so many lines below one another, the last of which has this method.
+// The text of `count` decomposition lines, each below the one before, and of a last one with this method.
 fn nested(alloc: Global, count: u64, last: &str) -> Result<String, Fail> {
     let mut text = String::new(alloc);
     text.push_str("==>\nroot 0\n")?;

@@ -1,4 +1,4 @@
-//! What is said of brackets that don't match.
+//! Messages about brackets that don't match.
 
 use crate::said::{Said, plain_words};
 use crate::spots::spot_at;

@@ -1,4 +1,4 @@
-//! What is said of a word that can't stand where it stands.
+//! Messages about a word that can't be where it is.
 
 use crate::candidates::expected;
 use crate::instead::instead_of;
@@ -130,7 +130,7 @@ fn is_unknown(refusal: &RefusedPlace<'_>) -> bool {
     refusal.expected.is_empty() && refusal.open > 0
 }
 
-/// What stands beside the carets: what may stand there, if that is known.
+/// The label beside the carets: the words that may be there, if they are known.
 fn label_of<'a>(alloc: Global, refusal: &RefusedPlace<'a>) -> Result<Vec<Part<'a>>, AllocError> {
     if is_unknown(refusal) {
         return Ok(Vec::new(alloc));

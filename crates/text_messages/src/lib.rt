@@ -1,4 +1,4 @@
-//! What is said of a text that spells no domain or no problem.
+//! Diagnostics of a text that spells no domain or no problem.
 #![tactic(auto)]
 
 mod brackets;

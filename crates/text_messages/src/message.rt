@@ -82,7 +82,7 @@ fn bad_word<'a>(
     }
 }
 
-/// What is said of a fault.
+/// The content of the diagnostic of a fault.
 fn said_of<'a>(
     alloc: Global,
     source: &'a Source<'a>,

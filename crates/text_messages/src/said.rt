@@ -5,7 +5,7 @@ ghost use Rattle.std.specs.Prelude.{◌≡◌, [], IfOk, OnOk};
 use diagnostics::{Note, Part, Remark, RemarkKind, Spot};
 use std::alloc::{AllocError, Global};
 
-/// What is said of a place: a message, what stands beside the carets, remarks and notes.
+/// The content of a diagnostic of a place: a message, a label beside the carets, remarks and notes.
 #[derive(Drop)]
 pub(crate) struct Said<'a> {
     pub message: Vec<Part<'a>>,

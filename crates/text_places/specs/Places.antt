@@ -11,7 +11,7 @@ is_line_feed b = b == 10
 abbrev pub is_in_line : ℕ → Bool
 is_in_line b = not (is_line_feed b)
 
--- how many bytes of a place's line stand before it: those since the last line feed
+-- the number of bytes of a place's line before it: those since the last line feed
 abbrev pub column_of : List ℕ → ℕ → ℕ
 column_of text place = suffix_len is_in_line (take place text)
 
@@ -19,7 +19,7 @@ column_of text place = suffix_len is_in_line (take place text)
 abbrev pub position : List ℕ → ℕ → Position
 position text place = record { line = 1 + count_by is_line_feed (take place text); column = 1 + column_of text place }
 
--- where the line of a place begins
+-- the place at which the line of a place begins
 abbrev pub line_start : List ℕ → ℕ → ℕ
 line_start text place = place - column_of text place
 

@@ -1,4 +1,4 @@
--- The part of a line that is shown around a place, and what stands below it.
+-- The part of a line that is shown around a place, and the carets below it.
 use Rattle.std.specs.Prelude.{◌≡◌, ℕ, ◌+◌, ◌-◌, ◌<◌, Bool, true, false, ◌&&◌, ◌||◌, ◌==◌, nat_lt, nat_le, if◌then◌else◌, List, [], ◌∷◌, ◌++◌, length, take, drop, map, min, max}
 use Rattle.text_places.specs.declared.excerpt.Excerpt.{Excerpt as Slices}
 use Rattle.text_places.specs.Places.{column_of, line_start, line_of, is_line_end}
@@ -10,8 +10,8 @@ pub record Excerpt : Type 0 where
   pub after : List ℕ
   pub is_cut_after : Bool
 
--- Where the part begins that is shown of a line of this length: it has 120 bytes, 80 of them before the place, where
--- there are as many.
+-- The first byte of the part that is shown of a line of this length: the part has 120 bytes, 80 of them before the
+-- place, where there are as many.
 abbrev pub first_shown : ℕ → ℕ → ℕ
 first_shown len column = min (column - 80) (len - 120)
 
@@ -48,7 +48,7 @@ row e = mark e.is_cut_before ++ map shown (e.before ++ e.after) ++ mark e.is_cut
 abbrev pub pad : ℕ → ℕ
 pad b = if b == 9 then 9 else 32
 
--- what stands below a row, before the first caret
+-- the bytes below a row before the first caret
 abbrev pub padding : Excerpt → List ℕ
 padding e = map pad (mark e.is_cut_before ++ e.before)
 

@@ -63,8 +63,8 @@ impl<'a> Excerpt<'a> {
         Ok(row)
     }
 
-    /// What stands before a caret below the place: a tab below each tab of the row, and a blank below each other byte,
-    /// so that the caret stands below the place at every width of tabs. An error where memory was refused.
+    /// The bytes before a caret below the place: a tab below each tab of the row, and a blank below each other byte, so
+    /// that the caret is below the place at every width of tabs. An error where memory was refused.
     pub fn padding(&self, alloc: Global) -> Result<Vec<u8>, AllocError>
         ensures { IfOk result (λ padding. padding.items ≡ spec.padding (seen self.now)) }
     {
@@ -78,7 +78,7 @@ impl<'a> Excerpt<'a> {
         Ok(padding)
     }
 
-    /// How many carets stand below a word of this length that begins at the place: one for each byte of the row from
+    /// The number of carets below a word of this length that begins at the place: one for each byte of the row from
     /// there on that belongs to it, and one at least.
     pub fn carets(&self, length: usize) -> usize
         ensures { result ≡ spec.carets (seen self.now) length }
@@ -88,7 +88,7 @@ impl<'a> Excerpt<'a> {
     }
 }
 
-/// What stands at an end of a row.
+/// The dots at an end of a row that is cut.
 fn cut_mark(is_cut: bool) -> &'static [u8]
     ensures { result.now ≡ spec.mark is_cut }
 {
@@ -106,7 +106,7 @@ pub fn shown(byte: u8) -> u8
     }
 }
 
-/// What stands below a byte, before a caret.
+/// The byte below a byte, before a caret.
 fn pad(byte: u8) -> u8
     ensures { result ≡ spec.pad byte }
 {

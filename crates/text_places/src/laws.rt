@@ -9,8 +9,8 @@ pub fn positions_differ()
     ensures { (text : List ℕ) (place other : ℕ) → place ≤ length text → other ≤ length text → position text place ≡ position text other → place ≡ other }
 {}
 
-/// Below a row stand a tab below each tab and a blank below each other byte, up to the place; and the row goes on with
-/// the bytes from the place on.
+/// The carets' row has a tab below each tab of the excerpt's row and a blank below each other byte, up to the place;
+/// and the excerpt's row goes on with the bytes from the place on.
 pub fn carets_stand_below()
     ensures { (text : List ℕ) (place : ℕ) → place ≤ length text → StandsBelow text place (excerpt text place) }
 {}

@@ -151,7 +151,7 @@ fn cycles_of_large_networks(rt: HostRuntime) -> Result<(), Fail> {
     Ok(())
 }
 
-/// A problem with so many subtasks, each before the next one, and another ordering.
+/// A problem with `count` subtasks, each before the next one, and another ordering.
 fn in_turn(alloc: Global, count: usize, ordering: &str) -> Result<String, Fail> {
     let mut text = String::new(alloc);
     text.push_str("(define (problem x) (:domain d) (:htn :subtasks (and")?;

@@ -264,7 +264,7 @@ fn tells_the_fault(rt: HostRuntime) -> Result<(), Fail> {
     Ok(())
 }
 
-/// A writer that takes so many bytes in one write, and so many in all.
+/// A writer that takes at most `step` bytes in one write, and `room` in all.
 #[derive(Drop)]
 struct Narrow {
     taken: Vec<u8>,

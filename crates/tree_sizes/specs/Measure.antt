@@ -1,4 +1,4 @@
--- Bounds from below on the numbers that a word must still have, by a measure on the open nodes.
+-- Lower bounds on the numbers that a word must still have, by a measure on the open nodes.
 use Rattle.std.specs.Prelude.{◌≡◌, ◌↔◌, ℕ, ◌+◌, ◌≤◌, Bool, true, false, not, cond, List, length, max, min, Some, slice_get}
 use Rattle.std.specs.FinMap.{retain_keys}
 use Rattle.std.specs.List.{sum_by}
@@ -26,11 +26,12 @@ pub record IsLowerMeasure (problem : Problem) (size : Child → ℕ) : Type 0 wh
 abbrev pub lasting : Problem → State → State
 lasting problem state = retain_keys state (λ a. not (problem.is_changed a.predicate))
 
--- whether these are as at first
+-- whether the static atoms of a state are the initial ones
 abbrev pub is_as_at_first : Problem → State → Bool
 is_as_at_first problem state = state_eq (lasting problem state) (lasting problem problem.initial_state)
 
--- the test says just that; and it is passed at first, and after each live step by what passed it
+-- the test holds exactly there; it holds in the initial state, and after each live step from a configuration for which
+-- it holds
 pub record StatesLast (problem : Problem) : Type 0 where
   pub told : (state : State)
       → (is_as_at_first problem state ≡ true) ↔ ((a : Atom) → problem.is_changed a.predicate ≡ false → contains state a ≡ contains problem.initial_state a)
@@ -39,11 +40,11 @@ pub record StatesLast (problem : Problem) : Type 0 where
 
 -- ## Bounds
 
--- what the open nodes take together, as far as the cap; and at least one number each
+-- the sum of the open nodes' sizes, capped, and at least one for each
 abbrev pub estimate : (Child → ℕ) → ℕ → Config → ℕ
 estimate size cap c = max (length c.open_nodes) (min (sum_by size c.open_nodes) cap)
 
--- the same, but in a state that is never reached no more than the open nodes
+-- the capped sum of the open nodes' sizes; for a state that is never reached, only the number of open nodes
 abbrev pub lower_bound : Problem → (Child → ℕ) → ℕ → Config → ℕ
 lower_bound problem size cap c = cond (is_as_at_first problem c.state) (estimate size cap c) (length c.open_nodes)
 

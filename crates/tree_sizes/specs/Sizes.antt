@@ -41,11 +41,11 @@ IsSize g id (precondition literals) size = size ≡ 1
 IsSize g id (action h) size = size ≡ cond (is_barred_at g id) out_of_reach 1
 IsSize g id (task h) size = (1 ≤ size) × (size ≤ out_of_reach) × (g.listed ≤ id → size ≤ 1)
 
--- so it is with each node
+-- each node has such a size
 abbrev pub AreSizes : TaskGraph → List ℕ → Type 0
 AreSizes g sizes = (id : ℕ) (x : Child) → slice_get (nodes_of g) id ≡ Some x → IsSize g id x (size_at sizes id)
 
--- and no size is more than a decomposition of its node gives
+-- each node has such a size, which is at most that of any of its decompositions
 pub record AreLower (g : TaskGraph) (sizes : List ℕ) : Type 0 where
   pub nodes : AreSizes g sizes
   pub within : All (λ d. size_at sizes d.task.index ≤ size_by sizes d) g.decompositions.items

@@ -1,4 +1,4 @@
-//! Whether sizes are bounds from below.
+//! Whether sizes are lower bounds.
 ghost use Rattle.std.specs.Prelude.{◌≡◌, ◌≤◌, ◌-◌, ◌^◌, All, IsTrue, min};
 ghost use Rattle.htn_ground.specs.Views.{child_view};
 ghost use Rattle.tree_sizes.specs.Sizes.{AreLower, AreSizes, IsSize, size_at, size_by};
@@ -80,7 +80,7 @@ fn are_sizes(graph: &TaskGraph, sizes: &[u32]) -> bool
     true
 }
 
-/// Whether sizes are bounds from below.
+/// Whether sizes are lower bounds.
 pub(crate) fn are_lower(graph: &TaskGraph, sizes: &[u32]) -> bool
     ensures { IsTrue result → AreLower graph.now sizes.now }
 {

@@ -87,8 +87,8 @@ impl Search {
         graph: &TaskGraph,
         decomposition: &Decomposition,
     ) -> Result<(), AllocError> {
-        // At most 2^32 decompositions have places. Past them the answer is want of memory although none was refused: so
-        // many take more than 50 GB in this list alone. A search lists far fewer.
+        // At most 2^32 decompositions have places. Past them the answer is as if memory had been refused: so many take
+        // more than 50 GB in this list alone. A search lists far fewer.
         let Ok(place) = u32::try_from(self.pending.len()) else {
             return Err(AllocError);
         };

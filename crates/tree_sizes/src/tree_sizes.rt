@@ -14,7 +14,8 @@ use std::alloc::{AllocError, Global};
 use task_graph::TaskGraph;
 
 /// A measure on nodes: 1 of a precondition step and of an action, of a compound task at most the nodes of its least
-/// decomposition tree; past the greatest bound what no tree ends, and an action that is never carried out.
+/// decomposition tree; past the greatest bound for a task that no tree ends, and for an action that is never carried
+/// out.
 #[derive(Drop)]
 pub struct TreeSizes {
     graph: TaskGraph,

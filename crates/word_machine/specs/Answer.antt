@@ -1,4 +1,4 @@
--- What a search answers.
+-- The answers of a search.
 use Rattle.std.specs.Prelude.{◌≡◌, ℕ, ◌<◌, ◌≤◌, List, Option}
 use Rattle.std.specs.declared.option.Option.TheVariants as option
 use Rattle.word_machine.specs.Words.{Precedes, MeetsBound, step_count}
@@ -44,8 +44,8 @@ module _ {Configuration : Type 0} (m : WordMachine Configuration) where
   IsEnding bound (ending.GivenUp none_below) = NoneFinishesBefore none_below
   IsEnding bound (ending.Stopped none_below) = NoneFinishesBefore none_below
 
-  -- the same by a measure of what is left, in the place of the open nodes; nothing is said where it was given up or
-  -- stopped
+  -- the outcome of a search that bounds the steps that are left by a measure in place of the open nodes; nothing is
+  -- said where it was given up or stopped
   abbrev pub IsOutcome : (Configuration → ℕ) → ℕ → Outcome → Type 0
   IsOutcome measure bound (Finished word) = IsLeastFinishing bound word.items
   IsOutcome measure bound (Past least wide) = NoneFinishes bound × MeetsBound (IsLiveStep m) measure m.initials bound × NoneFinishesBefore least
@@ -53,12 +53,12 @@ module _ {Configuration : Type 0} (m : WordMachine Configuration) where
   IsOutcome measure bound GivenUp = Unit {0}
   IsOutcome measure bound Stopped = Unit {0}
 
-  -- what is left at least of a configuration, by the measure
+  -- the lower bound of a measure on the steps that are left of a configuration
   abbrev pub measure_of : (Configuration → ℕ) → Measure → Configuration → ℕ
   measure_of lower_bound OpenNodes = m.open_len
   measure_of lower_bound LowerBound = lower_bound
 
-  -- more is left at least of a configuration than the horizon has; nothing is beyond one that has no end
+  -- the lower bound of a configuration is greater than the horizon's limit; nothing is beyond a horizon without a limit
   abbrev pub IsBeyond : (Configuration → ℕ) → Horizon → Configuration → Type 0
   IsBeyond lower_bound horizon c = (most : ℕ) × (horizon.most_left ≡ option.Some most) × (most < measure_of lower_bound horizon.measure c)
 
@@ -70,7 +70,7 @@ found_of Exhausted = option.Some Unsolvable
 found_of GivenUp = option.None
 found_of Stopped = option.None
 
--- the same as an ending, where no word finishes with fewer steps than these
+-- an outcome by the open nodes as an ending, where no word finishes with fewer steps than these
 abbrev pub ending_of : ℕ → Outcome → Ending
 ending_of none_below (Finished word) = ending.Answer (Word word)
 ending_of none_below (Past least wide) = ending.Answer None

@@ -1,12 +1,12 @@
--- What a merge puts aside, to be kept with the others.
+-- Configurations that a merge sets aside, to be added to the closed list with the others of their batch.
 use Rattle.std.specs.Prelude.{◌≡◌, ℕ, ◌≤◌, Bool, List, length, All}
 use Rattle.word_machine.specs.declared.closed.Fitting.{Fitting}
 use Rattle.word_machine.specs.declared.closed.Successor.{Successor}
 use Rattle.word_machine.specs.Contents.{Contents, IsOffered, IsOriginWithin, fitting, offer_all, origin_of}
 use Rattle.word_machine.specs.Meaning.{Meaning, contents_at, successor_at}
 
--- as many links as configurations; each of these is numbered, and there is room for what is left of it; and each came
--- from one of the first ranks
+-- there are as many links as configurations; each configuration is numbered and has at most `room` steps left by the
+-- measure; and each link's parent is among the first ranks
 pub record IsAside {C R P : Type 0} (meaning : Meaning C R P) (measure : P → ℕ) (room ranks : ℕ)
     (fits : Fitting C) : Type 0 where
   pub as_many : length fits.links.items ≡ length fits.configurations.items
@@ -14,8 +14,8 @@ pub record IsAside {C R P : Type 0} (meaning : Meaning C R P) (measure : P → �
   pub known : All meaning.knows fits.configurations.items
   pub fit : All (λ c. measure (meaning.point c) ≤ room) fits.configurations.items
 
--- one that was reached is offered to a list, and leads to another, whatever is put aside for the two: configurations
--- that are numbered and for which there is room
+-- offering a successor to the first list gives the second one, whichever numbered configurations within the room are
+-- set aside for both
 abbrev pub IsPassedBy : {C R P : Type 0} → (C → C → Bool) → Meaning C R P → (P → ℕ) → ℕ → Successor R → Contents C
     → Contents C → Type 0
 IsPassedBy {C} eq meaning measure room reached old new =
@@ -25,6 +25,6 @@ IsPassedBy {C} eq meaning measure room reached old new =
     (measure (meaning.point_of reached.configuration)) room
     (contents_at meaning.point (offer_all eq (λ c. 0) 0 new fs))
 
--- a list, with those that were put aside for it
+-- a list, with the configurations that were set aside for it added
 abbrev pub with_aside : {C : Type 0} → (C → C → Bool) → Contents C → Fitting C → Contents C
 with_aside eq contents fits = offer_all eq (λ c. 0) 0 contents (fitting fits.links.items fits.configurations.items)

@@ -1,12 +1,12 @@
--- What a closed list holds in the middle of a search.
+-- The contents of a closed list in the middle of a search.
 use Rattle.std.specs.Prelude.{◌≡◌, ℕ, ◌+◌, ◌<◌, ◌≤◌, ◌⊎◌, true, List, [], ◌∷◌, ◌++◌, length, Some, slice_get}
 use Rattle.word_machine.specs.Words.{Precedes, Reaches, MeetsBound}
 use Rattle.word_machine.specs.Machine.{WordMachine, IsLiveStep, IsDone}
 use Rattle.word_machine.specs.Contents.{CutOff, word_of, IsOriginWithin}
 use Rattle.word_machine.specs.declared.closed.Successor.{Successor}
 
--- what is searched: the steps, what is done, what bounds the steps that are left (as the open nodes), the initial
--- configurations, and the bound on steps
+-- a search problem: its steps, the done configurations, a lower bound on the steps that are left (such as the number of
+-- open nodes), the initial configurations, and the bound on steps
 pub record Search (C : Type 0) : Type 1 where
   pub Step : C → ℕ → C → Type 0
   pub IsDone : C → Type 0
@@ -23,12 +23,12 @@ abbrev pub IsAtMost : List ℕ → List ℕ → Type 0
 IsAtMost w v = (w ≡ v) ⊎ Precedes w v
 
 module _ {C : Type 0} where
-  -- the configuration stands at the rank, with this word
+  -- the configuration has this rank and this word
   pub record IsAt (keys : List C) (words : List (List ℕ)) (rank : ℕ) (c : C) (w : List ℕ) : Type 0 where
     pub key : slice_get keys rank ≡ Some c
     pub word : slice_get words rank ≡ Some w
 
-  -- the configuration stands somewhere, with a word that is at most v
+  -- the configuration is in the list, with a word that is at most v
   pub record IsCovered (keys : List C) (words : List (List ℕ)) (c : C) (v : List ℕ) : Type 0 where
     pub rank : ℕ
     pub word : List ℕ
@@ -40,8 +40,8 @@ module _ {C : Type 0} where
     abbrev pub FitsBound : C → List ℕ → Type 0
     FitsBound c w = length w + S.open_len c ≤ S.bound + 1
 
-    -- the configuration that v reaches is covered, or it was cut, and is past the bound by as much as the least that
-    -- was
+    -- the configuration that v reaches is covered, or it is past the bound by no less than the least distance at which
+    -- one was pruned
     abbrev pub IsAccounted : List C → List (List ℕ) → CutOff → C → List ℕ → Type 0
     IsAccounted keys words cut c v = IsCovered keys words c v ⊎ ((cut.any ≡ true) × (S.bound + 1 < length v + S.open_len c) × (S.bound + 1 + cut.past ≤ length v + S.open_len c))
 
@@ -68,8 +68,7 @@ module _ {C : Type 0} where
     IsCompleteBelow keys words size =
         (v : List ℕ) (c : C) → length v < size → Reaches S.Step S.initials v c → FitsBound c v → IsCovered keys words c v
 
-    -- the successor's word has so many numbers and reaches it, and it is not done; `words` are those of the ranks
-    -- before
+    -- the successor's word, where `words` are those of the ranks, has `size` numbers and reaches it, and it is not done
     pub record IsCandidate (words : List (List ℕ)) (size : ℕ) (s : Successor C) : Type 0 where
       pub within : IsOriginWithin (length words) s.origin
       pub long : length (word_of words s.origin) ≡ size

@@ -53,7 +53,7 @@ module _ {Configuration : Type 0} (m : WordMachine Configuration) where
     pub done_closed : (c : Configuration) → IsDone c → m.open_len c ≡ 0
     pub dead_never : (c d e : Configuration) (n : ℕ) (ns : List ℕ) → belongs c → IsDead c n → IsStep c n d → Leads IsStep d ns e → IsDone e → ⊥
 
-  -- a bound from below on the steps that are left, at least the number of open nodes
+  -- a lower bound on the steps that are left, at least the number of open nodes
   pub record IsLowerBound (bound : Configuration → ℕ) : Type 0 where
     pub lowers_one : (c d : Configuration) (n : ℕ) → IsLiveStep c n d → bound c ≤ bound d + 1
     pub done_zero : (c : Configuration) → IsDone c → bound c ≡ 0

@@ -29,7 +29,7 @@ pub struct Successor<C> {
     pub configuration: C,
 }
 
-/// A successor, with a bound from below on the steps that are left from it, by the measure of the search.
+/// A successor, with a lower bound on the steps that are left from it, by the measure of the search.
 #[derive(Drop)]
 pub struct Measured<C> {
     pub successor: Successor<C>,
@@ -84,7 +84,7 @@ pub struct Fitting<C> {
 }
 
 impl<C: Drop> Fitting<C> {
-    /// None, with room for `room` configurations.
+    /// No configurations, with room for `count` of them.
     pub fn with_capacity(alloc: Global, count: usize) -> Result<Fitting<C>, AllocError>
         ensures { IfOk result (λ fits. (fits.links.items ≡ []) × (fits.configurations.items ≡ [])) }
     {

@@ -32,7 +32,7 @@ pub struct Effort {
     pub first_bound: u64,
 }
 
-// The least of the bounds from below on the initial configurations.
+// The least of the lower bounds on the initial configurations.
 fn least_bound<M: Machine>(machine: &M, tables: &M::Tables, initials: &[M::Configuration]) -> u64
     requires own { M.owns machine.now tables.now }
     requires known { All (IsOwned (M.meaning machine.now tables.now) (M.belongs machine.now)) initials.now }
@@ -90,12 +90,12 @@ fn none_or_unsolvable<M: Machine, G: Gate, W: Watch, R: Threads + Wait + Sync>(
 }
 
 /// The answer of `find_word`, over the caller's tables, which hold all that was numbered afterwards. The searches use
-/// the machine's own bound from below, within bounds that grow from that of the initial configurations, or from
+/// the machine's own lower bound, within bounds that grow from that of the initial configurations, or from
 /// `effort.first_bound`: each next bound admits about as many more configurations, or, where few were pruned near the
-/// bound, grows by increasing steps. Only where these find no word, `none` and `unsolvable` are told apart by the open
-/// nodes. It is given up once the closed list of a search has more than `effort.most_kept` configurations, and never
-/// where that is the greatest number. The watch may stop it; it is given the steps below which no word finishes as far
-/// as is known, `known` at least.
+/// bound, grows by increasing steps. Only where these find no word, the open nodes decide between `none` and
+/// `unsolvable`. It is given up once the closed list of a search has more than `effort.most_kept` configurations, and
+/// never where that is the greatest number. The watch may stop it, and is given the number of steps below which no word
+/// is known to finish, which is at least `known`.
 pub fn find_word_watched<M: Machine, G: Gate, W: Watch, R: Threads + Wait + Sync>(
     rt: &R,
     alloc: Global,

@@ -63,8 +63,8 @@ impl<C: Eq + Hash + Copy> Frontier<C> {
     }
 }
 
-// The extent of a configuration: a bound from below on the steps that lead to it (no finishing word has fewer than
-// `least`, and the bound on what is left falls by at most one with each step), and its open nodes.
+// The extent of a configuration: a lower bound on the steps that lead to it (no finishing word has fewer than `least`,
+// and the bound on what is left falls by at most one with each step), and its open nodes.
 fn extent<M: Machine>(machine: &M, tables: &M::Tables, least: u64, at: M::Configuration) -> u64
     requires own { M.owns machine.now tables.now }
     requires owned { IsOwned (M.meaning machine.now tables.now) (M.belongs machine.now) at }

@@ -34,7 +34,7 @@ pub trait Machine: Sync {
     // The point is one of this machine's.
     ghost belongs: { Self → Point → Type 0 };
 
-    // A bound from below on the steps that are left.
+    // A lower bound on the steps that are left.
     ghost estimate: { Self → Point → ℕ };
 
     // What the numbers stand for, by these tables.
@@ -129,7 +129,7 @@ pub trait Machine: Sync {
         requires belongs { belongs self.now ((meaning self.now tables.now).point at) }
         ensures { result ≡ (words self.now).open_len ((meaning self.now tables.now).point at) };
 
-    /// A bound from below on the steps that are left.
+    /// A lower bound on the steps that are left.
     fn lower_bound(&self, tables: &Self::Tables, at: Self::Configuration) -> u64
         requires own { owns self.now tables.now }
         requires known { (meaning self.now tables.now).knows at }

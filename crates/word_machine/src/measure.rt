@@ -1,4 +1,4 @@
-//! Bounds from below on the steps that are left from a configuration.
+//! Lower bounds on the steps that are left from a configuration.
 ghost use Rattle.std.specs.Prelude.{◌≡◌};
 ghost use Rattle.word_machine.specs.Answer.{measure_of};
 ghost use Rattle.word_machine.specs.Ranks.{IsOwned};
@@ -7,7 +7,7 @@ use crate::bounds::Bounds;
 use crate::machine::Machine;
 use crate::watch::News;
 
-/// The bound from below that a search uses.
+/// The lower bound that a search uses.
 #[derive(Clone, Copy, Debug)]
 pub enum Measure {
     /// The number of open nodes.

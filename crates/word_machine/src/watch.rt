@@ -1,7 +1,7 @@
-//! What sees how a search gets on, and may stop it.
+//! Watches: they are informed of the progress of a search, and may stop it.
 ghost use Rattle.std.specs.Prelude.{◌≡◌, ℕ, Bool, true, false, refl};
 
-/// What is known of a search that is under way.
+/// The progress of a search.
 #[derive(Clone, Copy, Debug)]
 pub struct News {
     /// The bound of the search.
@@ -12,19 +12,19 @@ pub struct News {
     pub none_below: u64,
 }
 
-/// A watch is asked before each level of a search, before each block of a level, and now and then in a dive, whether
-/// the search goes on. It is asked in the thread that waits for the workers.
+/// A watch is asked before each level of a search, before each block of a level but its first, and every 256
+/// configurations of a dive, whether the search goes on. It is asked in the thread that waits for the workers.
 pub trait Watch {
     // Whether it may stop a search.
     ghost may_stop: { Self → Bool };
 
-    // The second is what the first may become while it is asked.
+    // The second watch is one that the first may be after it was asked.
     ghost becomes: { Self → Self → Type 0 };
 
     // It may be given this number of steps below which no word finishes.
     ghost may_hear: { Self → ℕ → Type 0 };
 
-    /// Whether the search goes on, of which this is known.
+    /// Whether a search with this progress goes on.
     fn goes_on(&mut self, news: News) -> bool
         requires hears { may_hear self.old news.none_below }
         ensures stops { result ≡ false → may_stop self.old ≡ true }
@@ -42,7 +42,7 @@ pub trait Watch {
     ghost hears: { (v w : Self) (n : ℕ) → becomes v w → may_hear v n → may_hear w n };
 }
 
-/// Whether a search goes on, whose watch is asked only where that is due.
+/// Whether a search goes on. Its watch is asked only if that is due.
 pub(crate) fn goes_on_if<W: Watch>(watch: &mut W, is_due: bool, news: News) -> bool
     requires hears { W.may_hear watch.old news.none_below }
     ensures stops { result ≡ false → W.may_stop watch.old ≡ true }

@@ -1,4 +1,4 @@
--- What is said of a part of a slice that begins at a place of the whole.
+-- Conditions on a part of a slice that begins at a place of the whole.
 use Rattle.std.specs.Prelude.{◌≡◌, ℕ, ◌+◌, ◌^◌, ◌<◌, List, length, slice_index_or}
 
 -- P holds of each element and its place in the whole

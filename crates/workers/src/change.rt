@@ -1,4 +1,4 @@
-//! Calls at each place of a slice, which may change what stands there.
+//! Calls at each place of a slice, which may change the element there.
 ghost use Rattle.std.specs.Prelude.{◌≡◌, ◌<◌, ◌+◌, length};
 ghost use Rattle.std.specs.Fork.{AcceptsAt, AcceptsEach, ChangesAt, ChangesEach};
 ghost use Rattle.std.specs.Thread.{IsSend, IsSync};

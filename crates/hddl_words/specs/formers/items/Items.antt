@@ -19,11 +19,11 @@ use Rattle.hddl_words.specs.declared.items.Items.TheView.{view, invariant}
 use Rattle.hddl_words.specs.contracts.items.Items as contract
 use Rattle.hddl_words.specs.contracts.items.Items.TheInside as inside
 
--- the items are kept as a list of what they hold
+-- items are stored as the list of their contents
 abbrev pub the_former : Former {0} → Former {0}
 the_former g = list g
 
--- what they hold is smaller than they are
+-- the contents of items are smaller than the items
 abbrev pub the_weighed : {g : Former {0}} → Weighed g → Weighed (the_former g)
 the_weighed w = w_list w
 
