@@ -27,7 +27,7 @@ module _ (t : Task) (passes : State → Bool) (size : Child → ℕ) (state : �
   lone_at number = lone (node number)
 
   -- the rules are those of the nodes, the calls are at sites that are apart, no nodes have smaller sizes than they are
-  -- counted with, and by these counts the table is closed and the values are no more than it tells
+  -- counted with, and by these counts the table is closed and the values are supported by it
   pub record AreNumbersChecked : Type 0 where
     pub ruled : (i j : ℕ) (rs : List (Rule ℕ ℕ)) → numbers i j ≡ Some rs
         → node_rules t (state i) (node j) ≡ Some (map (rule_of state lone_at) rs)

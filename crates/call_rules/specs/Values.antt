@@ -8,8 +8,8 @@ use Rattle.call_rules.specs.Bounds.{ByState, ByBlocks}
 
 module _ (table : Table ℕ ℕ) (low : ℕ → List ℕ → ℕ) (least : List ℕ → ℕ) (goal : ℕ → Bool) (cap : ℕ)
     (value : List ℕ → ℕ → ℕ) where
-  -- where no block is left, a value is no more than the goal tells; else than the base bound, or than what the call of
-  -- the first block tells by the values of the others
+  -- where no block is left, a value is nothing in a state of the goal, and else no more than the cap; of other blocks it
+  -- is no more than the base bound, or than what follows from the call of the first one and the values of the others
   pub record AreValues : Type 0 where
     pub ended : (s : ℕ) → value [] s ≤ cond (goal s) 0 cap
     pub called : (s block : ℕ) (rest : List ℕ)

@@ -57,15 +57,16 @@ pub fn tables_bound()
     ensures ordered { (t : Task) → BoundsOfOrdered t }
 {}
 
-/// A table by numbers is one of what they stand for. Values by numbers that are no more than each call tells by the
-/// values of what comes after it are no more than the estimate of what the numbers stand for.
+/// A table by numbers is one of what they stand for. Values by numbers that follow from each call and from the
+/// values of what is behind it are no more than the estimate of what the numbers stand for.
 pub fn values_bound()
     ensures tables { TablesStand }
     ensures values { ValuesAreBelow }
     ensures numbers { NumbersAreBelow }
 {}
 
-/// What is below a node at least is a size of it, where the state is as at first in what no effect names.
+/// In states that have the initial truth of all that no effect names, a step lowers the sizes of a lower measure by one
+/// at most; and it leads from such states to such states.
 pub fn measures_bound()
     ensures { (t : Task) → MeasuresAreSizes t }
 {}

@@ -18,7 +18,7 @@ fn may_end(ends: &[bool], state: u32) -> bool
 }
 
 /// The value of a list in a state; where it has none, how many nodes the list has at least.
-pub fn value_of(lists: &BlockLists, values: &IndexMap<Site, u32>, list: u32, state: u32) -> u64
+fn value_of(lists: &BlockLists, values: &IndexMap<Site, u32>, list: u32, state: u32) -> u64
     ensures { result ≤ value_at lists.now values.now list state }
 {
     let site = Site {

@@ -18,7 +18,7 @@ mod site;
 
 pub use call::{Call, CallTable, Exit, Place, Rule};
 pub use check::are_closed;
-pub use estimates::{are_estimates, value_of};
+pub use estimates::are_estimates;
 pub use laws::numbers_close_tables;
 pub use lists::{BlockLists, Link};
 pub use site::Site;

@@ -32,7 +32,7 @@ module _ {Configuration : Type 0} (m : WordMachine Configuration) (low : Configu
     pub before : (i : ℕ) (c : Configuration) → i < initial → slice_get m.initials i ≡ Some c → length numbers < low c
     pub none_fewer : (i : ℕ) (c : Configuration) → slice_get m.initials i ≡ Some c → length numbers ≤ low c
 
-  -- a certificate that a word is the least finishing one: it names an initial configuration and goes a least way
+  -- a certificate that a word is the least finishing one: it names an initial configuration, and a least way from there
   abbrev pub IsCertificate : List ℕ → Type 0
   IsCertificate [] = ⊥
   IsCertificate (initial ∷ numbers) = IsCertificateFrom initial numbers
