@@ -25,25 +25,28 @@ impl Scene<'_> {
     /// The message with a line after it, as `task 10 (deliver flour farm)`.
     fn line(&self, message: Message, line: usize) -> Result<Message, AllocError> {
         let Some(words) = words_of(&self.case, line) else {
-            return message.say("a line");
+            return Ok(message.say("a line"));
         };
         let text = bracketed(self.alloc, words.name.as_bytes(), words.arguments)?;
-        message
-            .say(if words.is_compound {
-                "task "
-            } else {
-                "action "
-            })?
-            .number(self.id(line))?
-            .say(" ")?
-            .plain(text.as_slice())
+        let kind = if words.is_compound {
+            "task "
+        } else {
+            "action "
+        };
+        Ok(
+            message
+                .say(kind)
+                .number(self.id(line))
+                .say(" ")
+                .plain(text.as_slice()),
+        )
     }
 
     /// The message with a gap after it, as `after action 1 (set-p)`.
     pub(crate) fn gap(&self, message: Message, gap: usize) -> Result<Message, AllocError> {
         match gap.checked_sub(1) {
-            Some(action) => self.line(message.say("after ")?, action),
-            None => message.say("at the start"),
+            Some(action) => self.line(message.say("after "), action),
+            None => Ok(message.say("at the start")),
         }
     }
 
@@ -116,16 +119,16 @@ fn line_before(
     conflict: &OrderConflict,
 ) -> Result<(Mark, Message), AllocError> {
     let message = scene.line(Message::new(scene.alloc), line)?;
-    let message = message.say(" has to be done before it")?;
+    let message = message.say(" has to be done before it");
     let mark = word_at(&scene.plan, line, 0);
     if scene.is_action(line) {
         return Ok((mark, message));
     }
     let message = match conflict.late {
         Some(action) => scene
-            .line(message.say(", and ")?, action)?
-            .say(" is below it")?,
-        None => scene.gap(message.say(", and can be done only ")?, conflict.from)?,
+            .line(message.say(", and "), action)?
+            .say(" is below it"),
+        None => scene.gap(message.say(", and can be done only "), conflict.from)?,
     };
     Ok((mark, message))
 }
@@ -138,7 +141,7 @@ fn precondition_before(
     conflict: &OrderConflict,
 ) -> Result<(Mark, Message), AllocError> {
     let alloc = scene.alloc;
-    let message = Message::new(alloc).say("the precondition of ")?;
+    let message = Message::new(alloc).say("the precondition of ");
     let method = match line {
         Some(line) => method_of(alloc, &scene.case, line)?,
         None => None,
@@ -146,15 +149,15 @@ fn precondition_before(
     let (mark, message) = match method {
         Some(method) => (
             in_domain(literal_place(alloc, &scene.case, method, 0)?),
-            message.name(method.name.text())?,
+            message.name(method.name.text()),
         ),
         None => (
             in_problem(scene.case.problem.htn.place),
-            message.name(b":htn")?,
+            message.name(b":htn"),
         ),
     };
-    let message = message.say(" has to hold before it, and first holds ")?;
-    let message = scene.gap(message, conflict.from)?.say(": ")?;
+    let message = message.say(" has to hold before it, and first holds ");
+    let message = scene.gap(message, conflict.from)?.say(": ");
     let texts = texts_of(alloc, &scene.case, literals)?;
     let message = with_texts(alloc, message, texts.as_slice())?;
     Ok((mark, message))
@@ -173,7 +176,7 @@ fn with_first(
             precondition_before(scene, line, literals.as_slice(), conflict)?
         }
     };
-    reason.note(mark, message)
+    Ok(reason.note(mark, message))
 }
 
 /// The reason with a note where the order of two subtasks is written.
@@ -196,15 +199,15 @@ fn with_order(
     };
     let text = bracketed(alloc, words.name.as_bytes(), words.arguments)?;
     let message = Message::new(alloc)
-        .say("the order: this subtask comes after ")?
-        .name(text.as_slice())?;
+        .say("the order: this subtask comes after ")
+        .name(text.as_slice());
     let place = subtask.task.name.place();
     let mark = if line.is_some() {
         in_domain(place)
     } else {
         in_problem(place)
     };
-    reason.note(mark, message)
+    Ok(reason.note(mark, message))
 }
 
 /// That an action comes before what has to be done first.
@@ -216,20 +219,20 @@ fn early_reason(
 ) -> Result<Reason, AllocError> {
     let alloc = scene.alloc;
     let message = Message::new(alloc)
-        .say("action ")?
-        .number(scene.id(early))?
-        .say(" comes too early")?;
+        .say("action ")
+        .number(scene.id(early))
+        .say(" comes too early");
     let mark = whole_line(&scene.plan, early);
     let reason = Reason::new(alloc, mark, message);
     let second = conflict.second;
     let reason = if second == early {
         reason
     } else {
-        let message = Message::new(alloc).say("it belongs to ")?;
+        let message = Message::new(alloc).say("it belongs to ");
         reason.note(
             word_at(&scene.plan, second, 0),
             scene.line(message, second)?,
-        )?
+        )
     };
     let reason = with_first(scene, line, conflict, reason)?;
     let is_of_lines = matches!(&conflict.first, Node::Line(_));
@@ -242,24 +245,24 @@ fn early_reason(
 /// The reason with a note at the line of a method.
 fn with_method(scene: &Scene<'_>, line: usize, reason: Reason) -> Result<Reason, AllocError> {
     let alloc = scene.alloc;
-    let message = Message::new(alloc).say("the line of ")?;
+    let message = Message::new(alloc).say("the line of ");
     let message = match method_of(alloc, &scene.case, line)? {
-        Some(method) => message.name(method.name.text())?,
-        None => message.say("the method")?,
+        Some(method) => message.name(method.name.text()),
+        None => message.say("the method"),
     };
-    reason.note(word_at(&scene.plan, line, 0), message)
+    Ok(reason.note(word_at(&scene.plan, line, 0), message))
 }
 
 /// That a line has no room, although each line below it has.
-fn plain_reason(scene: &Scene<'_>, line: Option<usize>) -> Result<Reason, AllocError> {
+fn plain_reason(scene: &Scene<'_>, line: Option<usize>) -> Reason {
     let message = Message::new(scene.alloc).say(
         "this line can't be arranged, although each line below it can by itself",
-    )?;
+    );
     let mark = match line {
         Some(line) => whole_line(&scene.plan, line),
         None => root_word(&scene.plan, 0),
     };
-    Ok(Reason::new(scene.alloc, mark, message))
+    Reason::new(scene.alloc, mark, message)
 }
 
 /// What is in the way where two nodes are in the wrong order.
@@ -273,7 +276,7 @@ fn order_reason(
     }
     let reason = match &conflict.unmet {
         Some(unmet) => unmet_reason(scene.alloc, scene, conflict.second, unmet)?,
-        None => plain_reason(scene, Some(conflict.second))?,
+        None => plain_reason(scene, Some(conflict.second)),
     };
     let reason = with_first(scene, line, conflict, reason)?;
     with_order(scene, line, conflict, reason)
@@ -307,9 +310,9 @@ pub(crate) fn arrangement_reason<'a>(
         Some(Conflict::Order(conflict)) => order_reason(&scene, line, conflict)?,
         Some(Conflict::Precondition(unmet)) => match line {
             Some(line) => unmet_reason(alloc, &scene, line, unmet)?,
-            None => plain_reason(&scene, None)?,
+            None => plain_reason(&scene, None),
         },
-        None => plain_reason(&scene, line)?,
+        None => plain_reason(&scene, line),
     };
     Ok(Some(reason))
 }

@@ -46,7 +46,7 @@ impl Lister<'_> {
     }
 
     /// The message with the name of the method, or with `:htn`, after it.
-    fn named(&self, message: Message) -> Result<Message, AllocError> {
+    fn named(&self, message: Message) -> Message {
         match self.method {
             Some(method) => message.name(method.name.text()),
             None => message.name(b":htn"),
@@ -74,11 +74,11 @@ fn value_of<'a>(
         return Ok(None);
     };
     let wanted = fold(alloc, variable)?;
-    for (term, argument) in method.task.terms.as_slice().iter().zip(arguments) {
+    for (place, term) in method.task.terms.as_slice().iter().enumerate() {
         if let Term::Variable(known) = term {
             let text = fold(alloc, known.text())?;
             if text.as_slice() == wanted.as_slice() {
-                return Ok(Some(argument));
+                return Ok(arguments.get(place));
             }
         }
     }
@@ -145,13 +145,13 @@ fn with_subtask(
         return Ok(reason);
     };
     let (text, is_filled) = filled(alloc, lister, &missing.task)?;
-    let message = Message::new(alloc).say("no child is this subtask")?;
+    let message = Message::new(alloc).say("no child is this subtask");
     let message = if is_filled {
-        message.say(", ")?.name(text.as_slice())?
+        message.say(", ").name(text.as_slice())
     } else {
         message
     };
-    reason.note(lister.at(missing.task.name.place()), message)
+    Ok(reason.note(lister.at(missing.task.name.place()), message))
 }
 
 /// That another number of children is listed than the network has subtasks.
@@ -163,11 +163,11 @@ pub(crate) fn other_number(
     subtask: Option<usize>,
 ) -> Result<Reason, AllocError> {
     let message = lister
-        .named(Message::new(alloc))?
-        .say(" has ")?
-        .count(wanted, "subtask")?
-        .say(", and this line lists ")?
-        .number(lister.ids.len() as u64)?;
+        .named(Message::new(alloc))
+        .say(" has ")
+        .count(wanted, "subtask")
+        .say(", and this line lists ")
+        .number(lister.ids.len() as u64);
     let reason = Reason::new(alloc, lister.word(plan), message);
     with_subtask(alloc, lister, subtask, reason)
 }
@@ -209,25 +209,25 @@ pub(crate) fn no_subtask(
 ) -> Result<Reason, AllocError> {
     let line = lister.lines.get(child).copied().unwrap_or(0);
     let id = lister.ids.get(child).copied().unwrap_or(0);
-    let message = Message::new(alloc).say("line ")?.number(id)?.say(" is ")?;
+    let message = Message::new(alloc).say("line ").number(id).say(" is ");
     let Some(words) = words_of(case, line) else {
-        let message = lister.named(message.say("no subtask of ")?)?;
+        let message = lister.named(message.say("no subtask of "));
         return Ok(Reason::new(alloc, lister.word(plan), message));
     };
     let text = bracketed(alloc, words.name.as_bytes(), words.arguments)?;
-    let message = message.name(text.as_slice())?;
+    let message = message.name(text.as_slice());
     let message = match wanted_text(alloc, lister, subtask, words.name)? {
         Some(wanted) => lister
-            .named(message.say(", and ")?)?
-            .say(" wants ")?
-            .name(wanted.as_slice())?,
-        None => lister.named(message.say(", which is no subtask of ")?)?,
+            .named(message.say(", and "))
+            .say(" wants ")
+            .name(wanted.as_slice()),
+        None => lister.named(message.say(", which is no subtask of ")),
     };
-    let here = Message::new(alloc).say("line ")?.number(id)?;
+    let here = Message::new(alloc).say("line ").number(id);
     let reason = Reason::new(alloc, lister.child_word(plan, child), message).note(
         word_at(plan, line, 0),
         here,
-    )?;
+    );
     with_subtask(alloc, lister, subtask, reason)
 }
 
@@ -240,7 +240,7 @@ pub(crate) fn no_child(
 ) -> Result<Reason, AllocError> {
     let message = lister.named(Message::new(alloc).say(
         "no line that this one lists is a subtask of ",
-    )?)?;
+    ));
     let reason = Reason::new(alloc, lister.word(plan), message);
     with_subtask(alloc, lister, Some(subtask), reason)
 }
@@ -251,14 +251,12 @@ pub(crate) fn no_instance(
     plan: &PlacedPlan<'_>,
     lister: &Lister<'_>,
     place: usize,
-) -> Result<Reason, AllocError> {
+) -> Reason {
     let message = lister
-        .named(Message::new(alloc))?
-        .say(" has no instance with these children")?;
-    Reason::new(alloc, lister.word(plan), message).note(
-        lister.at(place),
-        Message::new(alloc).say("its parameters")?,
-    )
+        .named(Message::new(alloc))
+        .say(" has no instance with these children");
+    let parameters = Message::new(alloc).say("its parameters");
+    Reason::new(alloc, lister.word(plan), message).note(lister.at(place), parameters)
 }
 
 /// That the words of a child name nothing.
@@ -268,11 +266,14 @@ pub(crate) fn child_unknown(
     lister: &Lister<'_>,
     child: usize,
     why: Reason,
-) -> Result<Reason, AllocError> {
+) -> Reason {
     let id = lister.ids.get(child).copied().unwrap_or(0);
     let message = Message::new(alloc)
-        .say("line ")?
-        .number(id)?
-        .say(" can't be carried out by anything")?;
-    Reason::new(alloc, lister.child_word(plan, child), message).note(why.mark, why.message)
+        .say("line ")
+        .number(id)
+        .say(" can't be carried out by anything");
+    let mark = lister.child_word(plan, child);
+    let mut reason = Reason::new(alloc, mark, message).note(why.mark, why.message);
+    reason.is_refused = reason.is_refused || why.is_refused;
+    reason
 }

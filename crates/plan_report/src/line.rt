@@ -43,15 +43,16 @@ fn with_methods(
     if mine.is_empty() {
         return Ok(reason);
     }
+    let (subject, verb) = if mine.len() == 1 {
+        ("the method of ", " is ")
+    } else {
+        ("the methods of ", " are ")
+    };
     let message = Message::new(alloc)
-        .say(if mine.len() == 1 {
-            "the method of "
-        } else {
-            "the methods of "
-        })?
-        .name(line.task().as_bytes())?
-        .say(if mine.len() == 1 { " is " } else { " are " })?;
-    reason.help(listed(message, mine.as_slice(), " and ")?)
+        .say(subject)
+        .name(line.task().as_bytes())
+        .say(verb);
+    Ok(reason.help(listed(message, mine.as_slice(), " and ")))
 }
 
 /// That the domain has no such method.
@@ -63,12 +64,12 @@ fn no_method(
     line: &DecompositionLine,
 ) -> Result<Reason, AllocError> {
     let message = Message::new(alloc)
-        .say("the domain has no method ")?
-        .name(line.method().as_bytes())?;
+        .say("the domain has no method ")
+        .name(line.method().as_bytes());
     let reason = Reason::new(alloc, lister.word(plan), message);
     let mine = methods_of(alloc, case.domain, line.task())?;
     match meant(alloc, line.method(), mine.as_slice())? {
-        Some(message) => reason.help(message),
+        Some(message) => Ok(reason.help(message)),
         None => with_methods(alloc, case, line, reason),
     }
 }
@@ -83,17 +84,15 @@ fn other_task(
     line: &DecompositionLine,
 ) -> Result<Reason, AllocError> {
     let message = Message::new(alloc)
-        .name(method.name.text())?
-        .say(" is a method of the task ")?
-        .name(method.task.name.text())?;
+        .name(method.name.text())
+        .say(" is a method of the task ")
+        .name(method.task.name.text());
     let mut reason = Reason::new(alloc, lister.word(plan), message);
     reason.label = Message::new(alloc)
-        .say("and this line is of ")?
-        .name(line.task().as_bytes())?;
-    let reason = reason.note(
-        in_domain(method.task.name.place()),
-        Message::new(alloc).say("here")?,
-    )?;
+        .say("and this line is of ")
+        .name(line.task().as_bytes());
+    let here = Message::new(alloc).say("here");
+    let reason = reason.note(in_domain(method.task.name.place()), here);
     with_methods(alloc, case, line, reason)
 }
 
@@ -103,14 +102,12 @@ fn no_arguments(
     plan: &PlacedPlan<'_>,
     lister: &Lister<'_>,
     method: &MethodText,
-) -> Result<Reason, AllocError> {
+) -> Reason {
     let message = Message::new(alloc)
-        .name(method.name.text())?
-        .say(" isn't a method for these arguments")?;
-    Reason::new(alloc, lister.word(plan), message).note(
-        in_domain(method.task.name.place()),
-        Message::new(alloc).say("its task")?,
-    )
+        .name(method.name.text())
+        .say(" isn't a method for these arguments");
+    let task = Message::new(alloc).say("its task");
+    Reason::new(alloc, lister.word(plan), message).note(in_domain(method.task.name.place()), task)
 }
 
 /// What is wrong with the words of a listed line.
@@ -126,9 +123,9 @@ fn child_words(
     match words_of(case, line) {
         Some(words) => {
             let why = words_reason(alloc, case, plan, &words, cause)?;
-            child_unknown(alloc, plan, lister, child, why)
+            Ok(child_unknown(alloc, plan, lister, child, why))
         }
-        None => no_instance(alloc, plan, lister, 0),
+        None => Ok(no_instance(alloc, plan, lister, 0)),
     }
 }
 
@@ -152,7 +149,7 @@ fn network_reason(
         LineCause::ChildWords { child, cause } => {
             child_words(alloc, case, plan, lister, child, cause)
         }
-        _ => no_instance(alloc, plan, lister, place),
+        _ => Ok(no_instance(alloc, plan, lister, place)),
     }
 }
 
@@ -187,7 +184,7 @@ fn decomposition_reason<'a>(
     let reason = match cause {
         LineCause::NoMethod => no_method(alloc, case, plan, &lister, line)?,
         LineCause::OtherTask => other_task(alloc, case, plan, &lister, method, line)?,
-        LineCause::NoInstance => no_arguments(alloc, plan, &lister, method)?,
+        LineCause::NoInstance => no_arguments(alloc, plan, &lister, method),
         _ => network_reason(alloc, case, plan, &lister, method.name.place(), cause)?,
     };
     Ok(Some(reason))

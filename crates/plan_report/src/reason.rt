@@ -34,6 +34,8 @@ pub(crate) struct Reason {
     pub(crate) label: Message,
     pub(crate) help: Vec<Message>,
     pub(crate) notes: Vec<Saying>,
+    /// Whether memory was refused for a help, for a note, or for a message of either.
+    pub(crate) is_refused: bool,
 }
 
 impl Reason {
@@ -44,21 +46,28 @@ impl Reason {
             label: Message::new(alloc),
             help: Vec::new(alloc),
             notes: Vec::new(alloc),
+            is_refused: false,
         }
     }
 
     /// The error with a note more.
-    pub(crate) fn note(self, mark: Mark, message: Message) -> Result<Reason, AllocError> {
+    pub(crate) fn note(self, mark: Mark, message: Message) -> Reason {
         let mut reason = self;
-        reason.notes.push(Saying { mark, message })?;
-        Ok(reason)
+        let is_short = message.is_refused;
+        if reason.notes.push(Saying { mark, message }).is_err() || is_short {
+            reason.is_refused = true;
+        }
+        reason
     }
 
     /// The error with more that says what to do.
-    pub(crate) fn help(self, message: Message) -> Result<Reason, AllocError> {
+    pub(crate) fn help(self, message: Message) -> Reason {
         let mut reason = self;
-        reason.help.push(message)?;
-        Ok(reason)
+        let is_short = message.is_refused;
+        if reason.help.push(message).is_err() || is_short {
+            reason.is_refused = true;
+        }
+        reason
     }
 }
 
@@ -131,6 +140,9 @@ pub(crate) fn reason_error<'a>(
 ) -> Result<Diagnostic<'a>, AllocError>
     ensures { IfOk result (λ d. IsError code.now d) }
 {
+    if reason.is_refused {
+        return Err(AllocError);
+    }
     Ok(Diagnostic {
         severity: Severity::Error,
         code,

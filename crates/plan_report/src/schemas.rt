@@ -91,16 +91,16 @@ pub(crate) fn methods_of<'d>(
 }
 
 /// The message with names after it: `a`, `b` and `c`.
-pub(crate) fn listed(message: Message, names: &[&[u8]], last: &str) -> Result<Message, AllocError> {
+pub(crate) fn listed(message: Message, names: &[&[u8]], last: &str) -> Message {
     let mut message = message;
     for (number, name) in names.iter().enumerate() {
         if number > 0 {
             let is_last = number + 1 == names.len();
-            message = message.say(if is_last { last } else { ", " })?;
+            message = message.say(if is_last { last } else { ", " });
         }
-        message = message.name(name)?;
+        message = message.name(name);
     }
-    Ok(message)
+    message
 }
 
 /// What may be meant by a word, if some of the names are near to it.
@@ -119,10 +119,6 @@ pub(crate) fn meant(
             near.push(*name)?;
         }
     }
-    let message = listed(
-        Message::new(alloc).say("did you mean ")?,
-        near.as_slice(),
-        " or ",
-    )?;
-    Ok(Some(message.say("?")?))
+    let message = Message::new(alloc).say("did you mean ");
+    Ok(Some(listed(message, near.as_slice(), " or ").say("?")))
 }

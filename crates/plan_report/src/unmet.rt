@@ -68,7 +68,7 @@ pub(crate) fn with_texts(
     for text in texts {
         names.push(text.as_slice())?;
     }
-    listed(message, names.as_slice(), " and ")
+    Ok(listed(message, names.as_slice(), " and "))
 }
 
 /// The number of the action that last made a literal false, if one did.
@@ -108,14 +108,14 @@ fn with_turn(
     let core = literal_core(alloc, scene.case.task, literal)?;
     let action = bracketed(alloc, line.name().as_bytes(), line.arguments())?;
     let message = Message::new(alloc)
-        .name(core.as_slice())?
+        .name(core.as_slice())
         .say(if is_negative(literal) {
             " becomes true here: "
         } else {
             " becomes false here: "
-        })?
-        .plain(action.as_slice())?;
-    reason.note(word_at(&scene.plan, number, 0), message)
+        })
+        .plain(action.as_slice());
+    Ok(reason.note(word_at(&scene.plan, number, 0), message))
 }
 
 /// The message with what is so of a precondition after it, and where that is.
@@ -134,7 +134,7 @@ fn never(
     let message = match one {
         Some(literal) => {
             let text = literal_text(alloc, scene.case.task, literal)?;
-            message.name(text.as_slice())?
+            message.name(text.as_slice())
         }
         None => {
             let texts = texts_of(alloc, &scene.case, literals)?;
@@ -142,21 +142,21 @@ fn never(
         }
     };
     if unmet.from > 0 && unmet.from == last {
-        return message.say(if one.is_some() {
+        return Ok(message.say(if one.is_some() {
             " is false at the end"
         } else {
             " are not true together at the end"
-        });
+        }));
     }
     let message = message.say(if one.is_some() {
         " is never true"
     } else {
         " are never true together"
-    })?;
+    });
     if unmet.from == 0 {
-        return message.say(" at any point of the plan");
+        return Ok(message.say(" at any point of the plan"));
     }
-    scene.gap(message.say(" at any point ")?, unmet.from)
+    scene.gap(message.say(" at any point "), unmet.from)
 }
 
 /// That the precondition of a line's method holds at no place that is left.
@@ -166,20 +166,20 @@ pub(crate) fn unmet_reason(
     line: usize,
     unmet: &Unmet,
 ) -> Result<Reason, AllocError> {
-    let message = Message::new(alloc).say("the precondition of ")?;
+    let message = Message::new(alloc).say("the precondition of ");
     let method = method_of(alloc, &scene.case, line)?;
     let message = match method {
-        Some(method) => message.name(method.name.text())?,
-        None => message.say("this line")?,
+        Some(method) => message.name(method.name.text()),
+        None => message.say("this line"),
     };
-    let message = never(alloc, scene, unmet, message.say(" has no place: ")?)?;
+    let message = never(alloc, scene, unmet, message.say(" has no place: "))?;
     let reason = Reason::new(alloc, whole_line(&scene.plan, line), message);
     let number = unmet.literal.unwrap_or(0);
     let reason = match method {
         Some(method) => reason.note(
             in_domain(literal_place(alloc, &scene.case, method, number)?),
-            Message::new(alloc).say("it needs this")?,
-        )?,
+            Message::new(alloc).say("it needs this"),
+        ),
         None => reason,
     };
     match unmet.literals.as_slice().get(number) {

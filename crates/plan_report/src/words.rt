@@ -109,16 +109,17 @@ fn object_names<'d>(
 }
 
 /// That the domain has no such task or action.
-fn unknown(alloc: Global, mark: Mark, words: &TaskWords<'_>) -> Result<Reason, AllocError> {
+fn unknown(alloc: Global, mark: Mark, words: &TaskWords<'_>) -> Reason {
+    let kind = if words.is_compound {
+        "compound task "
+    } else {
+        "action "
+    };
     let message = Message::new(alloc)
-        .say("the domain has no ")?
-        .say(if words.is_compound {
-            "compound task "
-        } else {
-            "action "
-        })?
-        .name(words.name.as_bytes())?;
-    Ok(Reason::new(alloc, mark, message))
+        .say("the domain has no ")
+        .say(kind)
+        .name(words.name.as_bytes());
+    Reason::new(alloc, mark, message)
 }
 
 /// Whether a name looks like one of a planner's own compiled model.
@@ -136,25 +137,24 @@ fn with_near_names(
     if is_compiled(words.name.as_bytes()) {
         let message = Message::new(alloc).say(
             "this looks like a name of a planner's own compiled model: let it write the plan of the original one",
-        )?;
-        return reason.help(message);
+        );
+        return Ok(reason.help(message));
     }
     let names = names_of(alloc, domain, words.is_compound)?;
-    match meant(alloc, words.name, names.as_slice())? {
+    Ok(match meant(alloc, words.name, names.as_slice())? {
         Some(message) => reason.help(message),
-        None => Ok(reason),
-    }
+        None => reason,
+    })
 }
 
 /// What a name is that names something of the other kind.
-fn other_kind(alloc: Global, words: &TaskWords<'_>, reason: Reason) -> Result<Reason, AllocError> {
-    let message = Message::new(alloc).name(words.name.as_bytes())?;
-    let message = if words.is_compound {
-        message.say(" is an action: it has no method")?
+fn other_kind(alloc: Global, words: &TaskWords<'_>, reason: Reason) -> Reason {
+    let message = Message::new(alloc).name(words.name.as_bytes());
+    reason.help(message.say(if words.is_compound {
+        " is an action: it has no method"
     } else {
-        message.say(" is a compound task: it needs a method and its children")?
-    };
-    reason.help(message)
+        " is a compound task: it needs a method and its children"
+    }))
 }
 
 /// The parameters that the task or the action declares, and where its name stands.
@@ -185,24 +185,22 @@ fn arity(
 ) -> Result<Reason, AllocError> {
     let given = words.arguments.len();
     let message = Message::new(alloc)
-        .name(words.name.as_bytes())?
-        .say(" takes ")?
-        .count(wanted, "argument")?
-        .say(", and ")?
-        .number(given as u64)?
+        .name(words.name.as_bytes())
+        .say(" takes ")
+        .count(wanted, "argument")
+        .say(", and ")
+        .number(given as u64)
         .say(if given == 1 {
             " stands here"
         } else {
             " stand here"
-        })?;
+        });
     let reason = Reason::new(alloc, mark, message);
-    match declared(alloc, case.domain, words)? {
-        Some((_, place)) => reason.note(
-            in_domain(place),
-            Message::new(alloc).say("it is declared here")?,
-        ),
-        None => Ok(reason),
-    }
+    let here = Message::new(alloc).say("it is declared here");
+    Ok(match declared(alloc, case.domain, words)? {
+        Some((_, place)) => reason.note(in_domain(place), here),
+        None => reason,
+    })
 }
 
 /// That an argument is no object.
@@ -213,14 +211,14 @@ fn no_object(
     word: &Word,
 ) -> Result<Reason, AllocError> {
     let message = Message::new(alloc)
-        .say("no object is named ")?
-        .name(word.as_bytes())?;
+        .say("no object is named ")
+        .name(word.as_bytes());
     let reason = Reason::new(alloc, mark, message);
     let names = object_names(alloc, case.domain, case.problem)?;
-    match meant(alloc, word, names.as_slice())? {
+    Ok(match meant(alloc, word, names.as_slice())? {
         Some(message) => reason.help(message),
-        None => Ok(reason),
-    }
+        None => reason,
+    })
 }
 
 /// That an argument has another type than its parameter.
@@ -232,36 +230,34 @@ fn other_type(
     place: usize,
     word: &Word,
 ) -> Result<Reason, AllocError> {
-    let message = Message::new(alloc).name(word.as_bytes())?;
+    let message = Message::new(alloc).name(word.as_bytes());
     let found = match declared(alloc, case.domain, words)? {
         Some((groups, _)) => parameter_at(groups, place),
         None => None,
     };
     let Some((variable, of_type, declared)) = found else {
-        let message = message.say(" has another type than this argument wants")?;
+        let message = message.say(" has another type than this argument wants");
         return Ok(Reason::new(alloc, mark, message));
     };
     let message = message
-        .say(" isn't of the type ")?
-        .name(of_type)?
-        .say(" that ")?
-        .name(variable)?
-        .say(" of ")?
-        .name(words.name.as_bytes())?
-        .say(" wants")?;
-    Reason::new(alloc, mark, message).note(
-        in_domain(declared),
-        Message::new(alloc).say("it stands for this parameter")?,
-    )
+        .say(" isn't of the type ")
+        .name(of_type)
+        .say(" that ")
+        .name(variable)
+        .say(" of ")
+        .name(words.name.as_bytes())
+        .say(" wants");
+    let parameter = Message::new(alloc).say("it stands for this parameter");
+    Ok(Reason::new(alloc, mark, message).note(in_domain(declared), parameter))
 }
 
 /// That the parameters can't have these values.
-fn no_values(alloc: Global, mark: Mark, words: &TaskWords<'_>) -> Result<Reason, AllocError> {
+fn no_values(alloc: Global, mark: Mark, words: &TaskWords<'_>) -> Reason {
     let message = Message::new(alloc)
-        .say("the parameters of ")?
-        .name(words.name.as_bytes())?
-        .say(" can't have these values")?;
-    Ok(Reason::new(alloc, mark, message))
+        .say("the parameters of ")
+        .name(words.name.as_bytes())
+        .say(" can't have these values");
+    Reason::new(alloc, mark, message)
 }
 
 /// What is wrong with the words of a line.
@@ -275,28 +271,24 @@ pub(crate) fn words_reason(
     let name = word_at(plan, words.line, 1);
     match cause {
         WordsCause::NoTask => {
-            let reason = unknown(alloc, name, words)?;
-            with_near_names(alloc, case.domain, words, reason)
+            with_near_names(alloc, case.domain, words, unknown(alloc, name, words))
         }
-        WordsCause::OtherKind => {
-            let reason = unknown(alloc, name, words)?;
-            other_kind(alloc, words, reason)
-        }
+        WordsCause::OtherKind => Ok(other_kind(alloc, words, unknown(alloc, name, words))),
         WordsCause::Arguments { wanted } => arity(alloc, case, name, words, wanted),
         WordsCause::NoObject { place } => {
             let mark = word_at(plan, words.line, place.saturating_add(2));
             match words.arguments.get(place) {
                 Some(word) => no_object(alloc, case, mark, word),
-                None => no_values(alloc, name, words),
+                None => Ok(no_values(alloc, name, words)),
             }
         }
         WordsCause::ObjectType { place } => {
             let mark = word_at(plan, words.line, place.saturating_add(2));
             match words.arguments.get(place) {
                 Some(word) => other_type(alloc, case, mark, words, place, word),
-                None => no_values(alloc, name, words),
+                None => Ok(no_values(alloc, name, words)),
             }
         }
-        WordsCause::Equality { .. } | WordsCause::AtomType => no_values(alloc, name, words),
+        WordsCause::Equality { .. } | WordsCause::AtomType => Ok(no_values(alloc, name, words)),
     }
 }
