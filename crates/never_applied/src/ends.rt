@@ -66,6 +66,14 @@ impl Ends {
         Ok(())
     }
 
+    /// Adds a decomposition to those that wait for a task.
+    fn wait_for(&mut self, task: NodeId, place: u32) -> Result<(), AllocError> {
+        if let Some(entry) = self.entries.get_mut(task.index as usize) {
+            entry.uses.push(place)?;
+        }
+        Ok(())
+    }
+
     /// Adds a decomposition, whose steps and actions are judged by the facts.
     fn add(&mut self, fine: &Fine, decomposition: &Decomposition) -> Result<(), AllocError> {
         let Ok(place) = u32::try_from(self.pending.len()) else {
@@ -74,18 +82,16 @@ impl Ends {
         let task = decomposition.task;
         let mut missing = 0u32;
         let nodes = decomposition.children.as_slice();
-        for (node, id) in nodes.iter().zip(&decomposition.nodes) {
+        for (position, node) in nodes.iter().enumerate() {
             let is_missing = match node {
                 Child::Precondition(_) | Child::Action(_) => !fine.is_fine(node),
-                Child::Task(_) => {
-                    if let Some(entry) = self.entries.get_mut(id.index as usize) {
-                        entry.uses.push(place)?;
-                    }
-                    true
-                }
+                Child::Task(_) => true,
             };
             if is_missing {
                 missing = missing.saturating_add(1);
+            }
+            if let (Child::Task(_), Some(id)) = (node, decomposition.nodes.get(position)) {
+                self.wait_for(*id, place)?;
             }
         }
         self.pending.push(Pending { task, missing })?;
@@ -139,11 +145,11 @@ pub(crate) fn ending_tasks(
     }
     ends.end_all(alloc)?;
     let mut tasks = IndexSet::new(alloc);
-    for (node, entry) in graph.nodes().iter().zip(&ends.entries) {
+    for (index, node) in graph.nodes().iter().enumerate() {
         let Child::Task(goal) = node else {
             continue;
         };
-        if entry.ends {
+        if ends.entries.get(index).is_some_and(|entry| entry.ends) {
             let _ = tasks.insert(goal.clone()?)?;
         }
     }

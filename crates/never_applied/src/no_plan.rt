@@ -58,7 +58,8 @@ fn lost_subtask(task: &Task, fine: &Fine, initials: &[Instance]) -> Option<usize
     };
     let subtasks = task.initial_network().network().subtasks();
     let nodes = initial.children().as_slice();
-    for (place, (subtask, node)) in subtasks.iter().zip(nodes).enumerate() {
+    for (place, subtask) in subtasks.iter().enumerate() {
+        let node = nodes.get(place)?;
         if are_objects(subtask.arguments()) && !fine.is_fine(node) {
             return Some(place);
         }

@@ -82,8 +82,8 @@ fn tallied_tasks(
     tallies: &[Option<Tally>],
 ) -> Result<Vec<bool>, AllocError> {
     let mut tallied = unmarked(alloc, task.tasks().len())?;
-    for (method, tally) in task.methods().iter().zip(tallies) {
-        if tally.is_some() {
+    for (place, method) in task.methods().iter().enumerate() {
+        if let Some(Some(_)) = tallies.get(place) {
             mark(&mut tallied, method.task().name() as usize);
         }
     }
@@ -92,8 +92,8 @@ fn tallied_tasks(
 
 /// Says of each tally whether its method's task arises.
 fn mark_arising(task: &Task, tallies: &mut [Option<Tally>], arising: &[bool]) {
-    for (method, tally) in task.methods().iter().zip(tallies.iter_mut()) {
-        if let Some(tally) = tally {
+    for (place, method) in task.methods().iter().enumerate() {
+        if let Some(Some(tally)) = tallies.get_mut(place) {
             tally.arises = is_marked(arising, method.task().name() as usize);
         }
     }

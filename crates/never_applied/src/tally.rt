@@ -74,6 +74,13 @@ impl Tally {
         })
     }
 
+    /// A formula is not to blame.
+    fn acquit(&mut self, place: usize) {
+        if let Some(blamed) = self.blamed.get_mut(place) {
+            *blamed = false;
+        }
+    }
+
     /// Adds an instance at these values.
     pub(crate) fn add(
         &mut self,
@@ -83,9 +90,10 @@ impl Tally {
         values: &[u16],
     ) -> Result<(), AllocError> {
         self.instances = self.instances.saturating_add(1);
-        for (formula, blamed) in formulas.iter().zip(self.blamed.iter_mut()) {
-            if *blamed {
-                *blamed = is_never(alloc, facts, formula, values)?;
+        for (place, formula) in formulas.iter().enumerate() {
+            let may_blame = self.blamed.get(place) == Some(&true);
+            if may_blame && !is_never(alloc, facts, formula, values)? {
+                self.acquit(place);
             }
         }
         Ok(())
