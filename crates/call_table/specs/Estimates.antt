@@ -1,5 +1,5 @@
 -- Values of lists of blocks in states: estimates by a table, which are found in any way and checked one by one.
-use Rattle.std.specs.Prelude.{◌≡◌, ℕ, ◌≤◌, ◌⊎◌, List, [], ◌∷◌, Bool, true, cond, max, IfSome, get_or, unwrap_or}
+use Rattle.std.specs.Prelude.{◌≡◌, ℕ, ◌≤◌, ◌⊎◌, List, [], ◌∷◌, Bool, true, cond, max, Option, IfSome, get_or, unwrap_or}
 use Rattle.indexmap.specs.IndexMap.{IndexMap, get}
 use Rattle.htn_calls.specs.Calls.{by_summary, estimate}
 use Rattle.call_table.specs.Lists.{Lists, list_at, nodes_of}
@@ -21,10 +21,14 @@ module _ (l : Lists) (t : CallTable) (ends : List Bool) (cap : ℕ) where
   abbrev pub AreEstimates : {S : Type 0} → IndexMap Site ℕ S → Type 0
   AreEstimates m = (q : Site) → IfSome (get site_eq m q) (λ v. v ≤ estimate_of (list_at l q.number) q.state)
 
+-- the value of a list in a state, if it has one
+abbrev pub stored_at : {S : Type 0} → IndexMap Site ℕ S → ℕ → ℕ → Option ℕ
+stored_at m number state = get site_eq m (record { state = state; number = number })
+
 module _ {S : Type 0} (l : Lists) (m : IndexMap Site ℕ S) where
   -- the value of a list in a state; its nodes where it has none
   abbrev pub value_at : ℕ → ℕ → ℕ
-  value_at number state = unwrap_or (get site_eq m (record { state = state; number = number })) (nodes_of l.counts (list_at l number))
+  value_at number state = unwrap_or (stored_at m number state) (nodes_of l.counts (list_at l number))
 
 module _ {S : Type 0} (l : Lists) (t : CallTable) (ends : List Bool) (cap : ℕ) (m : IndexMap Site ℕ S) where
   -- what is checked of the value of a list in a state: of the empty list, that it is nothing where the goal may hold, and

@@ -1,6 +1,6 @@
 //! Values of lists of blocks, checked against a table.
-ghost use Rattle.std.specs.Prelude.{◌≡◌, ◌≤◌, ◌+◌, All, IsTrue};
-ghost use Rattle.call_table.specs.Estimates.{AreEstimates, IsSupported, ends_in, value_at};
+ghost use Rattle.std.specs.Prelude.{◌≡◌, ◌≤◌, ◌+◌, All, IfSome, IsTrue};
+ghost use Rattle.call_table.specs.Estimates.{AreEstimates, IsSupported, ends_in, stored_at, value_at};
 
 use crate::call::{CallTable, Exit};
 use crate::lists::BlockLists;
@@ -17,9 +17,10 @@ fn may_end(ends: &[bool], state: u32) -> bool
     }
 }
 
-/// The value of a list in a state; where it has none, how many nodes the list has at least.
-fn value_of(lists: &BlockLists, values: &IndexMap<Site, u32>, list: u32, state: u32) -> u64
-    ensures { result ≤ value_at lists.now values.now list state }
+/// The value of a list in a state; where it has none, a lower bound on the nodes of its blocks.
+pub fn value_of(lists: &BlockLists, values: &IndexMap<Site, u32>, list: u32, state: u32) -> u64
+    ensures stored { IfSome (stored_at values.now list state) (λ v. result ≡ v) }
+    ensures least { result ≤ value_at lists.now values.now list state }
 {
     let site = Site {
         state,
