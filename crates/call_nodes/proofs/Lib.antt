@@ -1,0 +1,5 @@
+pub mod Keeping
+pub mod Leading
+pub mod Numbering
+pub mod Staying
+pub mod Told
