@@ -1,0 +1,421 @@
+//! The search by calls.
+//!
+//! An item is a list of nodes that is left in a state of a call, with the least steps from the start of the call to
+//! there. Its total is the least number of steps of a word through it: those before the call, those to the item, and
+//! the sizes of what is left, in the call and behind it. Items are taken by their totals, and of equal ones the
+//! newest first. An item that is taken waits for the call of its first node, and goes on at each of that call's
+//! exits; one with no node left is an exit of its own call.
+ghost use Rattle.std.specs.Prelude.{OnOk};
+ghost use Rattle.call_nodes.specs.Nodes.{AreNodes};
+ghost use Rattle.htn_model.specs.Task as tasks;
+
+use crate::found::{Limits, OUT_OF_REACH};
+use call_nodes::{CallNodes, Operator};
+use call_table::{BlockLists, Exit, Site};
+use htn_task::Task;
+use indexmap::IndexSet;
+use std::alloc::{AllocError, Global};
+
+/// The place of the start among the calls, which is none of them: its items are the lists of the initial networks and
+/// what is left of them.
+const START: u32 = u32::MAX;
+
+/// How many times as often as items are kept they may be met, those past the bound too.
+const MEETINGS: u64 = 16;
+
+/// A list of nodes that is left in a state of a call, which has a place among the calls.
+#[derive(Clone, Copy, Debug, PartialEq, Eq, Hash)]
+pub(crate) struct Point {
+    pub call: u32,
+    pub list: u32,
+    pub state: u32,
+}
+
+/// What is known of an item.
+#[derive(Clone, Copy, Drop)]
+pub(crate) struct Item {
+    /// The least steps from the start of the call that were found.
+    pub cost: u32,
+    pub is_taken: bool,
+}
+
+/// What is known of a call.
+#[derive(Drop)]
+pub(crate) struct Called {
+    /// The least steps before the call and behind it.
+    pub around: u64,
+    pub exits: Vec<Exit>,
+    /// The places of the items that wait for its exits.
+    waits: Vec<u32>,
+}
+
+/// The search so far.
+#[derive(Drop)]
+pub(crate) struct Chart {
+    alloc: Global,
+    limits: Limits,
+    /// The state and the node of each call.
+    pub(crate) sites: IndexSet<Site>,
+    pub(crate) calls: Vec<Called>,
+    /// Where each item is.
+    pub(crate) points: IndexSet<Point>,
+    pub(crate) items: Vec<Item>,
+    /// By total, the places of items that are not taken yet, with some that are.
+    agenda: Vec<Vec<u32>>,
+    /// How many items may still be met.
+    meetings: u64,
+    is_given_up: bool,
+    is_finished: bool,
+}
+
+/// How often items may be met.
+pub(crate) fn most_meetings(limits: Limits) -> u64 {
+    (limits.items as u64).saturating_mul(MEETINGS)
+}
+
+/// A place as a number of 32 bits.
+fn number_at(place: usize) -> Result<u32, AllocError> {
+    match u32::try_from(place) {
+        Ok(number) => Ok(number),
+        Err(_) => Err(AllocError),
+    }
+}
+
+impl Chart {
+    /// No item is met.
+    pub(crate) fn new(alloc: Global, limits: Limits) -> Chart {
+        Chart {
+            alloc,
+            limits,
+            sites: IndexSet::new(alloc),
+            calls: Vec::new(alloc),
+            points: IndexSet::new(alloc),
+            items: Vec::new(alloc),
+            agenda: Vec::new(alloc),
+            meetings: most_meetings(limits),
+            is_given_up: false,
+            is_finished: false,
+        }
+    }
+
+    /// The most steps that a word may have.
+    fn most_steps(&self) -> u32 {
+        self.limits.steps.min(OUT_OF_REACH - 1)
+    }
+
+    /// The least steps before a call and behind it: none of the start.
+    fn around(&self, call: u32) -> u64 {
+        match self.calls.get(call as usize) {
+            Some(called) => called.around,
+            None => 0,
+        }
+    }
+
+    /// Notes that an item is to be taken at a total.
+    fn plan(&mut self, item: u32, total: u32) -> Result<(), AllocError> {
+        let place = total as usize;
+        for _ in self.agenda.len()..=place {
+            self.agenda.push(Vec::new(self.alloc))?;
+        }
+        if let Some(items) = self.agenda.get_mut(place) {
+            items.push(item)?;
+        }
+        Ok(())
+    }
+
+    /// Meets an item after some steps of its call, unless its total is past the bound. Past the limits the search is
+    /// given up.
+    fn meet(&mut self, lists: &BlockLists, point: Point, cost: u32) -> Result<(), AllocError> {
+        if self.meetings == 0 || self.items.len() >= self.limits.items {
+            self.is_given_up = true;
+            return Ok(());
+        }
+        self.meetings = self.meetings.saturating_sub(1);
+        let inside = u64::from(cost).saturating_add(lists.nodes(point.list));
+        let sum = self.around(point.call).saturating_add(inside);
+        let total = u32::try_from(sum).unwrap_or(u32::MAX);
+        if total > self.most_steps() {
+            return Ok(());
+        }
+        let Some(place) = self.improved(point, cost)? else {
+            return Ok(());
+        };
+        self.plan(place, total)
+    }
+
+    /// The place of an item that is to be taken with this cost; none where it was taken, or costs no more so far.
+    fn improved(&mut self, point: Point, cost: u32) -> Result<Option<u32>, AllocError> {
+        let Some(place) = self.points.get_index_of(&point) else {
+            let place = number_at(self.items.len())?;
+            self.points.insert(point)?;
+            let is_taken = false;
+            self.items.push(Item { cost, is_taken })?;
+            return Ok(Some(place));
+        };
+        let Some(item) = self.items.get_mut(place) else {
+            return Ok(None);
+        };
+        if item.is_taken || item.cost <= cost {
+            return Ok(None);
+        }
+        item.cost = cost;
+        Ok(Some(number_at(place)?))
+    }
+
+    /// The item at a place with its cost.
+    fn item(&self, place: u32) -> Option<(Point, u32)> {
+        let Some(point) = self.points.get_index(place as usize) else {
+            return None;
+        };
+        let Some(item) = self.items.get(place as usize) else {
+            return None;
+        };
+        Some((*point, item.cost))
+    }
+
+    /// Goes on with an item that waited for its first node, at an exit of that.
+    fn go_on(&mut self, lists: &BlockLists, item: u32, exit: Exit) -> Result<(), AllocError> {
+        let Some((point, cost)) = self.item(item) else {
+            return Ok(());
+        };
+        let Some(link) = lists.link(point.list) else {
+            return Ok(());
+        };
+        let cost = cost.saturating_add(exit.cost);
+        let next = Point {
+            call: point.call,
+            list: link.rest,
+            state: exit.state,
+        };
+        self.meet(lists, next, cost)
+    }
+
+    /// The place of an item that waits for a call.
+    fn waiting(&self, call: u32, place: usize) -> Option<u32> {
+        match self.calls.get(call as usize) {
+            Some(called) => called.waits.get(place).copied(),
+            None => None,
+        }
+    }
+
+    /// An exit of a call.
+    fn exit(&self, call: u32, place: usize) -> Option<Exit> {
+        match self.calls.get(call as usize) {
+            Some(called) => called.exits.get(place).copied(),
+            None => None,
+        }
+    }
+
+    /// Notes an exit of a call, and goes on with all that waits for it.
+    fn end(&mut self, lists: &BlockLists, call: u32, exit: Exit) -> Result<(), AllocError> {
+        let Some(called) = self.calls.get_mut(call as usize) else {
+            return Ok(());
+        };
+        called.exits.push(exit)?;
+        let count = called.waits.len();
+        for place in 0..count {
+            let Some(item) = self.waiting(call, place) else {
+                return Ok(());
+            };
+            self.go_on(lists, item, exit)?;
+        }
+        Ok(())
+    }
+
+    /// Lets an item wait for a call, and goes on with it at the exits that are known.
+    fn wait(&mut self, lists: &BlockLists, call: u32, item: u32) -> Result<(), AllocError> {
+        let Some(called) = self.calls.get_mut(call as usize) else {
+            return Ok(());
+        };
+        called.waits.push(item)?;
+        let count = called.exits.len();
+        for place in 0..count {
+            let Some(exit) = self.exit(call, place) else {
+                return Ok(());
+            };
+            self.go_on(lists, item, exit)?;
+        }
+        Ok(())
+    }
+
+    /// Meets the instances of a compound task, the last first, so that the first is taken first.
+    fn meet_instances(
+        &mut self,
+        lists: &BlockLists,
+        call: u32,
+        state: u32,
+        instances: &[u32],
+    ) -> Result<(), AllocError> {
+        for list in instances.iter().rev() {
+            let list = *list;
+            self.meet(lists, Point { call, list, state }, 1)?;
+        }
+        Ok(())
+    }
+
+    /// Begins a call: meets its instances, or notes what its step or action leads to.
+    fn begin(&mut self, nodes: &mut CallNodes, site: Site, call: u32) -> Result<(), AllocError>
+        ensures { OnOk result ((t : tasks.Task) → AreNodes t nodes.old → AreNodes t nodes.new) }
+    {
+        match nodes.operator(site.number) {
+            Some(Operator::Task(instances)) => {
+                self.meet_instances(nodes.lists(), call, site.state, instances)
+            }
+            Some(Operator::Step(_) | Operator::Action(_)) => self.perform(nodes, site, call),
+            Some(Operator::Never) => Ok(()),
+            Some(Operator::Unlisted | Operator::Partly) | None => {
+                self.is_given_up = true;
+                Ok(())
+            }
+        }
+    }
+
+    /// Notes what the step or the action of a call leads to.
+    fn perform(&mut self, nodes: &mut CallNodes, site: Site, call: u32) -> Result<(), AllocError>
+        ensures { OnOk result ((t : tasks.Task) → AreNodes t nodes.old → AreNodes t nodes.new) }
+    {
+        match nodes.perform(site.number, site.state)? {
+            Some(state) => self.end(nodes.lists(), call, Exit { state, cost: 1 }),
+            None => Ok(()),
+        }
+    }
+
+    /// The place of the call of a node in a state, which may begin only now, with the least steps around it.
+    fn call_at(
+        &mut self,
+        task: &Task,
+        nodes: &mut CallNodes,
+        site: Site,
+        around: u64,
+    ) -> Result<u32, AllocError>
+        requires { AreNodes task.now nodes.old }
+        ensures { OnOk result (AreNodes task.now nodes.new) }
+    {
+        if let Some(place) = self.sites.get_index_of(&site) {
+            let call = number_at(place)?;
+            return Ok(call);
+        }
+        nodes.list_task(self.alloc, task, site.number)?;
+        self.is_given_up = self.is_given_up || nodes.nodes().len() > self.limits.items;
+        let call = number_at(self.calls.len())?;
+        let called = Called {
+            around,
+            exits: Vec::new(self.alloc),
+            waits: Vec::new(self.alloc),
+        };
+        self.sites.insert(site)?;
+        self.calls.push(called)?;
+        self.begin(nodes, site, call)?;
+        Ok(call)
+    }
+
+    /// Takes an item at a place with this total, unless it was taken before.
+    fn take(
+        &mut self,
+        task: &Task,
+        nodes: &mut CallNodes,
+        place: u32,
+        total: u32,
+    ) -> Result<(), AllocError>
+        requires { AreNodes task.now nodes.old }
+        ensures { OnOk result (AreNodes task.now nodes.new) }
+    {
+        let Some((point, cost)) = self.taken(place) else {
+            return Ok(());
+        };
+        let Some(link) = nodes.lists().link(point.list) else {
+            let state = point.state;
+            if point.call == START {
+                self.is_finished = self.is_finished || is_goal(nodes, state);
+                return Ok(());
+            }
+            self.end(nodes.lists(), point.call, Exit { state, cost })?;
+            return Ok(());
+        };
+        let inside = link.nodes.saturating_sub(nodes.lists().nodes(link.rest));
+        let site = Site {
+            state: point.state,
+            number: link.first,
+        };
+        let around = u64::from(total).saturating_sub(inside);
+        let call = self.call_at(task, nodes, site, around)?;
+        self.wait(nodes.lists(), call, place)?;
+        Ok(())
+    }
+
+    /// The item at a place with its cost, which is now taken; none where it was taken before.
+    fn taken(&mut self, place: u32) -> Option<(Point, u32)> {
+        let Some(item) = self.items.get_mut(place as usize) else {
+            return None;
+        };
+        if item.is_taken {
+            return None;
+        }
+        item.is_taken = true;
+        self.item(place)
+    }
+
+    /// The place of the newest item that is to be taken at a total.
+    fn next(&mut self, total: u32) -> Option<u32> {
+        match self.agenda.get_mut(total as usize) {
+            Some(items) => items.pop(),
+            None => None,
+        }
+    }
+
+    /// Takes all items of a total, with those that are met on the way.
+    fn take_all(&mut self, task: &Task, nodes: &mut CallNodes, total: u32) -> Result<(), AllocError>
+        requires { AreNodes task.now nodes.old }
+        ensures { OnOk result (AreNodes task.now nodes.new) }
+    {
+        for _ in 0..u64::MAX {
+            if self.is_given_up {
+                return Ok(());
+            }
+            let Some(place) = self.next(total) else {
+                return Ok(());
+            };
+            self.take(task, nodes, place, total)?;
+        }
+        Ok(())
+    }
+
+    /// The steps of the least word from lists in the initial state to no node with the goal true. All items of such a
+    /// total or a lesser one are taken then. None where no word is within the bound, or where the search was given up.
+    pub(crate) fn search(
+        &mut self,
+        task: &Task,
+        nodes: &mut CallNodes,
+        starts: &[u32],
+    ) -> Result<Option<u32>, AllocError>
+        requires { AreNodes task.now nodes.old }
+        ensures { OnOk result (AreNodes task.now nodes.new) }
+    {
+        for list in starts.iter().rev() {
+            let point = Point {
+                call: START,
+                list: *list,
+                state: 0,
+            };
+            self.meet(nodes.lists(), point, 0)?;
+        }
+        for total in 0..=self.most_steps() {
+            self.take_all(task, nodes, total)?;
+            if self.is_given_up {
+                return Ok(None);
+            }
+            if self.is_finished {
+                return Ok(Some(total));
+            }
+        }
+        Ok(None)
+    }
+}
+
+/// Whether the goal holds in the state of a number.
+pub(crate) fn is_goal(nodes: &CallNodes, state: u32) -> bool {
+    match nodes.states().get(state as usize) {
+        Some(state) => nodes.is_goal(state),
+        None => false,
+    }
+}

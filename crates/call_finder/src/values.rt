@@ -1,0 +1,135 @@
+//! How many steps are left at least, by a table of calls.
+
+use crate::chart::is_goal;
+use crate::found::OUT_OF_REACH;
+use call_nodes::CallNodes;
+use call_table::{CallTable, Exit, Site};
+use indexmap::IndexMap;
+use std::alloc::{AllocError, Global};
+
+/// The values of lists of nodes in states, those that were asked for and those that they rest on. The value of the
+/// empty list is 0 where the goal holds, and else out of reach. That of another list is at least its size, and at
+/// least what follows from the call of its first node: its floor and the size of the others, or the cost of one of
+/// its exits and the value of the others there.
+#[derive(Drop)]
+pub(crate) struct Values {
+    pub(crate) known: IndexMap<Site, u32>,
+    /// Sites that were asked for, each before those that it rests on.
+    pub(crate) pending: Vec<Site>,
+    /// How many times sites may still be settled or asked for. Then what is not known is taken for 0.
+    pub(crate) left: u64,
+}
+
+/// A number of steps, at most `OUT_OF_REACH`.
+fn capped(steps: u64) -> u32 {
+    u32::try_from(steps)
+        .unwrap_or(OUT_OF_REACH)
+        .min(OUT_OF_REACH)
+}
+
+impl Values {
+    /// No value is known.
+    pub(crate) fn new(alloc: Global, left: u64) -> Values {
+        Values {
+            known: IndexMap::new(alloc),
+            pending: Vec::new(alloc),
+            left,
+        }
+    }
+
+    /// Asks for the values of a list at the exits of a call that are not known. Whether all are.
+    fn ask(&mut self, exits: &[Exit], list: u32) -> Result<bool, AllocError> {
+        let mut are_known = true;
+        for exit in exits {
+            let site = Site {
+                state: exit.state,
+                number: list,
+            };
+            if !self.known.contains_key(&site) {
+                self.left = self.left.saturating_sub(1);
+                self.pending.push(site)?;
+                are_known = false;
+            }
+        }
+        Ok(are_known)
+    }
+
+    /// The least cost of an exit with the value of a list there, where that is below a number of steps; else that
+    /// number.
+    fn least(&self, exits: &[Exit], list: u32, most: u64) -> u64 {
+        let mut least = most;
+        for exit in exits {
+            let site = Site {
+                state: exit.state,
+                number: list,
+            };
+            let value = self.known.get(&site).copied().unwrap_or(0);
+            least = least.min(u64::from(exit.cost).saturating_add(u64::from(value)));
+        }
+        least
+    }
+
+    /// The value of a site, if all that it rests on is known; else that is asked for.
+    fn settled(
+        &mut self,
+        table: &CallTable,
+        nodes: &CallNodes,
+        site: Site,
+    ) -> Result<Option<u32>, AllocError> {
+        let lists = nodes.lists();
+        let Some(link) = lists.link(site.number) else {
+            let is_done = is_goal(nodes, site.state);
+            return Ok(Some(if is_done { 0 } else { OUT_OF_REACH }));
+        };
+        let inner = Site {
+            state: site.state,
+            number: link.first,
+        };
+        let Some(call) = table.calls.get(&inner) else {
+            return Ok(Some(capped(link.nodes)));
+        };
+        if !self.ask(&call.exits, link.rest)? {
+            return Ok(None);
+        }
+        let elsewhere = u64::from(call.floor).saturating_add(lists.nodes(link.rest));
+        let least = self.least(&call.exits, link.rest, elsewhere);
+        Ok(Some(capped(least.max(link.nodes))))
+    }
+
+    /// Settles the site that was asked for last, or asks for what it rests on.
+    fn settle(
+        &mut self,
+        table: &CallTable,
+        nodes: &CallNodes,
+        site: Site,
+    ) -> Result<(), AllocError> {
+        if self.known.contains_key(&site) {
+            let _ = self.pending.pop();
+            return Ok(());
+        }
+        if let Some(value) = self.settled(table, nodes, site)? {
+            self.known.insert(site, value)?;
+            let _ = self.pending.pop();
+        }
+        Ok(())
+    }
+
+    /// The value of a site.
+    pub(crate) fn value(
+        &mut self,
+        table: &CallTable,
+        nodes: &CallNodes,
+        site: Site,
+    ) -> Result<u32, AllocError> {
+        self.pending.clear();
+        self.pending.push(site)?;
+        for _ in 0..self.left {
+            self.left = self.left.saturating_sub(1);
+            let Some(last) = self.pending.last().copied() else {
+                break;
+            };
+            self.settle(table, nodes, last)?;
+        }
+        Ok(self.known.get(&site).copied().unwrap_or(0))
+    }
+}
