@@ -1,0 +1,4 @@
+pub mod Numbers
+pub mod Ruled
+pub mod Ways
+pub mod Words
