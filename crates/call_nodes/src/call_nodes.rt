@@ -137,7 +137,8 @@ impl CallNodes {
         Ok(after)
     }
 
-    /// The number of that state, which it may get only now.
+    /// The number of the state after a step or an action in the state of a number, which it may get only now. None where
+    /// [`CallNodes::after`] gives none.
     pub fn perform(&mut self, node: u32, state: u32) -> Result<Option<u32>, AllocError>
         ensures own { OnOk result ((t : tasks.Task) → AreNodes t self.old → AreNodes t self.new) }
         ensures more { OnOk result ((t : tasks.Task) → AreNodes t self.old → AreMore self.old self.new) }
