@@ -19,9 +19,12 @@ import sys
 import tempfile
 
 
-def run(words, seconds):
+def run(words, seconds, memory=resource.RLIM_INFINITY):
     """The status, the output, the processor time and the greatest memory of a run; None if it did not end in time."""
-    limit = lambda: resource.setrlimit(resource.RLIMIT_CPU, (seconds, seconds + 1))
+    def limit():
+        resource.setrlimit(resource.RLIMIT_CPU, (seconds, seconds + 1))
+        resource.setrlimit(resource.RLIMIT_AS, (memory, memory))
+
     with tempfile.TemporaryFile() as out:
         program = subprocess.Popen(
             words, stdin=subprocess.DEVNULL, stdout=out, stderr=subprocess.DEVNULL, preexec_fn=limit
@@ -51,12 +54,12 @@ def mean(ratios):
     return math.exp(sum(math.log(max(it, 1e-3)) for it in ratios) / len(ratios)) if ratios else float("nan")
 
 
-def words_for(folder, given):
+def words_for(folder, given, workers):
     """The words of a run: a plan to verify, where there is one, and else a problem to plan."""
     texts, plan = [f"{folder}/{name}.hddl" for name in ("domain", "problem")], f"{folder}/plan.txt"
     if os.path.exists(plan):
         return ["verify", *texts, plan]
-    return ["plan", *texts, "--nodes", str(given.nodes), "--workers", str(given.workers)]
+    return ["plan", *texts, "--nodes", str(given.nodes), "--workers", str(workers)]
 
 
 def main():
@@ -77,7 +80,7 @@ def main():
         family = problem.rpartition("-")[0]
         if family in lost:
             continue
-        words = words_for(f"{given.folder}/{problem}", given)
+        words = words_for(f"{given.folder}/{problem}", given, given.workers)
         found = [run([program, *words], given.seconds) for _, program in programs]
         answers = {it[:2] for it in found if it and it[0] <= 1}
         answer = next((it[1].split(b"\n")[0].decode() for it in found if it), "")
@@ -95,4 +98,5 @@ def main():
     sys.exit(differs)
 
 
-main()
+if __name__ == "__main__":
+    main()
