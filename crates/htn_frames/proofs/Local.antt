@@ -43,7 +43,8 @@ module _ (frame : Frame) (s : State) where
       same_state (after s a) (lift frame s (after (within frame s) a))
       (λ x. contains-after s a x
       ∙ by (frame x) (contains a.adds x) (contains a.deletes x) (contains s x) (local.adds x) (local.deletes x)
-      ∙ sym (ap (λ b. cond (frame x) (contains a.adds x || (b && not (contains a.deletes x))) (contains s x)) (contains-within frame s x))
+      ∙ sym (ap (λ b. cond (frame x) (contains a.adds x || (b && not (contains a.deletes x))) (contains s x))
+      (contains-within frame s x))
       ∙ sym (ap (λ b. cond (frame x) b (contains s x)) (contains-after (within frame s) a x))
       ∙ sym (contains-lift frame s (after (within frame s) a) x))
     where

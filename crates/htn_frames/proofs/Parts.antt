@@ -44,7 +44,8 @@ contains-lift frame s part a =
 pub whole : (frame : Frame) (s : State) → lift frame s (within frame s) ≡ s
 whole frame s =
     same_state (lift frame s (within frame s)) s
-    (λ a. contains-lift frame s (within frame s) a ∙ ap (λ b. cond (frame a) b (contains s a)) (contains-within frame s a)
+    (λ a. contains-lift frame s (within frame s) a
+    ∙ ap (λ b. cond (frame a) b (contains s a)) (contains-within frame s a)
     ∙ own (frame a) (contains s a))
   where
     own : (test is : Bool) → cond test (is && test) is ≡ is

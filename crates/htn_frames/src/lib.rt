@@ -12,8 +12,8 @@ pub fn states_have_parts()
     ensures { StatesHaveParts }
 {}
 
-/// A step or an action is carried out in a frame of all that it reads or writes as in the whole state, whose other atoms
-/// stay as they are; and literals hold in a frame that has their atoms as in the whole state.
+/// A step or an action is carried out in a frame of all that it reads or writes as in the whole state, whose other
+/// atoms stay as they are; and literals hold in a frame that has their atoms as in the whole state.
 pub fn nodes_are_local()
     ensures nodes { NodesAreLocal }
     ensures goals { GoalsAreLocal }

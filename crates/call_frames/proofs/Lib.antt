@@ -1,0 +1,4 @@
+pub mod Framed
+pub mod Closed
+pub mod Values
+pub mod Lifted
