@@ -149,3 +149,14 @@ lifted_set t set mask part words bits made own other = record {
     by : (x : ℕ) (m : Bool) → cond m (has part x) (has set x) ≡ true → x < length t.atoms
     by x true is = other.within x is
     by x false is = own.within x is
+
+-- a set with all of another that it doesn't have
+pub united_has : (one other adds words : List ℕ) → ((x : ℕ) → list_any (eqb x) adds ≡ is_chosen other one false x)
+    → ((x : ℕ) → has words x ≡ has_changed one [] adds x) → (x : ℕ) → has words x ≡ (has one x || has other x)
+united_has one other adds words chosen made x =
+    made x ∙ by (has one x) (has other x) (list_any (eqb x) adds) (chosen x)
+  where
+    by : (p q a : Bool) → a ≡ (q && cond false p (not p)) → ((p && not false) || a) ≡ (p || q)
+    by true q a e = refl
+    by false true a e = e
+    by false false a e = e

@@ -81,3 +81,22 @@ masks_inside t table inner outer each q is = elim (numbered q t.atoms) [
       (unnumbered_is t table outer q none ∙ sym (unnumbered_is t table inner q none))
       ∙ is
 ]
+
+-- the frame of the numbers of two masks
+pub masks_united : (t : Table) → IsTable t → (one other words : List ℕ)
+    → ((x : ℕ) → has words x ≡ (has one x || has other x)) → (q : Atom)
+    → frame_of t words q ≡ (frame_of t one q || frame_of t other q)
+masks_united t table one other words alike q = elim (numbered q t.atoms) [
+  | inl found ↦
+      framed_at t table words q found.0 found.1 ∙ alike found.0
+      ∙ sym (ap₂ (λ b c. b || c) (framed_at t table one q found.0 found.1) (framed_at t table other q found.0 found.1))
+  | inr none ↦
+      ap (λ b. not (is_fluent t q) || b) (unnumbered_is t table words q none)
+      ∙ twice (not (is_fluent t q) || contains t.statics q)
+      ∙ sym (ap₂ (λ b c. (not (is_fluent t q) || b) || (not (is_fluent t q) || c)) (unnumbered_is t table one q none)
+      (unnumbered_is t table other q none))
+]
+  where
+    twice : (b : Bool) → b ≡ (b || b)
+    twice true = refl
+    twice false = refl

@@ -4,9 +4,10 @@
 //! The frame of a mask has the fluent atoms of its numbers, and all static atoms.
 #![tactic(auto)]
 
-ghost use Rattle.std.specs.Prelude.{◌≡◌, ◌&&◌, ◌≤◌, ◌<◌, ℕ, cond, eqb, false, true, IfOk, IfSome, IsTrue};
+ghost use Rattle.std.specs.Prelude.{◌≡◌, ◌&&◌, ◌||◌, ◌≤◌, ℕ, cond, eqb, false, true, IfOk, IfSome, IsTrue};
 ghost use Rattle.std.specs.List.{list_any};
 ghost use Rattle.htn_frames.specs.Frame as frames;
+ghost use Rattle.htn_model.specs.Atom.{Atom};
 ghost use Rattle.frame_masks.specs.Masks.{frame_of, is_chosen};
 ghost use Rattle.state_table.specs.Bits.{has};
 ghost use Rattle.state_table.specs.Table.{IsSetOf, IsTable, Table, state_of};
@@ -95,6 +96,17 @@ pub fn lifted(
     let new = numbers_of(alloc, part, mask, true)?;
     let whole = state.changed(&old, &new)?;
     Ok(whole)
+}
+
+/// The mask with the numbers of two, whose frame has the atoms of both frames.
+pub fn united(alloc: Global, one: &BitState, other: &BitState) -> Result<BitState, AllocError>
+    ensures has { IfOk result (λ s. (x : ℕ) → has s x ≡ (has one.now x || has other.now x)) }
+    ensures frame { IfOk result (λ s. (t : Table) (a : Atom) → IsTable t
+        → frame_of t s a ≡ (frame_of t one.now a || frame_of t other.now a)) }
+{
+    let more = numbers_of(alloc, other, one, false)?;
+    let both = one.changed(&[], &more)?;
+    Ok(both)
 }
 
 /// Whether each number of one mask is in another, so that the frame of the one is inside that of the other.
