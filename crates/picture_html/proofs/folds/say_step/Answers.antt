@@ -1,0 +1,23 @@
+use Rattle.std.proofs.Common.{◌++◌, ◌-◌, ap, ap₂, ◌∙◌}
+use Rattle.picture_text.specs.Lines.{line_at}
+use Rattle.picture_html.specs.Outline.{bars_at, folds, ends}
+use Rattle.picture_html.specs.Row.{level, row_text}
+use Rattle.plan_picture.specs.Seen.{seen}
+use Rattle.picture_html.proofs.Chains.{follows, reads}
+use Rattle.picture_html.proofs.folds.say_step.Goals as goal
+
+pub returns : goal.returns
+returns c =
+    let row = c.args.row.now in
+    let o = c.args.out.now.items in
+    let n = c.say_row.new.out.items in
+    let m = c.say_ends.new.out.items in
+    let r = c.say_ends.result in
+    let mark = c.args.caption.now.mark in
+    let line = line_at c.args.file.now row.line in
+    let count = level row.depth - level c.args.next in
+    let now = folds row.depth c.args.next in
+    let all = bars_at c.args.bars.now row.line in
+    follows r o n m (row_text mark now (seen row) line all) (ends count)
+    (c.in_ok-say_row.ensures ∙ ap₂ (λ f bars. o ++ row_text mark f (seen row) line bars) c.folds-folds.ensures c.bars_at.ensures)
+    (reads r n m (ends c.ends_between.result) (ends count) (ap ends c.ends_between.ensures) c.say_ends.ensures)

@@ -1,0 +1,14 @@
+pub mod Bars
+pub mod Runs
+pub mod Label
+pub mod Time
+pub mod Row
+pub mod Outline
+pub mod Ruler
+pub mod Style
+pub mod Why
+pub mod Changes
+pub mod Page
+pub mod Folds
+pub mod Example
+pub mod OnePage
