@@ -9,7 +9,7 @@ ghost use Rattle.std.specs.Prelude.{OnOk};
 ghost use Rattle.call_nodes.specs.Nodes.{AreNodes};
 ghost use Rattle.htn_model.specs.Task as tasks;
 
-use crate::found::{Limits, OUT_OF_REACH};
+use crate::found::OUT_OF_REACH;
 use call_nodes::{CallNodes, Operator};
 use call_table::{BlockLists, Exit, Site};
 use htn_task::Task;
@@ -20,8 +20,8 @@ use std::alloc::{AllocError, Global};
 /// what is left of them.
 const START: u32 = u32::MAX;
 
-/// How many times as often as items are kept they may be met, those past the bound too.
-const MEETINGS: u64 = 16;
+/// How many meetings with items take as long as to list a node.
+const LISTING: u64 = 4;
 
 /// A list of nodes that is left in a state of a call, which has a place among the calls.
 #[derive(Clone, Copy, Debug, PartialEq, Eq, Hash)]
@@ -53,7 +53,8 @@ pub(crate) struct Called {
 #[derive(Drop)]
 pub(crate) struct Chart {
     alloc: Global,
-    limits: Limits,
+    /// The most steps that a word may have.
+    most_steps: u32,
     /// The state and the node of each call.
     pub(crate) sites: IndexSet<Site>,
     pub(crate) calls: Vec<Called>,
@@ -62,15 +63,23 @@ pub(crate) struct Chart {
     pub(crate) items: Vec<Item>,
     /// By total, the places of items that are not taken yet, with some that are.
     agenda: Vec<Vec<u32>>,
-    /// How many items may still be met.
-    meetings: u64,
+    /// All items of a lesser total are taken.
+    total: u32,
+    /// How often items were met, those past the bound too, and more for nodes that were listed.
+    work: u64,
     is_given_up: bool,
     is_finished: bool,
 }
 
-/// How often items may be met.
-pub(crate) fn most_meetings(limits: Limits) -> u64 {
-    (limits.items as u64).saturating_mul(MEETINGS)
+/// How far a search has come.
+#[derive(Clone, Copy, Debug)]
+pub enum Progress {
+    /// Items are left.
+    Unfinished,
+    /// No word is within the bound, or a network was met that is not totally ordered.
+    Failed,
+    /// The least word has this many steps.
+    Finished(u32),
 }
 
 /// A place as a number of 32 bits.
@@ -82,25 +91,26 @@ fn number_at(place: usize) -> Result<u32, AllocError> {
 }
 
 impl Chart {
-    /// No item is met.
-    pub(crate) fn new(alloc: Global, limits: Limits) -> Chart {
+    /// No item is met. A word may have this many steps at most.
+    pub(crate) fn new(alloc: Global, steps: u32) -> Chart {
         Chart {
             alloc,
-            limits,
+            most_steps: steps.min(OUT_OF_REACH - 1),
             sites: IndexSet::new(alloc),
             calls: Vec::new(alloc),
             points: IndexSet::new(alloc),
             items: Vec::new(alloc),
             agenda: Vec::new(alloc),
-            meetings: most_meetings(limits),
+            total: 0,
+            work: 0,
             is_given_up: false,
             is_finished: false,
         }
     }
 
-    /// The most steps that a word may have.
-    fn most_steps(&self) -> u32 {
-        self.limits.steps.min(OUT_OF_REACH - 1)
+    /// How much was done.
+    pub(crate) fn work(&self) -> u64 {
+        self.work
     }
 
     /// The least steps before a call and behind it: none of the start.
@@ -123,18 +133,13 @@ impl Chart {
         Ok(())
     }
 
-    /// Meets an item after some steps of its call, unless its total is past the bound. Past the limits the search is
-    /// given up.
+    /// Meets an item after some steps of its call, unless its total is past the bound.
     fn meet(&mut self, lists: &BlockLists, point: Point, cost: u32) -> Result<(), AllocError> {
-        if self.meetings == 0 || self.items.len() >= self.limits.items {
-            self.is_given_up = true;
-            return Ok(());
-        }
-        self.meetings = self.meetings.saturating_sub(1);
+        self.work = self.work.saturating_add(1);
         let inside = u64::from(cost).saturating_add(lists.nodes(point.list));
         let sum = self.around(point.call).saturating_add(inside);
         let total = u32::try_from(sum).unwrap_or(u32::MAX);
-        if total > self.most_steps() {
+        if total > self.most_steps {
             return Ok(());
         }
         let Some(place) = self.improved(point, cost)? else {
@@ -295,8 +300,10 @@ impl Chart {
             let call = number_at(place)?;
             return Ok(call);
         }
+        let before = nodes.nodes().len();
         nodes.list_task(self.alloc, task, site.number)?;
-        self.is_given_up = self.is_given_up || nodes.nodes().len() > self.limits.items;
+        let listed = nodes.nodes().len().saturating_sub(before) as u64;
+        self.work = self.work.saturating_add(listed.saturating_mul(LISTING));
         let call = number_at(self.calls.len())?;
         let called = Called {
             around,
@@ -363,13 +370,19 @@ impl Chart {
         }
     }
 
-    /// Takes all items of a total, with those that are met on the way.
-    fn take_all(&mut self, task: &Task, nodes: &mut CallNodes, total: u32) -> Result<(), AllocError>
+    /// Takes items of a total, with those that are met on the way, while there are some and no more was done than this.
+    fn take_all(
+        &mut self,
+        task: &Task,
+        nodes: &mut CallNodes,
+        total: u32,
+        most_work: u64,
+    ) -> Result<(), AllocError>
         requires { AreNodes task.now nodes.old }
         ensures { OnOk result (AreNodes task.now nodes.new) }
     {
         for _ in 0..u64::MAX {
-            if self.is_given_up {
+            if self.is_given_up || self.work > most_work {
                 return Ok(());
             }
             let Some(place) = self.next(total) else {
@@ -380,35 +393,44 @@ impl Chart {
         Ok(())
     }
 
-    /// The steps of the least word from lists in the initial state to no node with the goal true. All items of such a
-    /// total or a lesser one are taken then. None where no word is within the bound, or where the search was given up.
-    pub(crate) fn search(
-        &mut self,
-        task: &Task,
-        nodes: &mut CallNodes,
-        starts: &[u32],
-    ) -> Result<Option<u32>, AllocError>
-        requires { AreNodes task.now nodes.old }
-        ensures { OnOk result (AreNodes task.now nodes.new) }
-    {
+    /// Meets the lists of the start in the initial state, the last first.
+    pub(crate) fn start(&mut self, lists: &BlockLists, starts: &[u32]) -> Result<(), AllocError> {
         for list in starts.iter().rev() {
             let point = Point {
                 call: START,
                 list: *list,
                 state: 0,
             };
-            self.meet(nodes.lists(), point, 0)?;
+            self.meet(lists, point, 0)?;
         }
-        for total in 0..=self.most_steps() {
-            self.take_all(task, nodes, total)?;
+        Ok(())
+    }
+
+    /// Goes on until a word from a list of the start in the initial state to no node with the goal true is found, or
+    /// more was done than this. All items of the total of that word or a lesser one are taken then.
+    pub(crate) fn advance(
+        &mut self,
+        task: &Task,
+        nodes: &mut CallNodes,
+        most_work: u64,
+    ) -> Result<Progress, AllocError>
+        requires { AreNodes task.now nodes.old }
+        ensures { OnOk result (AreNodes task.now nodes.new) }
+    {
+        for total in self.total..=self.most_steps {
+            self.total = total;
+            self.take_all(task, nodes, total, most_work)?;
             if self.is_given_up {
-                return Ok(None);
+                return Ok(Progress::Failed);
+            }
+            if self.work > most_work {
+                return Ok(Progress::Unfinished);
             }
             if self.is_finished {
-                return Ok(Some(total));
+                return Ok(Progress::Finished(total));
             }
         }
-        Ok(None)
+        Ok(Progress::Failed)
     }
 }
 

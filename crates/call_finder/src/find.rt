@@ -3,8 +3,8 @@ ghost use Rattle.std.specs.Prelude.{OnOk};
 ghost use Rattle.call_nodes.specs.Nodes.{AreNodes};
 ghost use Rattle.htn_model.specs.Task as tasks;
 
-use crate::chart::{Chart, most_meetings};
-use crate::found::{Found, Limits};
+use crate::chart::{Chart, Progress};
+use crate::found::Found;
 use crate::table::table_of;
 use crate::trail::Trail;
 use crate::values::Values;
@@ -12,6 +12,9 @@ use call_nodes::CallNodes;
 use call_table::CallTable;
 use htn_task::Task;
 use std::alloc::{AllocError, Global};
+
+/// How many times as long as items were met values may be settled or asked for.
+const READING: u64 = 16;
 
 /// The word that a search ended with, its table, and the values that it needs.
 fn read(
@@ -38,27 +41,67 @@ fn read(
     }))
 }
 
-/// Finds a word of fewest steps that finishes, and what should show that it is the least one. None where none was found
-/// within the limits, and where a network is met that is not totally ordered. What is met gets numbers.
-pub fn find_calls(
+/// A search for a word of fewest steps that finishes.
+#[derive(Drop)]
+pub struct Finder {
     alloc: Global,
-    task: &Task,
-    nodes: &mut CallNodes,
-    limits: Limits,
-) -> Result<Option<Found>, AllocError>
-    requires { AreNodes task.now nodes.old }
-    ensures { OnOk result (AreNodes task.now nodes.new) }
-{
-    let Some(starts) = nodes.starts(alloc, task)? else {
-        return Ok(None);
-    };
-    let mut chart = Chart::new(alloc, limits);
-    let Some(steps) = chart.search(task, nodes, &starts)? else {
-        return Ok(None);
-    };
-    let table = table_of(alloc, nodes, &chart, steps.saturating_add(1))?;
-    drop(chart);
-    let values = Values::new(alloc, most_meetings(limits));
-    let trail = Trail::new(alloc, values, steps);
-    read(alloc, nodes, table, trail, &starts)
+    /// The lists of the initial networks.
+    starts: Vec<u32>,
+    chart: Chart,
+}
+
+impl Finder {
+    /// A search for a word of at most so many steps, which is to begin. None where an initial network is not totally
+    /// ordered. What is met gets numbers.
+    pub fn new(
+        alloc: Global,
+        task: &Task,
+        nodes: &mut CallNodes,
+        steps: u32,
+    ) -> Result<Option<Finder>, AllocError>
+        requires { AreNodes task.now nodes.old }
+        ensures { OnOk result (AreNodes task.now nodes.new) }
+    {
+        let Some(starts) = nodes.starts(alloc, task)? else {
+            return Ok(None);
+        };
+        let mut chart = Chart::new(alloc, steps);
+        chart.start(nodes.lists(), &starts)?;
+        Ok(Some(Finder {
+            alloc,
+            starts,
+            chart,
+        }))
+    }
+
+    /// Goes on until the word's steps are known, or more was done than this: so often were items met.
+    pub fn advance(
+        &mut self,
+        task: &Task,
+        nodes: &mut CallNodes,
+        most_work: u64,
+    ) -> Result<Progress, AllocError>
+        requires { AreNodes task.now nodes.old }
+        ensures { OnOk result (AreNodes task.now nodes.new) }
+    {
+        self.chart.advance(task, nodes, most_work)
+    }
+
+    /// The word of a search that has found how many steps it has, and what should show that it is the least one. None
+    /// where it can't be read off.
+    pub fn read(self, nodes: &mut CallNodes, steps: u32) -> Result<Option<Found>, AllocError>
+        ensures { OnOk result ((t : tasks.Task) → AreNodes t nodes.old → AreNodes t nodes.new) }
+    {
+        let Finder {
+            alloc,
+            starts,
+            chart,
+        } = self;
+        let table = table_of(alloc, nodes, &chart, steps.saturating_add(1))?;
+        let most = chart.work().saturating_mul(READING);
+        drop(chart);
+        let values = Values::new(alloc, most);
+        let trail = Trail::new(alloc, values, steps);
+        read(alloc, nodes, table, trail, &starts)
+    }
 }

@@ -1,16 +1,7 @@
-//! What is found, and the limits of a search for it.
+//! What is found.
 
 use call_table::{CallTable, Site};
 use indexmap::IndexMap;
-
-/// The limits of a search.
-#[derive(Clone, Copy, Debug)]
-pub struct Limits {
-    /// The most steps that a word may have.
-    pub steps: u32,
-    /// The most items that are kept, and nodes that get numbers, but for those of one task more.
-    pub items: usize,
-}
 
 /// A word that finishes, and what should show that no other precedes it.
 #[derive(Drop)]

@@ -4,7 +4,7 @@
 //! There a configuration is a state and a list of nodes, and what happens inside the first node has nothing to do
 //! with the nodes behind it. So a node that begins in a state is a *call*: what it can do is explored once, whoever
 //! calls, as compilers summarise procedures and parsers chart phrases. The search is best first by the least steps of
-//! a word through an item ([`find_calls`]). Nothing that it finds is proved: who takes it checks it.
+//! a word through an item ([`Finder`]). Nothing that it finds is proved: who takes it checks it.
 #![tactic(auto)]
 
 mod chart;
@@ -14,5 +14,6 @@ mod table;
 mod trail;
 mod values;
 
-pub use find::find_calls;
-pub use found::{Found, Limits, OUT_OF_REACH};
+pub use chart::Progress;
+pub use find::Finder;
+pub use found::{Found, OUT_OF_REACH};
