@@ -99,8 +99,9 @@ fn an_answer_that_is_not_flushed(rt: HostRuntime) -> Result<(), Fail> {
         (0, 5, line),
         (1, 5, line),
         (2, 2, ""),
-        (3, 3, ""),
+        (3, 5, line),
         (5, 5, ""),
+        (6, 5, line),
     ] {
         let mut err = Sink::new(Vec::new(alloc));
         assert_eq!(rt; flush(status, Sink::new(Stuck), &mut err), found);

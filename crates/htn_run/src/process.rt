@@ -1,5 +1,5 @@
 //! The parts of a process around its run: the words before it, and the flush of its output after it.
-ghost use Rattle.std.specs.Prelude.{◌≡◌, ◌≢◌, ◌≤◌, ◌⊎◌, IfErr, codes};
+ghost use Rattle.std.specs.Prelude.{◌≡◌, ◌≢◌, ◌⊎◌, IfErr, codes};
 ghost use Rattle.htn_run.specs.Lines.{GetsLine};
 
 use htn_plan::{Out, Sink, WriteFault, put_all};
@@ -93,16 +93,18 @@ pub fn wants_colour<V: Env>(alloc: Global, env: &V) -> bool {
     }
 }
 
-/// Flushes the output after a run with this status, and answers the status of the program. An answer that can't be
-/// flushed is status 5, with the line on the standard error. After any other run nothing more is written.
+/// Flushes the output after a run with this status, and answers the status of the program. An answer, a report or
+/// `unknown` that can't be flushed is status 5, with the line on the standard error. A run that wrote none of these, with
+/// status 2, 4 or 5, keeps its status, and nothing more is written.
 pub fn flush<W: Write + Drop, E: Out>(status: u8, out: Sink<W>, err: &mut E) -> u8
     ensures kept { result ≡ status ⊎ (result ≡ 5) }
-    ensures told { 2 ≤ status → result ≡ status }
+    ensures told { (status ≡ 2) ⊎ (status ≡ 4) ⊎ (status ≡ 5) → result ≡ status }
     ensures quiet { result ≡ status → err.new ≡ err.old }
     ensures line { result ≢ status → GetsLine (E.contents err.old) (E.contents err.new) (E.has_failed err.new) (codes "output: cannot be written\n") }
 {
     let mut writer = out.into_inner();
-    if writer.flush().is_err() && status <= 1 {
+    let is_refused = matches!(status, 2 | 4 | 5);
+    if writer.flush().is_err() && !is_refused {
         return ProcessFault::Output.tell(err);
     }
     status
