@@ -7,12 +7,12 @@ use Rattle.htn_run.specs.Files.{File}
 use Rattle.htn_run.specs.Lines.{GetsLine}
 use Rattle.htn_run.specs.Requests.{AddsBeside}
 use Rattle.htn_run.specs.Stops.{status_of}
-use Rattle.htn_run.specs.declared.outcome.RunFault.TheVariants as fault
+use Rattle.htn_review.specs.declared.outcome.RunFault.TheVariants as fault
 use Rattle.htn_run.specs.declared.reply.Reply.{Reply}
 use Rattle.htn_run.specs.declared.reply.Reply.TheVariants.{Planned, Verified, Checked, Explained, Drawn}
 use Rattle.htn_run.specs.declared.stop.Stop.{Stop}
 use Rattle.htn_run.specs.declared.stop.Stop.TheVariants.{Unreadable, Run}
-use Rattle.htn_run.specs.declared.tree.Drawn.TheVariants.{Judged, Refused}
+use Rattle.htn_review.specs.declared.tree.Drawn.TheVariants.{Judged, Refused}
 
 module _ {Z E : Type 0} (contents : E → Option (List ℕ)) (has_failed : E → Bool) (words : List (String Z)) (files : List ℕ → File) where
   -- a line where nothing was shown before

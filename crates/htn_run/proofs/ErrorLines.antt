@@ -3,14 +3,14 @@ use Rattle.std.proofs.Common.{◌≡◌, ◌⊎◌, ℕ, Bool, true, List, Optio
 use Rattle.std.specs.Prelude.{codes}
 use Rattle.htn_command.specs.declared.request.Request.{Request}
 use Rattle.htn_command.specs.declared.request.Request.TheVariants.{Plan, Verify, Check, Explain, Tree}
-use Rattle.htn_run.specs.Checking.{name_of}
+use Rattle.htn_run.specs.Reading.{name_of}
 use Rattle.htn_run.specs.Files.{File}
-use Rattle.htn_run.specs.Laws.{IsOfTexts}
+use Rattle.htn_review.specs.Laws.{IsOfTexts}
 use Rattle.htn_run.specs.Lines.{line_of, line_of_fault, unread_line}
 use Rattle.htn_run.specs.Requests.{LacksFileOf, NeedsThreads, Refuses, TellsFault}
 use Rattle.htn_run.specs.Stops.{Stops, status_of}
-use Rattle.htn_run.specs.declared.outcome.RunFault.{RunFault}
-use Rattle.htn_run.specs.declared.outcome.RunFault.TheVariants as fault
+use Rattle.htn_review.specs.declared.outcome.RunFault.{RunFault}
+use Rattle.htn_review.specs.declared.outcome.RunFault.TheVariants as fault
 use Rattle.htn_run.specs.declared.stop.Stop.{Stop}
 use Rattle.htn_run.specs.declared.stop.Stop.TheVariants.{Unreadable, Run}
 use Rattle.htn_run.specs.declared.stop.Text.{Text}

@@ -1,25 +1,9 @@
-mod Refusing
 mod Saying
-mod OneAnswer
-mod Exists
 mod Stopping
 mod FileReads
 mod Reporting
 mod ErrorLines
-mod Decided
-mod DecidedLines
-mod DecidedRoom
-mod SomeVerdict
-mod OwnWords
-mod SpelledNames
-mod NamedTasks
-mod OneVerdict
-mod ValidPlans
-mod Judging
-mod Sighting
-mod ShownWords
 mod After
 mod Watching
 mod Quiet
-mod ExplainedTexts
 pub mod Unasked

@@ -14,21 +14,22 @@ use Rattle.htn_command.specs.declared.request.Request.{Request}
 use Rattle.htn_command.specs.declared.request.Request.TheVariants as request
 use Rattle.htn_verify.specs.declared.verdict.Verdict.{Verdict}
 use Rattle.htn_verify.specs.declared.verdict.Verdict.TheVariants as verdict
-use Rattle.htn_run.specs.Checking.{AreOptions, IsReportCutShort, OfTexts, RefusesCheck, Reports, file_of, name_of}
+use Rattle.htn_review.specs.Checking.{AreOptions, IsReportCutShort, RefusesCheck, Reports}
+use Rattle.htn_run.specs.Reading.{OfTexts, file_of, name_of}
 use Rattle.htn_run.specs.Files.{File, MayGive}
-use Rattle.htn_run.specs.Laws.{IsOfTexts}
+use Rattle.htn_review.specs.Laws.{IsOfTexts}
 use Rattle.htn_run.specs.Reporting.{AddsReport, StopsByFault, StopsReport}
 use Rattle.htn_run.specs.Requests.{AddsAnswer, AddsBeside, Answers, HasFault, status_of}
 use Rattle.htn_run.specs.Stops.{Stops}
-use Rattle.htn_run.specs.Trees.{is_of_pair}
-use Rattle.htn_run.specs.declared.outcome.Outcome.TheVariants as outcome
-use Rattle.htn_run.specs.declared.outcome.Watched.{Watched}
-use Rattle.htn_run.specs.declared.outcome.Watched.TheVariants as watched
-use Rattle.htn_run.specs.declared.outcome.RunFault.{RunFault}
-use Rattle.htn_run.specs.declared.outcome.RunFault.TheVariants as fault
+use Rattle.htn_review.specs.Trees.{is_of_pair}
+use Rattle.htn_review.specs.declared.outcome.Outcome.TheVariants as outcome
+use Rattle.htn_review.specs.declared.outcome.Watched.{Watched}
+use Rattle.htn_review.specs.declared.outcome.Watched.TheVariants as watched
+use Rattle.htn_review.specs.declared.outcome.RunFault.{RunFault}
+use Rattle.htn_review.specs.declared.outcome.RunFault.TheVariants as fault
 use Rattle.htn_run.specs.declared.reply.Reply.{Reply}
-use Rattle.htn_run.specs.declared.explain.Explained.TheVariants as explained
-use Rattle.htn_run.specs.declared.tree.Drawn.TheVariants.{Judged, Refused}
+use Rattle.htn_review.specs.declared.explain.Explained.TheVariants as explained
+use Rattle.htn_review.specs.declared.tree.Drawn.TheVariants.{Judged, Refused}
 use Rattle.htn_run.specs.declared.reply.Reply.TheVariants.{Planned, Verified, Checked, Explained, Drawn}
 use Rattle.htn_run.specs.declared.stop.Stop.{Stop}
 use Rattle.htn_run.specs.declared.stop.Stop.TheVariants.{Unreadable, Run}

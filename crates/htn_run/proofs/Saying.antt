@@ -1,5 +1,5 @@
 -- What the text of an answer says.
-use Rattle.std.proofs.Common.{◌≡◌, ℕ, List, Option, None, Result, Ok, Err, IfErr, IfSome, codes, refl, sym, subst}
+use Rattle.std.proofs.Common.{◌≡◌, ℕ, List, Option, None, IfSome, codes, refl, sym, subst}
 use Rattle.htn_model.specs.Task.{Task}
 use Rattle.htn_model.specs.PlanFile.{PlanFile}
 use Rattle.htn_model.specs.Grounding.{problem_of}
@@ -14,11 +14,11 @@ use Rattle.htn_search.specs.Answer.{Answers}
 use Rattle.htn_search.specs.declared.answer.Answer.{Answer}
 use Rattle.htn_search.specs.declared.answer.Answer.TheVariants as answer
 use Rattle.htn_model.specs.Answer.{IsAnswer}
-use Rattle.htn_run.specs.Headline.{IsCutShort, IsWatchedCutShort, Says, SaysWatched, unknown_text}
-use Rattle.htn_run.specs.declared.outcome.Watched.{Watched}
-use Rattle.htn_run.specs.declared.outcome.Watched.TheVariants.{Known, Unknown}
-use Rattle.htn_run.specs.declared.outcome.Outcome.{Outcome}
-use Rattle.htn_run.specs.declared.outcome.Outcome.TheVariants.{Found, NoPlan, Unsolvable}
+use Rattle.htn_review.specs.Headline.{IsCutShort, IsWatchedCutShort, Says, SaysWatched, unknown_text}
+use Rattle.htn_review.specs.declared.outcome.Watched.{Watched}
+use Rattle.htn_review.specs.declared.outcome.Watched.TheVariants.{Known, Unknown}
+use Rattle.htn_review.specs.declared.outcome.Outcome.{Outcome}
+use Rattle.htn_review.specs.declared.outcome.Outcome.TheVariants.{Found, NoPlan, Unsolvable}
 
 module _ (task : Task) (bound : ℕ) (found : Answer) (answers : Answers task bound found) where
   -- a plan that is found answers by its file's text
@@ -41,11 +41,6 @@ module _ (task : Task) (bound : ℕ) (found : Answer) (answers : Answers task bo
 pub cut_short : (task : Task) (bound : ℕ) (outcome : Outcome) (text : List ℕ) (old new : Option (List ℕ)) → Says task bound outcome text
     → TakesBeginning old new text → IsCutShort task bound old new
 cut_short task bound outcome text old new says begun = record { outcome = outcome; text = text; says = says; begun = begun }
-
--- what holds of all faults holds of a result that may be one
-pub at_error : {T E : Type 0} (P : E → Type 0) (r : Result T E) → ((e : E) → P e) → IfErr r P
-at_error P (Ok x) h = tt
-at_error P (Err e) h = h e
 
 -- ## A search that may be stopped
 

@@ -5,16 +5,17 @@ use Rattle.htn_command.specs.declared.request.Request.TheVariants as request
 use Rattle.std.specs.Borrow.{Bor}
 use Rattle.htn_command.specs.declared.choice.Colour.{Colour}
 use Rattle.htn_command.specs.declared.choice.Drawing.{Drawing}
-use Rattle.htn_run.specs.Checking.{MayColour, domain_text, file_of, problem_text}
+use Rattle.htn_review.specs.Checking.{MayColour, domain_text, problem_text}
+use Rattle.htn_run.specs.Reading.{file_of}
 use Rattle.htn_run.specs.Files.{File, MayFail, MayGive}
 use Rattle.diagnostics.specs.declared.format.Format.{Format}
-use Rattle.htn_run.specs.Explaining.{IsExplanationCutShort, plan_text}
-use Rattle.htn_run.specs.Trees.{IsPictureCutShort, IsUndrawn}
+use Rattle.htn_review.specs.Explaining.{IsExplanationCutShort, plan_text}
+use Rattle.htn_review.specs.Trees.{IsPictureCutShort, IsUndrawn}
 use Rattle.plan_report.specs.declared.report.ReportStyle.{ReportStyle}
 use Rattle.htn_run.specs.Requests.{HasFault, IsCutShort, LacksFile, LacksFileOf, LacksText, Refuses, TellsFault}
 use Rattle.htn_run.specs.Stops.{IsUnread, Stops, StopsByFault, status_of}
-use Rattle.htn_run.specs.declared.outcome.RunFault.{RunFault}
-use Rattle.htn_run.specs.declared.outcome.RunFault.TheVariants as fault
+use Rattle.htn_review.specs.declared.outcome.RunFault.{RunFault}
+use Rattle.htn_review.specs.declared.outcome.RunFault.TheVariants as fault
 use Rattle.htn_run.specs.declared.stop.Stop.{Stop}
 use Rattle.htn_run.specs.declared.stop.Stop.TheVariants.{Unreadable, Run}
 use Rattle.htn_run.specs.declared.stop.Text.{Text}

@@ -6,10 +6,10 @@ use Rattle.htn_command.specs.Help.{HelpIsAsked, VersionIsAsked}
 use Rattle.htn_command.specs.Request.{AskNothing, IsAskedBy}
 use Rattle.htn_command.specs.declared.request.Request.{Request}
 use Rattle.htn_run.specs.Files.{File, Notes, NotesBeginning}
-use Rattle.htn_run.specs.Laws.{IsOfTexts}
+use Rattle.htn_review.specs.Laws.{IsOfTexts}
 use Rattle.htn_run.specs.Lines.{GetsLine, line_of_fault, unread_line}
 use Rattle.htn_run.specs.Requests as request
-use Rattle.htn_run.specs.declared.outcome.RunFault.{RunFault}
+use Rattle.htn_review.specs.declared.outcome.RunFault.{RunFault}
 use Rattle.htn_run.specs.declared.stop.Text.{Text}
 
 -- the words ask for a request of which this holds

@@ -12,8 +12,8 @@ use Rattle.hddl_meaning.specs.declared.fault.Source.TheVariants as source
 use Rattle.plan_text.specs.declared.fault.PlanFault.{PlanFault}
 use Rattle.plan_text.specs.declared.fault.PlanFault.TheVariants as reading
 use Rattle.plan_text.specs.Out.{TakesBeginning}
-use Rattle.htn_run.specs.declared.outcome.RunFault.{RunFault}
-use Rattle.htn_run.specs.declared.outcome.RunFault.TheVariants as fault
+use Rattle.htn_review.specs.declared.outcome.RunFault.{RunFault}
+use Rattle.htn_review.specs.declared.outcome.RunFault.TheVariants as fault
 use Rattle.htn_run.specs.declared.stop.Stop.{Stop}
 use Rattle.htn_run.specs.declared.stop.Stop.TheVariants.{Unreadable, Run}
 use Rattle.htn_run.specs.declared.stop.Text.{Text}

@@ -4,11 +4,11 @@ use Rattle.std.specs.Fmt.{decimal}
 use Rattle.htn_model.specs.Answer.{IsAnswer}
 use Rattle.htn_model.specs.Grounding.{problem_of}
 use Rattle.htn_model.specs.Task.{Task}
-use Rattle.htn_run.specs.Headline.{IsTaskOfTexts, SaysWatched, number_text, within_text}
+use Rattle.htn_review.specs.Headline.{IsTaskOfTexts, SaysWatched, number_text, within_text}
 use Rattle.htn_run.specs.Lines.{GetsLine}
-use Rattle.htn_run.specs.declared.outcome.Outcome.TheVariants.{Found, NoPlan, Unsolvable}
-use Rattle.htn_run.specs.declared.outcome.Watched.{Watched}
-use Rattle.htn_run.specs.declared.outcome.Watched.TheVariants.{Known, Unknown}
+use Rattle.htn_review.specs.declared.outcome.Outcome.TheVariants.{Found, NoPlan, Unsolvable}
+use Rattle.htn_review.specs.declared.outcome.Watched.{Watched}
+use Rattle.htn_review.specs.declared.outcome.Watched.TheVariants.{Known, Unknown}
 
 -- the end of a line of progress, from the word `configurations` on, with a number of nodes that no solution is within,
 -- if one is known

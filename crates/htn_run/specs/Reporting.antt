@@ -2,10 +2,11 @@
 use Rattle.std.specs.Prelude.{◌≡◌, ℕ, Bool, true, List, Option}
 use Rattle.std.specs.Io.KnownBytes.{Appends}
 use Rattle.check_report.specs.declared.report.Options.{Options}
-use Rattle.htn_run.specs.Checking.{IsReportCutShort, LacksOf, OfTexts, Reports}
+use Rattle.htn_review.specs.Checking.{IsReportCutShort, Reports}
+use Rattle.htn_run.specs.Reading.{LacksOf, OfTexts}
 use Rattle.htn_run.specs.Files.{File}
-use Rattle.htn_run.specs.declared.outcome.RunFault.{RunFault}
-use Rattle.htn_run.specs.declared.outcome.RunFault.TheVariants.{Output, OutOfMemory}
+use Rattle.htn_review.specs.declared.outcome.RunFault.{RunFault}
+use Rattle.htn_review.specs.declared.outcome.RunFault.TheVariants.{Output, OutOfMemory}
 use Rattle.htn_run.specs.declared.reply.Reply.{Reply}
 use Rattle.htn_run.specs.declared.reply.Reply.TheVariants.{Checked}
 use Rattle.htn_run.specs.declared.stop.Stop.{Stop}

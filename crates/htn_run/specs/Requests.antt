@@ -9,33 +9,34 @@ use Rattle.diagnostics.specs.declared.format.Format.{Format}
 use Rattle.htn_verify.specs.declared.verdict.Verdict.TheVariants.{Structure, Valid}
 use Rattle.check_report.specs.declared.report.Finding.TheVariants.{Sound, Faulty}
 use Rattle.check_report.specs.declared.report.Options.{Options}
-use Rattle.htn_run.specs.declared.outcome.Outcome.TheVariants.{Found}
-use Rattle.htn_run.specs.declared.outcome.Watched.TheVariants.{Known, Unknown}
-use Rattle.htn_run.specs.declared.outcome.RunFault.{RunFault}
+use Rattle.htn_review.specs.declared.outcome.Outcome.TheVariants.{Found}
+use Rattle.htn_review.specs.declared.outcome.Watched.TheVariants.{Known, Unknown}
+use Rattle.htn_review.specs.declared.outcome.RunFault.{RunFault}
 use Rattle.htn_run.specs.declared.reply.Reply.{Reply}
 use Rattle.htn_run.specs.declared.reply.Reply.TheVariants.{Planned, Verified, Checked, Explained, Drawn}
-use Rattle.htn_run.specs.declared.explain.Explained.TheVariants as explained
+use Rattle.htn_review.specs.declared.explain.Explained.TheVariants as explained
 use Rattle.plan_report.specs.declared.report.ReportStyle.{ReportStyle}
-use Rattle.htn_run.specs.declared.tree.Drawn.TheVariants.{Judged, Refused}
-use Rattle.htn_run.specs.declared.tree.Look.{Look}
+use Rattle.htn_review.specs.declared.tree.Drawn.TheVariants.{Judged, Refused}
+use Rattle.htn_review.specs.declared.tree.Look.{Look}
 use Rattle.htn_run.specs.declared.stop.Text.{Text}
 use Rattle.htn_run.specs.declared.stop.Text.TheVariants as text
 use Rattle.htn_run.specs.Files.{File, MayFail, MayGive}
-use Rattle.htn_run.specs.Checking as checks
-use Rattle.htn_run.specs.Explaining as explaining
-use Rattle.htn_run.specs.Headline as plans
-use Rattle.htn_run.specs.Judgement as verdicts
-use Rattle.htn_run.specs.Laws.{IsOfTexts}
+use Rattle.htn_review.specs.Checking as checks
+use Rattle.htn_run.specs.Reading as reading
+use Rattle.htn_review.specs.Explaining as explaining
+use Rattle.htn_review.specs.Headline as plans
+use Rattle.htn_review.specs.Judgement as verdicts
+use Rattle.htn_review.specs.Laws.{IsOfTexts}
 use Rattle.htn_run.specs.Progress as progress
-use Rattle.htn_run.specs.Trees as trees
+use Rattle.htn_review.specs.Trees as trees
 
 -- the names of the files of a request, in the order of its words
 abbrev pub names_of : Request → List (List ℕ)
 names_of (Plan domain problem bounds seconds has_progress) = domain.now ∷ problem.now ∷ []
 names_of (Verify domain problem plan) = domain.now ∷ problem.now ∷ plan.now ∷ []
-names_of (Check domain problem format limit is_strict colour) = checks.files_of domain.now (checks.name_of problem)
-names_of (Explain domain problem plan format has_states colour) = checks.file_of domain.now ∷ checks.file_of problem.now ∷ checks.file_of plan.now ∷ []
-names_of (Tree domain problem plan drawing colour) = checks.file_of domain.now ∷ checks.file_of problem.now ∷ checks.file_of plan.now ∷ []
+names_of (Check domain problem format limit is_strict colour) = reading.files_of domain.now (reading.name_of problem)
+names_of (Explain domain problem plan format has_states colour) = reading.file_of domain.now ∷ reading.file_of problem.now ∷ reading.file_of plan.now ∷ []
+names_of (Tree domain problem plan drawing colour) = reading.file_of domain.now ∷ reading.file_of problem.now ∷ reading.file_of plan.now ∷ []
 
 -- a request that may be refused a thread: one for a plan, with more than one worker
 abbrev pub NeedsThreads : Request → Type 0
@@ -64,7 +65,7 @@ OfThreeTexts files domain problem plan P = OfTexts files domain problem (λ d p.
 
 -- three files, each of which may be the standard input, can be read, and this holds of their texts
 abbrev pub OfInputs : (List ℕ → File) → List ℕ → List ℕ → List ℕ → (List ℕ → List ℕ → List ℕ → Type 0) → Type 0
-OfInputs files domain problem plan = OfThreeTexts files (checks.file_of domain) (checks.file_of problem) (checks.file_of plan)
+OfInputs files domain problem plan = OfThreeTexts files (reading.file_of domain) (reading.file_of problem) (reading.file_of plan)
 
 -- how the picture is written, as the words ask for it
 abbrev pub AreLooks : Drawing → Colour → Look → Type 0
@@ -82,7 +83,7 @@ Answers files (Plan domain problem bounds seconds has_progress) (Planned watched
 Answers files (Verify domain problem plan) (Verified verdict) text =
     OfThreeTexts files domain.now problem.now plan.now (λ d p f. verdicts.Judges d p f verdict text)
 Answers files (Check domain problem format limit is_strict colour) (Checked finding) text =
-    checks.OfTexts files domain.now (checks.name_of problem)
+    reading.OfTexts files domain.now (reading.name_of problem)
     (λ d p. (o : Options) × checks.AreOptions format limit is_strict colour o × checks.Reports d p o finding text)
 Answers files (Explain domain problem plan format has_states colour) (Explained came) text =
     OfInputs files domain.now problem.now plan.now
@@ -113,7 +114,7 @@ abbrev pub Refuses : (List ℕ → File) → Request → RunFault → Type 0
 Refuses files (Plan domain problem bounds seconds has_progress) fault = OfTexts files domain.now problem.now (λ d p. plans.Refuses d p bounds fault)
 Refuses files (Verify domain problem plan) fault = OfThreeTexts files domain.now problem.now plan.now (λ d p f. verdicts.RefusesPlan d p f fault)
 Refuses files (Check domain problem format limit is_strict colour) fault =
-    checks.OfTexts files domain.now (checks.name_of problem) (λ d p. checks.RefusesCheck d p fault)
+    reading.OfTexts files domain.now (reading.name_of problem) (λ d p. checks.RefusesCheck d p fault)
 Refuses files (Explain domain problem plan format has_states colour) fault =
     OfInputs files domain.now problem.now plan.now (λ d p f. verdicts.RefusesPlan d p f fault)
 Refuses files (Tree domain problem plan drawing colour) fault =
@@ -133,13 +134,13 @@ LacksFile files (Plan domain problem bounds seconds has_progress) = LacksOne fil
 LacksFile files (Verify domain problem plan) =
     LacksOne files domain.now problem.now ⊎ OfTexts files domain.now problem.now (λ d p. MayFail (files plan.now))
 LacksFile files (Check domain problem format limit is_strict colour) =
-    MayFail (files (checks.file_of domain.now)) ⊎ checks.LacksProblem files domain.now (checks.name_of problem)
+    MayFail (files (reading.file_of domain.now)) ⊎ reading.LacksProblem files domain.now (reading.name_of problem)
 LacksFile files (Explain domain problem plan format has_states colour) =
-    LacksOne files (checks.file_of domain.now) (checks.file_of problem.now)
-    ⊎ OfTexts files (checks.file_of domain.now) (checks.file_of problem.now) (λ d p. MayFail (files (checks.file_of plan.now)))
+    LacksOne files (reading.file_of domain.now) (reading.file_of problem.now)
+    ⊎ OfTexts files (reading.file_of domain.now) (reading.file_of problem.now) (λ d p. MayFail (files (reading.file_of plan.now)))
 LacksFile files (Tree domain problem plan drawing colour) =
-    LacksOne files (checks.file_of domain.now) (checks.file_of problem.now)
-    ⊎ OfTexts files (checks.file_of domain.now) (checks.file_of problem.now) (λ d p. MayFail (files (checks.file_of plan.now)))
+    LacksOne files (reading.file_of domain.now) (reading.file_of problem.now)
+    ⊎ OfTexts files (reading.file_of domain.now) (reading.file_of problem.now) (λ d p. MayFail (files (reading.file_of plan.now)))
 
 -- This file can't be read: the domain's, or the problem's after the domain's was read; for the plan's the condition is
 -- a parameter.
@@ -153,13 +154,13 @@ abbrev pub LacksFileOf : (List ℕ → File) → Request → Text → Type 0
 LacksFileOf files (Plan domain problem bounds seconds has_progress) text = LacksText files domain.now problem.now ⊥ text
 LacksFileOf files (Verify domain problem plan) text =
     LacksText files domain.now problem.now (OfTexts files domain.now problem.now (λ d p. MayFail (files plan.now))) text
-LacksFileOf files (Check domain problem format limit is_strict colour) text = checks.LacksOf files domain.now (checks.name_of problem) text
+LacksFileOf files (Check domain problem format limit is_strict colour) text = reading.LacksOf files domain.now (reading.name_of problem) text
 LacksFileOf files (Explain domain problem plan format has_states colour) text =
-    LacksText files (checks.file_of domain.now) (checks.file_of problem.now)
-    (OfTexts files (checks.file_of domain.now) (checks.file_of problem.now) (λ d p. MayFail (files (checks.file_of plan.now)))) text
+    LacksText files (reading.file_of domain.now) (reading.file_of problem.now)
+    (OfTexts files (reading.file_of domain.now) (reading.file_of problem.now) (λ d p. MayFail (files (reading.file_of plan.now)))) text
 LacksFileOf files (Tree domain problem plan drawing colour) text =
-    LacksText files (checks.file_of domain.now) (checks.file_of problem.now)
-    (OfTexts files (checks.file_of domain.now) (checks.file_of problem.now) (λ d p. MayFail (files (checks.file_of plan.now)))) text
+    LacksText files (reading.file_of domain.now) (reading.file_of problem.now)
+    (OfTexts files (reading.file_of domain.now) (reading.file_of problem.now) (λ d p. MayFail (files (reading.file_of plan.now)))) text
 
 -- the text that answers the request was added to the output
 abbrev pub AddsAnswer : (List ℕ → File) → Option (List ℕ) → Option (List ℕ) → Reply → Request → Type 0
@@ -189,7 +190,7 @@ IsCutShort files old new (Plan domain problem bounds seconds has_progress) =
 IsCutShort files old new (Verify domain problem plan) =
     OfThreeTexts files domain.now problem.now plan.now (λ d p f. verdicts.IsVerdictCutShort d p f old new)
 IsCutShort files old new (Check domain problem format limit is_strict colour) =
-    checks.OfTexts files domain.now (checks.name_of problem)
+    reading.OfTexts files domain.now (reading.name_of problem)
     (λ d p. (o : Options) × checks.AreOptions format limit is_strict colour o × checks.IsReportCutShort d p o old new)
 IsCutShort files old new (Explain domain problem plan format has_states colour) =
     OfInputs files domain.now problem.now plan.now

@@ -4,8 +4,8 @@ use Rattle.htn_command.specs.declared.request.Request.{Request}
 use Rattle.plan_text.specs.Out.{TakesBeginning}
 use Rattle.htn_run.specs.Files.{File}
 use Rattle.htn_run.specs.Requests.{IsCutShort, LacksFileOf, Refuses, TellsFault}
-use Rattle.htn_run.specs.declared.outcome.RunFault.{RunFault}
-use Rattle.htn_run.specs.declared.outcome.RunFault.TheVariants.{Output, OutOfMemory, NoThread}
+use Rattle.htn_review.specs.declared.outcome.RunFault.{RunFault}
+use Rattle.htn_review.specs.declared.outcome.RunFault.TheVariants.{Output, OutOfMemory, NoThread}
 use Rattle.htn_run.specs.declared.stop.Stop.{Stop}
 use Rattle.htn_run.specs.declared.stop.Stop.TheVariants.{Unreadable, Run}
 use Rattle.htn_run.specs.declared.stop.Text.{Text}

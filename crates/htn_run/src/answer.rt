@@ -2,12 +2,12 @@
 ghost use Rattle.std.specs.Prelude.{◌≡◌, ◌≢◌, List, Option, ℕ, true, IfOk, IfErr, OnOk};
 ghost use Rattle.std.specs.Io.KnownBytes.{Appends};
 ghost use Rattle.htn_search.specs.Answer.{Answers, IsKnown};
-ghost use Rattle.htn_run.specs.Headline.{IsCutShort, IsWatchedCutShort, Says, SaysWatched};
-ghost use Rattle.htn_run.specs.declared.outcome.RunFault.TheVariants.{OutOfMemory, Output};
+ghost use Rattle.htn_review.specs.Headline.{IsCutShort, IsWatchedCutShort, Says, SaysWatched};
+ghost use Rattle.htn_review.specs.declared.outcome.RunFault.TheVariants.{OutOfMemory, Output};
 
-use crate::outcome::{Outcome, RunFault, Watched};
 use crate::progress::put_unknown;
 use htn_plan::{Out, file_of, put_all, write_plan};
+use htn_review::{Outcome, RunFault, Watched};
 use htn_search::{Answer, Known};
 use htn_task::Task;
 use std::alloc::Global;

@@ -1,7 +1,7 @@
 //! The watch of a search that reads the clock.
-use crate::outcome::Watched;
 use crate::progress::{Progress, put_end, put_progress};
 use htn_plan::{Out, WriteFault};
+use htn_review::Watched;
 use htn_search::{News, Watch};
 use htn_task::Task;
 use std::time::{Clock, Duration, Instant};
@@ -40,7 +40,7 @@ fn start_of<R: Clock>(rt: &R, watching: Watching) -> Option<Instant> {
 
 impl<'a, R: Clock, E: Out> Stopwatch<'a, R, E> {
     ghost use Rattle.std.specs.Prelude.{◌≡◌, ℕ, List, true, is_some, ⊤};
-    ghost use Rattle.htn_run.specs.Headline.{SaysWatched};
+    ghost use Rattle.htn_review.specs.Headline.{SaysWatched};
     ghost use Rattle.htn_run.specs.Progress.{IsProgress, Shows};
     ghost use Rattle.htn_search.specs.Answer.{HasNoneBelow};
 

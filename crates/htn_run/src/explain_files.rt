@@ -2,19 +2,20 @@
 ghost use Rattle.std.specs.Prelude.{◌≡◌, ◌∷◌, [], IfOk, IfErr, OnOk};
 ghost use Rattle.htn_command.specs.declared.choice.Colour.{Colour};
 ghost use Rattle.htn_command.specs.declared.request.Request.TheVariants as request;
-ghost use Rattle.htn_run.specs.Checking as spec;
-ghost use Rattle.htn_run.specs.Checking.{MayColour};
+ghost use Rattle.htn_review.specs.Checking as spec;
+ghost use Rattle.htn_run.specs.Reading as reading;
+ghost use Rattle.htn_review.specs.Checking.{MayColour};
 ghost use Rattle.htn_run.specs.Files.{NotesBeginning};
 ghost use Rattle.htn_run.specs.Requests.{AddsAnswer};
 ghost use Rattle.htn_run.specs.Stops.{Stops};
 
-use crate::explain::run_explain;
 use crate::reply::Reply;
 use crate::source::Source;
 use crate::stop::{Stop, Text};
 use crate::words::{file_of, read_file, read_texts};
 use check_report::Input;
 use htn_plan::Out;
+use htn_review::run_explain;
 use plan_report::ReportStyle;
 use std::alloc::Global;
 
@@ -34,7 +35,7 @@ pub(crate) fn explain_files<S: Source, O: Out>(
     ensures stopped { IfErr result (λ stop. (colour : Colour) → MayColour colour style.colour
         → Stops O.contents O.has_failed (S.files files.old) (request.Explain domain.entry problem.entry plan.entry style.format style.has_states colour) out.old out.new stop) }
     ensures reads { NotesBeginning (S.reads files.old) (S.reads files.new)
-        (spec.file_of domain.entry.now ∷ spec.file_of problem.entry.now ∷ spec.file_of plan.entry.now ∷ []) }
+        (reading.file_of domain.entry.now ∷ reading.file_of problem.entry.now ∷ reading.file_of plan.entry.now ∷ []) }
 {
     let (first, second) = read_texts(alloc, files, file_of(domain), file_of(problem))?;
     let third = read_file(alloc, files, Text::Plan, file_of(plan))?;

@@ -3,11 +3,10 @@
 ghost use Rattle.plan_text.specs.Out.{Writes};
 ghost use Rattle.htn_run.specs.Lines.{at_line, check_line, fault_line, line_of_fault, place_text, plan_line, text_line};
 
-use crate::outcome::RunFault;
-use crate::verdict::put_id;
 use hddl_meaning::{At, CheckFault, Source};
 use hddl_text::TextFault;
 use htn_plan::{Out, PlanFault, WriteFault, put_all};
+use htn_review::{RunFault, put_id};
 
 /// Writes a place, if there is one.
 fn put_place<O: Out>(out: &mut O, place: Option<usize>) -> Result<(), WriteFault>

@@ -2,23 +2,22 @@
 ghost use Rattle.std.specs.Prelude.{◌≡◌, ◌≢◌, List, ℕ, true, is_some, IfOk, IfErr, OnOk};
 ghost use Rattle.std.specs.Io.KnownBytes.{Appends};
 ghost use Rattle.htn_run.specs.Files.{NotesBeginning};
-ghost use Rattle.htn_run.specs.Headline.{IsTextsCutShort, IsWant, IsWatchedCutShort, Refuses, SaysOfTexts, SaysWatched};
+ghost use Rattle.htn_review.specs.Headline.{IsTextsCutShort, IsWant, IsWatchedCutShort, Refuses, SaysOfTexts, SaysWatched};
 ghost use Rattle.htn_run.specs.Progress.{IsProgress, Shows, ShowsOfTexts};
 ghost use Rattle.htn_run.specs.Requests.{AddsAnswer, ShowsFor, names_of};
 ghost use Rattle.htn_run.specs.Stops.{Stops};
 ghost use Rattle.htn_search.specs.Answer.{HasNoneBelow};
-ghost use Rattle.htn_run.specs.declared.outcome.RunFault.TheVariants.{Output};
+ghost use Rattle.htn_review.specs.declared.outcome.RunFault.TheVariants.{Output};
 
 use crate::clock::{Stopwatch, Watching};
-use crate::outcome::{RunFault, Watched};
 use crate::reply::Reply;
 use crate::run::run_task_watched;
 use crate::source::Source;
 use crate::stop::Stop;
-use crate::texts::task_of;
 use crate::words::read_texts;
 use htn_command::Request;
 use htn_plan::Out;
+use htn_review::{RunFault, Watched, task_of};
 use htn_search::{Bounds, NoGate};
 use htn_task::Task;
 use std::alloc::Global;

@@ -1,12 +1,11 @@
 //! The lines that report the progress of a search.
 ghost use Rattle.std.specs.Prelude.{◌++◌, codes};
 ghost use Rattle.plan_text.specs.Out.{Writes};
-ghost use Rattle.htn_run.specs.Headline.{number_text, unknown_text, within_text};
+ghost use Rattle.htn_review.specs.Headline.{number_text, unknown_text, within_text};
 ghost use Rattle.htn_run.specs.Progress.{count_text, end_line, end_text, found_text, progress_line, reach_text};
 
-use crate::outcome::{Outcome, Watched};
-use crate::verdict::put_id;
 use htn_plan::{Out, WriteFault, put_all};
+use htn_review::{Outcome, Watched, put_id};
 
 /// The progress of a search.
 #[derive(Clone, Copy, Debug)]

@@ -1,11 +1,8 @@
 //! The answers to requests.
 
-use crate::explain::Explained;
-use crate::outcome::{Outcome, Watched};
-use crate::tree::Drawn;
-use crate::verdict::write_verdict;
 use check_report::Finding;
 use htn_plan::{Out, Verdict, WriteFault, put_all};
+use htn_review::{Drawn, Explained, Outcome, Watched, write_verdict};
 
 /// The answer to a request.
 #[derive(Debug, Drop)]

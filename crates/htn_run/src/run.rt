@@ -1,14 +1,13 @@
 //! The run of a planner: from the bytes of a domain and a problem to the bytes of the answer.
 ghost use Rattle.std.specs.Prelude.{◌≡◌, ◌≢◌, List, ℕ, true, IfOk, IfErr, OnOk};
 ghost use Rattle.std.specs.Io.KnownBytes.{Appends};
-ghost use Rattle.htn_run.specs.Headline.{Answers, IsAnswerCutShort, IsCutShort, IsWant, IsWatchedCutShort, Refuses, Says, SaysWatched};
+ghost use Rattle.htn_review.specs.Headline.{Answers, IsAnswerCutShort, IsCutShort, IsWant, IsWatchedCutShort, Refuses, Says, SaysWatched};
 ghost use Rattle.htn_search.specs.Answer.{HasNoneBelow};
-ghost use Rattle.htn_run.specs.declared.outcome.RunFault.TheVariants.{Output};
+ghost use Rattle.htn_review.specs.declared.outcome.RunFault.TheVariants.{Output};
 
 use crate::answer::write_known;
-use crate::outcome::{Outcome, RunFault, Watched};
-use crate::texts::task_of;
 use htn_plan::Out;
+use htn_review::{Outcome, RunFault, Watched, task_of};
 use htn_search::{Bounds, Gate, NoWatch, Watch, search_watched};
 use htn_task::Task;
 use std::alloc::Global;

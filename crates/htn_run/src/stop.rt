@@ -1,8 +1,8 @@
 //! How the run of a command line ends without an answer.
 
 use crate::fault_line::write_fault;
-use crate::outcome::RunFault;
 use htn_plan::{Out, WriteFault, put_all};
+use htn_review::RunFault;
 
 /// One of the texts of a request.
 #[derive(Debug, Clone, Copy)]

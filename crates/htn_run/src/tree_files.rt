@@ -2,8 +2,9 @@
 ghost use Rattle.std.specs.Prelude.{◌≡◌, ◌∷◌, [], IfOk, IfErr, OnOk};
 ghost use Rattle.htn_command.specs.declared.choice.Colour.{Colour};
 ghost use Rattle.htn_command.specs.declared.request.Request.TheVariants as request;
-ghost use Rattle.htn_run.specs.Checking as spec;
-ghost use Rattle.htn_run.specs.Checking.{MayColour};
+ghost use Rattle.htn_review.specs.Checking as spec;
+ghost use Rattle.htn_run.specs.Reading as reading;
+ghost use Rattle.htn_review.specs.Checking.{MayColour};
 ghost use Rattle.htn_run.specs.Files.{NotesBeginning};
 ghost use Rattle.htn_run.specs.Requests.{AddsAnswer};
 ghost use Rattle.htn_run.specs.Stops.{Stops};
@@ -11,10 +12,10 @@ ghost use Rattle.htn_run.specs.Stops.{Stops};
 use crate::reply::Reply;
 use crate::source::Source;
 use crate::stop::{Stop, Text};
-use crate::tree::{Look, run_tree};
 use crate::words::{file_of, read_file, read_texts};
 use check_report::Input;
 use htn_plan::Out;
+use htn_review::{Look, run_tree};
 use std::alloc::Global;
 
 /// The run of a request for a tree.
@@ -33,7 +34,7 @@ pub(crate) fn tree_files<S: Source, O: Out>(
     ensures stopped { IfErr result (λ stop. (colour : Colour)
         → Stops O.contents O.has_failed (S.files files.old) (request.Tree domain.entry problem.entry plan.entry look.drawing colour) out.old out.new stop) }
     ensures reads { NotesBeginning (S.reads files.old) (S.reads files.new)
-        (spec.file_of domain.entry.now ∷ spec.file_of problem.entry.now ∷ spec.file_of plan.entry.now ∷ []) }
+        (reading.file_of domain.entry.now ∷ reading.file_of problem.entry.now ∷ reading.file_of plan.entry.now ∷ []) }
 {
     let (first, second) = read_texts(alloc, files, file_of(domain), file_of(problem))?;
     let third = read_file(alloc, files, Text::Plan, file_of(plan))?;

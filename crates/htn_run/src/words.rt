@@ -2,8 +2,10 @@
 ghost use Rattle.std.specs.Prelude.{◌≡◌, ◌≤◌, ◌⊎◌, ℕ, List, [], ◌∷◌, None, Some, true, IfOk, IfErr, OnOk};
 ghost use Rattle.std.specs.Io.KnownBytes.{Appends};
 ghost use Rattle.htn_command.specs.Help.{AreMistaken};
-ghost use Rattle.htn_run.specs.Checking as spec;
-ghost use Rattle.htn_run.specs.Checking.{MayColour, files_of, name_of};
+ghost use Rattle.htn_review.specs.Checking as spec;
+ghost use Rattle.htn_run.specs.Reading as reading;
+ghost use Rattle.htn_review.specs.Checking.{MayColour};
+ghost use Rattle.htn_run.specs.Reading.{files_of, name_of};
 ghost use Rattle.htn_run.specs.Refusals.{EndsRefusal, EndsText};
 ghost use Rattle.htn_run.specs.Reporting.{AddsReport, StopsReport};
 ghost use Rattle.htn_run.specs.Ends.{GetsAfter, HasFault, IsCutShort, LacksFile, NothingIsAsked, PrintsAnswer, PrintsBeside, PrintsText, ReadsInOrder, ShowsProgress, TellsFault, TellsFile, TellsOutput, TellsWant};
@@ -11,22 +13,19 @@ ghost use Rattle.htn_run.specs.Files.{MayFail, MayGive, Notes, NotesBeginning};
 ghost use Rattle.htn_run.specs.Requests.{AddsAnswer, LacksText, ShowsFor, names_of};
 ghost use Rattle.htn_run.specs.Stops.{CutsShort, IsUnread, Stops};
 
-use crate::check::run_check;
 use crate::clock::Watching;
 use crate::explain_files::explain_files;
-use crate::judge::run_verify;
 use crate::line::Line;
-use crate::outcome::RunFault;
 use crate::plan_files::plan_files;
 use crate::reply::Reply;
 use crate::source::{ReadFault, Source};
 use crate::stop::{Stop, Text};
-use crate::tree::Look;
 use crate::tree_files::tree_files;
 use check_report::{Input, Options};
 use clap::Error;
 use htn_command::{Colour, Refusal, Request, parse};
 use htn_plan::{Out, put_all};
+use htn_review::{Look, RunFault, run_check, run_verify};
 use plan_report::ReportStyle;
 use std::alloc::Global;
 use std::fmt::Write;
@@ -321,7 +320,7 @@ fn check_both<S: Source, O: Out>(
 
 // The file of a name: the standard input for `-`.
 pub(crate) fn file_of(name: &str) -> &str
-    ensures { result.now ≡ spec.file_of name.now }
+    ensures { result.now ≡ reading.file_of name.now }
 {
     if name == "-" { "/dev/stdin" } else { name }
 }

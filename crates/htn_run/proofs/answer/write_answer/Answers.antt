@@ -1,5 +1,6 @@
-use Rattle.htn_run.specs.declared.outcome.Outcome.TheVariants.{Found, NoPlan, Unsolvable}
-use Rattle.htn_run.proofs.Saying.{says_plan, says_none, says_unsolvable, cut_short, at_error}
+use Rattle.htn_review.specs.declared.outcome.Outcome.TheVariants.{Found, NoPlan, Unsolvable}
+use Rattle.htn_run.proofs.Saying.{says_plan, says_none, says_unsolvable, cut_short}
+use Rattle.htn_review.proofs.Refusing.{at_error}
 use Rattle.htn_run.proofs.answer.write_answer.Goals as goal
 
 pub returns-in_err-write_plan-in-Plan-clause-cut_short :

@@ -1,7 +1,8 @@
 use Rattle.std.proofs.Common.{subst}
 use Rattle.std.proofs.lemmas.Result.{err_from_is_err_and}
 use Rattle.htn_search.specs.Answer.{IsKnown}
-use Rattle.htn_run.proofs.Saying.{at_error, cut_unknown, cut_watched}
+use Rattle.htn_run.proofs.Saying.{cut_unknown, cut_watched}
+use Rattle.htn_review.proofs.Refusing.{at_error}
 use Rattle.htn_run.proofs.answer.write_known.Goals as goal
 
 pub returns-in_err-outcome-in-Answer-clause-cut_short :

@@ -1,6 +1,6 @@
 use Rattle.std.proofs.Common.{inl, inr, refl}
 use Rattle.std.proofs.lemmas.Result.{err_from_is_err_and}
-use Rattle.htn_run.proofs.Refusing.{refused_output, ok_more, err_more, want_refuses}
+use Rattle.htn_review.proofs.Refusing.{refused_output, ok_more, err_more, want_refuses}
 use Rattle.htn_run.proofs.plan_files.plan_texts.Goals as goal
 
 pub returns-in_err-task-clause-refused : goal.returns-in_err-task-clause-refused

@@ -3,7 +3,7 @@ use Rattle.std.specs.Prelude.{◌++◌, codes}
 use Rattle.std.specs.Fmt.{decimal}
 use Rattle.std.proofs.lemmas.Result.{err_from_is_err_and}
 use Rattle.plan_text.proofs.Taken.{appends_none, fails_after, finishes}
-use Rattle.htn_run.specs.Headline.{number_text, unknown_text, within_text}
+use Rattle.htn_review.specs.Headline.{number_text, unknown_text, within_text}
 use Rattle.htn_run.specs.Progress.{count_text, end_line, end_text, found_text, progress_line, reach_text}
 use Rattle.htn_run.proofs.progress.put_reach.Goals as goal
 

@@ -1,6 +1,6 @@
 use Rattle.std.proofs.Common.{refl}
 use Rattle.std.proofs.lemmas.Result.{err_from_is_err_and}
-use Rattle.htn_run.proofs.Refusing.{refused_output, ok_more, err_more, want_refuses}
+use Rattle.htn_review.proofs.Refusing.{refused_output, ok_more, err_more, want_refuses}
 use Rattle.htn_run.proofs.run.run_plan.Goals as goal
 
 pub returns-in_err-task-clause-refused :

@@ -1,6 +1,6 @@
 use Rattle.std.proofs.Common.{sym, subst}
-use Rattle.htn_run.specs.Headline.{IsWant}
-use Rattle.htn_run.proofs.Refusing.{err_more, ok_more}
+use Rattle.htn_review.specs.Headline.{IsWant}
+use Rattle.htn_review.proofs.Refusing.{err_more, ok_more}
 use Rattle.htn_run.proofs.Saying.{cut_more, says_more}
 use Rattle.htn_run.proofs.run.run_task_watched.Goals as goal
 

@@ -1,7 +1,7 @@
 use Rattle.std.proofs.Common.{[], ◌∷◌, ◌∙◌, ap, refl, subst}
 use Rattle.std.proofs.lemmas.Result.{err_from_is_err_and}
 use Rattle.htn_command.specs.declared.request.Request.TheVariants.{Tree}
-use Rattle.htn_run.specs.Checking.{file_of}
+use Rattle.htn_run.specs.Reading.{file_of}
 use Rattle.htn_run.specs.Files.{MayGive}
 use Rattle.htn_run.proofs.FileReads.{notes_all, notes_before, notes_more}
 use Rattle.htn_run.proofs.Reporting.{given_of}

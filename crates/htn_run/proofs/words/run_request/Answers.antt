@@ -1,5 +1,5 @@
 use Rattle.std.proofs.Common.{refl}
-use Rattle.htn_run.proofs.Refusing.{ok_more, err_more}
+use Rattle.htn_review.proofs.Refusing.{ok_more, err_more}
 use Rattle.htn_run.proofs.words.run_request.Goals as goal
 
 pub returns-in-Tree-clause-answered : goal.returns-in-Tree-clause-answered

@@ -1,0 +1,7 @@
+use Rattle.htn_review.proofs.judge.file_in.Goals as goal
+
+pub returns-in_default : goal.returns-in_default
+returns-in_default c = record {
+  held = tt;
+  refused = (c.in-Err.ensures.refused (λ e. c.in_default.not-OutOfMemory e), (λ e. c.in_default.not-OutOfMemory e), c.in-Err.ensures.fault);
+}

@@ -1,0 +1,9 @@
+pub mod Faults
+pub mod Checking
+pub mod Headline
+pub mod Judgement
+pub mod Laws
+pub mod Sights
+pub mod Trees
+pub mod Explaining
+pub mod Explanations

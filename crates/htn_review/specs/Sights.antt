@@ -1,0 +1,61 @@
+-- The parts of the run that draws a tree, before anything is written.
+use Rattle.std.specs.Prelude.{◌≡◌, ◌⊎◌, ℕ, Bool, false, List, [], Option, Some, None, MatchOption}
+use Rattle.std.specs.Io.KnownBytes.{Appends}
+use Rattle.std.specs.declared.alloc.Global.{Global}
+use Rattle.std.specs.declared.vec.Vec.{Vec}
+use Rattle.htn_model.specs.PlanFile.{PlanFile, IsForest}
+use Rattle.htn_model.specs.Grounding.{problem_of}
+use Rattle.htn_model.specs.Verdict.{IsVerdict}
+use Rattle.htn_ground.specs.Naming.{naming_of}
+use Rattle.htn_verify.specs.Verdicts.{verdict_of}
+use Rattle.plan_text.specs.FileText.{FileText}
+use Rattle.plan_text.specs.Out.{TakesBeginning}
+use Rattle.check_report.specs.Told.{Named}
+use Rattle.diagnostics.specs.declared.format.Format.TheVariants.{Text}
+use Rattle.htn_command.specs.declared.choice.Drawing.{Drawing}
+use Rattle.htn_review.specs.Trees.{ArePicture, AreRead, IsReport, Shows, is_of_pair, report_options}
+use Rattle.htn_review.specs.declared.outcome.RunFault.{RunFault}
+use Rattle.htn_review.specs.declared.outcome.RunFault.TheVariants.{OutOfMemory}
+use Rattle.htn_review.specs.declared.sight.Sight.{Sight}
+use Rattle.htn_review.specs.declared.texts.Pair.{Pair}
+use Rattle.htn_review.specs.declared.tree.Drawn.{Drawn}
+use Rattle.htn_review.specs.declared.tree.Drawn.TheVariants.{Judged, Refused}
+
+-- the trees of two texts that fit together, and their task
+abbrev pub IsPairOf : List ℕ → List ℕ → Pair → Type 0
+IsPairOf domain problem pair = AreRead domain problem pair.domain pair.problem pair.task
+
+-- the verdict of a file for the task of a pair, and the picture of the file; none where its lines are no forest
+pub record IsSight (pair : Pair) (file : PlanFile) (form : Drawing) (s : Sight) : Type 0 where
+  pub is_verdict : IsVerdict (naming_of pair.task) (problem_of pair.task) file (verdict_of s.verdict)
+  pub is_picture : MatchOption s.picture (IsForest file → ⊥) (λ bytes. ArePicture pair.domain pair.problem s.verdict form file bytes.items)
+
+-- the verdict and the picture of the file that a text holds
+abbrev pub IsSightOfText : Pair → List ℕ → Drawing → Sight → Type 0
+IsSightOfText pair plan form s = (file : PlanFile) × FileText file plan × IsSight pair file form s
+
+-- the bytes of a picture; nothing where there is none
+abbrev pub bytes_of : Option (Vec ℕ Global) → List ℕ
+bytes_of None = []
+bytes_of (Some bytes) = bytes.items
+
+-- the verdict of the plan's text, and its picture
+abbrev pub IsSightOfTexts : List ℕ → List ℕ → List ℕ → Drawing → Sight → Type 0
+IsSightOfTexts domain problem plan form s = Shows domain problem plan form s.verdict (bytes_of s.picture)
+
+-- the picture was added to the output
+abbrev pub IsShown : Sight → Drawn → Option (List ℕ) → Option (List ℕ) → Type 0
+IsShown s drawn old new = (drawn ≡ Judged s.verdict) × Appends old new (bytes_of s.picture)
+
+-- a beginning of the picture was added to the output
+abbrev pub IsBegun : Sight → Option (List ℕ) → Option (List ℕ) → Type 0
+IsBegun s old new = TakesBeginning old new (bytes_of s.picture)
+
+-- the report on two texts
+abbrev pub IsReported : Named → Named → Bool → Drawn → Type 0
+IsReported domain problem is_coloured (Judged v) = ⊥
+IsReported domain problem is_coloured (Refused report) = IsReport domain problem (report_options Text is_coloured) report.items
+
+-- the fault is unchanged, and is not of the pair; or memory was refused
+abbrev pub IsLeft : RunFault → RunFault → Type 0
+IsLeft fault new = (new ≡ OutOfMemory) ⊎ ((new ≡ fault) × (is_of_pair fault ≡ false))

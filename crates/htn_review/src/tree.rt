@@ -1,0 +1,121 @@
+//! The run of a tree: from the bytes of a domain, a problem and a plan to the bytes of the plan's picture.
+ghost use Rattle.std.specs.Prelude.{◌≡◌, ◌≢◌, List, ℕ, true, IfOk, IfErr, OnOk};
+ghost use Rattle.std.specs.Io.KnownBytes.{Appends};
+ghost use Rattle.htn_review.specs.Checking.{domain_text, problem_text};
+ghost use Rattle.htn_review.specs.Sights as sights;
+ghost use Rattle.htn_review.specs.Trees as spec;
+ghost use Rattle.htn_review.specs.declared.outcome.RunFault.TheVariants.{Output};
+
+use crate::outcome::RunFault;
+use crate::sight::{Sight, sight_of_texts};
+use check_report::{Format, Input, Options, check_texts};
+use htn_command::Drawing;
+use htn_plan::{Out, Verdict, put_all};
+use std::alloc::{AllocError, Global};
+
+/// What the run of a tree came to.
+#[derive(Debug, Drop)]
+pub enum Drawn {
+    /// The verdict on the plan. The picture was written, but for `Structure`, of which there is none.
+    Judged(Verdict),
+    /// The domain or the problem is refused, or they don't fit together. This report says why.
+    Refused(Vec<u8>),
+}
+
+/// How a picture is written.
+#[derive(Clone, Copy, Debug)]
+pub struct Look {
+    pub drawing: Drawing,
+    /// Whether the report on texts that are refused has colours.
+    pub colour: bool,
+}
+
+/// Reads a domain, a problem and a plan, and writes the picture of the plan, with the verdict that `run_verify` writes.
+/// Nothing is written where the lines of the plan are no forest, which is the verdict `Structure`; nor where the domain
+/// or the problem is refused, of which `check_texts` makes the report. Nothing is written before all is known.
+///
+/// The fault is `Plan`, `OutOfMemory` or `Output`. After `Output` the output has failed, and a beginning of the picture
+/// stands in it; after any other fault it is as it was.
+pub fn run_tree<O: Out>(
+    alloc: Global,
+    domain: Input<'_>,
+    problem: Input<'_>,
+    plan: &[u8],
+    look: Look,
+    out: &mut O,
+) -> Result<Drawn, RunFault>
+    ensures drawn { IfOk result (λ drawn. (text : List ℕ)
+        × spec.Draws (domain_text domain.entry.name.now domain.entry.text.now) (problem_text problem.entry.name.now problem.entry.text.now) plan.now look drawn text × Appends (O.contents out.old) (O.contents out.new) text) }
+    ensures works { OnOk result (O.has_failed out.new ≡ O.has_failed out.old) }
+    ensures refused { IfErr result (λ fault. fault ≢ Output → spec.IsUndrawn domain.entry.text.now problem.entry.text.now plan.now fault × (out.new ≡ out.old)) }
+    ensures cut_short { IfErr result (λ fault. fault ≡ Output
+        → spec.IsPictureCutShort domain.entry.text.now problem.entry.text.now plan.now look.drawing (O.contents out.old) (O.contents out.new) × (O.has_failed out.new ≡ true)) }
+{
+    match sight_of_texts(alloc, domain.text, problem.text, plan, look.drawing) {
+        Ok(sight) => show(sight, out),
+        Err(fault) => refuse(alloc, domain, problem, look.colour, fault),
+    }
+}
+
+// Writes the picture, if there is one.
+fn show<O: Out>(sight: Sight, out: &mut O) -> Result<Drawn, RunFault>
+    ensures shown { IfOk result (λ drawn. sights.IsShown sight drawn (O.contents out.old) (O.contents out.new)) }
+    ensures works { OnOk result (O.has_failed out.new ≡ O.has_failed out.old) }
+    ensures fault { IfErr result (λ fault. fault ≡ Output) }
+    ensures cut_short { IfErr result (λ fault. sights.IsBegun sight (O.contents out.old) (O.contents out.new) × (O.has_failed out.new ≡ true)) }
+{
+    if let Some(bytes) = &sight.picture {
+        put_all(out, bytes.as_slice())?;
+    }
+    Ok(Drawn::Judged(sight.verdict))
+}
+
+// The report on a domain and a problem, for a fault that they have. Any other fault stays.
+fn refuse(
+    alloc: Global,
+    domain: Input<'_>,
+    problem: Input<'_>,
+    colour: bool,
+    fault: RunFault,
+) -> Result<Drawn, RunFault>
+    ensures of_pair { OnOk result (spec.is_of_pair fault ≡ true) }
+    ensures reported { IfOk result (sights.IsReported (domain_text domain.entry.name.now domain.entry.text.now) (problem_text problem.entry.name.now problem.entry.text.now) colour) }
+    ensures stays { IfErr result (sights.IsLeft fault) }
+{
+    if !is_of_pair(fault) {
+        return Err(fault);
+    }
+    let report = report_of(alloc, domain, problem, Format::Text, colour)?;
+    Ok(Drawn::Refused(report))
+}
+
+/// Whether a fault is of the domain, of the problem or of the two together.
+pub(crate) fn is_of_pair(fault: RunFault) -> bool
+    ensures { result ≡ spec.is_of_pair fault }
+{
+    matches!(
+        fault,
+        RunFault::Domain(_) | RunFault::Problem(_) | RunFault::Check(_)
+    )
+}
+
+/// The bytes of the report on a domain and a problem.
+pub(crate) fn report_of(
+    alloc: Global,
+    domain: Input<'_>,
+    problem: Input<'_>,
+    format: Format,
+    colour: bool,
+) -> Result<Vec<u8>, AllocError>
+    ensures { IfOk result (λ bytes. spec.IsReport (domain_text domain.entry.name.now domain.entry.text.now) (problem_text problem.entry.name.now problem.entry.text.now)
+        (spec.report_options format colour) bytes.items) }
+{
+    let options = Options {
+        format,
+        limit: 20,
+        is_strict: false,
+        colour,
+    };
+    let checked = check_texts(alloc, domain, Some(problem), options)?;
+    Ok(checked.text)
+}

@@ -1,7 +1,0 @@
-use Rattle.std.proofs.Common.{◌≡◌, map, take}
-use Rattle.text_places.specs.Shown.{shown}
-use Rattle.htn_run.proofs.caption.shown_bytes.Given as goal
-
--- the bytes so far
-abbrev pub invariant-loop-byte : goal.invariant-loop-byte
-invariant-loop-byte l = l.bytes.items ≡ map shown (take l.byte-index l.word)

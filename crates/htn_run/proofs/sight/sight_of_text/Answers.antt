@@ -1,4 +1,0 @@
-use Rattle.htn_run.proofs.sight.sight_of_text.Goals as goal
-
-pub returns-clause-sight : goal.returns-clause-sight
-returns-clause-sight c = (c.in_ok-file.file, c.in_ok-file.ensures.held, c.in_ok-sight.ensures)
