@@ -178,7 +178,7 @@ impl Chart {
         Some((*point, item.cost))
     }
 
-    /// Goes on with an item that waited for its first node, at an exit of that.
+    /// Continues with an item that waited for its first node, at an exit of that.
     fn go_on(&mut self, lists: &BlockLists, item: u32, exit: Exit) -> Result<(), AllocError> {
         let Some((point, cost)) = self.item(item) else {
             return Ok(());
@@ -406,7 +406,7 @@ impl Chart {
         Ok(())
     }
 
-    /// Goes on until a word from a list of the start in the initial state to no node with the goal true is found, or
+    /// Continues until a word from a list of the start in the initial state to no node with the goal true is found, or
     /// more was done than this. All items of the total of that word or a lesser one are taken then.
     pub(crate) fn advance(
         &mut self,

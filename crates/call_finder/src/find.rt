@@ -13,7 +13,7 @@ use call_table::CallTable;
 use htn_task::Task;
 use std::alloc::{AllocError, Global};
 
-/// How many times as long as items were met values may be settled or asked for.
+/// How many values may be settled or looked up for each item that was met.
 const READING: u64 = 16;
 
 /// The word that a search ended with, its table, and the values that it needs.
@@ -51,8 +51,8 @@ pub struct Finder {
 }
 
 impl Finder {
-    /// A search for a word of at most so many steps, which is to begin. None where an initial network is not totally
-    /// ordered. What is met gets numbers.
+    /// A search that has not begun, for a word of at most `steps` steps. None where an initial network is not totally
+    /// ordered. The nodes and states that it meets get numbers.
     pub fn new(
         alloc: Global,
         task: &Task,
@@ -74,7 +74,8 @@ impl Finder {
         }))
     }
 
-    /// Goes on until the word's steps are known, or more was done than this: so often were items met.
+    /// Continues until the number of steps of the word is known, or until more than this number of items were met; one
+    /// that is met again counts again.
     pub fn advance(
         &mut self,
         task: &Task,

@@ -11,7 +11,7 @@ ghost use Rattle.picture_html.specs.Runs as spec;
 use plan_picture::Row;
 use std::alloc::{AllocError, Global};
 
-/// A line that is below so many lines or more doesn't fold, and a task that is below more has no bars.
+/// A line that is below this many lines or more doesn't fold, and a task that is below more has no bars.
 pub const MAX_LEVELS: usize = 40;
 
 /// The most actions of a plan in which each task that is below no more lines than these has bars.
