@@ -90,6 +90,37 @@ def transport_in_any_order(size):
     return transport(size, 1 + size // 3, 1 + size // 2, False)
 
 
+@family("delivery", 12)
+def delivery(size):
+    chance = random.Random(size)
+    places, trucks = names("place", 3 + size // 2), names("truck", 1 + size // 5)
+    packages, rooms = names("package", 1 + size // 2), names("room", 3)
+    facts = [f"road {here} {there}" for here, there in roads(chance, places, size // 2)]
+    facts += [f"next {less} {more}" for less, more in zip(rooms, rooms[1:])]
+    facts += [f"at {it} {chance.choice(places)}" for it in trucks]
+    facts += [f"free {it} {chance.choice(rooms[1:])}" for it in trucks]
+    facts += [f"lies {it} {chance.choice(places)}" for it in packages]
+    tasks = [f"deliver {it} {chance.choice(places)}" for it in packages]
+    objects = {"place": places, "truck": trucks, "package": packages, "room": rooms}
+    return problem("delivery", objects, tasks, facts)
+
+
+@family("factories", 8)
+def factories(size):
+    chance = random.Random(size)
+    places, trucks = names("place", 2 + size), names("truck", 1 + size // 4)
+    found, goods = names("factory", 1 + size), names("goods", 1 + size)
+    facts = [f"road {here} {there}" for here, there in roads(chance, places, size // 2)]
+    facts += [f"at {it} {chance.choice(places)}" for it in trucks] + [f"empty {it}" for it in trucks]
+    facts += [f"makes {factory} {it}" for factory, it in zip(found, goods)]
+    facts += [f"site {factory} {places[at % len(places)]}" for at, factory in enumerate(found)]
+    facts += [f"needs-nothing {found[0]}", f"built {found[0]}"]
+    facts += [f"needs {factory} {it}" for factory, it in zip(found[1:], goods)]
+    facts += [f"built-of {factory} {it}" for factory, it in zip(found[1:], goods)]
+    objects = {"place": places, "truck": trucks, "goods": goods, "factory": found}
+    return problem("factories", objects, [f"build {it}" for it in found[1:]], facts)
+
+
 @family("satellite", 10)
 def satellite(size):
     chance = random.Random(size)

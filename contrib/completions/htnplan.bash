@@ -14,7 +14,7 @@ check--format text short json
 check--color auto always never
 explain--format text short json
 explain--color auto always never
-tree--format text ascii json dot svg
+tree--format text ascii json dot svg html
 tree--color auto always never
 '
 

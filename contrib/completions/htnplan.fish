@@ -32,5 +32,5 @@ complete -c htnplan -n '__htnplan_command_is explain' -l format -x -a 'text shor
 complete -c htnplan -n '__htnplan_command_is explain' -l states -d 'What each action makes true and false'
 complete -c htnplan -n '__htnplan_command_is explain' -l color -x -a 'auto always never' -d 'Colours (auto)'
 
-complete -c htnplan -n '__htnplan_command_is tree' -l format -x -a 'text ascii json dot svg' -d 'How it is drawn (text)'
+complete -c htnplan -n '__htnplan_command_is tree' -l format -x -a 'text ascii json dot svg html' -d 'How it is drawn (text)'
 complete -c htnplan -n '__htnplan_command_is tree' -l color -x -a 'auto always never' -d 'Colours (auto)'

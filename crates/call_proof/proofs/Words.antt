@@ -45,7 +45,7 @@ no_less : (n : ℕ) → n ≤ n
 no_less n = omega arith
 
 -- what is so of each in a list is so at a place
-at_place : {X : Type 0} (P : X → Type 0) (xs : List X) (k : ℕ) (x : X) → All P xs → slice_get xs k ≡ Some x → P x
+pub at_place : {X : Type 0} (P : X → Type 0) (xs : List X) (k : ℕ) (x : X) → All P xs → slice_get xs k ≡ Some x → P x
 at_place P xs k x all here =
     subst P (get_or_from_slice_get xs k x x here) (all k x (slice_get_within xs k x here))
 
@@ -61,7 +61,7 @@ module _ (n : CallNodes) (s : State) where
       ∙ ap ordered (sym (nodes_are (children n) (list_at n.lists number) instance.network.children is.nodes)))
 
   -- so are those of the same rank
-  lists_ranked : (lists : List ℕ) (instances : List Instance) → AreListsOf (children n) n.lists lists instances → (rank : ℕ)
+  pub lists_ranked : (lists : List ℕ) (instances : List Instance) → AreListsOf (children n) n.lists lists instances → (rank : ℕ)
       → option_map (λ (x : Instance). opened s x.network) (slice_get instances rank)
       ≡ option_map (λ k. opened s (ordered (map (node_at n) (list_at n.lists k)))) (slice_get lists rank)
   lists_ranked [] [] are rank = refl

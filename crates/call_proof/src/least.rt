@@ -23,7 +23,7 @@ use std::alloc::{AllocError, Global};
 const NEVER: u32 = u32::MAX;
 
 /// In which states the goal holds.
-fn ends_of(alloc: Global, nodes: &CallNodes) -> Result<Vec<bool>, AllocError>
+pub fn ends_of(alloc: Global, nodes: &CallNodes) -> Result<Vec<bool>, AllocError>
     ensures { IfOk result (λ ends. (t : tasks.Task) → AreNodes t nodes.now
         → ends.items ≡ map (λ s. holds (state_of nodes.now.atoms s) (problem_of t).goal) nodes.now.states) }
 {

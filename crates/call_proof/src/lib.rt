@@ -11,5 +11,7 @@ mod proposal;
 mod rules;
 mod walk;
 
-pub use least::is_least;
+pub use least::{ends_of, is_least};
 pub use proposal::Proposal;
+pub use rules::are_rules;
+pub use walk::is_word;

@@ -29,8 +29,8 @@ use Rattle.check_report.specs.Asked.{findings_of}
 use Rattle.check_report.specs.Reach.{AreReached, counts_of, reached_of}
 use Rattle.check_report.specs.Report.{IsReport, counts_in}
 use Rattle.check_report.specs.Texts.{AreOwnFaults, AreOwnWarnings, ArePairFaults, IsFaulty, alone, both, first, no_warnings, of_domain, of_pair, of_problem, second, together, unread}
-use Rattle.check_report.specs.Told.{ArePairWarned, AreTold, Helps, IsAbout, IsError, named, text_place}
-use Rattle.check_report.specs.Saying.{AreErrors, TellsPairTrees, TellsTrees}
+use Rattle.check_report.specs.Told.{ArePairWarned, AreTold, Helps, IsAbout, named, text_place}
+use Rattle.check_report.specs.Saying.{AreErrors, TellsPairTrees, TellsText, TellsTrees}
 use Rattle.check_report.specs.declared.reach.Reach.{Reach}
 use Rattle.check_report.specs.declared.report.Checked.{Checked}
 use Rattle.check_report.specs.declared.report.Options.{Options}
@@ -91,7 +91,7 @@ module _ (domain problem : Source) (o : Options) (c : Checked) (ds : List Diagno
 
   -- of two texts that both spell no tree
   pub checks_both : (f g : TextFault) → IsFaulty DerivesDomain domain.lines f → IsFaulty DerivesProblem problem.lines g → (errors : List Diagnostic) (e : Diagnostic)
-      → AreErrors (named domain) f errors → IsError (named problem) (text.code_of g) (text_place g) e → ds ≡ errors ++ e ∷ [] → counts_in summary ≡ []
+      → AreErrors (named domain) f errors → TellsText (named problem) g e → ds ≡ errors ++ e ∷ [] → counts_in summary ≡ []
       → Checks (named domain) (Some (named problem)) o c
   checks_both f g bad worse errors e one two is counted =
       let whole : ds ≡ one.0 ∷ e ∷ [] = is ∙ ap (λ xs. xs ++ e ∷ []) one.2 in
@@ -104,8 +104,8 @@ module _ (domain problem : Source) (o : Options) (c : Checked) (ds : List Diagno
         warned = [];
         are_warned = silent;
         errors = ds;
-        are_told = subst (AreTold (named domain) (Some (named problem)) (of_domain f ∷ of_problem g ∷ [])) (sym whole) (one.1, (two, tt));
-        help = subst (AllZip (Helps (named domain) (Some (named problem))) (of_domain f ∷ of_problem g ∷ [])) (sym whole) (tt, (tt, tt));
+        are_told = subst (AreTold (named domain) (Some (named problem)) (of_domain f ∷ of_problem g ∷ [])) (sym whole) (one.1.error, (two.error, tt));
+        help = subst (AllZip (Helps (named domain) (Some (named problem))) (of_domain f ∷ of_problem g ∷ [])) (sym whole) (one.1.helps, (two.helps, tt));
         summary = summary;
         counted = counted;
         report = report;
@@ -124,8 +124,8 @@ module _ (domain problem : Source) (o : Options) (c : Checked) (ds : List Diagno
         warned = [];
         are_warned = silent;
         errors = ds;
-        are_told = subst (AreTold (named domain) (Some (named problem)) (of_domain f ∷ [])) (sym one.2) (one.1, tt);
-        help = subst (AllZip (Helps (named domain) (Some (named problem))) (of_domain f ∷ [])) (sym one.2) (tt, tt);
+        are_told = subst (AreTold (named domain) (Some (named problem)) (of_domain f ∷ [])) (sym one.2) (one.1.error, tt);
+        help = subst (AllZip (Helps (named domain) (Some (named problem))) (of_domain f ∷ [])) (sym one.2) (one.1.helps, tt);
         summary = summary;
         counted = counted;
         report = report;
@@ -144,8 +144,8 @@ module _ (domain problem : Source) (o : Options) (c : Checked) (ds : List Diagno
         warned = [];
         are_warned = silent;
         errors = ds;
-        are_told = subst (AreTold (named domain) (Some (named problem)) (of_problem g ∷ [])) (sym one.2) (one.1, tt);
-        help = subst (AllZip (Helps (named domain) (Some (named problem))) (of_problem g ∷ [])) (sym one.2) (tt, tt);
+        are_told = subst (AreTold (named domain) (Some (named problem)) (of_problem g ∷ [])) (sym one.2) (one.1.error, tt);
+        help = subst (AllZip (Helps (named domain) (Some (named problem))) (of_problem g ∷ [])) (sym one.2) (one.1.helps, tt);
         summary = summary;
         counted = counted;
         report = report;
@@ -164,8 +164,8 @@ module _ (domain problem : Source) (o : Options) (c : Checked) (ds : List Diagno
         warned = [];
         are_warned = tt;
         errors = ds;
-        are_told = subst (AreTold (named domain) None (of_domain f ∷ [])) (sym one.2) (one.1, tt);
-        help = subst (AllZip (Helps (named domain) None) (of_domain f ∷ [])) (sym one.2) (tt, tt);
+        are_told = subst (AreTold (named domain) None (of_domain f ∷ [])) (sym one.2) (one.1.error, tt);
+        help = subst (AllZip (Helps (named domain) None) (of_domain f ∷ [])) (sym one.2) (one.1.helps, tt);
         summary = summary;
         counted = counted;
         report = report;

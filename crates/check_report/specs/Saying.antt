@@ -22,14 +22,19 @@ use Rattle.check_report.specs.Order.{AreByPlace}
 use Rattle.check_report.specs.Reach.{counts_of, reached_of}
 use Rattle.check_report.specs.Report.{IsReport, counts_in}
 use Rattle.check_report.specs.Texts.{AreExactly}
-use Rattle.check_report.specs.Told.{IsError, Named, text_place}
+use Rattle.check_report.specs.Told.{HelpsText, IsError, Named, text_place}
 use Rattle.check_report.specs.declared.reach.Reach.{Reach}
 use Rattle.check_report.specs.declared.report.Checked.{Checked}
 use Rattle.check_report.specs.declared.report.Options.{Options}
 
+-- the error of a text's fault, as it is made
+pub record TellsText (t : Named) (f : TextFault) (d : Diagnostic) : Type 0 where
+  pub error : IsError t (text.code_of f) (text_place f) d
+  pub helps : HelpsText t f d
+
 -- the error of a text's fault, alone
 abbrev pub AreErrors : Named → TextFault → List Diagnostic → Type 0
-AreErrors t f ds = (d : Diagnostic) × IsError t (text.code_of f) (text_place f) d × (ds ≡ d ∷ [])
+AreErrors t f ds = (d : Diagnostic) × TellsText t f d × (ds ≡ d ∷ [])
 
 -- the error of a fault of a pair, as it is made
 pub record TellsPair (texts : PairTexts) (f : CheckFault) (d : Diagnostic) : Type 0 where

@@ -1,5 +1,5 @@
 -- Faults and warnings, and their diagnostics.
-use Rattle.std.specs.Prelude.{◌≡◌, ℕ, min, length, List, [], ◌∷◌, ◌++◌, Option, Some, None, option_map}
+use Rattle.std.specs.Prelude.{◌≡◌, ◌≢◌, ℕ, min, length, List, [], ◌∷◌, ◌++◌, Option, Some, None, option_map}
 use Rattle.std.specs.List.{All, AllZip}
 use Rattle.hddl_words.specs.declared.fault.TextFault.{TextFault}
 use Rattle.hddl_words.specs.declared.fault.TextFault.TheVariants as spelling
@@ -22,6 +22,8 @@ use Rattle.pair_messages.specs.Notes.{IsAtDeclaration}
 use Rattle.pair_messages.specs.Offers.{OffersMeant}
 use Rattle.pair_messages.specs.declared.texts.PairTexts.{PairTexts}
 use Rattle.text_messages.specs.Messages as text
+use Rattle.text_messages.specs.Following as text_offers
+use Rattle.text_messages.specs.Notes as text_notes
 use Rattle.reach_messages.specs.Reach.{never_applied_code, no_plan_code}
 use Rattle.check_report.specs.Alone.{Text as Bytes, no_problem}
 use Rattle.check_report.specs.Order.{AreByPlace}
@@ -100,10 +102,18 @@ pub record AreTextsOf (domain : Named) (problem : Option Named) (texts : PairTex
   pub domain_spelled : Spells DerivesDomain domain.bytes texts.domain_tree.now
   pub problem_spelled : Spells DerivesProblem (problem_bytes problem) texts.problem_tree.now
 
+-- the error of a text's fault has a message, offers only keywords that may stand there, and has its notes where they may
+-- be
+abbrev pub HelpsText : Named → TextFault → Diagnostic → Type 0
+HelpsText t f d =
+    (source : Source) × (named source ≡ t) × (d.message.items ≢ []) × text_offers.OffersMeant source f d.remarks.items
+    × All (λ note. text_notes.IsNote source f note.spot) d.notes.items
+
 -- the error of a fault of two trees offers only names that may be meant, and its notes stand at declarations
 abbrev pub Helps : Named → Option Named → Fault → Diagnostic → Type 0
-Helps domain problem (of_domain f) d = Unit {0}
-Helps domain problem (of_problem f) d = Unit {0}
+Helps domain problem (of_domain f) d = HelpsText domain f d
+Helps domain None (of_problem f) d = ⊥
+Helps domain (Some problem) (of_problem f) d = HelpsText problem f d
 Helps domain problem (of_pair f) d =
     (texts : PairTexts) × AreTextsOf domain problem texts × OffersMeant texts f d.remarks.items × All (λ note. IsAtDeclaration texts note.spot) d.notes.items
 

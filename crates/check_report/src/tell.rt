@@ -1,9 +1,8 @@
 //! Faults as diagnostics.
 ghost use Rattle.std.specs.Prelude.{◌≡◌, ◌≢◌, [], IfOk, true, false};
 ghost use Rattle.std.specs.List.{AllZip};
-ghost use Rattle.text_messages.specs.Messages.{code_of};
-ghost use Rattle.check_report.specs.Told.{IsError, named, text_place};
-ghost use Rattle.check_report.specs.Saying.{AreErrors, TellsPair};
+ghost use Rattle.check_report.specs.Told.{named};
+ghost use Rattle.check_report.specs.Saying.{AreErrors, TellsPair, TellsText};
 
 use diagnostics::{Diagnostic, Source};
 use hddl_meaning::CheckFault;
@@ -18,7 +17,7 @@ pub(crate) fn text_error<'a>(
     source: &'a Source<'a>,
     fault: TextFault,
 ) -> Result<Diagnostic<'a>, AllocError>
-    ensures { IfOk result (IsError (named source.now) (code_of fault) (text_place fault)) }
+    ensures { IfOk result (TellsText (named source.now) fault) }
 {
     let error = text_diagnostic(alloc, source, fault)?;
     Ok(error)

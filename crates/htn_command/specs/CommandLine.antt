@@ -128,7 +128,8 @@ drawing_named word =
     else (if bytes_eq word (codes "ascii") then Some drawing.Ascii
     else (if bytes_eq word (codes "json") then Some drawing.Json
     else (if bytes_eq word (codes "dot") then Some drawing.Dot
-    else (if bytes_eq word (codes "svg") then Some drawing.Svg else None))))
+    else (if bytes_eq word (codes "svg") then Some drawing.Svg
+    else (if bytes_eq word (codes "html") then Some drawing.Html else None)))))
 
 -- the times at which colours are written, by a word
 abbrev pub colour_named : Text → Option Colour

@@ -17,6 +17,8 @@ pub enum Drawing {
     Dot,
     /// As SVG.
     Svg,
+    /// As a page of HTML.
+    Html,
 }
 
 /// When a report has colours.
@@ -62,6 +64,9 @@ pub(crate) fn drawing_named(word: &str) -> Option<Drawing>
     }
     if word == "svg" {
         return Some(Drawing::Svg);
+    }
+    if word == "html" {
+        return Some(Drawing::Html);
     }
     None
 }

@@ -163,7 +163,7 @@ const COLOURS: &str = "invalid value for '--color <WHEN>'
 const INPUTS: &str = "the standard input, `-`, cannot be both the domain and the problem";
 
 const DRAWINGS: &str = "invalid value for '--format <FORMAT>'
-  [possible values: text, ascii, json, dot, svg]";
+  [possible values: text, ascii, json, dot, svg, html]";
 
 const INPUT_TWICE: &str = "the standard input, `-`, cannot be two of the files";
 

@@ -105,6 +105,8 @@ After `invalid:` stands the first of these that holds:
   GoalFails          the goal is false after all actions
   NoArrangement      the actions in this order keep to no order of the tasks and preconditions above them
 
+`htnplan explain` of the same three files says why, with lines of the plan and of the texts.
+
 Status: 0 valid, 1 invalid, 2 command line, 3 a text is refused, 4 memory, 5 files or output.";
 
 const CHECK_CALL: &str = "Examples:
@@ -112,6 +114,7 @@ const CHECK_CALL: &str = "Examples:
   htnplan check domain.hddl problem.hddl --strict
 
 `short` prints FILE:LINE:COLUMN: error: MESSAGE [Code], which editors read. What each code means: docs/FAULTS.md.
+One of the files may be `-`, the standard input.
 
 Status: 0 no error, 1 a warning with --strict, 2 command line, 3 a text is refused, 4 memory, 5 files or output.";
 
@@ -120,18 +123,21 @@ const EXPLAIN_CALL: &str = "Examples:
   htnplan explain domain.hddl problem.hddl plan.txt --states
 
 The first line has the verdict of `verify`. What follows says why, with lines of the plan and of the texts. `--states`
-shows what is true at the start, and what each action makes true and false.
+shows what is true at the start, and what each action makes true and false. One of the files may be `-`, the standard
+input.
 
 Status: 0 valid, 1 invalid, 2 command line, 3 a text is refused, 4 memory, 5 files or output.";
 
 const TREE_CALL: &str = "Examples:
   htnplan tree domain.hddl problem.hddl plan.txt
   htnplan plan domain.hddl problem.hddl | htnplan tree domain.hddl problem.hddl -
+  htnplan tree domain.hddl problem.hddl plan.txt --format html > plan.html
   htnplan tree domain.hddl problem.hddl plan.txt --format svg > plan.svg
   htnplan tree domain.hddl problem.hddl plan.txt --format dot | dot -Tpng > plan.png
 
 The first line has the verdict of `verify`, and the line of the plan that it names is marked. The numbers left of the
-tree are the places of the actions in the plan. Lines that are no forest (`invalid: Structure`) have no picture.
+tree are the places of the actions in the plan. Lines that are no forest (`invalid: Structure`) have no picture. One of
+the files may be `-`, the standard input.
 
 Status: 0 valid, 1 invalid, 2 command line, 3 a text is refused, 4 memory, 5 files or output.";
 
@@ -250,11 +256,7 @@ fn check<'a>(alloc: Global) -> Result<Command<'a>, AllocError>
             "Says what is wrong with a domain and a problem, with lines, and warns of what is never used",
         )
         .after_help(CHECK_CALL)
-        .arg(file(
-            alloc,
-            "DOMAIN",
-            "The file of the domain, in HDDL; - is standard input",
-        ))?
+        .arg(file(alloc, "DOMAIN", "The file of the domain, in HDDL"))?
         .arg(file_or_none(alloc, "PROBLEM", "The file of the problem"))?
         .arg(format.help("How it is printed: text, short, json"))?
         .arg(limit.help("Diagnostics that text shows; 0 is all"))?
@@ -272,11 +274,7 @@ fn explain<'a>(alloc: Global) -> Result<Command<'a>, AllocError>
     Command::new(alloc, "explain")
         .about("Says why a plan is invalid")
         .after_help(EXPLAIN_CALL)
-        .arg(file(
-            alloc,
-            "DOMAIN",
-            "The file of the domain, in HDDL; - is standard input",
-        ))?
+        .arg(file(alloc, "DOMAIN", "The file of the domain, in HDDL"))?
         .arg(file(alloc, "PROBLEM", "The file of the problem, in HDDL"))?
         .arg(file(alloc, "PLAN", "The file of the plan, as `plan` prints it"))?
         .arg(format.help("How it is printed: text, short, json"))?
@@ -291,16 +289,12 @@ fn tree<'a>(alloc: Global) -> Result<Command<'a>, AllocError>
     let format = choice(alloc, "format", "FORMAT", "text");
     let color = choice(alloc, "color", "WHEN", "auto");
     Command::new(alloc, "tree")
-        .about("Draws the decomposition tree of a plan: text, ascii, json, dot, svg")
+        .about("Draws the decomposition tree of a plan: text, ascii, json, dot, svg, html")
         .after_help(TREE_CALL)
-        .arg(file(
-            alloc,
-            "DOMAIN",
-            "The file of the domain, in HDDL; - is standard input",
-        ))?
+        .arg(file(alloc, "DOMAIN", "The file of the domain, in HDDL"))?
         .arg(file(alloc, "PROBLEM", "The file of the problem, in HDDL"))?
         .arg(file(alloc, "PLAN", "The file of the plan, as `plan` prints it"))?
-        .arg(format.help("How it is drawn: text, ascii, json, dot, svg"))?
+        .arg(format.help("How it is drawn: text, ascii, json, dot, svg, html"))?
         .arg(color.help("Colours of what is wrong with a text: auto, always, never"))
 }
 

@@ -17,8 +17,11 @@ use Rattle.plan_text.specs.FileText.{FileText}
 use Rattle.htn_command.specs.declared.choice.Drawing.{Drawing}
 use Rattle.htn_review.specs.Headline.{IsTaskOfTexts}
 use Rattle.htn_review.specs.Judgement.{RefusesPlan}
-use Rattle.htn_review.specs.Sights.{IsLeft, IsPairOf, IsReported, IsSight, IsSightOfTexts, bytes_of}
-use Rattle.htn_review.specs.Trees.{ArePicture, Draws, IsDrawn, IsRefusal, IsUndrawn, Shows, is_of_pair}
+use Rattle.htn_review.specs.Sights.{AreRemarksOf, IsLeft, IsPairOf, IsReported, IsSight, IsSightOfTexts, bytes_of}
+use Rattle.htn_review.specs.Reads.{IsRefusal, is_of_pair}
+use Rattle.htn_review.specs.Trees.{ArePicture, Draws, IsDrawn, IsUndrawn, Shows}
+use Rattle.picture_html.specs.declared.remarks.Remarks.{Remarks}
+use Rattle.htn_review.specs.declared.inputs.Inputs.{Inputs}
 use Rattle.htn_review.specs.declared.outcome.RunFault.{RunFault}
 use Rattle.htn_review.specs.declared.outcome.RunFault.TheVariants as fault
 use Rattle.htn_review.specs.declared.sight.Sight.{Sight}
@@ -39,10 +42,10 @@ pair_has_task domain problem pair is = record {
   is_task = is.is_task;
 }
 
-module _ (task : Task) (d : DomainText) (p : ProblemText) (form : Drawing) (file : PlanFile) where
+module _ (task : Task) (d : DomainText) (p : ProblemText) (form : Drawing) (Beside : Verdict → Remarks → Type 0) (file : PlanFile) where
   -- a file whose lines are no forest has no picture, and no other verdict
   drawn_as : (v : Verdict) (picture : Option (Vec ℕ Global)) → IsVerdict (naming_of task) (problem_of task) file (verdict_of v)
-      → MatchOption picture (IsForest file → ⊥) (λ bytes. ArePicture d p v form file bytes.items) → IsDrawn d p form file v (bytes_of picture)
+      → MatchOption picture (IsForest file → ⊥) (λ bytes. ArePicture d p v form (Beside v) file bytes.items) → IsDrawn d p form (Beside v) file v (bytes_of picture)
   drawn_as verdict.Structure None is h = refl
   drawn_as verdict.Structure (Some bytes) is h = absurd (is h.1.drawing.is_forest.is_forest)
   drawn_as (verdict.NoInstance line) None is h = absurd (h is.0)
@@ -57,9 +60,9 @@ module _ (task : Task) (d : DomainText) (p : ProblemText) (form : Drawing) (file
   drawn_as verdict.Valid (Some bytes) is h = h
 
 -- the sight of a pair and a file is that of their texts
-pub sight_shows : (domain problem plan : List ℕ) (pair : Pair) (file : PlanFile) (form : Drawing) (s : Sight) → IsPairOf domain problem pair → FileText file plan
-    → IsSight pair file form s → IsSightOfTexts domain problem plan form s
-sight_shows domain problem plan pair file form s of_pair is_file is = record {
+pub sight_shows : (inputs : Inputs) (pair : Pair) (file : PlanFile) (form : Drawing) (s : Sight) → IsPairOf inputs.domain.text.now inputs.problem.text.now pair
+    → FileText file inputs.plan.text.now → IsSight inputs pair file form s → IsSightOfTexts inputs form s
+sight_shows inputs pair file form s of_pair is_file is = record {
   domain_tree = pair.domain;
   problem_tree = pair.problem;
   task = pair.task;
@@ -67,7 +70,7 @@ sight_shows domain problem plan pair file form s of_pair is_file is = record {
   file = file;
   is_file = is_file;
   is_verdict = is.is_verdict;
-  is_drawn = drawn_as pair.task pair.domain pair.problem form file s.verdict s.picture is.is_verdict is.is_picture;
+  is_drawn = drawn_as pair.task pair.domain pair.problem form (AreRemarksOf inputs pair file) file s.verdict s.picture is.is_verdict is.is_picture;
 }
 
 -- the truth values are two
@@ -95,7 +98,7 @@ pub undrawn_no_output : (domain problem plan : List ℕ) (f : RunFault) → IsUn
 undrawn_no_output domain problem plan f h e = let P : RunFault → Type 0 = λ x. IsUndrawn domain problem plan x in subst P e h
 
 -- the report on a pair is what its tree comes to
-pub reported_draws : (domain problem : Named) (plan : List ℕ) (look : Look) (f : RunFault) (drawn : Drawn) → RefusesPlan domain.bytes problem.bytes plan f
+pub reported_draws : (domain problem plan : Named) (look : Look) (f : RunFault) (drawn : Drawn) → RefusesPlan domain.bytes problem.bytes plan.bytes f
     → is_of_pair f ≡ true → IsReported domain problem look.colour drawn → Draws domain problem plan look drawn []
 reported_draws domain problem plan look f (Judged v) refuses of_pair is = absurd is
 reported_draws domain problem plan look f (Refused report) refuses of_pair is = (record { cause = f; of_pair = of_pair; refuses = refuses; report = is }, refl)

@@ -16,7 +16,7 @@ use Rattle.check_report.specs.Told.{Named, named}
 use Rattle.plan_messages.specs.declared.texts.PlanTexts.{PlanTexts}
 use Rattle.plan_report.specs.Explained as report
 use Rattle.plan_report.specs.declared.report.ReportStyle.{ReportStyle}
-use Rattle.htn_review.specs.Trees.{AreRead, IsRefusal, report_options}
+use Rattle.htn_review.specs.Reads.{AreRead, IsRefusal, report_options}
 use Rattle.htn_review.specs.Judgement.{RefusesPlan, verdict_text}
 use Rattle.htn_review.specs.declared.explain.Explained.{Explained}
 use Rattle.htn_review.specs.declared.explain.Explained.TheVariants.{Judged, Refused}

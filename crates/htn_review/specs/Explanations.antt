@@ -11,24 +11,14 @@ use Rattle.plan_text.specs.FileText.{FileText}
 use Rattle.plan_text.specs.declared.fault.PlanFault.{PlanFault}
 use Rattle.plan_report.specs.Explained as report
 use Rattle.plan_report.specs.declared.report.ReportStyle.{ReportStyle}
-use Rattle.htn_review.specs.Checking.{domain_text, problem_text}
-use Rattle.htn_review.specs.Explaining.{Says, plan_text}
+use Rattle.htn_review.specs.Explaining.{Says}
+use Rattle.htn_review.specs.Inputs.{domain_of, plan_of, problem_of}
 use Rattle.htn_review.specs.Judgement.{IsFaultyPlan}
 use Rattle.htn_review.specs.Sights.{IsPairOf}
 use Rattle.htn_review.specs.declared.explain.Explained.TheVariants.{Judged, Refused}
 use Rattle.htn_review.specs.declared.explanation.Explanation.{Explanation}
-use Rattle.htn_review.specs.declared.explanation.Inputs.{Inputs}
+use Rattle.htn_review.specs.declared.inputs.Inputs.{Inputs}
 use Rattle.htn_review.specs.declared.texts.Pair.{Pair}
-
--- a text of an input, with its name
-abbrev pub domain_of : Inputs → Named
-domain_of i = domain_text i.domain.name.now i.domain.text.now
-
-abbrev pub problem_of : Inputs → Named
-problem_of i = problem_text i.problem.name.now i.problem.text.now
-
-abbrev pub plan_of : Inputs → Named
-plan_of i = plan_text i.plan.name.now i.plan.text.now
 
 -- a text of an input in a role
 abbrev pub text_in : Role → Input → Named

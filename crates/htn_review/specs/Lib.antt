@@ -4,6 +4,8 @@ pub mod Headline
 pub mod Judgement
 pub mod Laws
 pub mod Sights
-pub mod Trees
+pub mod Reads
 pub mod Explaining
+pub mod Inputs
+pub mod Trees
 pub mod Explanations

@@ -13,9 +13,14 @@ use Rattle.plan_text.specs.Out.{TakesBeginning}
 use Rattle.check_report.specs.Told.{Named}
 use Rattle.diagnostics.specs.declared.format.Format.TheVariants.{Text}
 use Rattle.htn_command.specs.declared.choice.Drawing.{Drawing}
-use Rattle.htn_review.specs.Trees.{ArePicture, AreRead, IsReport, Shows, is_of_pair, report_options}
+use Rattle.htn_review.specs.Reads.{AreRead, IsReport, is_of_pair, report_options}
+use Rattle.htn_review.specs.Trees.{ArePicture, AreRemarks, Shows}
+use Rattle.htn_verify.specs.declared.verdict.Verdict.{Verdict}
+use Rattle.picture_html.specs.declared.remarks.Remarks.{Remarks}
+use Rattle.htn_review.specs.Inputs as named
 use Rattle.htn_review.specs.declared.outcome.RunFault.{RunFault}
 use Rattle.htn_review.specs.declared.outcome.RunFault.TheVariants.{OutOfMemory}
+use Rattle.htn_review.specs.declared.inputs.Inputs.{Inputs}
 use Rattle.htn_review.specs.declared.sight.Sight.{Sight}
 use Rattle.htn_review.specs.declared.texts.Pair.{Pair}
 use Rattle.htn_review.specs.declared.tree.Drawn.{Drawn}
@@ -25,14 +30,24 @@ use Rattle.htn_review.specs.declared.tree.Drawn.TheVariants.{Judged, Refused}
 abbrev pub IsPairOf : List ℕ → List ℕ → Pair → Type 0
 IsPairOf domain problem pair = AreRead domain problem pair.domain pair.problem pair.task
 
+-- the trees of two texts of some names that fit together, and a file that a third holds
+pub record AreHeld (inputs : Inputs) (pair : Pair) (file : PlanFile) : Type 0 where
+  pub of_pair : IsPairOf inputs.domain.text.now inputs.problem.text.now pair
+  pub is_file : FileText file inputs.plan.text.now
+
+-- what is said beside a picture of three texts
+abbrev pub AreRemarksOf : Inputs → Pair → PlanFile → Verdict → Remarks → Type 0
+AreRemarksOf inputs pair file v r = AreRemarks (named.domain_of inputs) (named.problem_of inputs) (named.plan_of inputs) pair.task file v r
+
 -- the verdict of a file for the task of a pair, and the picture of the file; none where its lines are no forest
-pub record IsSight (pair : Pair) (file : PlanFile) (form : Drawing) (s : Sight) : Type 0 where
+pub record IsSight (inputs : Inputs) (pair : Pair) (file : PlanFile) (form : Drawing) (s : Sight) : Type 0 where
   pub is_verdict : IsVerdict (naming_of pair.task) (problem_of pair.task) file (verdict_of s.verdict)
-  pub is_picture : MatchOption s.picture (IsForest file → ⊥) (λ bytes. ArePicture pair.domain pair.problem s.verdict form file bytes.items)
+  pub is_picture : MatchOption s.picture (IsForest file → ⊥)
+      (λ bytes. ArePicture pair.domain pair.problem s.verdict form (AreRemarksOf inputs pair file s.verdict) file bytes.items)
 
 -- the verdict and the picture of the file that a text holds
-abbrev pub IsSightOfText : Pair → List ℕ → Drawing → Sight → Type 0
-IsSightOfText pair plan form s = (file : PlanFile) × FileText file plan × IsSight pair file form s
+abbrev pub IsSightOfText : Inputs → Pair → Drawing → Sight → Type 0
+IsSightOfText inputs pair form s = (file : PlanFile) × FileText file inputs.plan.text.now × IsSight inputs pair file form s
 
 -- the bytes of a picture; nothing where there is none
 abbrev pub bytes_of : Option (Vec ℕ Global) → List ℕ
@@ -40,8 +55,8 @@ bytes_of None = []
 bytes_of (Some bytes) = bytes.items
 
 -- the verdict of the plan's text, and its picture
-abbrev pub IsSightOfTexts : List ℕ → List ℕ → List ℕ → Drawing → Sight → Type 0
-IsSightOfTexts domain problem plan form s = Shows domain problem plan form s.verdict (bytes_of s.picture)
+abbrev pub IsSightOfTexts : Inputs → Drawing → Sight → Type 0
+IsSightOfTexts inputs form s = Shows (named.domain_of inputs) (named.problem_of inputs) (named.plan_of inputs) form s.verdict (bytes_of s.picture)
 
 -- the picture was added to the output
 abbrev pub IsShown : Sight → Drawn → Option (List ℕ) → Option (List ℕ) → Type 0

@@ -9,13 +9,15 @@ ghost use Rattle.htn_verify.specs.Verdicts.{verdict_of};
 ghost use Rattle.plan_text.specs.FileText.{FileText};
 ghost use Rattle.htn_review.specs.Explaining.{Explains, Says, plan_text};
 ghost use Rattle.htn_review.specs.Explanations as spec;
+ghost use Rattle.htn_review.specs.Inputs.{domain_of, plan_of, problem_of as problem_in};
 ghost use Rattle.htn_review.specs.Judgement.{IsFaultyPlan};
 ghost use Rattle.htn_review.specs.Sights.{IsPairOf};
-ghost use Rattle.htn_review.specs.Trees.{IsReport, is_of_pair as of_pair, report_options};
+ghost use Rattle.htn_review.specs.Reads.{IsReport, is_of_pair as of_pair, report_options};
 ghost use Rattle.htn_review.specs.declared.outcome.RunFault.TheVariants.{OutOfMemory};
 
 use crate::caption::verdict_words;
 use crate::explain::Explained;
+use crate::inputs::Inputs;
 use crate::judge::file_in;
 use crate::outcome::RunFault;
 use crate::texts::{Pair, pair_of};
@@ -33,14 +35,6 @@ use text_places::Lines;
 pub(crate) struct Explanation {
     pub(crate) came: Explained,
     pub(crate) text: Vec<u8>,
-}
-
-/// The texts that are explained, with the names of their files.
-#[derive(Clone, Copy)]
-pub(crate) struct Inputs<'a> {
-    pub(crate) domain: Input<'a>,
-    pub(crate) problem: Input<'a>,
-    pub(crate) plan: Input<'a>,
 }
 
 /// Reads a domain, a problem and a plan, and explains the verdict on the plan.
@@ -169,8 +163,8 @@ fn explain_file<'a>(
     })
 }
 
-// Why a plan file has its verdict.
-fn explain_verdict<'a>(
+/// Why a plan file has its verdict.
+pub(crate) fn explain_verdict<'a>(
     alloc: Global,
     pair: &'a Pair,
     file: &'a PlanFile,
@@ -181,7 +175,7 @@ fn explain_verdict<'a>(
     requires pair { IsPairOf inputs.domain.text.now inputs.problem.text.now pair.now }
     requires file { FileText file.now inputs.plan.text.now }
     requires verdict { IsVerdict (naming_of pair.now.task) (problem_of pair.now.task) file.now (verdict_of verdict) }
-    ensures { IfOk result (λ text. Says (spec.domain_of inputs.entry) (spec.problem_of inputs.entry) (spec.plan_of inputs.entry) style verdict text.items) }
+    ensures { IfOk result (λ text. Says (domain_of inputs.entry) (problem_in inputs.entry) (plan_of inputs.entry) style verdict text.items) }
 {
     let words = verdict_words(alloc, verdict)?;
     let domain = source_of(alloc, Role::Domain, inputs.domain)?;

@@ -2,10 +2,13 @@
 ghost use Rattle.std.specs.Prelude.{◌≡◌, ◌≢◌, List, ℕ, true, IfOk, IfErr, OnOk};
 ghost use Rattle.std.specs.Io.KnownBytes.{Appends};
 ghost use Rattle.htn_review.specs.Checking.{domain_text, problem_text};
+ghost use Rattle.htn_review.specs.Explaining.{plan_text};
+ghost use Rattle.htn_review.specs.Reads as reads;
 ghost use Rattle.htn_review.specs.Sights as sights;
 ghost use Rattle.htn_review.specs.Trees as spec;
 ghost use Rattle.htn_review.specs.declared.outcome.RunFault.TheVariants.{Output};
 
+use crate::inputs::Inputs;
 use crate::outcome::RunFault;
 use crate::sight::{Sight, sight_of_texts};
 use check_report::{Format, Input, Options, check_texts};
@@ -30,28 +33,36 @@ pub struct Look {
     pub colour: bool,
 }
 
-/// Reads a domain, a problem and a plan, and writes the picture of the plan, with the verdict that `run_verify` writes.
+/// Reads a domain, a problem and a plan, and writes the picture of the plan, with the verdict that `run_verify` writes. A
+/// page also has what `run_explain` says of that, and the run of the plan's actions.
 /// Nothing is written where the lines of the plan are no forest, which is the verdict `Structure`; nor where the domain
 /// or the problem is refused, of which `check_texts` makes the report. Nothing is written before all is known.
 ///
 /// The fault is `Plan`, `OutOfMemory` or `Output`. After `Output` the output has failed, and a beginning of the picture
 /// stands in it; after any other fault it is as it was.
-pub fn run_tree<O: Out>(
+pub fn run_tree<'a, O: Out>(
     alloc: Global,
-    domain: Input<'_>,
-    problem: Input<'_>,
-    plan: &[u8],
+    domain: Input<'a>,
+    problem: Input<'a>,
+    plan: Input<'a>,
     look: Look,
     out: &mut O,
 ) -> Result<Drawn, RunFault>
     ensures drawn { IfOk result (λ drawn. (text : List ℕ)
-        × spec.Draws (domain_text domain.entry.name.now domain.entry.text.now) (problem_text problem.entry.name.now problem.entry.text.now) plan.now look drawn text × Appends (O.contents out.old) (O.contents out.new) text) }
+        × spec.Draws (domain_text domain.entry.name.now domain.entry.text.now) (problem_text problem.entry.name.now problem.entry.text.now)
+        (plan_text plan.entry.name.now plan.entry.text.now) look drawn text × Appends (O.contents out.old) (O.contents out.new) text) }
     ensures works { OnOk result (O.has_failed out.new ≡ O.has_failed out.old) }
-    ensures refused { IfErr result (λ fault. fault ≢ Output → spec.IsUndrawn domain.entry.text.now problem.entry.text.now plan.now fault × (out.new ≡ out.old)) }
+    ensures refused { IfErr result (λ fault. fault ≢ Output → spec.IsUndrawn domain.entry.text.now problem.entry.text.now plan.entry.text.now fault × (out.new ≡ out.old)) }
     ensures cut_short { IfErr result (λ fault. fault ≡ Output
-        → spec.IsPictureCutShort domain.entry.text.now problem.entry.text.now plan.now look.drawing (O.contents out.old) (O.contents out.new) × (O.has_failed out.new ≡ true)) }
+        → spec.IsPictureCutShort (domain_text domain.entry.name.now domain.entry.text.now) (problem_text problem.entry.name.now problem.entry.text.now)
+        (plan_text plan.entry.name.now plan.entry.text.now) look.drawing (O.contents out.old) (O.contents out.new) × (O.has_failed out.new ≡ true)) }
 {
-    match sight_of_texts(alloc, domain.text, problem.text, plan, look.drawing) {
+    let inputs = Inputs {
+        domain,
+        problem,
+        plan,
+    };
+    match sight_of_texts(alloc, inputs, look.drawing) {
         Ok(sight) => show(sight, out),
         Err(fault) => refuse(alloc, domain, problem, look.colour, fault),
     }
@@ -78,7 +89,7 @@ fn refuse(
     colour: bool,
     fault: RunFault,
 ) -> Result<Drawn, RunFault>
-    ensures of_pair { OnOk result (spec.is_of_pair fault ≡ true) }
+    ensures of_pair { OnOk result (reads.is_of_pair fault ≡ true) }
     ensures reported { IfOk result (sights.IsReported (domain_text domain.entry.name.now domain.entry.text.now) (problem_text problem.entry.name.now problem.entry.text.now) colour) }
     ensures stays { IfErr result (sights.IsLeft fault) }
 {
@@ -91,7 +102,7 @@ fn refuse(
 
 /// Whether a fault is of the domain, of the problem or of the two together.
 pub(crate) fn is_of_pair(fault: RunFault) -> bool
-    ensures { result ≡ spec.is_of_pair fault }
+    ensures { result ≡ reads.is_of_pair fault }
 {
     matches!(
         fault,
@@ -107,8 +118,8 @@ pub(crate) fn report_of(
     format: Format,
     colour: bool,
 ) -> Result<Vec<u8>, AllocError>
-    ensures { IfOk result (λ bytes. spec.IsReport (domain_text domain.entry.name.now domain.entry.text.now) (problem_text problem.entry.name.now problem.entry.text.now)
-        (spec.report_options format colour) bytes.items) }
+    ensures { IfOk result (λ bytes. reads.IsReport (domain_text domain.entry.name.now domain.entry.text.now) (problem_text problem.entry.name.now problem.entry.text.now)
+        (reads.report_options format colour) bytes.items) }
 {
     let options = Options {
         format,

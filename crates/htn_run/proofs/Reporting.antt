@@ -21,7 +21,7 @@ use Rattle.htn_review.specs.Laws.{IsOfTexts}
 use Rattle.htn_run.specs.Reporting.{AddsReport, StopsByFault, StopsReport}
 use Rattle.htn_run.specs.Requests.{AddsAnswer, AddsBeside, Answers, HasFault, status_of}
 use Rattle.htn_run.specs.Stops.{Stops}
-use Rattle.htn_review.specs.Trees.{is_of_pair}
+use Rattle.htn_review.specs.Reads.{is_of_pair}
 use Rattle.htn_review.specs.declared.outcome.Outcome.TheVariants as outcome
 use Rattle.htn_review.specs.declared.outcome.Watched.{Watched}
 use Rattle.htn_review.specs.declared.outcome.Watched.TheVariants as watched

@@ -44,7 +44,8 @@ stops_by contents has_failed files request old new fault.NoThread tells refused 
 pub stops_undrawn : {O : Type 0} (contents : O → Option (List ℕ)) (has_failed : O → Bool) (files : List ℕ → File) (domain problem plan : Bor (List ℕ))
     (form : Drawing) (colour : Colour) (old new : O) (d p l : List ℕ) → MayGive (files (file_of domain.now)) d → MayGive (files (file_of problem.now)) p
     → MayGive (files (file_of plan.now)) l → (f : RunFault) → (f ≢ fault.Output → IsUndrawn d p l f × (new ≡ old))
-    → (f ≡ fault.Output → IsPictureCutShort d p l form (contents old) (contents new) × (has_failed new ≡ true))
+    → (f ≡ fault.Output
+    → IsPictureCutShort (domain_text domain.now d) (problem_text problem.now p) (plan_text plan.now l) form (contents old) (contents new) × (has_failed new ≡ true))
     → Stops contents has_failed files (request.Tree domain problem plan form colour) old new (Run f)
 stops_undrawn contents has_failed files domain problem plan form colour old new d p l a b c fault.Output refused cut =
     let h = cut refl in ((d, p, a, b, (l, c, h.0)), h.1)

@@ -92,7 +92,7 @@ Answers files (Explain domain problem plan format has_states colour) (Explained 
 Answers files (Tree domain problem plan drawing colour) (Drawn drawn) text =
     OfInputs files domain.now problem.now plan.now
     (λ d p f. (look : Look) × AreLooks drawing colour look
-    × trees.Draws (checks.domain_text domain.now d) (checks.problem_text problem.now p) f look drawn text)
+    × trees.Draws (checks.domain_text domain.now d) (checks.problem_text problem.now p) (explaining.plan_text plan.now f) look drawn text)
 Answers files _ _ text = ⊥
 
 -- the status of an answer: 0 for a plan, for `valid` and for texts that are sound, 3 for texts with an error, 6 where the
@@ -197,7 +197,8 @@ IsCutShort files old new (Explain domain problem plan format has_states colour) 
     (λ d p f. (style : ReportStyle) × IsStyleOf format has_states colour style
     × explaining.IsExplanationCutShort (checks.domain_text domain.now d) (checks.problem_text problem.now p) (explaining.plan_text plan.now f) style old new)
 IsCutShort files old new (Tree domain problem plan drawing colour) =
-    OfInputs files domain.now problem.now plan.now (λ d p f. trees.IsPictureCutShort d p f drawing old new)
+    OfInputs files domain.now problem.now plan.now
+    (λ d p f. trees.IsPictureCutShort (checks.domain_text domain.now d) (checks.problem_text problem.now p) (explaining.plan_text plan.now f) drawing old new)
 
 -- the error output of a request while it runs: for a plan the lines of progress, if they are asked for, and nothing for
 -- any other

@@ -46,6 +46,10 @@ pub(crate) fn tree_files<S: Source, O: Out>(
         name: problem,
         text: second.as_slice(),
     };
-    let drawn = run_tree(alloc, domain, problem, third.as_slice(), look, out)?;
+    let plan = Input {
+        name: plan,
+        text: third.as_slice(),
+    };
+    let drawn = run_tree(alloc, domain, problem, plan, look, out)?;
     Ok(Reply::Drawn(drawn))
 }

@@ -1,5 +1,6 @@
 //! The search of a task.
 ghost use Rattle.std.specs.Prelude.{◌≡◌, ℕ, ◌-◌, ◌^◌, ◌<◌, ◌↔◌, IfErr, IfNone, IfOk, IfSome, IsTrue, Option, false, true};
+ghost use Rattle.call_search.specs.Right.{IsRight};
 ghost use Rattle.htn_answer.specs.Answered.{IsAnswered, IsExact};
 ghost use Rattle.htn_model.specs.Grounding.{problem_of};
 ghost use Rattle.htn_model.specs.Machine.{Finishes};
@@ -14,6 +15,7 @@ ghost use Rattle.word_machine.specs.declared.found.SearchFault.TheVariants.{NoTh
 use crate::answer::{Answer, Known};
 use crate::numbers::word_of_ranks;
 use crate::solution::rebuild_listed;
+use call_search::{CallWatch, Calls};
 use htn_ground::{goal_literals, initial_at};
 use htn_net::Config;
 use htn_task::Task;
@@ -158,7 +160,7 @@ fn given_up(ending: &Ending) -> Option<u64>
 
 /// The ending of the search for a task's least finishing word of ranks, with the tables of its last stage. Each stage
 /// is given the number of steps below which the stages before it found that no word finishes.
-fn find_ranks<G: Gate, W: Watch, R: Threads + Wait + Sync>(
+fn find_in_stages<G: Gate, W: Watch, R: Threads + Wait + Sync>(
     rt: &R,
     alloc: Global,
     task: &Task,
@@ -184,6 +186,82 @@ fn find_ranks<G: Gate, W: Watch, R: Threads + Wait + Sync>(
     }
     // The last stage is never given up, since no list is longer than the greatest number.
     search_stage(rt, alloc, task, LAST_STAGE, bounds, known, gate, watch)
+}
+
+/// The ending of the search for a task's least finishing word of ranks, with the tables of its last stage, or the word
+/// that the watch has found by calls.
+fn find_beside_calls<G: Gate, W: Watch, R: Threads + Wait + Sync>(
+    rt: &R,
+    alloc: Global,
+    task: &Task,
+    bounds: Bounds,
+    gate: &G,
+    watch: &mut CallWatch<'_, '_, W>,
+) -> Result<Searched<Tables>, SearchFault>
+    requires task { watch.old.calls.now.task.now ≡ task.now }
+    requires bound { watch.old.calls.now.bound ≡ bounds.nodes }
+    requires right { IsRight watch.old.calls.now }
+    requires stopped { watch.old.is_stopped ≡ false }
+    requires hears { (n : ℕ) → NoneFinishesBefore (listing_machine task.now) n → W.may_hear watch.old.watch.now n }
+    ensures ending { IfOk result (λ s. IsEnding (listing_machine task.now) bounds.nodes s.ending) }
+    ensures tables { IfOk result (λ s. AreTables task.now s.tables) }
+    ensures ended { IfOk result (λ s. (n : ℕ) → s.ending ≡ GivenUp n → ⊥) }
+    ensures stopped { IfOk result (λ s. (n : ℕ) → s.ending ≡ Stopped n → W.may_stop watch.old.watch.now ≡ true) }
+    ensures same_reference { watch.new.watch.ghost_name ≡ watch.old.watch.ghost_name }
+    ensures becomes { W.becomes watch.old.watch.now watch.new.watch.now }
+    ensures no_thread { IfErr result (λ e. e ≡ NoThread → 1 < bounds.workers) }
+{
+    let Searched { ending, tables } = find_in_stages(rt, alloc, task, bounds, gate, watch)?;
+    let ending = watch.end(ending)?;
+    Ok(Searched { ending, tables })
+}
+
+/// The ending of the search for a task's least finishing word of ranks, with the tables of its last stage, beside a
+/// search by calls.
+fn find_with_calls<G: Gate, W: Watch, R: Threads + Wait + Sync>(
+    rt: &R,
+    alloc: Global,
+    task: &Task,
+    bounds: Bounds,
+    gate: &G,
+    calls: &mut Calls<'_>,
+    watch: &mut W,
+) -> Result<Searched<Tables>, SearchFault>
+    requires task { calls.old.task.now ≡ task.now }
+    requires bound { calls.old.bound ≡ bounds.nodes }
+    requires right { IsRight calls.old }
+    requires hears { (n : ℕ) → NoneFinishesBefore (listing_machine task.now) n → W.may_hear watch.old n }
+    ensures ending { IfOk result (λ s. IsEnding (listing_machine task.now) bounds.nodes s.ending) }
+    ensures tables { IfOk result (λ s. AreTables task.now s.tables) }
+    ensures ended { IfOk result (λ s. (n : ℕ) → s.ending ≡ GivenUp n → ⊥) }
+    ensures stopped { IfOk result (λ s. (n : ℕ) → s.ending ≡ Stopped n → W.may_stop watch.old ≡ true) }
+    ensures becomes { W.becomes watch.old watch.new }
+    ensures no_thread { IfErr result (λ e. e ≡ NoThread → 1 < bounds.workers) }
+{
+    let mut watch = CallWatch::new(calls, watch);
+    find_beside_calls(rt, alloc, task, bounds, gate, &mut watch)
+}
+
+/// The ending of the search for a task's least finishing word of ranks, with the tables of its last stage. The word is
+/// looked for by calls too.
+fn find_ranks<G: Gate, W: Watch, R: Threads + Wait + Sync>(
+    rt: &R,
+    alloc: Global,
+    task: &Task,
+    bounds: Bounds,
+    gate: &G,
+    watch: &mut W,
+) -> Result<Searched<Tables>, SearchFault>
+    requires hears { (n : ℕ) → NoneFinishesBefore (listing_machine task.now) n → W.may_hear watch.old n }
+    ensures ending { IfOk result (λ s. IsEnding (listing_machine task.now) bounds.nodes s.ending) }
+    ensures tables { IfOk result (λ s. AreTables task.now s.tables) }
+    ensures ended { IfOk result (λ s. (n : ℕ) → s.ending ≡ GivenUp n → ⊥) }
+    ensures stopped { IfOk result (λ s. (n : ℕ) → s.ending ≡ Stopped n → W.may_stop watch.old ≡ true) }
+    ensures becomes { W.becomes watch.old watch.new }
+    ensures no_thread { IfErr result (λ e. e ≡ NoThread → 1 < bounds.workers) }
+{
+    let mut calls = Calls::new(alloc, task, bounds.nodes);
+    find_with_calls(rt, alloc, task, bounds, gate, &mut calls, watch)
 }
 
 /// The least finishing word of a task, by its steps and then by its numbers; or that no solution is

@@ -2,3 +2,4 @@ pub mod Apart
 pub mod Leasts
 pub mod Lowered
 pub mod FirstThree
+pub mod Asking

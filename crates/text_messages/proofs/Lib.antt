@@ -1,0 +1,5 @@
+pub mod Offered
+pub mod Continued
+pub mod Leading
+pub mod Twins
+pub mod Followed

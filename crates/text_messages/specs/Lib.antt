@@ -1,2 +1,5 @@
 pub mod Messages
 pub mod Spots
+pub mod Following
+pub mod Notes
+pub mod Near

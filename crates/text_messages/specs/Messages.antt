@@ -1,5 +1,5 @@
 -- Diagnostics of faults of texts.
-use Rattle.std.specs.Prelude.{◌≡◌, ℕ, ◌≤◌, List, length, codes}
+use Rattle.std.specs.Prelude.{◌≡◌, ℕ, List, codes}
 use Rattle.hddl_words.specs.declared.fault.TextFault.{TextFault}
 use Rattle.hddl_words.specs.declared.fault.TextFault.TheVariants.{NotAscii, BadWord, Unclosed, ExtraClose, TooDeep, Expected, Unsupported, TooLong, OutOfMemory}
 use Rattle.diagnostics.specs.declared.diagnostic.Source.{Source}

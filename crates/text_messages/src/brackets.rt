@@ -1,36 +1,75 @@
 //! Messages about brackets that don't match.
 
+ghost use Rattle.std.specs.Prelude.{◌≡◌, Some, true, map, slice_get};
+ghost use Rattle.hddl_words.specs.Class.{class_of as class_by_text};
+ghost use Rattle.hddl_words.specs.Words.{word_of, Word};
+ghost use Rattle.hddl_words.specs.declared.token.Kind.TheVariants as kinds;
+ghost use Rattle.text_messages.specs.Notes as spec;
+ghost use Rattle.text_messages.specs.Notes.{BeginsSection};
+
 use crate::said::{Said, plain_words};
 use crate::spots::spot_at;
-use crate::words::words_or_none;
+use crate::words::{token_at, words_or_none};
 use diagnostics::{Part, Source};
 use hddl_words::{Class, Keyword, Kind, Token, class_of};
 use std::alloc::{AllocError, Global};
 
-/// Whether a word is the keyword of a section.
-fn is_section(word: &Token<'_>) -> bool {
+/// Whether a keyword is that of a section.
+fn is_section_keyword(keyword: Keyword) -> bool
+    ensures { result ≡ spec.is_section_keyword keyword }
+{
     matches!(
-        class_of(word),
-        Class::Keyword(
-            Keyword::Requirements
-                | Keyword::Types
-                | Keyword::Constants
-                | Keyword::Predicates
-                | Keyword::Task
-                | Keyword::Method
-                | Keyword::Action
-                | Keyword::Objects
-                | Keyword::Init
-                | Keyword::Goal
-                | Keyword::Htn
-        )
+        keyword,
+        Keyword::Requirements
+            | Keyword::Types
+            | Keyword::Constants
+            | Keyword::Predicates
+            | Keyword::Task
+            | Keyword::Method
+            | Keyword::Action
+            | Keyword::Objects
+            | Keyword::Init
+            | Keyword::Goal
+            | Keyword::Htn
     )
 }
 
-/// Whether a section begins with the bracket at an index.
-fn begins_section(words: &[Token<'_>], index: usize) -> bool {
-    match words.get(index.saturating_add(1)) {
+/// Whether a word is the keyword of a section.
+fn is_section(word: &Token<'_>) -> bool
+    ensures { result ≡ spec.is_section (class_by_text (word_of word.now)) }
+{
+    match class_of(word) {
+        Class::Keyword(keyword) => is_section_keyword(keyword),
+        _ => false,
+    }
+}
+
+/// Whether the word of an index is an opening bracket.
+fn is_opening(words: &[Token<'_>], index: usize) -> bool
+    ensures { result ≡ true → (w : Word) × (slice_get (map word_of words.now) index ≡ Some w) × (w.kind ≡ kinds.Open) }
+{
+    match token_at(words, index) {
+        Some(word) => word.kind == Kind::Open,
+        None => false,
+    }
+}
+
+/// Whether the word of an index is the keyword of a section.
+fn is_section_at(words: &[Token<'_>], index: usize) -> bool
+    ensures { result ≡ true → (w : Word) × (slice_get (map word_of words.now) index ≡ Some w) × (spec.is_section (class_by_text w) ≡ true) }
+{
+    match token_at(words, index) {
         Some(word) => is_section(word),
+        None => false,
+    }
+}
+
+/// Whether a section begins with the bracket at an index.
+pub(crate) fn begins_section(words: &[Token<'_>], index: usize) -> bool
+    ensures { result ≡ true → BeginsSection (map word_of words.now) index }
+{
+    match index.checked_add(1) {
+        Some(next) => is_opening(words, index) && is_section_at(words, next),
         None => false,
     }
 }

@@ -1,13 +1,12 @@
 //! Messages about a word that can't be where it is.
 
-use crate::candidates::expected;
+use crate::candidates::{Candidates, expected};
 use crate::instead::instead_of;
 use crate::said::{Said, plain, plain_words};
 use crate::spots::{spot_at, word_at};
-use crate::words::{first_in_list, index_at, open_after, words_or_none};
+use crate::words::{first_twin, index_at, open_after, words_or_none};
 use diagnostics::{Part, Role, Source};
 use hddl_words::{Kind, Token, is_same};
-use near_names::nearest;
 use std::alloc::{AllocError, Global};
 
 /// The most words that are said to be expected.
@@ -24,7 +23,7 @@ struct RefusedPlace<'a> {
     /// How many brackets are open there.
     open: usize,
     /// What may stand there: a word of each class, and keywords.
-    expected: Vec<&'static [u8]>,
+    expected: Candidates,
 }
 
 /// Looks at a place that is refused.
@@ -37,7 +36,7 @@ fn refused_place<'a>(
     let mut before = words_or_none(alloc, text)?;
     let index = index_at(before.as_slice(), place);
     before.truncate(index);
-    let open = open_after(before.as_slice());
+    let open = open_after(before.as_slice()).unwrap_or(0);
     let front = &text[..place.min(text.len())];
     let expected = expected(alloc, source.role, front, open)?;
     Ok(RefusedPlace {
@@ -55,16 +54,14 @@ fn has(words: &[&'static [u8]], word: &[u8]) -> bool {
 }
 
 /// Whether a word is a keyword.
-fn is_keyword(word: &[u8]) -> bool {
+pub(crate) fn is_keyword(word: &[u8]) -> bool {
     matches!(word, [b':', _, ..])
 }
 
 /// How a word that may stand somewhere is named, where it is named among these.
 fn named(word: &'static [u8], expected: &[&'static [u8]]) -> Option<Part<'static>> {
-    if is_keyword(word) {
-        return None;
-    }
     match word {
+        b":any" => None,
         b"a-name" => Some(Part::Words("a name")),
         b"?x" => Some(Part::Words("a variable")),
         // These are names where any name may stand.
@@ -74,21 +71,20 @@ fn named(word: &'static [u8], expected: &[&'static [u8]]) -> Option<Part<'static
 }
 
 /// The words that may stand at a place as they are named: each once, keywords last.
-fn names_of(alloc: Global, expected: &[&'static [u8]]) -> Result<Vec<Part<'static>>, AllocError> {
+fn names_of(alloc: Global, expected: &Candidates) -> Result<Vec<Part<'static>>, AllocError> {
+    let words = expected.words.as_slice();
     let mut names = Vec::new(alloc);
-    for word in expected {
-        if let Some(name) = named(*word, expected) {
+    for word in words {
+        if let Some(name) = named(*word, words) {
             names.push(name)?;
         }
     }
-    if has(expected, b":any") {
+    if has(words, b":any") {
         names.push(Part::Words("a keyword"))?;
         return Ok(names);
     }
-    for word in expected {
-        if is_keyword(*word) {
-            names.push(Part::Name(*word))?;
-        }
+    for keyword in expected.keywords.as_slice() {
+        names.push(Part::Name(*keyword))?;
     }
     Ok(names)
 }
@@ -110,7 +106,7 @@ fn add_listed<'a>(
 }
 
 /// `expected A or B`: eight at most, and then `...`.
-fn expectation<'a>(alloc: Global, expected: &[&'static [u8]]) -> Result<Vec<Part<'a>>, AllocError> {
+fn expectation<'a>(alloc: Global, expected: &Candidates) -> Result<Vec<Part<'a>>, AllocError> {
     let mut names = names_of(alloc, expected)?;
     if names.len() > SHOWN {
         names.truncate(SHOWN);
@@ -135,68 +131,37 @@ fn label_of<'a>(alloc: Global, refusal: &RefusedPlace<'a>) -> Result<Vec<Part<'a
     if is_unknown(refusal) {
         return Ok(Vec::new(alloc));
     }
-    expectation(alloc, refusal.expected.as_slice())
-}
-
-/// The keywords that may stand at a place and are nearest to another one.
-fn near_keywords(
-    alloc: Global,
-    word: &[u8],
-    expected: &[&'static [u8]],
-) -> Result<Vec<Part<'static>>, AllocError> {
-    let mut keywords: Vec<&'static [u8]> = Vec::new(alloc);
-    for one in expected {
-        if is_keyword(*one) {
-            keywords.push(*one)?;
-        }
-    }
-    let mut found = Vec::new(alloc);
-    for index in nearest(alloc, word, keywords.as_slice())? {
-        if let Some(keyword) = keywords.get(index) {
-            found.push(Part::Name(*keyword))?;
-        }
-    }
-    Ok(found)
+    expectation(alloc, &refusal.expected)
 }
 
 /// A word that the language has not.
-fn left_out<'a>(alloc: Global, refusal: &RefusedPlace<'a>) -> Result<Said<'a>, AllocError> {
+fn left_out<'a>(alloc: Global, word: &'a [u8]) -> Result<Said<'a>, AllocError> {
     plain(
         alloc,
         &[
-            Part::Name(refusal.word),
+            Part::Name(word),
             Part::Words(" is not in the language that htnplan reads"),
         ],
     )
 }
 
-/// A keyword that the language has not, or a slip in one.
-fn unknown_keyword<'a>(alloc: Global, refusal: &RefusedPlace<'a>) -> Result<Said<'a>, AllocError> {
-    let near = near_keywords(alloc, refusal.word, refusal.expected.as_slice())?;
-    if near.is_empty() {
-        let label = label_of(alloc, refusal)?;
-        return left_out(alloc, refusal)?.labelled(alloc, label.as_slice());
-    }
-    let mut help = Vec::new(alloc);
-    help.push(Part::Words("did you mean "))?;
-    add_listed(&mut help, near.as_slice(), " or ")?;
-    help.push(Part::Words("?"))?;
-    plain(
-        alloc,
-        &[Part::Words("unknown keyword "), Part::Name(refusal.word)],
-    )?
-    .helped(alloc, help.as_slice())
-}
-
-/// A word that means what the language leaves out.
+/// A word that means what the language leaves out, where these keywords may be meant.
 pub(crate) fn unsupported<'a>(
     alloc: Global,
     source: &'a Source<'a>,
     place: usize,
+    is_near: bool,
 ) -> Result<Said<'a>, AllocError> {
+    let word = word_at(source, place);
+    if is_near {
+        return plain(alloc, &[Part::Words("unknown keyword "), Part::Name(word)]);
+    }
+    if let Some(instead) = instead_of(source.role, word) {
+        return left_out(alloc, word)?.helped_by(alloc, instead);
+    }
     let refusal = refused_place(alloc, source, place)?;
-    if matches!(refusal.word, b"(") {
-        let label = label_of(alloc, &refusal)?;
+    let label = label_of(alloc, &refusal)?;
+    if matches!(word, b"(") {
         return plain_words(alloc, "a bracket can't stand here")?
             .labelled(alloc, label.as_slice())?
             .helped_by(
@@ -204,14 +169,7 @@ pub(crate) fn unsupported<'a>(
                 "if this is `either`: declare a type above both in `:types`, and name that",
             );
     }
-    if let Some(instead) = instead_of(source.role, refusal.word) {
-        return left_out(alloc, &refusal)?.helped_by(alloc, instead);
-    }
-    if is_keyword(refusal.word) {
-        return unknown_keyword(alloc, &refusal);
-    }
-    let label = label_of(alloc, &refusal)?;
-    left_out(alloc, &refusal)?.labelled(alloc, label.as_slice())
+    left_out(alloc, word)?.labelled(alloc, label.as_slice())
 }
 
 /// A problem where a domain is wanted, or the other way round.
@@ -242,13 +200,21 @@ fn exchanged<'a>(
     Ok(Some(said))
 }
 
+/// Where the first word like the refused one stands in its list.
+fn first_like(refusal: &RefusedPlace<'_>) -> Option<usize> {
+    let words = refusal.before.as_slice();
+    let index = first_twin(words, refusal.word)?;
+    let first = words.get(index)?;
+    Some(first.place)
+}
+
 /// A keyword that can't stand somewhere, or stands there a second time.
 fn misplaced_keyword<'a>(
     alloc: Global,
     refusal: &RefusedPlace<'a>,
 ) -> Result<Said<'a>, AllocError> {
-    if let Some(first) = first_in_list(refusal.before.as_slice(), refusal.word) {
-        let spot = spot_at(refusal.source, first.place);
+    if let Some(place) = first_like(refusal) {
+        let spot = spot_at(refusal.source, place);
         return plain(
             alloc,
             &[
@@ -305,7 +271,7 @@ fn unfinished<'a>(
     }
     match (refusal.source.role, refusal.open) {
         (Role::Problem, 1) => unfinished_problem(alloc, refusal),
-        (Role::Domain, 2) if has(refusal.expected.as_slice(), b":task") => {
+        (Role::Domain, 2) if has(refusal.expected.keywords.as_slice(), b":task") => {
             let said = plain_words(
                 alloc,
                 "this method doesn't say which task it decomposes",
@@ -338,7 +304,7 @@ pub(crate) fn not_expected<'a>(
             &[Part::Name(refusal.word), Part::Words(" can't stand here")],
         );
     }
-    let mut message = expectation(alloc, refusal.expected.as_slice())?;
+    let mut message = expectation(alloc, &refusal.expected)?;
     message.push(Part::Words(", found "))?;
     message.push(if refusal.word.is_empty() {
         Part::Words("the end of the text")

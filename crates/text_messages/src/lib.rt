@@ -6,6 +6,8 @@ mod candidates;
 mod grammar;
 mod instead;
 mod message;
+mod near;
+mod noted;
 mod said;
 mod spots;
 mod words;

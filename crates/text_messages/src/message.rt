@@ -1,11 +1,16 @@
 //! The diagnostic of a text's fault.
 
-ghost use Rattle.std.specs.Prelude.{◌≡◌, IfOk};
+ghost use Rattle.std.specs.Prelude.{◌≡◌, ◌≢◌, [], IfOk};
+ghost use Rattle.std.specs.List.{All};
+ghost use Rattle.text_messages.specs.Following.{OffersMeant};
+ghost use Rattle.text_messages.specs.Notes.{IsNote};
 ghost use Rattle.text_messages.specs.Messages as spec;
 ghost use Rattle.text_messages.specs.Messages.{IsAbout};
 
 use crate::brackets::{extra_close, unclosed};
 use crate::grammar::{not_expected, unsupported};
+use crate::near::{asking, near_words};
+use crate::noted::{looked_up, or_code};
 use crate::said::{Said, plain, plain_words};
 use crate::spots::{spot_at, word_at};
 use diagnostics::{Diagnostic, Part, Severity, Source, Where};
@@ -82,11 +87,12 @@ fn bad_word<'a>(
     }
 }
 
-/// The content of the diagnostic of a fault.
+/// The content of the diagnostic of a fault, but for the question for keywords that may be meant.
 fn said_of<'a>(
     alloc: Global,
     source: &'a Source<'a>,
     fault: TextFault,
+    is_near: bool,
 ) -> Result<Said<'a>, AllocError> {
     match fault {
         TextFault::NotAscii(place) => not_ascii(alloc, source, place),
@@ -95,7 +101,7 @@ fn said_of<'a>(
         TextFault::ExtraClose(_) => extra_close(alloc, source),
         TextFault::TooDeep(_) => plain_words(alloc, "more than 64 brackets are open here"),
         TextFault::Expected(place) => not_expected(alloc, source, place),
-        TextFault::Unsupported(place) => unsupported(alloc, source, place),
+        TextFault::Unsupported(place) => unsupported(alloc, source, place, is_near),
         TextFault::TooLong(_) => plain_words(alloc, "the text is longer than 16,777,216 bytes"),
         TextFault::OutOfMemory => Err(AllocError),
     }
@@ -103,7 +109,7 @@ fn said_of<'a>(
 
 /// The diagnostic of a fault of a text. The text's role says whether it was read as a problem or as a domain. An error
 /// where memory was refused, and for the fault `OutOfMemory`, which has no diagnostic. Takes time linear in the text:
-/// some thirty runs of the reader over at most half a megabyte, and one pass over the rest.
+/// some hundred runs of the reader over at most half a megabyte, and a few passes over the rest.
 pub fn text_diagnostic<'a>(
     alloc: Global,
     source: &'a Source<'a>,
@@ -112,16 +118,26 @@ pub fn text_diagnostic<'a>(
     ensures severity { IfOk result (λ d. d.severity ≡ Severity.Error) }
     ensures code { IfOk result (λ d. d.code.now ≡ spec.code_of fault) }
     ensures about { IfOk result (λ d. IsAbout source.now fault d.about) }
+    ensures message { IfOk result (λ d. d.message.items ≢ []) }
+    // Each word that `did you mean` offers may stand at the place, and none that may is nearer.
+    ensures offers { IfOk result (λ d. OffersMeant source.now fault d.remarks.items) }
+    // Each note is at a section inside an open list, where the text is complete, or at the first of two equal words.
+    ensures notes { IfOk result (λ d. All (λ note. IsNote source.now fault note.spot) d.notes.items) }
 {
+    let near = near_words(alloc, source, fault)?;
     let Said {
         message,
         label,
         remarks,
         notes,
-    } = said_of(alloc, source, fault)?;
+    } = said_of(alloc, source, fault, !near.is_empty())?;
+    let code = code_of(fault);
+    let message = or_code(message, code)?;
+    let remarks = asking(alloc, remarks, near.as_slice())?;
+    let notes = looked_up(alloc, source, fault, notes)?;
     Ok(Diagnostic {
         severity: Severity::Error,
-        code: code_of(fault),
+        code,
         about: about(source, fault),
         message,
         label,

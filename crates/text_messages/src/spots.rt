@@ -2,6 +2,8 @@
 
 ghost use Rattle.std.specs.Prelude.{◌≡◌, ◌≤◌, length};
 ghost use Rattle.hddl_words.specs.Word.{is_word_byte as is_part};
+ghost use Rattle.std.specs.List.{prefix_len};
+ghost use Rattle.text_messages.specs.Following.{word_from};
 ghost use Rattle.text_messages.specs.Spots.{word_len_at, IsAt};
 
 use diagnostics::{Source, Spot};
@@ -13,19 +15,26 @@ fn is_word_byte(byte: u8) -> bool
     33 <= byte && byte <= 126 && !(byte == b'(' || byte == b')' || byte == b';')
 }
 
-/// How many bytes the word at the front has: a run of such bytes, and else one; none at the end.
-fn word_len(bytes: &[u8]) -> usize
-    ensures value { result ≡ word_len_at bytes.now }
+/// How many bytes the run at the front has.
+fn run_len(bytes: &[u8]) -> usize
+    ensures value { result ≡ prefix_len is_part bytes.now }
     ensures within { result ≤ length bytes.now }
 {
     let mut len = 0;
     while len < bytes.len() && is_word_byte(bytes[len]) {
         len += 1;
     }
-    if len == 0 && !bytes.is_empty() {
-        1
-    } else {
-        len
+    len
+}
+
+/// How many bytes the word at the front has: a run of such bytes, and else one; none at the end.
+fn word_len(bytes: &[u8]) -> usize
+    ensures value { result ≡ word_len_at bytes.now }
+    ensures within { result ≤ length bytes.now }
+{
+    match bytes {
+        [] => 0,
+        [_, ..] => run_len(bytes).max(1),
     }
 }
 
@@ -47,4 +56,13 @@ pub(crate) fn word_at<'a>(source: &'a Source<'a>, place: usize) -> &'a [u8] {
     let text = source.lines.text();
     let rest = &text[place.min(text.len())..];
     &rest[..word_len(rest)]
+}
+
+/// The run at a place of a text: none at a bracket, a blank or the end.
+pub(crate) fn run_at<'a>(source: &'a Source<'a>, place: usize) -> &'a [u8]
+    ensures { result.now ≡ word_from source.now place }
+{
+    let text = source.lines.text();
+    let rest = &text[place.min(text.len())..];
+    &rest[..run_len(rest)]
 }

@@ -237,7 +237,8 @@ fn refuses_words_of_a_tree(rt: HostRuntime) -> Result<(), Fail> {
         ("htnplan tree d p f g", 2),
         ("htnplan tree d p f --format short", 2),
         ("htnplan tree d p f --format svg", -1),
-        ("htnplan tree d p f --format html", 2),
+        ("htnplan tree d p f --format html", -1),
+        ("htnplan tree d p f --format page", 2),
         ("htnplan tree d p f --color red", 2),
         ("htnplan tree - - f", 2),
         ("htnplan tree - p -", 2),
@@ -319,7 +320,7 @@ Commands:
   verify   Prints `valid`, or `invalid:` and the first cause
   check    Says what is wrong with a domain and a problem, with lines, and warns of what is never used
   explain  Says why a plan is invalid
-  tree     Draws the decomposition tree of a plan: text, ascii, json, dot, svg
+  tree     Draws the decomposition tree of a plan: text, ascii, json, dot, svg, html
   help     Print this message or the help of the given subcommand(s)
 
 Options:
@@ -387,6 +388,8 @@ After `invalid:` stands the first of these that holds:
   GoalFails          the goal is false after all actions
   NoArrangement      the actions in this order keep to no order of the tasks and preconditions above them
 
+`htnplan explain` of the same three files says why, with lines of the plan and of the texts.
+
 Status: 0 valid, 1 invalid, 2 command line, 3 a text is refused, 4 memory, 5 files or output.
 ";
 
@@ -396,7 +399,7 @@ const HELP_OF_CHECK: &str =
 Usage: htnplan check [OPTIONS] <DOMAIN> [PROBLEM]
 
 Arguments:
-  <DOMAIN>   The file of the domain, in HDDL; - is standard input
+  <DOMAIN>   The file of the domain, in HDDL
   [PROBLEM]  The file of the problem
 
 Options:
@@ -411,38 +414,68 @@ Examples:
   htnplan check domain.hddl problem.hddl --strict
 
 `short` prints FILE:LINE:COLUMN: error: MESSAGE [Code], which editors read. What each code means: docs/FAULTS.md.
+One of the files may be `-`, the standard input.
 
 Status: 0 no error, 1 a warning with --strict, 2 command line, 3 a text is refused, 4 memory, 5 files or output.
 ";
 
-const HELP_OF_TREE: &str = "Draws the decomposition tree of a plan: text, ascii, json, dot, svg
+const HELP_OF_EXPLAIN: &str = "Says why a plan is invalid
 
-Usage: htnplan tree [OPTIONS] <DOMAIN> <PROBLEM> <PLAN>
+Usage: htnplan explain [OPTIONS] <DOMAIN> <PROBLEM> <PLAN>
 
 Arguments:
-  <DOMAIN>   The file of the domain, in HDDL; - is standard input
+  <DOMAIN>   The file of the domain, in HDDL
   <PROBLEM>  The file of the problem, in HDDL
   <PLAN>     The file of the plan, as `plan` prints it
 
 Options:
-      --format <FORMAT>  How it is drawn: text, ascii, json, dot, svg [default: text]
+      --format <FORMAT>  How it is printed: text, short, json [default: text]
+      --states           What each action makes true and false
+      --color <WHEN>     Colours: auto, always, never [default: auto]
+  -h, --help             Print help
+
+Examples:
+  htnplan explain domain.hddl problem.hddl plan.txt
+  htnplan explain domain.hddl problem.hddl plan.txt --states
+
+The first line has the verdict of `verify`. What follows says why, with lines of the plan and of the texts. `--states`
+shows what is true at the start, and what each action makes true and false. One of the files may be `-`, the standard
+input.
+
+Status: 0 valid, 1 invalid, 2 command line, 3 a text is refused, 4 memory, 5 files or output.
+";
+
+const HELP_OF_TREE: &str =
+    "Draws the decomposition tree of a plan: text, ascii, json, dot, svg, html
+
+Usage: htnplan tree [OPTIONS] <DOMAIN> <PROBLEM> <PLAN>
+
+Arguments:
+  <DOMAIN>   The file of the domain, in HDDL
+  <PROBLEM>  The file of the problem, in HDDL
+  <PLAN>     The file of the plan, as `plan` prints it
+
+Options:
+      --format <FORMAT>  How it is drawn: text, ascii, json, dot, svg, html [default: text]
       --color <WHEN>     Colours of what is wrong with a text: auto, always, never [default: auto]
   -h, --help             Print help
 
 Examples:
   htnplan tree domain.hddl problem.hddl plan.txt
   htnplan plan domain.hddl problem.hddl | htnplan tree domain.hddl problem.hddl -
+  htnplan tree domain.hddl problem.hddl plan.txt --format html > plan.html
   htnplan tree domain.hddl problem.hddl plan.txt --format svg > plan.svg
   htnplan tree domain.hddl problem.hddl plan.txt --format dot | dot -Tpng > plan.png
 
 The first line has the verdict of `verify`, and the line of the plan that it names is marked. The numbers left of the
-tree are the places of the actions in the plan. Lines that are no forest (`invalid: Structure`) have no picture.
+tree are the places of the actions in the plan. Lines that are no forest (`invalid: Structure`) have no picture. One of
+the files may be `-`, the standard input.
 
 Status: 0 valid, 1 invalid, 2 command line, 3 a text is refused, 4 memory, 5 files or output.
 ";
 
 const NO_DRAWING: &str = "error: invalid value for '--format <FORMAT>'
-  [possible values: text, ascii, json, dot, svg]
+  [possible values: text, ascii, json, dot, svg, html]
 
 Usage: htnplan <COMMAND>
 
@@ -488,6 +521,7 @@ fn texts(rt: HostRuntime) -> Result<(), Fail> {
         ("htnplan plan --help", HELP_OF_PLAN),
         ("htnplan verify --help", HELP_OF_VERIFY),
         ("htnplan check --help", HELP_OF_CHECK),
+        ("htnplan explain --help", HELP_OF_EXPLAIN),
         ("htnplan tree --help", HELP_OF_TREE),
         ("htnplan tree d p f --format short", NO_DRAWING),
         ("htnplan tree d - -", INPUT_TWICE),

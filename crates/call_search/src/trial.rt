@@ -1,0 +1,186 @@
+//! A search by calls, in parts.
+ghost use Rattle.std.specs.Prelude.{◌≡◌, IfOk, IfSome, OnOk};
+ghost use Rattle.call_nodes.specs.Nodes.{AreListsOf, AreNodes, children};
+ghost use Rattle.htn_ground.specs.Distinct.{distinct};
+ghost use Rattle.htn_model.specs.Instances as instances;
+ghost use Rattle.htn_model.specs.Task as tasks;
+ghost use Rattle.htn_net.specs.Listed.{listing_machine};
+ghost use Rattle.task_graph.specs.Graph.{IsGraph};
+ghost use Rattle.word_machine.specs.Answer.{IsLeastFinishing};
+ghost use Rattle.word_machine.specs.Words.{step_count};
+
+use call_finder::{Finder, Found, Progress};
+use call_nodes::CallNodes;
+use call_proof::{Proposal, is_least};
+use htn_task::Task;
+use std::alloc::{AllocError, Global};
+use task_graph::TaskGraph;
+use tree_sizes::{TreeSizes, enumerate};
+
+/// A search for the least finishing word by calls, which is made in parts.
+#[derive(Drop)]
+pub(crate) struct Trial {
+    nodes: CallNodes,
+    finder: Finder,
+    /// Whether more of the decomposition graph could be listed for the sizes.
+    is_cut: bool,
+}
+
+/// The number of steps of a word.
+fn steps_of(word: &[u64]) -> u64
+    ensures { result ≡ step_count word.now }
+{
+    match word.split_first() {
+        None => 0,
+        Some((_, ranks)) => ranks.len() as u64,
+    }
+}
+
+/// The nodes of a task, with sizes by what is listed of the decomposition graph.
+fn nodes_of(alloc: Global, task: &Task, graph: TaskGraph) -> Result<CallNodes, AllocError>
+    requires { IsGraph task.now graph }
+    ensures { IfOk result (AreNodes task.now) }
+{
+    let sizes = TreeSizes::of(alloc, graph)?;
+    CallNodes::new(alloc, task, sizes)
+}
+
+/// A search that is to begin, from nodes of which none is listed.
+fn trial_of(
+    alloc: Global,
+    task: &Task,
+    nodes: CallNodes,
+    is_cut: bool,
+    bound: u64,
+) -> Result<Option<Trial>, AllocError>
+    requires { AreNodes task.now nodes }
+    ensures { IfOk result (λ o. IfSome o (λ trial. AreNodes task.now trial.nodes)) }
+{
+    let mut nodes = nodes;
+    let steps = u32::try_from(bound).unwrap_or(u32::MAX);
+    let Some(finder) = Finder::new(alloc, task, &mut nodes, steps)? else {
+        return Ok(None);
+    };
+    Ok(Some(Trial {
+        nodes,
+        finder,
+        is_cut,
+    }))
+}
+
+/// What the finder proposes, where it can read off a word of this number of steps.
+fn proposal_of(
+    finder: Finder,
+    nodes: &mut CallNodes,
+    steps: u32,
+) -> Result<Option<Proposal>, AllocError>
+    ensures { OnOk result ((t : tasks.Task) → AreNodes t nodes.old → AreNodes t nodes.new) }
+{
+    let Some(found) = finder.read(nodes, steps)? else {
+        return Ok(None);
+    };
+    let Found {
+        table,
+        values,
+        word,
+    } = found;
+    Ok(Some(Proposal {
+        table,
+        values,
+        word,
+    }))
+}
+
+/// The word of a proposal that has no more steps than the bound and stands the check.
+fn checked_word(
+    alloc: Global,
+    task: &Task,
+    nodes: &mut CallNodes,
+    proposal: Proposal,
+    bound: u64,
+) -> Result<Option<Vec<u64>>, AllocError>
+    requires { AreNodes task.now nodes.old }
+    ensures { IfOk result (λ o. IfSome o (λ word. IsLeastFinishing (listing_machine task.now) bound word.items)) }
+{
+    let Some(starts) = nodes.starts(alloc, task)? else {
+        return Ok(None);
+    };
+    if steps_of(&proposal.word) > bound {
+        return Ok(None);
+    }
+    if !is_least(alloc, task, nodes, &starts, &proposal)? {
+        return Ok(None);
+    }
+    let Proposal { word, .. } = proposal;
+    Ok(Some(word))
+}
+
+/// The word that a finder proposes, where it stands the check.
+fn word_of(
+    alloc: Global,
+    task: &Task,
+    nodes: &mut CallNodes,
+    finder: Finder,
+    steps: u32,
+    bound: u64,
+) -> Result<Option<Vec<u64>>, AllocError>
+    requires { AreNodes task.now nodes.old }
+    ensures { IfOk result (λ o. IfSome o (λ word. IsLeastFinishing (listing_machine task.now) bound word.items)) }
+{
+    let Some(proposal) = proposal_of(finder, nodes, steps)? else {
+        return Ok(None);
+    };
+    checked_word(alloc, task, nodes, proposal, bound)
+}
+
+impl Trial {
+    /// A search for a word of at most `bound` steps, with least sizes by `listed` ground tasks, instances and nodes of
+    /// the decomposition graph. None where an initial network is not totally ordered.
+    pub(crate) fn new(
+        alloc: Global,
+        task: &Task,
+        listed: u64,
+        bound: u64,
+    ) -> Result<Option<Trial>, AllocError>
+        ensures { IfOk result (λ o. IfSome o (λ trial. AreNodes task.now trial.nodes)) }
+    {
+        let graph = enumerate(alloc, task, listed)?;
+        let is_cut = graph.is_cut(task);
+        let nodes = nodes_of(alloc, task, graph)?;
+        trial_of(alloc, task, nodes, is_cut, bound)
+    }
+
+    /// Whether a search with a greater limit would list more of the decomposition graph.
+    pub(crate) fn is_cut(&self) -> bool {
+        self.is_cut
+    }
+
+    /// Continues until the number of steps of the word is known, or until more than this number of items were met.
+    pub(crate) fn advance(&mut self, task: &Task, most_work: u64) -> Result<Progress, AllocError>
+        requires { AreNodes task.now self.old.nodes }
+        ensures { OnOk result (AreNodes task.now self.new.nodes) }
+    {
+        self.finder.advance(task, &mut self.nodes, most_work)
+    }
+
+    /// The least finishing word of a task's ranks within a bound on its steps, once the number of its steps is known.
+    /// What was found is checked in one pass, and the word is returned only where the check shows that it is the least
+    /// one. None says nothing of the task. An error means that memory was refused.
+    pub(crate) fn word(
+        self,
+        alloc: Global,
+        task: &Task,
+        steps: u32,
+        bound: u64,
+    ) -> Result<Option<Vec<u64>>, AllocError>
+        requires { AreNodes task.now self.nodes }
+        ensures { IfOk result (λ o. IfSome o (λ word. IsLeastFinishing (listing_machine task.now) bound word.items)) }
+    {
+        let Trial {
+            mut nodes,
+            finder,
+            ..
+        } = self;
+        word_of(alloc, task, &mut nodes, finder, steps, bound)
+    }
+}

@@ -1,0 +1,6 @@
+use Rattle.std.proofs.Common.{◌≡◌, []}
+use Rattle.near_names.specs.Offers.{offered}
+use Rattle.text_messages.proofs.near.without_questions.Given as goal
+
+abbrev pub invariant-loop-remark : goal.invariant-loop-remark
+invariant-loop-remark l = offered l.kept.items ≡ []
