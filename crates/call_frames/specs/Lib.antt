@@ -1,4 +1,0 @@
-pub mod Framed
-pub mod Closed
-pub mod Values
-pub mod Lifted
