@@ -5,13 +5,14 @@ ghost use Rattle.search_tests.specs.Tallies.{is_written, written};
 ghost use Rattle.word_machine.specs.Answer.{measure_of};
 ghost use Rattle.word_machine.specs.declared.closed.Origin.TheVariants.{Step};
 
-use crate::tallies::{Numbered, Reached, Tallies, Tally};
+use crate::tables::Tallies;
+use crate::tallies::{Numbered, Reached, Tally};
 use std::alloc::{AllocError, Global};
 use std::thread::Threads;
 use word_machine::{Horizon, Machine, Measure, Measured, Origin, Successor};
 
 /// Two tallies to begin with, tasks and values below 1,000,000, and the value that is wanted.
-#[derive(Clone, Copy, Debug)]
+#[derive(Clone, Copy)]
 pub struct Counter {
     pub target: u64,
     pub first: Tally,
@@ -141,9 +142,9 @@ impl Machine for Counter {
     }
 
     fn initials(&self, tables: &mut Tallies) -> Result<Vec<Numbered>, AllocError> {
-        let mut initials = Vec::new(self.alloc);
         let first = tables.number(clip(self.first))?;
         let second = tables.number(clip(self.second))?;
+        let mut initials = Vec::new(self.alloc);
         initials.push(first)?;
         initials.push(second)?;
         Ok(initials)

@@ -1,150 +1,155 @@
-ghost use Rattle.std.specs.Prelude.{◌≡◌, false, true, replicate, IfOk};
+//! Desks, whose passes claim numbers and report places.
+ghost use Rattle.std.specs.Prelude.{◌≡◌, ◌<◌, ◌≤◌, ◌^◌, false, replicate, IfOk};
 ghost use Rattle.htn_level.specs.Desk.{new_pass};
 
-use htn_level::{Desk, Pass};
+use crate::answers::expect_answers;
+use crate::gates::push_zeros;
+use htn_level::{Closed, Desk, Pass};
 use std::alloc::{AllocError, Global};
-use std::test::*;
-use std::thread::{Threads, join};
+use std::sync::atomic::{AtomicU64, Ordering};
+use std::thread::Threads;
+use workers::for_each_mut;
+
+// Whether two passes see the least place that either has reported.
+fn see_the_least(desk: &Desk, first: &mut Pass, second: &mut Pass) -> bool
+    requires one { first.old.desk ≡ desk.now }
+    requires other { second.old.desk ≡ desk.now }
+    ensures one { first.new.desk ≡ desk.now }
+    ensures other { second.new.desk ≡ desk.now }
+{
+    let before = desk.least(first);
+    desk.report(first, 90);
+    desk.report(second, 10);
+    before.is_none() && desk.least(first) == Some(10) && desk.least(second) == Some(10)
+}
 
 #[test]
-fn both_see_the_least(rt: HostRuntime) -> Result<(), Fail> {
+fn both_see_the_least(rt: HostRuntime) -> Result<(), AllocError> {
     let (desk, mut passes) = Desk::new(rt.alloc(), 0, 2)?;
-    let mut first = passes.pop().ok_or("two passes")?;
-    let mut second = passes.pop().ok_or("two passes")?;
-    assert_eq!(rt; desk.least(&mut first), None);
-    desk.report(&mut first, 90);
-    desk.report(&mut second, 10);
-    assert_eq!(rt; desk.least(&mut first), Some(10));
-    assert_eq!(rt; desk.least(&mut second), Some(10));
+    let (Some(mut first), Some(mut second)) = (passes.pop(), passes.pop()) else {
+        panic!(rt; "two passes");
+    };
+    assert!(rt; see_the_least(&desk, &mut first, &mut second));
     passes.push(first)?;
     passes.push(second)?;
     let closed = desk.close(passes);
-    assert_eq!(rt; closed.drawn(), 0);
-    assert_eq!(rt; closed.least(), Some(10));
+    assert!(rt; closed.drawn() == 0 && closed.least() == Some(10));
     Ok(())
 }
 
-#[test]
-fn a_desk_without_pieces(rt: HostRuntime) -> Result<(), Fail> {
-    let (desk, mut passes) = Desk::new(rt.alloc(), 0, 1)?;
-    let mut pass = passes.pop().ok_or("a pass")?;
-    assert!(rt; !pass.ended());
-    assert_eq!(rt; desk.claim(&mut pass), None);
-    assert!(rt; pass.ended());
-    passes.push(pass)?;
-    let closed = desk.close(passes);
-    assert_eq!(rt; closed.drawn(), 0);
-    assert_eq!(rt; closed.least(), None);
-    Ok(())
-}
-
-// A desk for two pieces, also where memory is refused once.
-fn made_again(alloc: Global) -> Result<(Desk, Vec<Pass>), AllocError>
-    ensures { IfOk result (λ r. (r.0.pieces ≡ 2) × (r.0.seats ≡ 3) × (r.1.items ≡ replicate 3 (new_pass r.0))) }
-{
-    match Desk::new(alloc, 2, 3) {
-        Ok(made) => Ok(made),
-        Err(_) => Desk::new(alloc, 2, 3),
+fn count(counts: Option<&AtomicU64>) {
+    if let Some(count) = counts {
+        count.fetch_add(1, Ordering::SeqCst);
     }
 }
 
-// To be run with each allocation refused in turn.
-#[test]
-fn a_desk_can_be_made_after_a_refusal(rt: HostRuntime) -> Result<(), Fail> {
-    let (desk, mut passes) = made_again(rt.alloc())?;
-    let mut pass = passes.pop().ok_or("a pass")?;
-    assert_eq!(rt; desk.claim(&mut pass), Some(0));
-    assert_eq!(rt; desk.claim(&mut pass), Some(1));
-    assert_eq!(rt; desk.claim(&mut pass), None);
-    passes.push(pass)?;
-    let closed = desk.close(passes);
-    assert_eq!(rt; closed.drawn(), 2);
-    Ok(())
-}
-
-type Claimed = Result<(Pass, Vec<u64>), AllocError>;
-
-// Claims until no number is left.
-fn claim_all(alloc: Global, desk: &Desk, mut pass: Pass) -> Claimed
-    requires { pass ≡ new_pass desk.now }
-    ensures { IfOk result (λ r. r.0.desk ≡ desk.now) }
+// Claims until no number is left, and counts for each number the claims; the last counts the passes that met the end.
+// The numbers rise: one that does not isn't counted.
+fn claim_all(desk: &Desk, pass: &mut Pass, counts: &[AtomicU64])
+    requires { pass.old.desk ≡ desk.now }
+    ensures { pass.new.desk ≡ desk.now }
 {
-    let mut numbers = Vec::new(alloc);
+    let mut least: u64 = 0;
     for _ in 0..=1000u64 {
         if pass.ended() {
             break;
         }
-        if let Some(number) = desk.claim(&mut pass) {
-            numbers.push(number)?;
+        match desk.claim(pass) {
+            Some(number) if least <= number => {
+                count(counts.get(number as usize));
+                least = number.saturating_add(1);
+            }
+            Some(_) => {}
+            None => count(counts.last()),
         }
     }
-    Ok((pass, numbers))
 }
 
-fn two<R: Threads + Sync>(
+// The desk once each pass has claimed until no number was left, in several threads, or in turn in one.
+fn closed_after<R: Threads + Sync>(
+    rt: &R,
+    desk: Desk,
+    mut passes: Vec<Pass>,
+    threads: usize,
+    counts: &[AtomicU64],
+) -> Closed
+    requires passes { passes.items ≡ replicate desk.seats (new_pass desk) }
+    requires threads { 0 < threads }
+{
+    let shared = &desk;
+    let claim = |_place: usize, pass: &mut Pass|
+        requires { pass.now ≡ new_pass shared.now }
+        ensures { pass.exit.now.desk ≡ shared.entry.now }
+    { claim_all(shared, pass, counts) };
+    for_each_mut(rt, passes.as_mut_slice(), threads, &claim);
+    desk.close(passes)
+}
+
+// A desk, also where memory is refused once.
+fn made_again(alloc: Global, pieces: u64, seats: u64) -> Result<(Desk, Vec<Pass>), AllocError>
+    requires pieces { pieces ≤ 2 ^ 63 }
+    requires seats { (0 < seats) × (seats ≤ 64) }
+    ensures seats { IfOk result (λ r. r.0.seats ≡ seats) }
+    ensures passes { IfOk result (λ r. r.1.items ≡ replicate seats (new_pass r.0)) }
+{
+    match Desk::new(alloc, pieces, seats) {
+        Ok(made) => Ok(made),
+        Err(_) => Desk::new(alloc, pieces, seats),
+    }
+}
+
+// How many numbers were claimed once.
+fn once(counts: &[AtomicU64]) -> u64 {
+    let mut numbers: u64 = 0;
+    for count in counts {
+        if count.load(Ordering::SeqCst) == 1 {
+            numbers = numbers.saturating_add(1);
+        }
+    }
+    numbers
+}
+
+fn push_closed(closed: &Closed, counts: &[AtomicU64], out: &mut String) -> Result<(), AllocError> {
+    match counts.split_last() {
+        Some((ends, claims)) => {
+            let (once, ends) = (once(claims), ends.load(Ordering::SeqCst));
+            write!(
+                out,
+                "{} drawn, {:?}, {once} once, {ends} ended",
+                closed.drawn(),
+                closed.least()
+            )
+        }
+        None => out.push_str("which desk?"),
+    }
+}
+
+/// How many numbers of a desk were drawn and the least place reported; how many were claimed once, and how many passes
+/// met the end. The numbers are the pieces, the seats and the threads.
+pub fn push_desk<R: Threads + Sync>(
     rt: &R,
     alloc: Global,
-    desk: &Desk,
-    first: Pass,
-    second: Pass,
-) -> (Claimed, Claimed)
-    requires { (first ≡ new_pass desk.now) × (second ≡ new_pass desk.now) }
-    ensures first { IfOk result.0 (λ r. r.0.desk ≡ desk.now) }
-    ensures second { IfOk result.1 (λ r. r.0.desk ≡ desk.now) }
-{
-    join(
-        rt,
-        move || -> Claimed
-            requires { first ≡ new_pass desk.now }
-            ensures { IfOk result (λ r. r.0.desk ≡ desk.entry.now) }
-        { claim_all(alloc, desk, first) },
-        move || -> Claimed
-            requires { second ≡ new_pass desk.now }
-            ensures { IfOk result (λ r. r.0.desk ≡ desk.entry.now) }
-        { claim_all(alloc, desk, second) },
-    )
+    pieces: u64,
+    seats: u64,
+    threads: u64,
+    out: &mut String,
+) -> Result<(), AllocError> {
+    if 1000 < pieces || seats == 0 || 64 < seats || threads == 0 {
+        return out.push_str("which desk?");
+    }
+    let mut counts = Vec::new(alloc);
+    push_zeros(pieces + 1, &mut counts)?;
+    let (desk, passes) = made_again(alloc, pieces, seats)?;
+    let closed = closed_after(rt, desk, passes, threads as usize, &counts);
+    push_closed(&closed, &counts, out)
 }
 
+// The second row is to be run with each allocation refused in turn.
+const DESKS: &str = "> desk 0 1 1 = 0 drawn, None, 0 once, 1 ended
+> desk 2 3 1 = 2 drawn, None, 2 once, 3 ended
+> desk 1000 4 4 = 1000 drawn, None, 1000 once, 4 ended";
+
 #[test]
-fn four_threads_claim_each_number_once(rt: HostRuntime) -> Result<(), Fail> {
-    let alloc: Global = rt.alloc();
-    let (desk, mut passes) = Desk::new(alloc, 1000, 4)?;
-    let a = passes.pop().ok_or("four passes")?;
-    let b = passes.pop().ok_or("four passes")?;
-    let c = passes.pop().ok_or("four passes")?;
-    let d = passes.pop().ok_or("four passes")?;
-    let shared = &desk;
-    let ((a, b), (c, d)) = join(
-        &rt,
-        || -> (Claimed, Claimed)
-            requires { (a ≡ new_pass shared.now) × (b ≡ new_pass shared.now) }
-            ensures first { IfOk result.0 (λ r. r.0.desk ≡ shared.entry.now) }
-            ensures second { IfOk result.1 (λ r. r.0.desk ≡ shared.entry.now) }
-        { two(&rt, alloc, shared, a, b) },
-        || -> (Claimed, Claimed)
-            requires { (c ≡ new_pass shared.now) × (d ≡ new_pass shared.now) }
-            ensures first { IfOk result.0 (λ r. r.0.desk ≡ shared.entry.now) }
-            ensures second { IfOk result.1 (λ r. r.0.desk ≡ shared.entry.now) }
-        { two(&rt, alloc, shared, c, d) },
-    );
-    let (a, first) = a?;
-    let (b, second) = b?;
-    let (c, third) = c?;
-    let (d, fourth) = d?;
-    let mut all = first;
-    all.extend_from_slice(&second)?;
-    all.extend_from_slice(&third)?;
-    all.extend_from_slice(&fourth)?;
-    all.sort_unstable();
-    assert_eq!(rt; all.len(), 1000);
-    for (place, number) in all.iter().enumerate() {
-        assert_eq!(rt; *number, place as u64);
-    }
-    passes.push(a)?;
-    passes.push(b)?;
-    passes.push(c)?;
-    passes.push(d)?;
-    let closed = desk.close(passes);
-    assert_eq!(rt; closed.drawn(), 1000);
-    Ok(())
+fn passes_claim_each_number_once(rt: HostRuntime) -> Result<(), AllocError> {
+    expect_answers(&rt, rt.alloc(), DESKS)
 }

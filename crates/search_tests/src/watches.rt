@@ -1,13 +1,10 @@
 //! Searches that are watched, and stopped.
+use crate::answers::{expect_answers, number_at};
 use crate::counter::Counter;
-use crate::tallies::Tally;
-use std::alloc::Global;
+use std::alloc::AllocError;
 use std::sync::Wait;
-use std::test::Fail;
 use std::thread::Threads;
-use word_machine::{
-    Bounds, Effort, Ending, Found, Machine, News, NoGate, Watch, find_word_watched,
-};
+use word_machine::{Bounds, Effort, Machine, News, NoGate, Watch, find_word_watched};
 
 // Counts how often it is asked, and stops the search once it was asked more often than `patience`.
 #[derive(Drop)]
@@ -55,101 +52,68 @@ impl Watch for Counted {
     ghost hears = { λ _ _ _ _ _. tt };
 }
 
-// A counter that begins with these tasks and this value, twice.
-fn counter(alloc: Global, target: u64, tasks: u64, value: u64) -> Counter {
-    let first = Tally {
-        tasks,
-        value,
-        stuck: false,
-    };
-    Counter {
-        target,
-        first,
-        second: first,
-        alloc,
+fn push_news(search: &str, watch: &Counted, out: &mut String) -> Result<(), AllocError> {
+    let (asked, last) = (watch.asked, watch.last);
+    match search {
+        "watched" => Ok(()),
+        "asked" => write!(out, ", asked {asked}"),
+        "news" => write!(
+            out,
+            ", asked {asked}, bound {}, {} at least",
+            last.bound, last.none_below
+        ),
+        _ => out.push_str(", which search?"),
     }
 }
 
-// How a search with this watch ends, in text.
-fn ending<R: Threads + Wait + Sync>(
+/// How a search with a watch ends; and, as is asked, what the watch has counted and heard. The last numbers are the
+/// first bound, and how often the watch lets the search continue.
+pub fn push_watched<R: Threads + Wait + Sync>(
     rt: &R,
     machine: &Counter,
-    nodes: u64,
-    first_bound: u64,
-    watch: &mut Counted,
-) -> Result<String, Fail> {
-    let alloc: Global = machine.alloc;
-    let bounds = Bounds::new(nodes, 1, 1_000).ok_or("in range")?;
+    bounds: Bounds,
+    search: &str,
+    numbers: &[u64],
+    out: &mut String,
+) -> Result<(), AllocError> {
     let effort = Effort {
         most_kept: 1_000,
-        first_bound,
+        first_bound: number_at(numbers, 8, 0),
     };
+    let mut watch = Counted::new(number_at(numbers, 9, 0));
     let mut tables = machine.new_tables()?;
     let ending = find_word_watched(
         rt,
-        alloc,
+        machine.alloc,
         machine,
         &mut tables,
         bounds,
         effort,
         0,
         &NoGate,
-        watch,
-    )?;
-    Ok(match ending {
-        Ending::Answer(Found::Word(word)) => format!(in alloc; "{word:?}")?,
-        Ending::Answer(Found::None) => String::from_str(alloc, "none")?,
-        Ending::Answer(Found::Unsolvable) => String::from_str(alloc, "unsolvable")?,
-        Ending::GivenUp { none_below } => format!(in alloc; "given up, none below {none_below}")?,
-        Ending::Stopped { none_below } => format!(in alloc; "stopped, none below {none_below}")?,
-    })
+        &mut watch,
+    );
+    write!(out, "{ending:?}")?;
+    push_news(search, &watch, out)
 }
 
 // A watch is asked before each level: the word has 4 steps, and 3 are known to be left at least. With a bound that
 // grows the first levels are searched twice.
-#[test]
-fn a_watch_is_asked_before_each_level(rt: HostRuntime) -> Result<(), Fail> {
-    let machine = counter(rt.alloc(), 5, 2, 0);
-    for (first_bound, asked, bound, none_below) in [(9, 4, 9, 3), (0, 7, 4, 4)] {
-        let mut watch = Counted::new(100);
-        let text = ending(&rt, &machine, 9, first_bound, &mut watch)?;
-        assert_eq!(rt; text.as_str(), "[0, 0, 1, 1, 0]");
-        assert_eq!(rt; watch.asked, asked);
-        assert_eq!(rt; watch.last.bound, bound);
-        assert_eq!(rt; watch.last.none_below, none_below);
-    }
-    Ok(())
-}
+//
+// It is stopped in the first search, and in the second one, where more is known. A dive is asked about, and so is the
+// search after it where the dive was stopped.
+const WATCHED: &str =
+    "> news 5 2 0 2 0 9 1 1000 9 100 = Ok(Answer(Word([0, 0, 1, 1, 0]))), asked 4, bound 9, 3 at least
+> news 5 2 0 2 0 9 1 1000 0 100 = Ok(Answer(Word([0, 0, 1, 1, 0]))), asked 7, bound 4, 4 at least
+> watched 5 2 0 2 0 9 1 1000 0 0 = Ok(Stopped { none_below: 3 })
+> watched 5 2 0 2 0 9 1 1000 0 2 = Ok(Stopped { none_below: 3 })
+> watched 5 2 0 2 0 9 1 1000 0 3 = Ok(Stopped { none_below: 4 })
+> watched 5 2 0 2 0 9 1 1000 0 6 = Ok(Stopped { none_below: 4 })
+> watched 5 2 0 2 0 9 1 1000 0 7 = Ok(Answer(Word([0, 0, 1, 1, 0])))
+> asked 500 2 249 2 249 2 1 1000 0 100 = Ok(Answer(None)), asked 1
+> asked 500 2 249 2 249 2 1 1000 0 0 = Ok(Stopped { none_below: 3 }), asked 2";
 
-// It is stopped in the first search, and in the second one, where more is known.
 #[test]
-fn a_watch_stops_a_search(rt: HostRuntime) -> Result<(), Fail> {
-    let machine = counter(rt.alloc(), 5, 2, 0);
-    for (patience, wanted) in [
-        (0, "stopped, none below 3"),
-        (2, "stopped, none below 3"),
-        (3, "stopped, none below 4"),
-        (6, "stopped, none below 4"),
-        (7, "[0, 0, 1, 1, 0]"),
-    ] {
-        let mut watch = Counted::new(patience);
-        let text = ending(&rt, &machine, 9, 0, &mut watch)?;
-        assert_eq!(rt; text.as_str(), wanted);
-    }
-    Ok(())
-}
-
-// A dive is asked about, and so is the search after it where the dive was stopped.
-#[test]
-fn a_watch_stops_a_dive(rt: HostRuntime) -> Result<(), Fail> {
-    let machine = counter(rt.alloc(), 500, 2, 249);
-    let mut patient = Counted::new(100);
-    let text = ending(&rt, &machine, 2, 0, &mut patient)?;
-    assert_eq!(rt; text.as_str(), "none");
-    assert_eq!(rt; patient.asked, 1);
-    let mut hasty = Counted::new(0);
-    let text = ending(&rt, &machine, 2, 0, &mut hasty)?;
-    assert_eq!(rt; text.as_str(), "stopped, none below 3");
-    assert_eq!(rt; hasty.asked, 2);
-    Ok(())
+fn a_watch_is_asked_and_stops_a_search(rt: HostRuntime) -> Result<(), AllocError> {
+    expect_answers(&rt, rt.alloc(), WATCHED)
 }

@@ -5,7 +5,7 @@ use Rattle.std.specs.Bool.{Decides}
 use Rattle.std.proofs.lemmas.Map.Made.{AllPairs-from_IsDistinct}
 use Rattle.search_tests.specs.declared.tallies.Tally.{Tally}
 use Rattle.search_tests.specs.Tallies.{AreDistinct, nothing}
-use Rattle.search_tests.proofs.tallies.Tallies.number.Goals as goal
+use Rattle.search_tests.proofs.tables.Tallies.number.Goals as goal
 
 -- keys that differ are distinct tallies
 distinct_of : {eq : Tally → Tally → Bool} (keys : List Tally) → IsDistinct eq keys → ((a b : Tally) → Decides (eq a b) (a ≡ b)) → AreDistinct keys

@@ -5,7 +5,7 @@ use Rattle.std.proofs.lemmas.List.Quantifiers.{position-Some}
 use Rattle.std.proofs.lemmas.Option.{none-some, same_Some, slice_get-get_or}
 use Rattle.search_tests.specs.declared.tallies.Tally.{Tally}
 use Rattle.search_tests.specs.Tallies.{nothing}
-use Rattle.search_tests.proofs.tallies.Tallies.find.Goals as goal
+use Rattle.search_tests.proofs.tables.Tallies.find.Goals as goal
 
 -- true beside anything
 or_true : (b : Bool) → (b || true) ≡ true

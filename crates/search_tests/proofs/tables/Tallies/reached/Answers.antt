@@ -1,6 +1,6 @@
 use Rattle.std.proofs.lemmas.Option.{slice_get_within, get_or_from_slice_get}
 use Rattle.search_tests.specs.Tallies.{nothing}
-use Rattle.search_tests.proofs.tallies.Tallies.reached.Goals as goal
+use Rattle.search_tests.proofs.tables.Tallies.reached.Goals as goal
 
 pub returns-in-Some-clause-allowed : goal.returns-in-Some-clause-allowed
 returns-in-Some-clause-allowed c = slice_get_within c.args.self.now.tallies.keys c.in-Some.numbered.number c.args.tally c.in-Some.ensures.some
