@@ -1,5 +1,5 @@
 //! Whether a domain and a problem fit together, and the task that they are.
-ghost use Rattle.std.specs.Prelude.{◌≡◌, ◌≢◌, ◌⊎◌, ◌↔◌, [], slice_get, Contains, IfOk, IfErr, IfSome, OnOk};
+ghost use Rattle.std.specs.Prelude.{◌≡◌, ◌≢◌, ◌⊎◌, ◌↔◌, [], true, slice_get, Contains, IfOk, IfErr, IfSome, OnOk};
 ghost use Rattle.hddl_meaning.specs.Building.{IsTaskOf, vocabulary_of};
 ghost use Rattle.hddl_meaning.specs.Items.{FailsAt, IsWellTypedPair};
 ghost use Rattle.hddl_meaning.specs.declared.fault.CheckFault.TheVariants.{OutOfMemory};
@@ -51,6 +51,23 @@ fn check_pair(
     Ok(())
 }
 
+/// Adds the faults of a pair.
+fn find_faults(
+    alloc: Global,
+    domain: &DomainText,
+    problem: &ProblemText,
+    vocabulary: &Vocabulary,
+    found: &mut Findings,
+) -> Result<(), AllocError>
+    requires { vocabulary.now ≡ vocabulary_of domain.now problem.now }
+    ensures added { OnOk result (Adds (PartPassed domain.now problem.now) (PairFails domain.now problem.now) found.old found.new) }
+    ensures known { OnOk result (AreKnown domain.now problem.now ⊎ (AreKnown domain.now problem.now → ⊥)) }
+{
+    let types = TypeHierarchy::of(alloc, domain, vocabulary)?;
+    check_pair(alloc, problem, vocabulary, &types, found)?;
+    Ok(())
+}
+
 /// The first fault of a pair.
 fn fault_of(
     alloc: Global,
@@ -62,9 +79,8 @@ fn fault_of(
     ensures finds { IfOk result (Finds (PairFails domain.now problem.now)) }
     ensures first { IfOk result (λ fault. IfSome fault (IsFirst domain.now problem.now)) }
 {
-    let types = TypeHierarchy::of(alloc, domain, vocabulary)?;
     let mut found = Findings::first(alloc);
-    check_pair(alloc, problem, vocabulary, &types, &mut found)?;
+    find_faults(alloc, domain, problem, vocabulary, &mut found)?;
     Ok(found.faults().first().copied())
 }
 
@@ -86,6 +102,27 @@ fn task_of(
 }
 
 /// The task of a pair, or a fault, or an error where memory was refused.
+fn answer_with(
+    alloc: Global,
+    domain: &DomainText,
+    problem: &ProblemText,
+    vocabulary: &Vocabulary,
+) -> Result<Result<Task, CheckFault>, AllocError>
+    requires vocabulary { vocabulary.now ≡ vocabulary_of domain.now problem.now }
+    ensures fits { IfOk result (λ answer. IfOk answer (λ _. IsWellTypedPair domain.now problem.now)) }
+    ensures task { IfOk result (λ answer. IfOk answer (IsTaskOf domain.now problem.now)) }
+    ensures fault { IfOk result (λ answer. IfErr answer (FailsAt domain.now problem.now)) }
+    ensures first { IfOk result (λ answer. IfErr answer (IsFirst domain.now problem.now)) }
+{
+    let fault = fault_of(alloc, domain, problem, vocabulary)?;
+    if let Some(fault) = fault {
+        return Ok(Err(fault));
+    }
+    let task = task_of(alloc, domain, problem, vocabulary)?;
+    Ok(Ok(task))
+}
+
+/// The task of a pair, or a fault, or an error where memory was refused, with a vocabulary of its own.
 fn answer_of(
     alloc: Global,
     domain: &DomainText,
@@ -97,12 +134,7 @@ fn answer_of(
     ensures first { IfOk result (λ answer. IfErr answer (IsFirst domain.now problem.now)) }
 {
     let vocabulary = Vocabulary::of(alloc, domain, problem)?;
-    let fault = fault_of(alloc, domain, problem, &vocabulary)?;
-    if let Some(fault) = fault {
-        return Ok(Err(fault));
-    }
-    let task = task_of(alloc, domain, problem, &vocabulary)?;
-    Ok(Ok(task))
+    answer_with(alloc, domain, problem, &vocabulary)
 }
 
 /// The task of a domain and a problem that fit together.
@@ -123,6 +155,35 @@ pub fn check(alloc: Global, domain: &DomainText, problem: &ProblemText) -> Resul
         Ok(answer) => answer,
         Err(_) => Err(CheckFault::OutOfMemory),
     }
+}
+
+/// All faults of a pair, in the order in which they are found.
+fn found_with(
+    alloc: Global,
+    domain: &DomainText,
+    problem: &ProblemText,
+    vocabulary: &Vocabulary,
+) -> Result<Findings, AllocError>
+    requires vocabulary { vocabulary.now ≡ vocabulary_of domain.now problem.now }
+    ensures added { IfOk result (Adds (PartPassed domain.now problem.now) (PairFails domain.now problem.now) (record { keeps_all = true; faults = [] })) }
+    ensures known { OnOk result (AreKnown domain.now problem.now ⊎ (AreKnown domain.now problem.now → ⊥)) }
+{
+    let mut found = Findings::all(alloc);
+    find_faults(alloc, domain, problem, vocabulary, &mut found)?;
+    Ok(found)
+}
+
+/// All faults of a pair, in the order in which they are found, with a vocabulary of its own.
+fn all_found(
+    alloc: Global,
+    domain: &DomainText,
+    problem: &ProblemText,
+) -> Result<Findings, AllocError>
+    ensures added { IfOk result (Adds (PartPassed domain.now problem.now) (PairFails domain.now problem.now) (record { keeps_all = true; faults = [] })) }
+    ensures known { OnOk result (AreKnown domain.now problem.now ⊎ (AreKnown domain.now problem.now → ⊥)) }
+{
+    let vocabulary = Vocabulary::of(alloc, domain, problem)?;
+    found_with(alloc, domain, problem, &vocabulary)
 }
 
 /// All faults of a domain and a problem, each once, by their places, the domain's before the problem's: none exactly
@@ -147,10 +208,7 @@ pub fn all_faults(
     // The first is the fault that `check` names.
     ensures first { IfOk result (λ faults. IfSome (slice_get faults.items 0) (IsFirst domain.now problem.now)) }
 {
-    let vocabulary = Vocabulary::of(alloc, domain, problem)?;
-    let types = TypeHierarchy::of(alloc, domain, &vocabulary)?;
-    let mut found = Findings::all(alloc);
-    check_pair(alloc, problem, &vocabulary, &types, &mut found)?;
+    let found = all_found(alloc, domain, problem)?;
     let faults = in_order(alloc, found.faults())?;
     Ok(faults)
 }

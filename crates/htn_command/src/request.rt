@@ -179,11 +179,6 @@ fn read<'a>(alloc: Global, words: &'a [String]) -> Result<Request<'a>, Error>
 pub(crate) fn command<'a>(alloc: Global) -> Result<Command<'a>, AllocError>
     ensures { IfOk result (λ c. app_of c ≡ line.htnplan) }
 {
-    let plan = plan(alloc)?;
-    let verify = verify(alloc)?;
-    let check = check(alloc)?;
-    let explain = explain(alloc)?;
-    let tree = tree(alloc)?;
     let program = Command::new(alloc, "htnplan")
         .version(VERSION)
         .about(
@@ -193,37 +188,39 @@ pub(crate) fn command<'a>(alloc: Global) -> Result<Command<'a>, AllocError>
         .subcommand_required(true)
         .arg_required_else_help(true);
     program
-        .subcommand(plan)?
-        .subcommand(verify)?
-        .subcommand(check)?
-        .subcommand(explain)?
-        .subcommand(tree)
+        .subcommand(plan(alloc)?)?
+        .subcommand(verify(alloc)?)?
+        .subcommand(check(alloc)?)?
+        .subcommand(explain(alloc)?)?
+        .subcommand(tree(alloc)?)
 }
 
 // The command `plan`.
 fn plan<'a>(alloc: Global) -> Result<Command<'a>, AllocError>
     ensures { IfOk result (λ c. (app_of c ≡ line.plan) × ((fields_of c).has_globals ≡ false)) }
 {
-    let nodes = number(alloc, "nodes", "100", value_parser!(u64).range(0..=10_000));
-    let workers = number(alloc, "workers", "1", value_parser!(u64).range(1..=64));
-    let piece = number(
-        alloc,
-        "piece",
-        "64",
-        value_parser!(u64).range(1..=1_000_000),
-    );
-    let progress = flag(alloc, "progress");
-    let seconds = number_or_none(alloc, "seconds", value_parser!(u64).range(1..=31_536_000));
     Command::new(alloc, "plan")
         .about("Prints the plan with the fewest nodes, or `none` (none so small), or `unsolvable`")
         .after_help(PLAN_CALL)
         .arg(file(alloc, "DOMAIN", "The file of the domain, in HDDL"))?
         .arg(file(alloc, "PROBLEM", "The file of the problem, in HDDL"))?
-        .arg(nodes.help(NODES))?
-        .arg(workers.help("Threads that search; changes no answer"))?
-        .arg(piece.help("For experiments: how work is cut; changes no answer"))?
-        .arg(progress.help("Lines on standard error that say how the search gets on"))?
-        .arg(seconds.help("Stops the search after about N seconds"))
+        .arg(number(alloc, "nodes", "100", value_parser!(u64).range(0..=10_000)).help(NODES))?
+        .arg(number(alloc, "workers", "1", value_parser!(u64).range(1..=64)).help(
+            "Threads that search; changes no answer",
+        ))?
+        .arg(number(
+            alloc,
+            "piece",
+            "64",
+            value_parser!(u64).range(1..=1_000_000),
+        )
+        .help("For experiments: how work is cut; changes no answer"))?
+        .arg(flag(alloc, "progress").help(
+            "Lines on standard error that say how the search gets on",
+        ))?
+        .arg(number_or_none(alloc, "seconds", value_parser!(u64).range(1..=31_536_000)).help(
+            "Stops the search after about N seconds",
+        ))
 }
 
 // The command `verify`.
@@ -242,15 +239,6 @@ fn verify<'a>(alloc: Global) -> Result<Command<'a>, AllocError>
 fn check<'a>(alloc: Global) -> Result<Command<'a>, AllocError>
     ensures { IfOk result (λ c. (app_of c ≡ line.check) × ((fields_of c).has_globals ≡ false)) }
 {
-    let format = choice(alloc, "format", "FORMAT", "text");
-    let limit = number(
-        alloc,
-        "limit",
-        "20",
-        value_parser!(u64).range(0..=1_000_000),
-    );
-    let strict = flag(alloc, "strict");
-    let color = choice(alloc, "color", "WHEN", "auto");
     Command::new(alloc, "check")
         .about(
             "Says what is wrong with a domain and a problem, with lines, and warns of what is never used",
@@ -258,44 +246,53 @@ fn check<'a>(alloc: Global) -> Result<Command<'a>, AllocError>
         .after_help(CHECK_CALL)
         .arg(file(alloc, "DOMAIN", "The file of the domain, in HDDL"))?
         .arg(file_or_none(alloc, "PROBLEM", "The file of the problem"))?
-        .arg(format.help("How it is printed: text, short, json"))?
-        .arg(limit.help("Diagnostics that text shows; 0 is all"))?
-        .arg(strict.help("A warning is status 1"))?
-        .arg(color.help("Colours: auto, always, never"))
+        .arg(choice(alloc, "format", "FORMAT", "text").help(
+            "How it is printed: text, short, json",
+        ))?
+        .arg(number(
+            alloc,
+            "limit",
+            "20",
+            value_parser!(u64).range(0..=1_000_000),
+        )
+        .help("Diagnostics that text shows; 0 is all"))?
+        .arg(flag(alloc, "strict").help("A warning is status 1"))?
+        .arg(choice(alloc, "color", "WHEN", "auto").help("Colours: auto, always, never"))
 }
 
 // The command `explain`.
 fn explain<'a>(alloc: Global) -> Result<Command<'a>, AllocError>
     ensures { IfOk result (λ c. (app_of c ≡ line.explain) × ((fields_of c).has_globals ≡ false)) }
 {
-    let format = choice(alloc, "format", "FORMAT", "text");
-    let states = flag(alloc, "states");
-    let color = choice(alloc, "color", "WHEN", "auto");
     Command::new(alloc, "explain")
         .about("Says why a plan is invalid")
         .after_help(EXPLAIN_CALL)
         .arg(file(alloc, "DOMAIN", "The file of the domain, in HDDL"))?
         .arg(file(alloc, "PROBLEM", "The file of the problem, in HDDL"))?
         .arg(file(alloc, "PLAN", "The file of the plan, as `plan` prints it"))?
-        .arg(format.help("How it is printed: text, short, json"))?
-        .arg(states.help("What each action makes true and false"))?
-        .arg(color.help("Colours: auto, always, never"))
+        .arg(choice(alloc, "format", "FORMAT", "text").help(
+            "How it is printed: text, short, json",
+        ))?
+        .arg(flag(alloc, "states").help("What each action makes true and false"))?
+        .arg(choice(alloc, "color", "WHEN", "auto").help("Colours: auto, always, never"))
 }
 
 // The command `tree`.
 fn tree<'a>(alloc: Global) -> Result<Command<'a>, AllocError>
     ensures { IfOk result (λ c. (app_of c ≡ line.tree) × ((fields_of c).has_globals ≡ false)) }
 {
-    let format = choice(alloc, "format", "FORMAT", "text");
-    let color = choice(alloc, "color", "WHEN", "auto");
     Command::new(alloc, "tree")
         .about("Draws the decomposition tree of a plan: text, ascii, json, dot, svg, html")
         .after_help(TREE_CALL)
         .arg(file(alloc, "DOMAIN", "The file of the domain, in HDDL"))?
         .arg(file(alloc, "PROBLEM", "The file of the problem, in HDDL"))?
         .arg(file(alloc, "PLAN", "The file of the plan, as `plan` prints it"))?
-        .arg(format.help("How it is drawn: text, ascii, json, dot, svg, html"))?
-        .arg(color.help("Colours of what is wrong with a text: auto, always, never"))
+        .arg(choice(alloc, "format", "FORMAT", "text").help(
+            "How it is drawn: text, ascii, json, dot, svg, html",
+        ))?
+        .arg(choice(alloc, "color", "WHEN", "auto").help(
+            "Colours of what is wrong with a text: auto, always, never",
+        ))
 }
 
 // An option with one of some words.

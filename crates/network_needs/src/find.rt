@@ -114,6 +114,58 @@ fn set_all(marks: &mut [u64]) -> bool {
 }
 
 impl Search {
+    /// A search without decompositions.
+    fn empty(alloc: Global) -> Search {
+        Search {
+            leaves: Leaves::new(alloc),
+            owners: Vec::new(alloc),
+            nodes: Vec::new(alloc),
+            gives: Vec::new(alloc),
+            wants: Vec::new(alloc),
+        }
+    }
+
+    /// A node of a decomposition by its number.
+    fn node_of(
+        &mut self,
+        alloc: Global,
+        task: &Task,
+        graph: &TaskGraph,
+        tasks: &IndexSet<GroundTask>,
+        child: &Child,
+    ) -> Result<Node, AllocError> {
+        match child {
+            Child::Task(goal) => Ok(Node::Task(task_number(tasks, goal))),
+            Child::Precondition(_) | Child::Action(_) => {
+                let number = self.leaves.meet(alloc, task, graph, child)?;
+                Ok(Node::Leaf(number))
+            }
+        }
+    }
+
+    /// Adds a decomposition.
+    fn add(
+        &mut self,
+        alloc: Global,
+        task: &Task,
+        graph: &TaskGraph,
+        tasks: &IndexSet<GroundTask>,
+        decomposition: &Decomposition,
+    ) -> Result<(), AllocError> {
+        let mut numbers = Vec::new(alloc);
+        for child in decomposition.children.as_slice() {
+            let node = self.node_of(alloc, task, graph, tasks, child)?;
+            numbers.push(node)?;
+        }
+        self.nodes.push(numbers)?;
+        let owner = match graph.task(decomposition.task) {
+            Some(goal) => task_number(tasks, goal),
+            None => u32::MAX,
+        };
+        self.owners.push(owner)?;
+        Ok(())
+    }
+
     /// The search over the nodes of all decompositions.
     fn new(
         alloc: Global,
@@ -121,33 +173,11 @@ impl Search {
         graph: &TaskGraph,
         tasks: &IndexSet<GroundTask>,
     ) -> Result<Search, AllocError> {
-        let mut leaves = Leaves::new(alloc);
-        let mut owners = Vec::new(alloc);
-        let mut nodes = Vec::new(alloc);
+        let mut search = Search::empty(alloc);
         for decomposition in graph.decompositions() {
-            let mut numbers = Vec::new(alloc);
-            for child in decomposition.children.as_slice() {
-                let node = match child {
-                    Child::Task(goal) => Node::Task(task_number(tasks, goal)),
-                    Child::Precondition(_) | Child::Action(_) => {
-                        Node::Leaf(leaves.meet(alloc, task, graph, child)?)
-                    }
-                };
-                numbers.push(node)?;
-            }
-            nodes.push(numbers)?;
-            owners.push(match graph.task(decomposition.task) {
-                Some(goal) => task_number(tasks, goal),
-                None => u32::MAX,
-            })?;
+            search.add(alloc, task, graph, tasks, decomposition)?;
         }
-        Ok(Search {
-            leaves,
-            owners,
-            nodes,
-            gives: Vec::new(alloc),
-            wants: Vec::new(alloc),
-        })
+        Ok(search)
     }
 
     /// The number of the task of a decomposition.
@@ -363,16 +393,30 @@ impl Search {
         })
     }
 
+    /// The rows of the compound tasks.
+    fn task_rows(&self, alloc: Global, tasks: usize) -> Result<Vec<Row>, AllocError> {
+        let mut rows = Vec::new(alloc);
+        for number in 0..tasks {
+            let row = self.task_row(alloc, number)?;
+            rows.push(row)?;
+        }
+        Ok(rows)
+    }
+
+    /// The rows of the other nodes.
+    fn leaf_rows(&self, alloc: Global) -> Result<Vec<Row>, AllocError> {
+        let mut rows = Vec::new(alloc);
+        for number in 0..self.leaves.leaves.len() {
+            let row = self.leaf_row(alloc, number)?;
+            rows.push(row)?;
+        }
+        Ok(rows)
+    }
+
     /// The rows of all nodes.
     fn rows(self, alloc: Global, tasks: usize) -> Result<Rows, AllocError> {
-        let mut task_rows = Vec::new(alloc);
-        for number in 0..tasks {
-            task_rows.push(self.task_row(alloc, number)?)?;
-        }
-        let mut leaf_rows = Vec::new(alloc);
-        for number in 0..self.leaves.leaves.len() {
-            leaf_rows.push(self.leaf_row(alloc, number)?)?;
-        }
+        let task_rows = self.task_rows(alloc, tasks)?;
+        let leaf_rows = self.leaf_rows(alloc)?;
         let leaves = self.leaves;
         Ok(Rows {
             literals: leaves.literals,

@@ -1,7 +1,7 @@
 //! The needs of a task's networks.
-ghost use Rattle.std.specs.Prelude.{◌≡◌, All, IfOk, IsTrue, true};
+ghost use Rattle.std.specs.Prelude.{◌≡◌, [], All, IfOk, IsTrue, true};
 ghost use Rattle.htn_model.specs.Grounding.{problem_of};
-ghost use Rattle.task_graph.specs.Graph.{IsGraph, is_task_listed};
+ghost use Rattle.task_graph.specs.Graph.{AreBarredActions, IsGraph, is_task_listed};
 ghost use Rattle.network_needs.specs.Checked.{AreRowsRight};
 ghost use Rattle.network_needs.specs.Needs.{IsOutlook};
 ghost use Rattle.network_needs.specs.Rows.{outlook_of};
@@ -55,28 +55,45 @@ impl Needs {
         Ok(are_leaves_right)
     }
 
-    /// The needs of the nodes of a graph. Where rows would be too large, or fail their check, no node has one, and only
-    /// actions that are never carried out are known never to end.
-    pub fn of(alloc: Global, task: &Task, graph: &TaskGraph) -> Result<Needs, AllocError>
-        ensures { IfOk result (λ n. IsGraph task.now graph.now → IsOutlook (problem_of task.now) (outlook_of n)) }
+    /// The rows that are found for the nodes of a graph, which may be wrong.
+    fn found(alloc: Global, task: &Task, graph: &TaskGraph) -> Result<Needs, AllocError>
+        ensures { IfOk result (λ n. AreBarredActions graph.now n.barred.keys) }
     {
         let tasks = listed_tasks(alloc, graph)?;
         let rows = find_rows(alloc, task, graph, &tasks)?;
         let barred = graph.barred_actions(alloc)?;
-        let needs = Needs {
+        Ok(Needs {
             tasks,
             barred,
             rows,
-        };
-        let are_right = needs.are_rows_right(graph)?;
-        if are_right {
-            return Ok(needs);
-        }
+        })
+    }
+
+    /// No node has a row.
+    fn without_rows(alloc: Global, graph: &TaskGraph) -> Result<Needs, AllocError>
+        ensures barred { IfOk result (λ n. AreBarredActions graph.now n.barred.keys) }
+        ensures tasks { IfOk result (λ n. n.tasks.keys ≡ []) }
+        ensures leaves { IfOk result (λ n. n.rows.leaf_rows.items ≡ []) }
+    {
         let barred = graph.barred_actions(alloc)?;
         Ok(Needs {
             tasks: IndexSet::new(alloc),
             barred,
             rows: Rows::none(alloc),
         })
+    }
+
+    /// The needs of the nodes of a graph. Where rows would be too large, or fail their check, no node has one, and only
+    /// actions that are never carried out are known never to end.
+    pub fn of(alloc: Global, task: &Task, graph: &TaskGraph) -> Result<Needs, AllocError>
+        ensures { IfOk result (λ n. IsGraph task.now graph.now → IsOutlook (problem_of task.now) (outlook_of n)) }
+    {
+        let needs = Needs::found(alloc, task, graph)?;
+        let are_right = needs.are_rows_right(graph)?;
+        if are_right {
+            return Ok(needs);
+        }
+        let bare = Needs::without_rows(alloc, graph)?;
+        Ok(bare)
     }
 }

@@ -1,9 +1,6 @@
 -- Where the notes of a diagnostic stand.
-use Rattle.std.specs.Prelude.{◌≡◌, ◌⊎◌, ℕ, List, Some}
-use Rattle.hddl_words.specs.Names.{Name, Variable}
+use Rattle.std.specs.Prelude.{◌≡◌, ◌⊎◌, ℕ, List}
 use Rattle.hddl_tree.specs.Places.{place_of}
-use Rattle.hddl_tree.specs.declared.term.NameGroup.{NameGroup}
-use Rattle.hddl_tree.specs.declared.term.VariableGroup.{VariableGroup}
 use Rattle.hddl_tree.specs.declared.network.NetworkText.{NetworkText}
 use Rattle.hddl_tree.specs.declared.network.OrderingText.{OrderingText}
 use Rattle.hddl_tree.specs.declared.network.SubtaskText.{SubtaskText}
@@ -13,6 +10,7 @@ use Rattle.hddl_tree.specs.declared.domain.MethodText.{MethodText}
 use Rattle.hddl_tree.specs.declared.domain.PredicateText.{PredicateText}
 use Rattle.hddl_tree.specs.declared.domain.TaskText.{TaskText}
 use Rattle.hddl_tree.specs.declared.problem.ProblemText.{ProblemText}
+use Rattle.hddl_locate.specs.Places.{DeclaresName, DeclaresVariable, WritesType}
 use Rattle.hddl_meaning.specs.Mentions.{IsIn}
 use Rattle.hddl_meaning.specs.declared.fault.At.{At}
 use Rattle.hddl_meaning.specs.declared.fault.Source.{Source}
@@ -22,18 +20,6 @@ use Rattle.pair_messages.specs.declared.texts.PairTexts.{PairTexts}
 use Rattle.pair_messages.specs.Heads.{IsSpotAt, text_of}
 
 -- ## Declarations at a place
-
--- a name of a typed list
-abbrev pub DeclaresName : List NameGroup → ℕ → Type 0
-DeclaresName groups place = (g : NameGroup) × IsIn g groups × ((n : Name) × IsIn n g.names × (n.place ≡ place))
-
--- a type that is written in a typed list
-abbrev pub WritesType : List NameGroup → ℕ → Type 0
-WritesType groups place = (g : NameGroup) × IsIn g groups × ((n : Name) × (g.of_type ≡ Some n) × (n.place ≡ place))
-
--- a variable of a typed list
-abbrev pub DeclaresVariable : List VariableGroup → ℕ → Type 0
-DeclaresVariable groups place = (g : VariableGroup) × IsIn g groups × ((x : Variable) × IsIn x g.variables × (x.place ≡ place))
 
 -- a predicate, or a parameter of it
 abbrev pub DeclaresPredicate : List PredicateText → ℕ → Type 0

@@ -28,7 +28,8 @@ use Rattle.pair_messages.specs.Heads.{text_of, word_from}
 use Rattle.pair_messages.specs.Sayings.{messages}
 use Rattle.pair_messages.specs.declared.stands.Stand.{Stand}
 use Rattle.pair_messages.specs.declared.stands.Stand.TheVariants as stand
-use Rattle.pair_messages.specs.Stands.{in_force, term_place, uses_of_kind}
+use Rattle.hddl_locate.specs.Places.{term_place}
+use Rattle.pair_messages.specs.Stands.{in_force, uses_of_kind}
 
 -- ## Offers in messages
 

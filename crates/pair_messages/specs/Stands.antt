@@ -2,7 +2,6 @@
 use Rattle.std.specs.Prelude.{◌≡◌, ℕ, List, [], ◌∷◌, ◌++◌, slice_get, Some}
 use Rattle.std.specs.List.{flat_map}
 use Rattle.hddl_tree.specs.declared.term.Term.{Term}
-use Rattle.hddl_tree.specs.declared.term.Term.TheVariants as term
 use Rattle.hddl_tree.specs.declared.term.AtomText.{AtomText}
 use Rattle.hddl_tree.specs.declared.term.VariableGroup.{VariableGroup}
 use Rattle.hddl_tree.specs.declared.condition.Condition.{Condition}
@@ -10,6 +9,7 @@ use Rattle.hddl_tree.specs.declared.condition.EqualityText.{EqualityText}
 use Rattle.hddl_tree.specs.declared.network.NetworkText.{NetworkText}
 use Rattle.hddl_tree.specs.declared.domain.DomainText.{DomainText}
 use Rattle.hddl_tree.specs.declared.problem.ProblemText.{ProblemText}
+use Rattle.hddl_locate.specs.Places.{term_place}
 use Rattle.hddl_meaning.specs.Mentions.{IsIn}
 use Rattle.hddl_meaning.specs.Uses as uses
 use Rattle.hddl_meaning.specs.Uses.{Schema, TermUse, Variable, atoms_in, constraints_in, domain_schemas, parameters_of, problem_schemas, quantified_of, sides, sides_in, subtasks_in}
@@ -25,11 +25,6 @@ use Rattle.pair_messages.specs.declared.stands.Kind.TheVariants as kind
 use Rattle.pair_messages.specs.declared.stands.Stand.{Stand}
 use Rattle.pair_messages.specs.declared.stands.Stand.TheVariants as stand
 use Rattle.pair_messages.specs.declared.stands.Use.{Use}
-
--- the place of a term
-abbrev pub term_place : Term → ℕ
-term_place (term.Variable x) = x.place
-term_place (term.Object x) = x.place
 
 -- the parameters of a method, an action or the initial network
 abbrev pub section_parameters : Section → List VariableGroup

@@ -1,10 +1,10 @@
 //! What is declared at a place.
 
-use crate::locate::{
+use crate::phrases::Section;
+use hddl_locate::{
     action_by, condition_by, method_by, predicate_by, subtask_by, task_by, typed_name_at,
     typed_or_type_at, typed_variable_at,
 };
-use crate::phrases::Section;
 use hddl_meaning::{At, Source as Side};
 use hddl_tree::{Condition, DomainText, NetworkText, ProblemText, VariableGroup};
 

@@ -2,7 +2,6 @@
 #![tactic(auto)]
 
 mod arguments;
-mod circles;
 mod clashes;
 mod declared;
 mod duplicates;
@@ -10,7 +9,6 @@ mod fits;
 mod index;
 mod known;
 mod limits;
-mod locate;
 mod names;
 mod near;
 mod noted;

@@ -5,12 +5,12 @@ ghost use Rattle.std.specs.Prelude.{true, ◌≡◌, IfOk};
 ghost use Rattle.std.specs.List.{All};
 ghost use Rattle.pair_messages.specs.Notes as spec;
 
-use crate::locate::{
+use crate::texts::{PairTexts, spot_of};
+use diagnostics::{Note, Role};
+use hddl_locate::{
     action_by, method_by, ordering_by, predicate_by, subtask_by, task_by, typed_name_at,
     typed_or_type_at, typed_variable_at,
 };
-use crate::texts::{PairTexts, spot_of};
-use diagnostics::{Note, Role};
 use hddl_meaning::{At, Source as Side};
 use hddl_tree::{DomainText, NetworkText, ProblemText};
 use std::alloc::{AllocError, Global};

@@ -8,14 +8,14 @@ ghost use Rattle.near_names.specs.Near.{names_of};
 ghost use Rattle.pair_messages.specs.Offers.{label_text, label_texts, offered, offered_by, offered_if, IsForLabel, IsForOrdering, IsNearest};
 ghost use Rattle.pair_messages.specs.Stands.{IsNetworkIn, IsNetworkOf, IsSectionOf};
 
-use crate::circles::shortest_cycle;
 use crate::index::PairIndex;
-use crate::locate::{method_by, ordering_by};
 use crate::near::nearest_within;
 use crate::phrases::{Section, did_you_mean, plain, push_names, push_section};
 use crate::saying::Saying;
 use crate::texts::spot_of;
+use cycles::shortest_cycle;
 use diagnostics::Part;
+use hddl_locate::{method_by, ordering_by};
 use hddl_meaning::{At, Source as Side};
 use hddl_names::fold_to_vec;
 use hddl_tree::{Name, NetworkText, OrderingText};

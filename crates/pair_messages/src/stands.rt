@@ -4,11 +4,11 @@ ghost use Rattle.std.specs.Prelude.{◌≡◌, IfOk, IfSome};
 ghost use Rattle.hddl_meaning.specs.Uses as uses;
 ghost use Rattle.pair_messages.specs.Stands.{in_force, schema_of_atom, schema_of_conditions, schema_of_equality, schema_of_subtasks, section_parameters, StandsAt, StandsIn, StandsInDomain, StandsInProblem};
 
-use crate::locate::{
+use crate::phrases::Section;
+use hddl_locate::{
     action_by, argument_at, atom_by, condition_by, equality_by, literal_by, method_by, subtask_by,
     term_place,
 };
-use crate::phrases::Section;
 use hddl_meaning::{At, Source as Side};
 use hddl_tree::{
     AtomText, Condition, DomainText, EqualityText, NetworkText, ProblemText, Term, VariableGroup,

@@ -35,6 +35,23 @@ pub(crate) struct Actions {
     ready: Vec<u32>,
 }
 
+/// Adds a copy of a ground task to a set.
+pub(crate) fn insert_copy(
+    goals: &mut IndexSet<GroundTask>,
+    goal: &GroundTask,
+) -> Result<(), AllocError> {
+    let copy = goal.clone()?;
+    let _ = goals.insert(copy)?;
+    Ok(())
+}
+
+/// Adds a copy of an atom to a list.
+fn push_copy(atoms: &mut Vec<Atom>, atom: &Atom) -> Result<(), AllocError> {
+    let copy = atom.clone()?;
+    atoms.push(copy)?;
+    Ok(())
+}
+
 /// The atoms of a state that are not among the atoms of another one.
 fn lasting(alloc: Global, initial: &[Atom], failing: &State) -> Result<State, AllocError> {
     let mut atoms = Vec::new(alloc);
@@ -265,26 +282,43 @@ impl Actions {
         }
     }
 
+    /// The fluent atoms that may become true: those that are true at first, and those that become true.
+    fn rising(&self, alloc: Global, first: &[Atom]) -> Result<State, AllocError> {
+        let mut rising = Vec::from_clones(alloc, first)?;
+        for (number, literal) in self.literals.as_slice().iter().enumerate() {
+            if self.is_reached(number)
+                && let Literal::Positive(atom) = literal
+            {
+                push_copy(&mut rising, atom)?;
+            }
+        }
+        State::of(alloc, &rising)
+    }
+
+    /// The fluent atoms that may become false.
+    fn failing(&self, alloc: Global) -> Result<State, AllocError> {
+        let mut failing = Vec::new(alloc);
+        for (number, literal) in self.literals.as_slice().iter().enumerate() {
+            if self.is_reached(number)
+                && let Literal::Negative(atom) = literal
+            {
+                push_copy(&mut failing, atom)?;
+            }
+        }
+        State::of(alloc, &failing)
+    }
+
     /// The fluent atoms that may become true, and those that are true at first and never become false.
     pub(crate) fn facts(&self, alloc: Global, task: &Task) -> Result<FactSets, AllocError> {
         let first = initial_fluents(alloc, task)?;
-        let mut rising = Vec::from_clones(alloc, first.as_slice())?;
-        let mut failing = Vec::new(alloc);
-        for (number, literal) in self.literals.as_slice().iter().enumerate() {
-            if !self.is_reached(number) {
-                continue;
-            }
-            match literal {
-                Literal::Positive(atom) => rising.push(atom.clone()?)?,
-                Literal::Negative(atom) => failing.push(atom.clone()?)?,
-                Literal::Same(_, _) | Literal::Different(_, _) => {}
-            }
-        }
-        let failing = State::of(alloc, &failing)?;
+        let failing = self.failing(alloc)?;
+        let lasting = lasting(alloc, first.as_slice(), &failing)?;
+        let possible = self.rising(alloc, first.as_slice())?;
+        let fluents = Vec::from_slice(alloc, task.fluents())?;
         Ok(FactSets {
-            fluents: Vec::from_slice(alloc, task.fluents())?,
-            possible: State::of(alloc, &rising)?,
-            lasting: lasting(alloc, first.as_slice(), &failing)?,
+            fluents,
+            possible,
+            lasting,
         })
     }
 
@@ -292,12 +326,39 @@ impl Actions {
     pub(crate) fn marks(&self, alloc: Global) -> Result<Marks, AllocError> {
         let mut marks = Marks::none(alloc);
         for goal in self.goals.as_slice() {
-            let _ = marks.known.insert(goal.clone()?)?;
+            insert_copy(&mut marks.known, goal)?;
             if !self.is_possible(goal) {
-                let _ = marks.blocked.insert(goal.clone()?)?;
+                insert_copy(&mut marks.blocked, goal)?;
             }
         }
         Ok(marks)
+    }
+
+    /// Adds the actions of the initial networks.
+    fn meet_initials(
+        &mut self,
+        alloc: Global,
+        task: &Task,
+        graph: &TaskGraph,
+    ) -> Result<(), AllocError> {
+        let initials = distinct_initials(alloc, task)?;
+        for initial in initials.as_slice() {
+            self.meet(alloc, task, graph, initial.children().as_slice())?;
+        }
+        Ok(())
+    }
+
+    /// Adds the actions of the decompositions.
+    fn meet_decompositions(
+        &mut self,
+        alloc: Global,
+        task: &Task,
+        graph: &TaskGraph,
+    ) -> Result<(), AllocError> {
+        for decomposition in graph.decompositions() {
+            self.meet(alloc, task, graph, decomposition.children.as_slice())?;
+        }
+        Ok(())
     }
 }
 
@@ -308,12 +369,8 @@ pub(crate) fn find_actions(
     graph: &TaskGraph,
 ) -> Result<Actions, AllocError> {
     let mut actions = Actions::new(alloc);
-    for initial in &distinct_initials(alloc, task)? {
-        actions.meet(alloc, task, graph, initial.children().as_slice())?;
-    }
-    for decomposition in graph.decompositions() {
-        actions.meet(alloc, task, graph, decomposition.children.as_slice())?;
-    }
+    actions.meet_initials(alloc, task, graph)?;
+    actions.meet_decompositions(alloc, task, graph)?;
     actions.run(alloc)?;
     Ok(actions)
 }

@@ -10,29 +10,66 @@ ghost use Rattle.relaxed_reach.specs.Reach.{IsRelaxedReach, is_reached};
 ghost use Rattle.relaxed_reach.specs.Tables.{reach_of};
 
 use crate::check::are_listed;
-use crate::find::find_actions;
-use crate::reach::RelaxedReach;
+use crate::find::{Actions, find_actions};
+use crate::reach::{Marks, RelaxedReach};
 use crate::tasks::task_marks;
 use htn_task::Task;
 use std::alloc::{AllocError, Global};
 use task_graph::TaskGraph;
+
+/// The facts of a worklist that has ended, and the barred actions, without marks.
+fn facts_of(
+    alloc: Global,
+    task: &Task,
+    graph: &TaskGraph,
+    search: &Actions,
+) -> Result<RelaxedReach, AllocError>
+    ensures { IfOk result (λ r. AreBarredActions graph.now r.barred.keys) }
+{
+    let facts = search.facts(alloc, task)?;
+    let barred = graph.barred_actions(alloc)?;
+    Ok(RelaxedReach {
+        facts,
+        actions: Marks::none(alloc),
+        tasks: Marks::none(alloc),
+        barred,
+    })
+}
+
+/// The facts and marks of a worklist that has ended. They are not promised to be right.
+fn reach_by(
+    alloc: Global,
+    task: &Task,
+    graph: &TaskGraph,
+    search: &Actions,
+) -> Result<RelaxedReach, AllocError>
+    ensures { IfOk result (λ r. AreBarredActions graph.now r.barred.keys) }
+{
+    let mut reach = facts_of(alloc, task, graph, search)?;
+    reach.mark(alloc, graph, search)?;
+    Ok(reach)
+}
 
 /// The facts and marks that a worklist finds. They are not promised to be right.
 fn find_reach(alloc: Global, task: &Task, graph: &TaskGraph) -> Result<RelaxedReach, AllocError>
     ensures { IfOk result (λ r. AreBarredActions graph.now r.barred.keys) }
 {
     let search = find_actions(alloc, task, graph)?;
-    let facts = search.facts(alloc, task)?;
-    let tasks = task_marks(alloc, graph, &search, &facts)?;
-    Ok(RelaxedReach {
-        facts,
-        actions: search.marks(alloc)?,
-        tasks,
-        barred: graph.barred_actions(alloc)?,
-    })
+    reach_by(alloc, task, graph, &search)
 }
 
 impl RelaxedReach {
+    /// Marks actions and compound tasks as a worklist found them.
+    fn mark(&mut self, alloc: Global, graph: &TaskGraph, search: &Actions) -> Result<(), AllocError>
+        ensures { self.new.barred ≡ self.old.barred }
+    {
+        let tasks = task_marks(alloc, graph, search, &self.facts)?;
+        self.tasks = tasks;
+        let actions = search.marks(alloc)?;
+        self.actions = actions;
+        Ok(())
+    }
+
     /// Whether the marks of compound tasks are right.
     fn are_tasks_right(&self, graph: &TaskGraph) -> Result<bool, AllocError>
         ensures { IfOk result (λ b. IsTrue b → AreTasksRight self.now graph.now) }

@@ -2,12 +2,23 @@
 //! marks have no contract, since [`RelaxedReach::of`] checks them.
 
 use crate::facts::FactSets;
-use crate::find::Actions;
+use crate::find::{Actions, insert_copy};
 use crate::reach::Marks;
-use htn_ground::Child;
+use htn_ground::{Child, GroundTask};
 use std::alloc::{AllocError, Global};
 use std::mem;
 use task_graph::{Decomposition, NodeId, TaskGraph};
+
+/// Adds a task to those that are known, or that never end.
+fn mark(marks: &mut Marks, goal: &GroundTask, entry: &Entry) -> Result<(), AllocError> {
+    if entry.is_known {
+        insert_copy(&mut marks.known, goal)?;
+    }
+    if !entry.ends {
+        insert_copy(&mut marks.blocked, goal)?;
+    }
+    Ok(())
+}
 
 /// What is known of a listed node. That of a step or an action is not used.
 #[derive(Drop)]
@@ -183,15 +194,11 @@ impl Tasks {
     /// The tasks that are known, and those that never end.
     fn marks(&self, alloc: Global, graph: &TaskGraph) -> Result<Marks, AllocError> {
         let mut marks = Marks::none(alloc);
-        for (node, entry) in graph.nodes().iter().zip(&self.entries) {
-            let Child::Task(goal) = node else {
-                continue;
-            };
-            if entry.is_known {
-                let _ = marks.known.insert(goal.clone()?)?;
-            }
-            if !entry.ends {
-                let _ = marks.blocked.insert(goal.clone()?)?;
+        for number in 0..self.entries.len() {
+            if let Some(entry) = self.entries.get(number)
+                && let Some(Child::Task(goal)) = graph.nodes().get(number)
+            {
+                mark(&mut marks, goal, entry)?;
             }
         }
         Ok(marks)

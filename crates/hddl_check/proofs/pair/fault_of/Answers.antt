@@ -1,8 +1,6 @@
-use Rattle.std.proofs.Common.{◌⊎◌, ◌∙◌, IfSome, Option, ap, slice_get, subst, sym}
-use Rattle.hddl_tree.specs.declared.domain.DomainText.{DomainText}
+use Rattle.std.proofs.Common.{◌∙◌, IfSome, Option, ap, slice_get, subst, sym}
 use Rattle.hddl_meaning.specs.declared.fault.CheckFault.{CheckFault}
 use Rattle.hddl_scope.specs.Findings.{Adds, Finds, Kept}
-use Rattle.hddl_uses.specs.Known.{AreKnown}
 use Rattle.hddl_check.specs.Faults.{IsFirst, PairFails}
 use Rattle.hddl_check.specs.TextParts.{PartPassed}
 use Rattle.hddl_check.proofs.Gathering.{first_comes_first, first_finds, some_of}
@@ -13,10 +11,9 @@ pub returns : goal.returns
 returns c =
     let d = c.args.domain.now in
     let p = c.args.problem.now in
-    let after = c.check_pair.new.found in
-    let adds = subst (λ (d : DomainText). Adds (PartPassed d p) (PairFails d p) c.first-found.result after) c.in_ok-types.ensures c.in_ok-check_pair.ensures.added in
-    let start = subst (λ (k : Kept). Adds (PartPassed d p) (PairFails d p) k after) c.first-found.ensures adds in
-    let known = subst (λ (d : DomainText). AreKnown d p ⊎ (AreKnown d p → ⊥)) c.in_ok-types.ensures c.in_ok-check_pair.ensures.known in
+    let after = c.find_faults.new.found in
+    let start = subst (λ (k : Kept). Adds (PartPassed d p) (PairFails d p) k after) c.first-found.ensures c.in_ok-find_faults.ensures.added in
+    let known = c.in_ok-find_faults.ensures.known in
     let is = c.copied.ensures ∙ c.first.ensures.value ∙ ap (λ l. slice_get l 0) c.faults.ensures in
     record {
       finds = subst (Finds (PairFails d p)) (sym is) (first_finds (PartPassed d p) (PairFails d p) after start);

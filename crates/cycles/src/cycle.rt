@@ -194,7 +194,7 @@ fn way_round(
 
 /// The pairs of a cycle, by their numbers, as few as lead from its first position back to it. No pairs where there is
 /// no cycle.
-pub(crate) fn shortest_cycle(
+pub fn shortest_cycle(
     alloc: Global,
     size: usize,
     pairs: &[(usize, usize)],

@@ -1,10 +1,10 @@
-//! The items at a place of a tree. Each list of a tree is in the order of its text, so each is found by binary search;
-//! an item counts only if it begins at the place itself.
+//! The items at a place of a tree. Each list of a tree is in the order of its text, so each is found by binary search:
+//! `_at` finds an item that begins at the place itself, `_by` the last one that doesn't begin after it. In lists of any
+//! other order an item may be missed, and none is found that isn't there.
 
 ghost use Rattle.std.specs.Prelude.{◌≡◌, ◌⊎◌, Contains, IfSome, Some, slice_get};
 ghost use Rattle.hddl_tree.specs.declared.term.Term.{Term};
-ghost use Rattle.pair_messages.specs.Notes.{DeclaresName, DeclaresVariable, WritesType};
-ghost use Rattle.pair_messages.specs.Stands.{term_place as place_of_term};
+ghost use Rattle.hddl_locate.specs.Places.{DeclaresName, DeclaresVariable, WritesType, term_place as place_of_term};
 
 use hddl_tree::{
     ActionText, AtomText, Condition, EqualityText, LiteralText, MethodText, Name, NameGroup,
@@ -12,7 +12,7 @@ use hddl_tree::{
 };
 
 /// The place of a term.
-pub(crate) fn term_place(term: &Term) -> usize
+pub fn term_place(term: &Term) -> usize
     ensures { result ≡ place_of_term term.now }
 {
     match term {
@@ -29,7 +29,7 @@ fn last_of<T>(things: &[T], count: usize) -> Option<&T>
 }
 
 /// The name at a place.
-pub(crate) fn name_at(names: &[Name], place: usize) -> Option<&Name>
+pub fn name_at(names: &[Name], place: usize) -> Option<&Name>
     ensures { IfSome result (λ x. Contains names.now x.now × (x.now.place ≡ place)) }
 {
     let name = last_of(names, names.partition_point(|x| x.place() <= place))?;
@@ -69,7 +69,7 @@ fn variables_begin_by(group: &VariableGroup, place: usize) -> bool {
 }
 
 /// The name of a typed list at a place.
-pub(crate) fn typed_name_at(groups: &[NameGroup], place: usize) -> Option<&Name>
+pub fn typed_name_at(groups: &[NameGroup], place: usize) -> Option<&Name>
     ensures { IfSome result (λ x. DeclaresName groups.now place) }
 {
     let group = last_of(groups, groups.partition_point(|g| names_begin_by(g, place)))?;
@@ -77,7 +77,7 @@ pub(crate) fn typed_name_at(groups: &[NameGroup], place: usize) -> Option<&Name>
 }
 
 /// The name or the type of a typed list at a place.
-pub(crate) fn typed_or_type_at(groups: &[NameGroup], place: usize) -> Option<&Name>
+pub fn typed_or_type_at(groups: &[NameGroup], place: usize) -> Option<&Name>
     ensures { IfSome result (λ x. DeclaresName groups.now place ⊎ WritesType groups.now place) }
 {
     let group = last_of(groups, groups.partition_point(|g| names_begin_by(g, place)))?;
@@ -88,7 +88,7 @@ pub(crate) fn typed_or_type_at(groups: &[NameGroup], place: usize) -> Option<&Na
 }
 
 /// The variable of a typed list at a place.
-pub(crate) fn typed_variable_at(groups: &[VariableGroup], place: usize) -> Option<&Variable>
+pub fn typed_variable_at(groups: &[VariableGroup], place: usize) -> Option<&Variable>
     ensures { IfSome result (λ x. DeclaresVariable groups.now place) }
 {
     let group = last_of(
@@ -99,7 +99,7 @@ pub(crate) fn typed_variable_at(groups: &[VariableGroup], place: usize) -> Optio
 }
 
 /// The last predicate whose name doesn't stand after a place.
-pub(crate) fn predicate_by(predicates: &[PredicateText], place: usize) -> Option<&PredicateText>
+pub fn predicate_by(predicates: &[PredicateText], place: usize) -> Option<&PredicateText>
     ensures { IfSome result (λ x. Contains predicates.now x.now) }
 {
     last_of(
@@ -109,21 +109,21 @@ pub(crate) fn predicate_by(predicates: &[PredicateText], place: usize) -> Option
 }
 
 /// The last compound task whose name doesn't stand after a place.
-pub(crate) fn task_by(tasks: &[TaskText], place: usize) -> Option<&TaskText>
+pub fn task_by(tasks: &[TaskText], place: usize) -> Option<&TaskText>
     ensures { IfSome result (λ x. Contains tasks.now x.now) }
 {
     last_of(tasks, tasks.partition_point(|x| x.name.place() <= place))
 }
 
 /// The last method whose bracket doesn't stand after a place.
-pub(crate) fn method_by(methods: &[MethodText], place: usize) -> Option<&MethodText>
+pub fn method_by(methods: &[MethodText], place: usize) -> Option<&MethodText>
     ensures { IfSome result (λ x. Contains methods.now x.now) }
 {
     last_of(methods, methods.partition_point(|x| x.place <= place))
 }
 
 /// The last action whose name doesn't stand after a place.
-pub(crate) fn action_by(actions: &[ActionText], place: usize) -> Option<&ActionText>
+pub fn action_by(actions: &[ActionText], place: usize) -> Option<&ActionText>
     ensures { IfSome result (λ x. Contains actions.now x.now) }
 {
     last_of(
@@ -133,14 +133,14 @@ pub(crate) fn action_by(actions: &[ActionText], place: usize) -> Option<&ActionT
 }
 
 /// The last subtask that doesn't begin after a place.
-pub(crate) fn subtask_by(subtasks: &[SubtaskText], place: usize) -> Option<&SubtaskText>
+pub fn subtask_by(subtasks: &[SubtaskText], place: usize) -> Option<&SubtaskText>
     ensures { IfSome result (λ x. Contains subtasks.now x.now) }
 {
     last_of(subtasks, subtasks.partition_point(|x| x.place() <= place))
 }
 
 /// The last ordering that doesn't begin after a place.
-pub(crate) fn ordering_by(orderings: &[OrderingText], place: usize) -> Option<&OrderingText>
+pub fn ordering_by(orderings: &[OrderingText], place: usize) -> Option<&OrderingText>
     ensures { IfSome result (λ x. Contains orderings.now x.now) }
 {
     last_of(
@@ -150,14 +150,14 @@ pub(crate) fn ordering_by(orderings: &[OrderingText], place: usize) -> Option<&O
 }
 
 /// The last atom that doesn't begin after a place.
-pub(crate) fn atom_by(atoms: &[AtomText], place: usize) -> Option<&AtomText>
+pub fn atom_by(atoms: &[AtomText], place: usize) -> Option<&AtomText>
     ensures { IfSome result (λ x. Contains atoms.now x.now) }
 {
     last_of(atoms, atoms.partition_point(|x| x.name.place() <= place))
 }
 
 /// The last equality of which the left side doesn't stand after a place.
-pub(crate) fn equality_by(equalities: &[EqualityText], place: usize) -> Option<&EqualityText>
+pub fn equality_by(equalities: &[EqualityText], place: usize) -> Option<&EqualityText>
     ensures { IfSome result (λ x. Contains equalities.now x.now) }
 {
     last_of(
@@ -167,7 +167,7 @@ pub(crate) fn equality_by(equalities: &[EqualityText], place: usize) -> Option<&
 }
 
 /// The last literal that doesn't begin after a place.
-pub(crate) fn literal_by(literals: &[LiteralText], place: usize) -> Option<&LiteralText>
+pub fn literal_by(literals: &[LiteralText], place: usize) -> Option<&LiteralText>
     ensures { IfSome result (λ x. Contains literals.now x.now) }
 {
     last_of(
@@ -201,7 +201,7 @@ fn begins_by(condition: &Condition, place: usize) -> bool {
 }
 
 /// The last condition that doesn't begin after a place.
-pub(crate) fn condition_by(conditions: &[Condition], place: usize) -> Option<&Condition>
+pub fn condition_by(conditions: &[Condition], place: usize) -> Option<&Condition>
     ensures { IfSome result (λ x. Contains conditions.now x.now) }
 {
     last_of(
@@ -211,7 +211,7 @@ pub(crate) fn condition_by(conditions: &[Condition], place: usize) -> Option<&Co
 }
 
 /// The position of the argument at a place.
-pub(crate) fn argument_at(atom: &AtomText, place: usize) -> Option<usize>
+pub fn argument_at(atom: &AtomText, place: usize) -> Option<usize>
     ensures { IfSome result (λ k. (t : Term) → slice_get atom.now.terms k ≡ Some t → place_of_term t ≡ place) }
 {
     let terms = atom.terms.as_slice();

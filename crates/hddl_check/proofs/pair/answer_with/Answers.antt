@@ -2,7 +2,7 @@ use Rattle.std.proofs.Common.{IfSome, Option, subst}
 use Rattle.hddl_meaning.specs.declared.fault.CheckFault.{CheckFault}
 use Rattle.hddl_check.specs.Faults.{IsFirst, PairFails}
 use Rattle.hddl_check.proofs.Whole.{are_known, faults_sound, pair_is_well_typed}
-use Rattle.hddl_check.proofs.pair.answer_of.Goals as goal
+use Rattle.hddl_check.proofs.pair.answer_with.Goals as goal
 
 pub task_of-requires-clause-fits : goal.task_of-requires-clause-fits
 task_of-requires-clause-fits c =
