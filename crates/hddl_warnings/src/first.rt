@@ -3,7 +3,7 @@
 use hddl_meaning::{At, Source};
 use hddl_names::fold;
 use hddl_scope::{Mention, Numbers, names_in};
-use hddl_tree::{DomainText, NetworkText, ProblemText};
+use hddl_tree::{DomainText, NameGroup, NetworkText, ProblemText};
 use std::alloc::{AllocError, Global};
 
 /// The first subtask of each name, and the first declaration of each object, by their places in the two texts.
@@ -65,28 +65,51 @@ fn either(domain: Option<usize>, problem: Option<usize>) -> Option<At> {
     }
 }
 
+/// Keeps the first places of the names of typed lists.
+fn note_groups(
+    alloc: Global,
+    places: &mut Numbers,
+    groups: &[NameGroup],
+) -> Result<(), AllocError> {
+    let names = names_in(alloc, groups)?;
+    note_all(alloc, places, &names)
+}
+
 impl FirstPlaces {
+    /// No places.
+    fn empty(alloc: Global) -> FirstPlaces {
+        FirstPlaces {
+            domain_subtasks: Numbers::new(alloc),
+            problem_subtasks: Numbers::new(alloc),
+            constants: Numbers::new(alloc),
+            objects: Numbers::new(alloc),
+        }
+    }
+
+    /// Adds those in a domain.
+    fn note_domain(&mut self, alloc: Global, domain: &DomainText) -> Result<(), AllocError> {
+        for method in domain.methods.as_slice() {
+            note_subtasks(alloc, &mut self.domain_subtasks, &method.network)?;
+        }
+        note_groups(alloc, &mut self.constants, domain.constants.as_slice())
+    }
+
+    /// Adds those in a problem.
+    fn note_problem(&mut self, alloc: Global, problem: &ProblemText) -> Result<(), AllocError> {
+        note_subtasks(alloc, &mut self.problem_subtasks, &problem.htn.network)?;
+        note_groups(alloc, &mut self.objects, problem.objects.as_slice())
+    }
+
     /// The first places in a domain, and with a problem in both.
     pub(crate) fn of(
         alloc: Global,
         domain: &DomainText,
         problem: Option<&ProblemText>,
     ) -> Result<FirstPlaces, AllocError> {
-        let mut places = FirstPlaces {
-            domain_subtasks: Numbers::new(alloc),
-            problem_subtasks: Numbers::new(alloc),
-            constants: Numbers::new(alloc),
-            objects: Numbers::new(alloc),
-        };
-        for method in domain.methods.as_slice() {
-            note_subtasks(alloc, &mut places.domain_subtasks, &method.network)?;
-        }
-        let constants = names_in(alloc, domain.constants.as_slice())?;
-        note_all(alloc, &mut places.constants, &constants)?;
+        let mut places = FirstPlaces::empty(alloc);
+        places.note_domain(alloc, domain)?;
         if let Some(problem) = problem {
-            note_subtasks(alloc, &mut places.problem_subtasks, &problem.htn.network)?;
-            let objects = names_in(alloc, problem.objects.as_slice())?;
-            note_all(alloc, &mut places.objects, &objects)?;
+            places.note_problem(alloc, problem)?;
         }
         Ok(places)
     }
