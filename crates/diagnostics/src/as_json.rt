@@ -1,9 +1,11 @@
 //! Reports as JSON, for tools.
 
-ghost use Rattle.std.specs.Prelude.{◌≡◌, ◌++◌, [], OnOk, IfOk, IsUtf8, filter, map, not};
+ghost use Rattle.std.specs.Prelude.{◌≡◌, ◌-◌, ◌∷◌, ◌++◌, [], OnOk, IfOk, IsUtf8, codes, count_by, filter, length, map, not};
+ghost use Rattle.serde_json.specs.Data.{string};
 ghost use Rattle.serde_json.specs.View.{view, items_view, members_view};
 ghost use Rattle.diagnostics.specs.Json as spec;
 ghost use Rattle.diagnostics.specs.Json.{with_members, json_bytes, IsReadAs};
+ghost use Rattle.diagnostics.specs.Written.{is_error};
 
 use crate::diagnostic::{
     Diagnostic, Note, Part, Remark, RemarkKind, Role, Severity, Source, Spot, Where,
@@ -195,30 +197,78 @@ fn notes_value(alloc: Global, diagnostic: &Diagnostic<'_>) -> Result<Value, Allo
     Ok(Value::Array(list))
 }
 
+/// Adds the severity and the code of a diagnostic.
+fn put_kind(
+    map: &mut Map<String, Value>,
+    alloc: Global,
+    diagnostic: &Diagnostic<'_>,
+) -> Result<(), AllocError>
+    ensures { OnOk result (members_view map.new.entries ≡ with_members (members_view map.old.entries) ((codes "severity", string (spec.severity_name diagnostic.now.severity)) ∷ (codes "code", string diagnostic.now.code.now) ∷ [])) }
+{
+    put(
+        map,
+        alloc,
+        "severity",
+        Value::try_from_str(alloc, severity_name(diagnostic.severity))?,
+    )?;
+    put(
+        map,
+        alloc,
+        "code",
+        Value::try_from_str(alloc, diagnostic.code)?,
+    )?;
+    Ok(())
+}
+
+/// Adds the message of a diagnostic, what to do, and the notes.
+fn put_said(
+    map: &mut Map<String, Value>,
+    alloc: Global,
+    diagnostic: &Diagnostic<'_>,
+) -> Result<(), AllocError>
+    ensures { OnOk result (members_view map.new.entries ≡ with_members (members_view map.old.entries) ((codes "message", spec.message_json diagnostic.now.message.items) ∷ (codes "help", spec.help_json diagnostic.now.remarks.items) ∷ (codes "notes", spec.notes_json diagnostic.now) ∷ [])) }
+{
+    put(
+        map,
+        alloc,
+        "message",
+        message_value(alloc, diagnostic.message.as_slice())?,
+    )?;
+    put(
+        map,
+        alloc,
+        "help",
+        help_value(alloc, diagnostic.remarks.as_slice())?,
+    )?;
+    put(map, alloc, "notes", notes_value(alloc, diagnostic)?)?;
+    Ok(())
+}
+
+/// Adds the members of a diagnostic.
+fn put_diagnostic(
+    map: &mut Map<String, Value>,
+    alloc: Global,
+    diagnostic: &Diagnostic<'_>,
+) -> Result<(), AllocError>
+    ensures { OnOk result (members_view map.new.entries ≡ with_members (members_view map.old.entries) ((codes "severity", string (spec.severity_name diagnostic.now.severity)) ∷ (codes "code", string diagnostic.now.code.now) ∷ spec.where_members diagnostic.now.about ++ (codes "message", spec.message_json diagnostic.now.message.items) ∷ (codes "help", spec.help_json diagnostic.now.remarks.items) ∷ (codes "notes", spec.notes_json diagnostic.now) ∷ [])) }
+{
+    put_kind(map, alloc, diagnostic)?;
+    put_where(map, alloc, &diagnostic.about)?;
+    put_said(map, alloc, diagnostic)?;
+    Ok(())
+}
+
 /// A diagnostic.
 fn diagnostic_value(alloc: Global, diagnostic: &Diagnostic<'_>) -> Result<Value, AllocError>
     ensures { IfOk result (λ v. view v ≡ spec.diagnostic_json diagnostic.now) }
 {
-    let severity = Value::try_from_str(alloc, severity_name(diagnostic.severity))?;
-    let code = Value::try_from_str(alloc, diagnostic.code)?;
-    let message = message_value(alloc, diagnostic.message.as_slice())?;
-    let help = help_value(alloc, diagnostic.remarks.as_slice())?;
-    let notes = notes_value(alloc, diagnostic)?;
     let mut map = Map::new(alloc);
-    put(&mut map, alloc, "severity", severity)?;
-    put(&mut map, alloc, "code", code)?;
-    put_where(&mut map, alloc, &diagnostic.about)?;
-    put(&mut map, alloc, "message", message)?;
-    put(&mut map, alloc, "help", help)?;
-    put(&mut map, alloc, "notes", notes)?;
+    put_diagnostic(&mut map, alloc, diagnostic)?;
     Ok(Value::Object(map))
 }
 
 /// Each diagnostic.
-pub(crate) fn diagnostics_value(
-    alloc: Global,
-    diagnostics: &[Diagnostic<'_>],
-) -> Result<Value, AllocError>
+fn diagnostics_value(alloc: Global, diagnostics: &[Diagnostic<'_>]) -> Result<Value, AllocError>
     ensures { IfOk result (λ v. view v ≡ spec.array_of (map spec.diagnostic_json diagnostics.now)) }
 {
     let mut list = Vec::new(alloc);
@@ -257,6 +307,55 @@ fn put_reached(
     }
 }
 
+/// Adds the format of a report and its version.
+pub(crate) fn put_head(
+    map: &mut Map<String, Value>,
+    alloc: Global,
+    format: &str,
+) -> Result<(), AllocError>
+    ensures { OnOk result (members_view map.new.entries ≡ with_members (members_view map.old.entries) ((codes "format", string format.now) ∷ (codes "version", spec.count 1) ∷ [])) }
+{
+    put(map, alloc, "format", Value::try_from_str(alloc, format)?)?;
+    put(map, alloc, "version", Value::from(1usize))?;
+    Ok(())
+}
+
+/// Adds the diagnostics.
+pub(crate) fn put_diagnostics(
+    members: &mut Map<String, Value>,
+    alloc: Global,
+    diagnostics: &[Diagnostic<'_>],
+) -> Result<(), AllocError>
+    ensures { OnOk result (members_view members.new.entries ≡ with_members (members_view members.old.entries) ((codes "diagnostics", spec.array_of (map spec.diagnostic_json diagnostics.now)) ∷ [])) }
+{
+    put(
+        members,
+        alloc,
+        "diagnostics",
+        diagnostics_value(alloc, diagnostics)?,
+    )?;
+    Ok(())
+}
+
+/// Adds how many errors and warnings there are.
+fn put_counts(
+    map: &mut Map<String, Value>,
+    alloc: Global,
+    diagnostics: &[Diagnostic<'_>],
+) -> Result<(), AllocError>
+    ensures { OnOk result (members_view map.new.entries ≡ with_members (members_view map.old.entries) ((codes "errors", spec.count (count_by (λ d. is_error d.severity) diagnostics.now)) ∷ (codes "warnings", spec.count (length diagnostics.now - count_by (λ d. is_error d.severity) diagnostics.now)) ∷ [])) }
+{
+    let errors = count_errors(diagnostics);
+    put(map, alloc, "errors", Value::from(errors))?;
+    put(
+        map,
+        alloc,
+        "warnings",
+        Value::from(diagnostics.len() - errors),
+    )?;
+    Ok(())
+}
+
 /// The whole report.
 fn report_value(
     alloc: Global,
@@ -265,20 +364,10 @@ fn report_value(
 ) -> Result<Value, AllocError>
     ensures { IfOk result (λ v. view v ≡ spec.report_json diagnostics.now reached) }
 {
-    let errors = count_errors(diagnostics);
-    let format = Value::try_from_str(alloc, "htnplan-check")?;
-    let list = diagnostics_value(alloc, diagnostics)?;
     let mut map = Map::new(alloc);
-    put(&mut map, alloc, "format", format)?;
-    put(&mut map, alloc, "version", Value::from(1usize))?;
-    put(&mut map, alloc, "errors", Value::from(errors))?;
-    put(
-        &mut map,
-        alloc,
-        "warnings",
-        Value::from(diagnostics.len() - errors),
-    )?;
-    put(&mut map, alloc, "diagnostics", list)?;
+    put_head(&mut map, alloc, "htnplan-check")?;
+    put_counts(&mut map, alloc, diagnostics)?;
+    put_diagnostics(&mut map, alloc, diagnostics)?;
     put_reached(&mut map, alloc, reached)?;
     Ok(Value::Object(map))
 }

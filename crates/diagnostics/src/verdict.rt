@@ -7,7 +7,7 @@ ghost use Rattle.diagnostics.specs.Ink.{written};
 ghost use Rattle.diagnostics.specs.Json.{IsReadAs};
 ghost use Rattle.diagnostics.specs.Verdicts as spec;
 
-use crate::as_json::diagnostics_value;
+use crate::as_json::{put_diagnostics, put_head};
 use crate::diagnostic::{Diagnostic, Part};
 use crate::ink::{Style, end_line, say_in};
 use crate::lines::say_message;
@@ -135,14 +135,10 @@ fn explained_value(
 ) -> Result<Value, AllocError>
     ensures { IfOk result (λ v. view v ≡ spec.explained_json (option_map (λ w. w.now) verdict.entry) diagnostics.now) }
 {
-    let format = Value::try_from_str(alloc, "htnplan-explain")?;
-    let judged = verdict_value(alloc, verdict)?;
-    let list = diagnostics_value(alloc, diagnostics)?;
     let mut map = Map::new(alloc);
-    put(&mut map, alloc, "format", format)?;
-    put(&mut map, alloc, "version", Value::from(1usize))?;
-    put(&mut map, alloc, "verdict", judged)?;
-    put(&mut map, alloc, "diagnostics", list)?;
+    put_head(&mut map, alloc, "htnplan-explain")?;
+    put(&mut map, alloc, "verdict", verdict_value(alloc, verdict)?)?;
+    put_diagnostics(&mut map, alloc, diagnostics)?;
     Ok(Value::Object(map))
 }
 
