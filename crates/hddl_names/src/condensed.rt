@@ -4,7 +4,7 @@
 //! there is no cycle each number is its own head.
 //!
 //! In the words of graphs: the condensation, whose vertices are the strongly connected components.
-ghost use Rattle.std.specs.Prelude.{◌≡◌, ℕ, ◌<◌, ◌↔◌, ◌⊎◌, Contains, IfOk, IfSome, IsTrue, get_or, length, map};
+ghost use Rattle.std.specs.Prelude.{◌≡◌, ℕ, ◌<◌, ◌↔◌, ◌⊎◌, Contains, IfOk, IfSome, IsTrue, List, OnOk, get_or, length, map};
 ghost use Rattle.std.specs.List.{filter};
 ghost use Rattle.htn_order.specs.Closure.{AreBelow};
 ghost use Rattle.hddl_names.specs.Closures.{Tells};
@@ -109,6 +109,48 @@ fn mark(marks: &mut Vec<bool>, numbers: &[usize]) {
     }
 }
 
+/// Makes a number the head of those that it leads to and that lead to it, and marks those that it leads to.
+fn give_heads(
+    alloc: Global,
+    heads: &mut Vec<usize>,
+    seen: &mut Vec<bool>,
+    up: &Rows,
+    down: &Rows,
+    number: usize,
+) -> Result<(), AllocError>
+    requires up { number < length up.now }
+    requires down { number < length down.now }
+    ensures { OnOk result ((pairs : List (ℕ × ℕ)) → AreRows pairs up.now → AreRows (turned_pairs pairs) down.now
+        → (size : ℕ) → number < size → AreHeads pairs size heads.old.items → AreHeads pairs size heads.new.items) }
+{
+    let above = reached(alloc, up, number)?;
+    let below = reached(alloc, down, number)?;
+    give_head(heads, &above, below.as_slice(), number);
+    mark(seen, above.as_slice());
+    Ok(())
+}
+
+/// Heads along the pairs of rows in both directions.
+fn heads_between(
+    alloc: Global,
+    size: usize,
+    up: &Rows,
+    down: &Rows,
+) -> Result<Vec<usize>, AllocError>
+    requires up { length up.now ≡ size }
+    requires down { length down.now ≡ size }
+    ensures { IfOk result (λ heads. (pairs : List (ℕ × ℕ)) → AreRows pairs up.now → AreRows (turned_pairs pairs) down.now → AreHeads pairs size heads.items) }
+{
+    let mut heads = own_heads(alloc, size)?;
+    let mut seen = vec![in alloc; false; size]?;
+    for number in 0..size {
+        if !is_marked(&seen, number) {
+            give_heads(alloc, &mut heads, &mut seen, up, down, number)?;
+        }
+    }
+    Ok(heads)
+}
+
 /// Heads along pairs: where the two numbers of each pair lead to one another, the work is that of going over the pairs.
 fn heads_of(alloc: Global, size: usize, pairs: &[(usize, usize)]) -> Result<Vec<usize>, AllocError>
     requires { AreBelow size pairs.now }
@@ -117,16 +159,7 @@ fn heads_of(alloc: Global, size: usize, pairs: &[(usize, usize)]) -> Result<Vec<
     let back = turned(alloc, pairs)?;
     let up = rows_of(alloc, size, pairs)?;
     let down = rows_of(alloc, size, &back)?;
-    let mut heads = own_heads(alloc, size)?;
-    let mut seen = vec![in alloc; false; size]?;
-    for number in 0..size {
-        if !is_marked(&seen, number) {
-            let above = reached(alloc, &up, number)?;
-            let below = reached(alloc, &down, number)?;
-            give_head(&mut heads, &above, below.as_slice(), number);
-            mark(&mut seen, above.as_slice());
-        }
-    }
+    let heads = heads_between(alloc, size, &up, &down)?;
     Ok(heads)
 }
 
