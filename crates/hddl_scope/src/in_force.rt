@@ -1,5 +1,5 @@
 //! The variables in force, found by their texts.
-ghost use Rattle.std.specs.Prelude.{◌≡◌, ℕ, [], ◌∷◌, ◌++◌, length, take, cond, is_some, Option, Some, None, IfOk, OnErr, OnOk};
+ghost use Rattle.std.specs.Prelude.{◌≡◌, ℕ, [], ◌∷◌, ◌++◌, length, take, cond, is_ok, is_some, Option, Some, None, IfOk, OnErr, OnOk};
 ghost use Rattle.std.specs.Prelude.{option_and_then, option_map, slice_get};
 ghost use Rattle.std.specs.List.{flat_map, position};
 ghost use Rattle.hddl_meaning.specs.Mentions.{Mention, Text};
@@ -70,6 +70,14 @@ fn number_text(
     if first.is_none() {
         positions.add(alloc, text, number)?;
     }
+    Ok(())
+}
+
+/// Adds an entry. Where memory is refused, the entries are as they were.
+fn push_entry<'a>(entries: &mut Vec<Entry<'a>>, entry: Entry<'a>) -> Result<(), AllocError>
+    ensures { entries.new.items ≡ cond (is_ok result) (entries.old.items ++ entry.entry ∷ []) entries.old.items }
+{
+    entries.push(entry)?;
     Ok(())
 }
 
@@ -213,7 +221,7 @@ impl<'a> Scope<'a> {
             texts,
             repeat,
         };
-        if self.entries.push(entry).is_err() {
+        if push_entry(&mut self.entries, entry).is_err() {
             self.positions.truncate(texts);
             return Err(AllocError);
         }

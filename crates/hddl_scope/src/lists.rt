@@ -1,5 +1,5 @@
 //! The names of typed lists and of declarations, as they are compared.
-ghost use Rattle.std.specs.Prelude.{◌≡◌, ◌++◌, map, IfOk, OnOk};
+ghost use Rattle.std.specs.Prelude.{◌≡◌, [], ◌∷◌, ◌++◌, map, IfOk, OnOk};
 ghost use Rattle.std.specs.List.{flat_map};
 ghost use Rattle.hddl_meaning.specs.Names.{optional_mention};
 ghost use Rattle.hddl_meaning.specs.Mentions.{mention_of, mentions_of, typed_names, typed_variables, variable_mention};
@@ -24,6 +24,19 @@ fn push_variables<'a>(
     Ok(())
 }
 
+/// Adds a name as it is compared.
+fn push_mention<'a>(
+    alloc: Global,
+    mentions: &mut Vec<Mention<'a>>,
+    name: &'a Name,
+) -> Result<(), AllocError>
+    ensures { OnOk result (mentions.new.items ≡ mentions.old.items ++ mention_of name.now ∷ []) }
+{
+    let mention = Mention::of_name(alloc, name)?;
+    mentions.push(mention)?;
+    Ok(())
+}
+
 fn push_names<'a>(
     alloc: Global,
     mentions: &mut Vec<Mention<'a>>,
@@ -33,7 +46,7 @@ fn push_names<'a>(
 {
     mentions.reserve(names.len())?;
     for name in names {
-        mentions.push(Mention::of_name(alloc, name)?)?;
+        push_mention(alloc, mentions, name)?;
     }
     Ok(())
 }
@@ -68,7 +81,7 @@ fn push_parent<'a>(
     ensures { OnOk result (mentions.new.items ≡ mentions.old.items ++ optional_mention parent.now) }
 {
     if let Some(name) = parent {
-        mentions.push(Mention::of_name(alloc, name)?)?;
+        push_mention(alloc, mentions, name)?;
     }
     Ok(())
 }
@@ -94,7 +107,7 @@ pub fn predicate_names(
 {
     let mut mentions = Vec::with_capacity(alloc, predicates.len())?;
     for predicate in predicates {
-        mentions.push(Mention::of_name(alloc, &predicate.name)?)?;
+        push_mention(alloc, &mut mentions, &predicate.name)?;
     }
     Ok(mentions)
 }
@@ -105,7 +118,7 @@ pub fn method_names(alloc: Global, methods: &[MethodText]) -> Result<Vec<Mention
 {
     let mut mentions = Vec::with_capacity(alloc, methods.len())?;
     for method in methods {
-        mentions.push(Mention::of_name(alloc, &method.name)?)?;
+        push_mention(alloc, &mut mentions, &method.name)?;
     }
     Ok(mentions)
 }
@@ -120,10 +133,10 @@ pub fn task_names<'a>(
 {
     let mut mentions = Vec::with_capacity(alloc, tasks.len().saturating_add(actions.len()))?;
     for task in tasks {
-        mentions.push(Mention::of_name(alloc, &task.name)?)?;
+        push_mention(alloc, &mut mentions, &task.name)?;
     }
     for action in actions {
-        mentions.push(Mention::of_name(alloc, &action.name)?)?;
+        push_mention(alloc, &mut mentions, &action.name)?;
     }
     Ok(mentions)
 }

@@ -20,8 +20,8 @@ invariant_of-self-2 c =
     let text = v.typed.mention.text in
     let next = c.least-self-inside.result in
     let e : Entry = record { variable = v; texts = c.len-texts.result; repeat = c.self.inside.repeat } in
-    let items : c.push.new.self.items ≡ entries ++ e ∷ [] =
-    subst (λ b. c.push.new.self.items ≡ cond b (entries ++ e ∷ []) entries) (c.is_err.ensures.negation ∙ ap not c.if-is_err.false) c.push.ensures.items in
+    let items : c.push_entry.new.entries.items ≡ entries ++ e ∷ [] =
+    subst (λ b. c.push_entry.new.entries.items ≡ cond b (entries ++ e ∷ []) entries) (c.is_err.ensures.negation ∙ ap not c.if-is_err.false) c.push_entry.ensures in
     let long : c.len-position.result ≡ length entries = c.len-position.ensures ∙ c.self.inside.entries.ok.0 in
     let step : (t : Text) → number_at after t ≡ next_number known text (length entries) t = λ t.
     c.in_ok-number_text.ensures.numbers t ∙ (λ i. next_number known (c.text-2.ensures i) (long i) t) in
@@ -41,8 +41,8 @@ returns c =
     let entries = c.self.inside.entries.items in
     let v = c.args.variable in
     let e : Entry = record { variable = v; texts = c.len-texts.result; repeat = c.self.inside.repeat } in
-    let items : c.push.new.self.items ≡ entries ++ e ∷ [] =
-    subst (λ b. c.push.new.self.items ≡ cond b (entries ++ e ∷ []) entries) (c.is_err.ensures.negation ∙ ap not c.if-is_err.false) c.push.ensures.items in
+    let items : c.push_entry.new.entries.items ≡ entries ++ e ∷ [] =
+    subst (λ b. c.push_entry.new.entries.items ≡ cond b (entries ++ e ∷ []) entries) (c.is_err.ensures.negation ∙ ap not c.if-is_err.false) c.push_entry.ensures in
     record {
       ok = ap variables_of items ∙ map-append (λ (e : Entry). e.variable) entries (e ∷ []) ∙ ap (λ l. l ++ v ∷ []) c.self.view_is;
       err = tt;
