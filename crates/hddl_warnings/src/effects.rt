@@ -1,6 +1,8 @@
 //! Warnings of effects.
-ghost use Rattle.std.specs.Prelude.{◌≡◌, ◌++◌, IfOk, OnOk};
+ghost use Rattle.std.specs.Prelude.{◌≡◌, ◌++◌, IfOk, OnOk, is_some, not};
 ghost use Rattle.hddl_meaning.specs.Mentions.{folded};
+ghost use Rattle.hddl_scope.specs.Numbers.{number_at};
+ghost use Rattle.hddl_warnings.specs.Known.{Learns};
 ghost use Rattle.hddl_warnings.specs.Tells.{Tells};
 ghost use Rattle.hddl_warnings.specs.Effects.{effect_text, term_tail};
 ghost use Rattle.hddl_warnings.specs.Warnings.{IsAddedAndDeleted, IsOpposed};
@@ -52,6 +54,23 @@ fn signed_text(alloc: Global, is_positive: bool, atom: &AtomText) -> Result<Vec<
     Ok(text)
 }
 
+/// Whether the opposite of an effect is known.
+fn is_opposed(alloc: Global, known: &Numbers, literal: &LiteralText) -> Result<bool, AllocError>
+    ensures { IfOk result (λ told. told ≡ is_some (number_at known.now (effect_text (not literal.now.is_positive) literal.now.atom))) }
+{
+    let opposite = signed_text(alloc, !literal.is_positive, &literal.atom)?;
+    Ok(known.get(&opposite).is_some())
+}
+
+/// Adds an effect, unless it is known.
+fn learn_effect(alloc: Global, known: &mut Numbers, literal: &LiteralText) -> Result<(), AllocError>
+    ensures { OnOk result (Learns known.old known.new (effect_text literal.now.is_positive literal.now.atom)) }
+{
+    let own = signed_text(alloc, literal.is_positive, &literal.atom)?;
+    learn(alloc, known, &own)?;
+    Ok(())
+}
+
 /// Warns of effects on an atom on which an earlier effect of the action is the opposite.
 fn tell_action(
     alloc: Global,
@@ -62,12 +81,10 @@ fn tell_action(
 {
     let mut known = Numbers::with_capacity(alloc, effects.len())?;
     for literal in effects {
-        let opposite = signed_text(alloc, !literal.is_positive, &literal.atom)?;
-        let is_told = known.get(&opposite).is_some();
+        let is_told = is_opposed(alloc, &known, literal)?;
         let warning = in_domain(WarningKind::AddedAndDeleted, literal.atom.name.place());
         tell_if(out, is_told, warning)?;
-        let own = signed_text(alloc, literal.is_positive, &literal.atom)?;
-        learn(alloc, &mut known, &own)?;
+        learn_effect(alloc, &mut known, literal)?;
     }
     Ok(())
 }

@@ -100,6 +100,20 @@ impl FirstPlaces {
         note_groups(alloc, &mut self.objects, problem.objects.as_slice())
     }
 
+    /// Adds those in a domain, and in a problem, if there is one.
+    fn note_texts(
+        &mut self,
+        alloc: Global,
+        domain: &DomainText,
+        problem: Option<&ProblemText>,
+    ) -> Result<(), AllocError> {
+        self.note_domain(alloc, domain)?;
+        match problem {
+            Some(problem) => self.note_problem(alloc, problem),
+            None => Ok(()),
+        }
+    }
+
     /// The first places in a domain, and with a problem in both.
     pub(crate) fn of(
         alloc: Global,
@@ -107,10 +121,7 @@ impl FirstPlaces {
         problem: Option<&ProblemText>,
     ) -> Result<FirstPlaces, AllocError> {
         let mut places = FirstPlaces::empty(alloc);
-        places.note_domain(alloc, domain)?;
-        if let Some(problem) = problem {
-            places.note_problem(alloc, problem)?;
-        }
+        places.note_texts(alloc, domain, problem)?;
         Ok(places)
     }
 

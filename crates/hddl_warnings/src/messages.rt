@@ -1,7 +1,8 @@
 //! Warnings as diagnostics.
 
-ghost use Rattle.std.specs.Prelude.{◌≡◌, IfOk, option_map};
+ghost use Rattle.std.specs.Prelude.{◌≡◌, ◌∷◌, ◌++◌, [], IfOk, OnOk, option_map};
 ghost use Rattle.std.specs.List.{AllZip};
+ghost use Rattle.diagnostics.specs.declared.diagnostic.Diagnostic.{Diagnostic as DiagnosticText};
 ghost use Rattle.hddl_meaning.specs.declared.fault.Source.TheVariants as side;
 ghost use Rattle.hddl_warnings.specs.Told as spec;
 ghost use Rattle.hddl_warnings.specs.Told.{TellsWarning};
@@ -322,6 +323,38 @@ fn diagnostic<'a>(
     })
 }
 
+/// Adds a warning as a diagnostic.
+fn push_diagnostic<'a>(
+    alloc: Global,
+    diagnostics: &mut Vec<Diagnostic<'a>>,
+    texts: Texts<'a>,
+    first: &FirstPlaces,
+    warning: &Warning,
+) -> Result<(), AllocError>
+    ensures { OnOk result ((d : DiagnosticText) × TellsWarning texts.entry.domain.now (option_map (λ p. p.now) texts.entry.problem) warning.now d
+        × (diagnostics.new.items ≡ diagnostics.old.items ++ d ∷ [])) }
+{
+    let made = diagnostic(alloc, texts, first, warning)?;
+    diagnostics.push(made)?;
+    Ok(())
+}
+
+/// Each of the warnings as a diagnostic, by the first places of names.
+fn diagnostics_of<'a>(
+    alloc: Global,
+    texts: Texts<'a>,
+    first: &FirstPlaces,
+    warnings: &[Warning],
+) -> Result<Vec<Diagnostic<'a>>, AllocError>
+    ensures { IfOk result (λ ds. AllZip (TellsWarning texts.entry.domain.now (option_map (λ p. p.now) texts.entry.problem)) warnings.now ds.items) }
+{
+    let mut diagnostics = Vec::with_capacity(alloc, warnings.len())?;
+    for warning in warnings {
+        push_diagnostic(alloc, &mut diagnostics, texts, first, warning)?;
+    }
+    Ok(diagnostics)
+}
+
 /// A warning as a diagnostic: of severity `Warning`, with the name of its kind as the code, about its place. A place past
 /// the end of a text is shown at its end. The trees are those of the texts. It takes time that is linear in the texts;
 /// `warning_diagnostics` takes that once for many. An error where memory was refused.
@@ -363,9 +396,5 @@ pub fn warning_diagnostics<'a>(
         problem_tree,
     };
     let first = FirstPlaces::of(alloc, domain_tree, problem_tree)?;
-    let mut diagnostics = Vec::with_capacity(alloc, warnings.len())?;
-    for warning in warnings {
-        diagnostics.push(diagnostic(alloc, texts, &first, warning)?)?;
-    }
-    Ok(diagnostics)
+    diagnostics_of(alloc, texts, &first, warnings)
 }

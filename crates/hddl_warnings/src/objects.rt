@@ -1,5 +1,6 @@
 //! Warnings of objects.
-ghost use Rattle.std.specs.Prelude.{◌≡◌, ◌++◌, List, OnOk};
+ghost use Rattle.std.specs.Prelude.{◌≡◌, ◌⊎◌, ◌++◌, [], List, OnOk};
+ghost use Rattle.hddl_meaning.specs.declared.fault.Source.TheVariants as side;
 ghost use Rattle.hddl_meaning.specs.Mentions.{Mention as MentionText, Text, texts};
 ghost use Rattle.hddl_warnings.specs.Known.{Knows};
 ghost use Rattle.hddl_warnings.specs.Tells.{Tells};
@@ -42,6 +43,25 @@ fn tell_again(
     Ok(())
 }
 
+/// Warns of names of two lists that stand before, in the same list or in the first.
+fn tell_both(
+    alloc: Global,
+    out: &mut Vec<Warning>,
+    constants: &[Mention<'_>],
+    objects: &[Mention<'_>],
+) -> Result<(), AllocError>
+    ensures { OnOk result (Tells out.old.items out.new.items (λ w.
+        ((m : MentionText) × IsAgain [] constants.now m × (w ≡ record { kind = kind.DeclaredAgain; at = record { source = side.Domain; place = m.place } }))
+        ⊎ ((m : MentionText) × IsAgain (texts constants.now) objects.now m
+        × (w ≡ record { kind = kind.DeclaredAgain; at = record { source = side.Problem; place = m.place } })))) }
+{
+    let count = constants.len().saturating_add(objects.len());
+    let mut known = Numbers::with_capacity(alloc, count)?;
+    tell_again(alloc, out, &mut known, Source::Domain, constants)?;
+    tell_again(alloc, out, &mut known, Source::Problem, objects)?;
+    Ok(())
+}
+
 /// Warns of constants and objects that are declared before.
 pub(crate) fn tell_objects(
     alloc: Global,
@@ -53,9 +73,6 @@ pub(crate) fn tell_objects(
 {
     let constants = names_in(alloc, domain.constants.as_slice())?;
     let objects = names_in(alloc, problem.objects.as_slice())?;
-    let count = constants.len().saturating_add(objects.len());
-    let mut known = Numbers::with_capacity(alloc, count)?;
-    tell_again(alloc, out, &mut known, Source::Domain, &constants)?;
-    tell_again(alloc, out, &mut known, Source::Problem, &objects)?;
+    tell_both(alloc, out, &constants, &objects)?;
     Ok(())
 }

@@ -4,6 +4,7 @@ ghost use Rattle.std.specs.List.{flat_map};
 ghost use Rattle.hddl_meaning.specs.Mentions.{mentions_of, typed_variables};
 ghost use Rattle.hddl_meaning.specs.Uses.{Schema, schema_of_action, schema_of_method};
 ghost use Rattle.hddl_warnings.specs.declared.warning.WarningKind.TheVariants as kind;
+ghost use Rattle.hddl_warnings.specs.Known.{Knows};
 ghost use Rattle.hddl_warnings.specs.Parts.{IsOfSchema};
 ghost use Rattle.hddl_warnings.specs.Used as used;
 ghost use Rattle.hddl_warnings.specs.Tells.{Tells};
@@ -14,7 +15,7 @@ use crate::parts::{Parts, parts_of};
 use crate::predicates::push_effects;
 use crate::tell::tell_unlisted;
 use crate::warning::{Warning, WarningKind};
-use hddl_scope::variables_in;
+use hddl_scope::{Numbers, variables_in};
 use hddl_tree::{
     ActionText, AtomText, DomainText, EqualityText, MethodText, SubtaskText, Term, VariableGroup,
 };
@@ -97,20 +98,28 @@ fn push_atom_terms<'a>(terms: &mut Vec<&'a Term>, atom: &'a AtomText) -> Result<
     Ok(())
 }
 
-/// Warns of parameters that stand nowhere among the parts.
-fn tell_parameters<'a>(
-    alloc: Global,
-    out: &mut Vec<Warning>,
-    parameters: &[VariableGroup],
-    parts: Parts<'a>,
-) -> Result<(), AllocError>
-    ensures { OnOk result ((s : Schema) → IsOfSchema parts.entry s → s.parameters ≡ parameters.now
-        → Tells out.old.items out.new.items (IsUnused kind.UnusedParameter (mentions_of (typed_variables s.parameters)) (used.term_texts s))) }
+/// The terms of parts, as they are compared.
+fn known_in(alloc: Global, parts: &Parts<'_>) -> Result<Numbers, AllocError>
+    ensures { IfOk result (λ known. (s : Schema) → IsOfSchema parts.now s → Knows known (used.term_texts s)) }
 {
     let mut terms = Vec::new(alloc);
     push_terms(&mut terms, &parts.atoms)?;
     push_sides(&mut terms, &parts.sides)?;
     let known = known_terms(alloc, &terms)?;
+    Ok(known)
+}
+
+/// Warns of parameters that stand nowhere among the parts.
+fn tell_parameters(
+    alloc: Global,
+    out: &mut Vec<Warning>,
+    parameters: &[VariableGroup],
+    parts: &Parts<'_>,
+) -> Result<(), AllocError>
+    ensures { OnOk result ((s : Schema) → IsOfSchema parts.now s → s.parameters ≡ parameters.now
+        → Tells out.old.items out.new.items (IsUnused kind.UnusedParameter (mentions_of (typed_variables s.parameters)) (used.term_texts s))) }
+{
+    let known = known_in(alloc, parts)?;
     let declared = variables_in(alloc, parameters)?;
     tell_unlisted(out, WarningKind::UnusedParameter, &declared, &known)?;
     Ok(())
@@ -126,11 +135,11 @@ pub(crate) fn tell_schemas(
 {
     for method in domain.methods.as_slice() {
         let parts = method_parts(alloc, method)?;
-        tell_parameters(alloc, out, method.parameters.as_slice(), parts)?;
+        tell_parameters(alloc, out, method.parameters.as_slice(), &parts)?;
     }
     for action in domain.actions.as_slice() {
         let parts = action_parts(alloc, action)?;
-        tell_parameters(alloc, out, action.parameters.as_slice(), parts)?;
+        tell_parameters(alloc, out, action.parameters.as_slice(), &parts)?;
     }
     Ok(())
 }

@@ -1,14 +1,17 @@
 //! Warnings of predicates.
-ghost use Rattle.std.specs.Prelude.{◌≡◌, ◌⊎◌, ◌++◌, IfOk, OnOk, map};
+ghost use Rattle.std.specs.Prelude.{◌≡◌, ◌⊎◌, ◌++◌, IfOk, List, OnOk, map};
+ghost use Rattle.hddl_meaning.specs.Mentions.{Text, mention_of};
+ghost use Rattle.hddl_warnings.specs.declared.warning.WarningKind.TheVariants as kind;
+ghost use Rattle.hddl_warnings.specs.Known.{Knows};
 ghost use Rattle.hddl_warnings.specs.Used as used;
 ghost use Rattle.hddl_warnings.specs.Tells.{Tells};
-ghost use Rattle.hddl_warnings.specs.Warnings.{IsUnusedPredicate, IsUntestedPredicate};
+ghost use Rattle.hddl_warnings.specs.Warnings.{IsUnused, IsUnusedPredicate, IsUntestedPredicate, IsUsedBut};
 
 use crate::known::known_predicates;
 use crate::parts::{Parts, push_conditions};
 use crate::tell::{tell_listed_but, tell_unlisted};
 use crate::warning::{Warning, WarningKind};
-use hddl_scope::predicate_names;
+use hddl_scope::{Numbers, predicate_names};
 use hddl_tree::{ActionText, AtomText, DomainText, ProblemText};
 use std::alloc::{AllocError, Global};
 
@@ -62,23 +65,53 @@ fn push_set_atoms<'a>(
     Ok(())
 }
 
+/// The names of the predicates of all atoms.
+fn known_in_all<'a>(
+    alloc: Global,
+    domain: &'a DomainText,
+    problem: &'a ProblemText,
+    tested: &[&'a AtomText],
+) -> Result<Numbers, AllocError>
+    requires { map (λ x. x.now) tested.now ≡ used.tested_atoms domain.now problem.now }
+    ensures { IfOk result (λ known. Knows known (used.predicates_of (used.tested_atoms domain.now problem.now ++ used.set_atoms domain.now problem.now))) }
+{
+    let mut atoms = Vec::from_slice(alloc, tested)?;
+    push_set_atoms(&mut atoms, domain, problem)?;
+    let known = known_predicates(alloc, &atoms)?;
+    Ok(known)
+}
+
+/// Warns of predicates that aren't known to all atoms, and of those that aren't known to the tested ones.
+fn tell_unknown(
+    alloc: Global,
+    out: &mut Vec<Warning>,
+    domain: &DomainText,
+    all: &Numbers,
+    tests: &Numbers,
+) -> Result<(), AllocError>
+    ensures { OnOk result ((named tested : List Text) → Knows all.now named → Knows tests.now tested
+        → Tells out.old.items out.new.items (λ w. IsUnused kind.UnusedPredicate (map (λ x. mention_of x.name) domain.now.predicates) named w
+        ⊎ IsUsedBut kind.UntestedPredicate (map (λ x. mention_of x.name) domain.now.predicates) named tested w)) }
+{
+    let declared = predicate_names(alloc, domain.predicates.as_slice())?;
+    tell_unlisted(out, WarningKind::UnusedPredicate, &declared, all)?;
+    tell_listed_but(out, WarningKind::UntestedPredicate, &declared, all, tests)?;
+    Ok(())
+}
+
 /// Warns of predicates that no atom names, and of those that no precondition and no goal names.
 pub(crate) fn tell_predicates<'a>(
     alloc: Global,
     out: &mut Vec<Warning>,
     domain: &'a DomainText,
     problem: &'a ProblemText,
-    tested: Vec<&'a AtomText>,
+    tested: &[&'a AtomText],
 ) -> Result<(), AllocError>
-    requires { map (λ x. x.now) tested.items ≡ used.tested_atoms domain.now problem.now }
+    requires { map (λ x. x.now) tested.now ≡ used.tested_atoms domain.now problem.now }
     ensures { OnOk result (Tells out.old.items out.new.items (λ w. IsUnusedPredicate domain.now problem.now w ⊎ IsUntestedPredicate domain.now problem.now w)) }
 {
-    let tests = known_predicates(alloc, &tested)?;
-    let mut atoms = tested;
-    push_set_atoms(&mut atoms, domain, problem)?;
-    let all = known_predicates(alloc, &atoms)?;
-    let declared = predicate_names(alloc, domain.predicates.as_slice())?;
-    tell_unlisted(out, WarningKind::UnusedPredicate, &declared, &all)?;
-    tell_listed_but(out, WarningKind::UntestedPredicate, &declared, &all, &tests)?;
+    let tests = known_predicates(alloc, tested)?;
+    let all = known_in_all(alloc, domain, problem, tested)?;
+    tell_unknown(alloc, out, domain, &all, &tests)?;
     Ok(())
 }

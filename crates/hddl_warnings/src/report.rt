@@ -66,7 +66,7 @@ fn tell_pair(
 {
     let parts = all_parts(alloc, domain, problem)?;
     tell_types(alloc, out, domain, problem, &parts.groups)?;
-    tell_predicates(alloc, out, domain, problem, parts.atoms)?;
+    tell_predicates(alloc, out, domain, problem, &parts.atoms)?;
     tell_unused_tasks(alloc, out, domain, problem)?;
     tell_objects(alloc, out, domain, problem)?;
     Ok(())

@@ -1,14 +1,16 @@
 //! Warnings of tasks and actions.
-ghost use Rattle.std.specs.Prelude.{◌≡◌, ◌⊎◌, ◌++◌, IfOk, OnOk, map, option_map};
-ghost use Rattle.hddl_meaning.specs.Mentions.{mention_of};
+ghost use Rattle.std.specs.Prelude.{◌≡◌, ◌⊎◌, ◌∷◌, ◌++◌, [], IfOk, List, OnOk, map, option_map};
+ghost use Rattle.hddl_meaning.specs.Mentions.{Text, mention_of};
+ghost use Rattle.hddl_warnings.specs.declared.warning.WarningKind.TheVariants as kind;
+ghost use Rattle.hddl_warnings.specs.Known.{Knows};
 ghost use Rattle.hddl_warnings.specs.Used as used;
 ghost use Rattle.hddl_warnings.specs.Tells.{Tells};
-ghost use Rattle.hddl_warnings.specs.Warnings.{IsNoMethod, IsUnusedAction, IsUnusedTask};
+ghost use Rattle.hddl_warnings.specs.Warnings.{IsNoMethod, IsUnused, IsUnusedAction, IsUnusedTask, IsUsedBut};
 
 use crate::known::known_names;
 use crate::tell::{tell_listed_but, tell_unlisted};
 use crate::warning::{Warning, WarningKind};
-use hddl_scope::Mention;
+use hddl_scope::{Mention, Numbers};
 use hddl_tree::{ActionText, DomainText, MethodText, Name, NetworkText, ProblemText, TaskText};
 use std::alloc::{AllocError, Global};
 
@@ -66,13 +68,26 @@ fn decomposed_names<'a>(
     Ok(names)
 }
 
+/// Adds a name where it is declared.
+fn push_mention<'a>(
+    alloc: Global,
+    mentions: &mut Vec<Mention<'a>>,
+    name: &'a Name,
+) -> Result<(), AllocError>
+    ensures { OnOk result (mentions.new.items ≡ mentions.old.items ++ mention_of name.now ∷ []) }
+{
+    let mention = Mention::of_name(alloc, name)?;
+    mentions.push(mention)?;
+    Ok(())
+}
+
 /// The names of compound tasks, where they are declared.
 fn compound_names(alloc: Global, tasks: &[TaskText]) -> Result<Vec<Mention<'_>>, AllocError>
     ensures { IfOk result (λ mentions. mentions.items ≡ map (λ x. mention_of x.name) tasks.now) }
 {
     let mut mentions = Vec::with_capacity(alloc, tasks.len())?;
     for task in tasks {
-        mentions.push(Mention::of_name(alloc, &task.name)?)?;
+        push_mention(alloc, &mut mentions, &task.name)?;
     }
     Ok(mentions)
 }
@@ -83,9 +98,77 @@ fn action_names(alloc: Global, actions: &[ActionText]) -> Result<Vec<Mention<'_>
 {
     let mut mentions = Vec::with_capacity(alloc, actions.len())?;
     for action in actions {
-        mentions.push(Mention::of_name(alloc, &action.name)?)?;
+        push_mention(alloc, &mut mentions, &action.name)?;
     }
     Ok(mentions)
+}
+
+/// The names of the subtasks of methods and, with a problem, of its network, as they are compared.
+fn known_subtasks(
+    alloc: Global,
+    domain: &DomainText,
+    problem: Option<&ProblemText>,
+) -> Result<Numbers, AllocError>
+    ensures { IfOk result (λ known. Knows known (used.name_texts (used.subtask_names domain.now (option_map (λ p. p.now) problem.entry)))) }
+{
+    let names = subtask_names(alloc, domain, problem)?;
+    let known = known_names(alloc, &names)?;
+    Ok(known)
+}
+
+/// The names of the tasks that methods decompose, as they are compared.
+fn known_decomposed(alloc: Global, domain: &DomainText) -> Result<Numbers, AllocError>
+    ensures { IfOk result (λ known. Knows known (used.name_texts (used.decomposed_names domain.now))) }
+{
+    let names = decomposed_names(alloc, domain.methods.as_slice())?;
+    let known = known_names(alloc, &names)?;
+    Ok(known)
+}
+
+/// Warns of tasks that are known to the first, and not to the second.
+fn tell_undone(
+    alloc: Global,
+    out: &mut Vec<Warning>,
+    domain: &DomainText,
+    asked: &Numbers,
+    done: &Numbers,
+) -> Result<(), AllocError>
+    ensures { OnOk result ((named wanted : List Text) → Knows asked.now named → Knows done.now wanted
+        → Tells out.old.items out.new.items (IsUsedBut kind.NoMethod (map (λ x. mention_of x.name) domain.now.tasks) named wanted)) }
+{
+    let tasks = compound_names(alloc, domain.tasks.as_slice())?;
+    tell_listed_but(out, WarningKind::NoMethod, &tasks, asked, done)?;
+    Ok(())
+}
+
+/// Warns of tasks that aren't known.
+fn tell_tasks(
+    alloc: Global,
+    out: &mut Vec<Warning>,
+    domain: &DomainText,
+    asked: &Numbers,
+) -> Result<(), AllocError>
+    ensures { OnOk result ((named : List Text) → Knows asked.now named
+        → Tells out.old.items out.new.items (IsUnused kind.UnusedTask (map (λ x. mention_of x.name) domain.now.tasks) named)) }
+{
+    let tasks = compound_names(alloc, domain.tasks.as_slice())?;
+    tell_unlisted(out, WarningKind::UnusedTask, &tasks, asked)?;
+    Ok(())
+}
+
+/// Warns of actions that aren't known.
+fn tell_actions(
+    alloc: Global,
+    out: &mut Vec<Warning>,
+    domain: &DomainText,
+    asked: &Numbers,
+) -> Result<(), AllocError>
+    ensures { OnOk result ((named : List Text) → Knows asked.now named
+        → Tells out.old.items out.new.items (IsUnused kind.UnusedAction (map (λ x. mention_of x.name) domain.now.actions) named)) }
+{
+    let actions = action_names(alloc, domain.actions.as_slice())?;
+    tell_unlisted(out, WarningKind::UnusedAction, &actions, asked)?;
+    Ok(())
 }
 
 /// Warns of tasks that are subtasks and that no method decomposes.
@@ -97,12 +180,9 @@ pub(crate) fn tell_no_methods(
 ) -> Result<(), AllocError>
     ensures { OnOk result (Tells out.old.items out.new.items (IsNoMethod domain.now (option_map (λ p. p.now) problem.entry))) }
 {
-    let done_names = decomposed_names(alloc, domain.methods.as_slice())?;
-    let done = known_names(alloc, &done_names)?;
-    let asked_names = subtask_names(alloc, domain, problem)?;
-    let asked = known_names(alloc, &asked_names)?;
-    let tasks = compound_names(alloc, domain.tasks.as_slice())?;
-    tell_listed_but(out, WarningKind::NoMethod, &tasks, &asked, &done)?;
+    let done = known_decomposed(alloc, domain)?;
+    let asked = known_subtasks(alloc, domain, problem)?;
+    tell_undone(alloc, out, domain, &asked, &done)?;
     Ok(())
 }
 
@@ -115,11 +195,8 @@ pub(crate) fn tell_unused_tasks(
 ) -> Result<(), AllocError>
     ensures { OnOk result (Tells out.old.items out.new.items (λ w. IsUnusedTask domain.now problem.now w ⊎ IsUnusedAction domain.now problem.now w)) }
 {
-    let asked_names = subtask_names(alloc, domain, Some(problem))?;
-    let asked = known_names(alloc, &asked_names)?;
-    let tasks = compound_names(alloc, domain.tasks.as_slice())?;
-    tell_unlisted(out, WarningKind::UnusedTask, &tasks, &asked)?;
-    let actions = action_names(alloc, domain.actions.as_slice())?;
-    tell_unlisted(out, WarningKind::UnusedAction, &actions, &asked)?;
+    let asked = known_subtasks(alloc, domain, Some(problem))?;
+    tell_tasks(alloc, out, domain, &asked)?;
+    tell_actions(alloc, out, domain, &asked)?;
     Ok(())
 }

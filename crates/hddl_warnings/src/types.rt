@@ -1,5 +1,7 @@
 //! Warnings of types.
-ghost use Rattle.std.specs.Prelude.{◌≡◌, ◌++◌, IfOk, OnOk, map};
+ghost use Rattle.std.specs.Prelude.{◌≡◌, ◌∷◌, ◌++◌, [], IfOk, OnOk, map};
+ghost use Rattle.hddl_meaning.specs.Names.{object};
+ghost use Rattle.hddl_warnings.specs.Known.{Knows};
 ghost use Rattle.std.specs.List.{flat_map};
 ghost use Rattle.hddl_warnings.specs.Used as used;
 ghost use Rattle.hddl_warnings.specs.Tells.{Tells};
@@ -8,7 +10,7 @@ ghost use Rattle.hddl_warnings.specs.Warnings.{IsUnusedType};
 use crate::known::{known_names, learn};
 use crate::tell::tell_unlisted;
 use crate::warning::{Warning, WarningKind};
-use hddl_scope::names_in;
+use hddl_scope::{Numbers, names_in};
 use hddl_tree::{DomainText, Name, NameGroup, ProblemText, VariableGroup};
 use std::alloc::{AllocError, Global};
 
@@ -112,6 +114,22 @@ fn used_types<'a>(
     Ok(names)
 }
 
+/// The names of the types that something has, and `object`, as they are compared.
+fn known_types(
+    alloc: Global,
+    domain: &DomainText,
+    problem: &ProblemText,
+    quantified: &[&VariableGroup],
+) -> Result<Numbers, AllocError>
+    requires { map (λ x. x.now) quantified.now ≡ used.quantified_groups domain.now problem.now }
+    ensures { IfOk result (λ known. Knows known (used.name_texts (used.used_types domain.now problem.now) ++ object ∷ [])) }
+{
+    let names = used_types(alloc, domain, problem, quantified)?;
+    let mut known = known_names(alloc, &names)?;
+    learn(alloc, &mut known, b"object")?;
+    Ok(known)
+}
+
 /// Warns of types that nothing has and that aren't above another one.
 pub(crate) fn tell_types(
     alloc: Global,
@@ -123,9 +141,7 @@ pub(crate) fn tell_types(
     requires { map (λ x. x.now) quantified.now ≡ used.quantified_groups domain.now problem.now }
     ensures { OnOk result (Tells out.old.items out.new.items (IsUnusedType domain.now problem.now)) }
 {
-    let names = used_types(alloc, domain, problem, quantified)?;
-    let mut known = known_names(alloc, &names)?;
-    learn(alloc, &mut known, b"object")?;
+    let known = known_types(alloc, domain, problem, quantified)?;
     let declared = names_in(alloc, domain.types.as_slice())?;
     tell_unlisted(out, WarningKind::UnusedType, &declared, &known)?;
     Ok(())
