@@ -5,7 +5,7 @@ ghost use Rattle.htn_order.specs.Closure.{IsAcyclic};
 ghost use Rattle.hddl_meaning.specs.Mentions.{folded};
 ghost use Rattle.hddl_meaning.specs.Networks.{order_pairs};
 ghost use Rattle.hddl_meaning.specs.Building as building;
-ghost use Rattle.hddl_meaning.specs.Building.{IsMethodOf, variables_of};
+ghost use Rattle.hddl_meaning.specs.Building.{IsMethodOf, IsNetworkOf, variables_of};
 ghost use Rattle.hddl_build.specs.InForce.{IsBounded, most_in_force};
 ghost use Rattle.hddl_build.specs.Vocabularies.{IsNumbered};
 ghost use Rattle.hddl_build.specs.Initial.{IsInitialOf};
@@ -16,8 +16,12 @@ use crate::scope::Scope;
 use crate::term::subtask_of;
 use crate::types::types_of;
 use hddl_names::{Vocabulary, fold};
-use hddl_tree::{ActionText, HtnText, MethodText, PredicateText, TaskText};
-use htn_task::{ActionSchema, Declaration, InitialSchema, MethodSchema, Name};
+use hddl_tree::{
+    ActionText, HtnText, MethodText, NetworkText, PredicateText, TaskText, VariableGroup,
+};
+use htn_task::{
+    ActionSchema, Declaration, EqualitySchema, InitialSchema, MethodSchema, Name, NetworkSchema,
+};
 use std::alloc::{AllocError, Global};
 
 /// A name in lower case.
@@ -55,6 +59,63 @@ fn compound_of(
     Ok(Declaration::new(name, types))
 }
 
+/// The name of a schema, and the types of its parameters.
+fn head_of(
+    alloc: Global,
+    vocabulary: &Vocabulary,
+    name: &hddl_tree::Name,
+    groups: &[VariableGroup],
+) -> Result<(Name, Vec<u16>), AllocError>
+    requires { IsNumbered vocabulary.now }
+    ensures name { IfOk result (λ head. head.0 ≡ folded name.now.text) }
+    ensures types { IfOk result (λ head. head.1.items ≡ building.types_of vocabulary.now groups.now) }
+{
+    let name = name_of(alloc, name)?;
+    let types = types_of(alloc, vocabulary, groups)?;
+    Ok((name, types))
+}
+
+/// The constraints and the subtasks of a network.
+fn body_of(
+    alloc: Global,
+    vocabulary: &Vocabulary,
+    scope: &Scope<'_>,
+    network: &NetworkText,
+) -> Result<(Vec<EqualitySchema>, NetworkSchema), AllocError>
+    requires numbered { IsNumbered vocabulary.now }
+    requires acyclic { IsAcyclic (order_pairs network.now) }
+    ensures constraints { IfOk result (λ body. body.0.items ≡ map (building.equality_of vocabulary.now scope.now) network.now.constraints) }
+    ensures network { IfOk result (λ body. IsNetworkOf vocabulary.now scope.now network.now body.1) }
+{
+    let constraints = constraints_of(alloc, vocabulary, scope, network.constraints.as_slice())?;
+    let subtasks = network_of(alloc, vocabulary, scope, network)?;
+    Ok((constraints, subtasks))
+}
+
+/// An action with these variables in force.
+fn action_in<'a>(
+    alloc: Global,
+    vocabulary: &Vocabulary,
+    action: &'a ActionText,
+    scope: &mut Scope<'a>,
+) -> Result<ActionSchema, AllocError>
+    requires numbered { IsNumbered vocabulary.now }
+    requires bounded { IsBounded action.now.parameters action.now.precondition }
+    requires in_force { scope.old ≡ variables_of action.now.parameters }
+    ensures { IfOk result (λ a. a ≡ building.action_of vocabulary.now action.now) }
+{
+    let precondition = formulas_of(alloc, vocabulary, scope, action.precondition.as_slice())?;
+    let deletes = deletes_of(alloc, vocabulary, scope, action.effect.as_slice())?;
+    let adds = adds_of(alloc, vocabulary, scope, action.effect.as_slice())?;
+    let head = head_of(
+        alloc,
+        vocabulary,
+        &action.name,
+        action.parameters.as_slice(),
+    )?;
+    Ok(ActionSchema::new(head.0, head.1, precondition, deletes, adds))
+}
+
 fn action_of(
     alloc: Global,
     vocabulary: &Vocabulary,
@@ -64,18 +125,34 @@ fn action_of(
     requires bounded { IsBounded action.now.parameters action.now.precondition }
     ensures { IfOk result (λ a. a ≡ building.action_of vocabulary.now action.now) }
 {
-    let name = name_of(alloc, &action.name)?;
-    let parameters = types_of(alloc, vocabulary, action.parameters.as_slice())?;
     let mut scope = Scope::of(alloc, action.parameters.as_slice())?;
-    let precondition = formulas_of(
+    let made = action_in(alloc, vocabulary, action, &mut scope)?;
+    Ok(made)
+}
+
+/// A method with these variables in force.
+fn method_in<'a>(
+    alloc: Global,
+    vocabulary: &Vocabulary,
+    method: &'a MethodText,
+    scope: &mut Scope<'a>,
+) -> Result<MethodSchema, AllocError>
+    requires numbered { IsNumbered vocabulary.now }
+    requires bounded { IsBounded method.now.parameters method.now.precondition }
+    requires acyclic { IsAcyclic (order_pairs method.now.network) }
+    requires in_force { scope.old ≡ variables_of method.now.parameters }
+    ensures { IfOk result (IsMethodOf vocabulary.now method.now) }
+{
+    let task = subtask_of(alloc, vocabulary, scope, &method.task)?;
+    let precondition = formulas_of(alloc, vocabulary, scope, method.precondition.as_slice())?;
+    let body = body_of(alloc, vocabulary, scope, &method.network)?;
+    let head = head_of(
         alloc,
         vocabulary,
-        &mut scope,
-        action.precondition.as_slice(),
+        &method.name,
+        method.parameters.as_slice(),
     )?;
-    let deletes = deletes_of(alloc, vocabulary, &scope, action.effect.as_slice())?;
-    let adds = adds_of(alloc, vocabulary, &scope, action.effect.as_slice())?;
-    Ok(ActionSchema::new(name, parameters, precondition, deletes, adds))
+    Ok(MethodSchema::new(head.0, head.1, task, precondition, body.0, body.1))
 }
 
 fn method_of(
@@ -88,20 +165,27 @@ fn method_of(
     requires acyclic { IsAcyclic (order_pairs method.now.network) }
     ensures { IfOk result (IsMethodOf vocabulary.now method.now) }
 {
-    let network = &method.network;
-    let name = name_of(alloc, &method.name)?;
-    let parameters = types_of(alloc, vocabulary, method.parameters.as_slice())?;
     let mut scope = Scope::of(alloc, method.parameters.as_slice())?;
-    let task = subtask_of(alloc, vocabulary, &scope, &method.task)?;
-    let precondition = formulas_of(
-        alloc,
-        vocabulary,
-        &mut scope,
-        method.precondition.as_slice(),
-    )?;
-    let constraints = constraints_of(alloc, vocabulary, &scope, network.constraints.as_slice())?;
-    let network = network_of(alloc, vocabulary, &scope, network)?;
-    Ok(MethodSchema::new(name, parameters, task, precondition, constraints, network))
+    let made = method_in(alloc, vocabulary, method, &mut scope)?;
+    Ok(made)
+}
+
+/// The initial network with these variables in force.
+fn initial_in(
+    alloc: Global,
+    vocabulary: &Vocabulary,
+    htn: &HtnText,
+    scope: &Scope<'_>,
+) -> Result<InitialSchema, AllocError>
+    requires numbered { IsNumbered vocabulary.now }
+    requires acyclic { IsAcyclic (order_pairs htn.now.network) }
+    requires in_force { scope.now ≡ variables_of htn.now.parameters }
+    ensures { IfOk result (IsInitialOf vocabulary.now htn.now) }
+{
+    let constraints = constraints_of(alloc, vocabulary, scope, htn.network.constraints.as_slice())?;
+    let network = network_of(alloc, vocabulary, scope, &htn.network)?;
+    let parameters = types_of(alloc, vocabulary, htn.parameters.as_slice())?;
+    Ok(InitialSchema::new(parameters, constraints, network))
 }
 
 /// The initial network.
@@ -115,16 +199,9 @@ pub(crate) fn initial_of(
     requires acyclic { IsAcyclic (order_pairs htn.now.network) }
     ensures { IfOk result (IsInitialOf vocabulary.now htn.now) }
 {
-    let parameters = types_of(alloc, vocabulary, htn.parameters.as_slice())?;
     let scope = Scope::of(alloc, htn.parameters.as_slice())?;
-    let constraints = constraints_of(
-        alloc,
-        vocabulary,
-        &scope,
-        htn.network.constraints.as_slice(),
-    )?;
-    let network = network_of(alloc, vocabulary, &scope, &htn.network)?;
-    Ok(InitialSchema::new(parameters, constraints, network))
+    let made = initial_in(alloc, vocabulary, htn, &scope)?;
+    Ok(made)
 }
 
 pub(crate) fn predicates_of(
