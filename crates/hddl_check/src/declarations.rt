@@ -1,8 +1,11 @@
 //! Declarations of predicates, tasks, methods and actions.
-ghost use Rattle.std.specs.Prelude.{OnOk};
+ghost use Rattle.std.specs.Prelude.{◌≡◌, ◌++◌, OnOk, map};
 ghost use Rattle.std.specs.List.{flat_map};
 ghost use Rattle.hddl_uses.specs.Contexts.{Fails, PassedOver};
-ghost use Rattle.hddl_scope.specs.Findings.{AddsAny};
+ghost use Rattle.hddl_uses.specs.Parts.{Different, Limited};
+ghost use Rattle.hddl_meaning.specs.Items.{most_declarations};
+ghost use Rattle.hddl_meaning.specs.Mentions.{mention_of};
+ghost use Rattle.hddl_scope.specs.Findings.{Adds, AddsAny};
 ghost use Rattle.hddl_check.specs.TextParts.{name_parts, predicate_parts, task_name_parts, task_parts};
 
 use hddl_scope::{Findings, MOST_DECLARATIONS, MOST_PARAMETERS, Mention, task_names, variables_in};
@@ -23,6 +26,55 @@ pub(crate) fn check_names(
     Ok(())
 }
 
+/// Faults of the names of compound tasks and actions together.
+fn check_all_task_names(
+    context: &Context<'_, '_>,
+    domain: &DomainText,
+    found: &mut Findings,
+) -> Result<(), AllocError>
+    ensures { OnOk result (Adds (PassedOver context.now (Different (map (λ x. mention_of x.name) domain.now.tasks ++ map (λ x. mention_of x.name) domain.now.actions)))
+        (Fails context.now (Different (map (λ x. mention_of x.name) domain.now.tasks ++ map (λ x. mention_of x.name) domain.now.actions))) found.old found.new) }
+{
+    let names = task_names(
+        context.alloc,
+        domain.tasks.as_slice(),
+        domain.actions.as_slice(),
+    )?;
+    check_different(context, &names, found)?;
+    Ok(())
+}
+
+/// Too many compound tasks.
+fn check_task_count(
+    context: &Context<'_, '_>,
+    domain: &DomainText,
+    found: &mut Findings,
+) -> Result<(), AllocError>
+    ensures { OnOk result (Adds (PassedOver context.now (Limited most_declarations (map (λ x. mention_of x.name) domain.now.tasks)))
+        (Fails context.now (Limited most_declarations (map (λ x. mention_of x.name) domain.now.tasks))) found.old found.new) }
+{
+    let tasks = task_names(context.alloc, domain.tasks.as_slice(), &[])?;
+    check_limit(context, MOST_DECLARATIONS, &tasks, found)?;
+    Ok(())
+}
+
+/// Faults of the names of compound tasks and of actions, which are given.
+fn check_task_names_with(
+    context: &Context<'_, '_>,
+    domain: &DomainText,
+    actions: &[Mention<'_>],
+    found: &mut Findings,
+) -> Result<(), AllocError>
+    requires { actions.now ≡ map (λ x. mention_of x.name) domain.now.actions }
+    ensures { OnOk result (AddsAny (PassedOver context.now) (Fails context.now) (task_name_parts domain.now) found.old found.new) }
+{
+    check_different(context, actions, found)?;
+    check_all_task_names(context, domain, found)?;
+    check_task_count(context, domain, found)?;
+    check_limit(context, MOST_DECLARATIONS, actions, found)?;
+    Ok(())
+}
+
 /// Faults of the names of compound tasks and actions. In the text an action may stand before a task, so of a name that
 /// stands three times the second may be that of an action.
 pub(crate) fn check_task_names(
@@ -32,14 +84,8 @@ pub(crate) fn check_task_names(
 ) -> Result<(), AllocError>
     ensures { OnOk result (AddsAny (PassedOver context.now) (Fails context.now) (task_name_parts domain.now) found.old found.new) }
 {
-    let alloc = context.alloc;
-    let tasks = task_names(alloc, domain.tasks.as_slice(), &[])?;
-    let actions = task_names(alloc, &[], domain.actions.as_slice())?;
-    let names = task_names(alloc, domain.tasks.as_slice(), domain.actions.as_slice())?;
-    check_different(context, &actions, found)?;
-    check_different(context, &names, found)?;
-    check_limit(context, MOST_DECLARATIONS, &tasks, found)?;
-    check_limit(context, MOST_DECLARATIONS, &actions, found)?;
+    let actions = task_names(context.alloc, &[], domain.actions.as_slice())?;
+    check_task_names_with(context, domain, &actions, found)?;
     Ok(())
 }
 

@@ -1,11 +1,12 @@
 //! Whether a domain and a problem fit together, and the task that they are.
-ghost use Rattle.std.specs.Prelude.{◌≡◌, ◌≢◌, ◌⊎◌, ◌↔◌, [], true, slice_get, Contains, IfOk, IfErr, IfSome, OnOk};
+ghost use Rattle.std.specs.Prelude.{◌≡◌, ◌≢◌, ◌⊎◌, ◌↔◌, [], true, slice_get, Contains, IfOk, IfErr, IfSome, MatchOption, OnOk};
 ghost use Rattle.hddl_meaning.specs.Building.{IsTaskOf, vocabulary_of};
 ghost use Rattle.hddl_meaning.specs.Items.{FailsAt, IsWellTypedPair};
 ghost use Rattle.hddl_meaning.specs.declared.fault.CheckFault.TheVariants.{OutOfMemory};
 ghost use Rattle.hddl_meaning.specs.declared.fault.CheckFault.{CheckFault};
 ghost use Rattle.hddl_check.specs.Faults.{IsFirst, IsLeftOut, PairFails};
-ghost use Rattle.hddl_check.specs.TextParts.{PartPassed};
+ghost use Rattle.hddl_check.specs.TextParts.{PartFails, PartPassed};
+ghost use Rattle.hddl_names.specs.Members.{AreDeclaredTypes};
 ghost use Rattle.hddl_scope.specs.Findings.{Adds, Finds};
 ghost use Rattle.hddl_scope.specs.Ranks.{AreInOrder};
 ghost use Rattle.hddl_uses.specs.Known.{AreKnown};
@@ -15,12 +16,33 @@ use crate::faults::check_texts;
 use crate::objects::known_objects;
 use hddl_build::build;
 use hddl_meaning::CheckFault;
-use hddl_names::{TypeHierarchy, Vocabulary};
+use hddl_names::{DeclaredTypes, TypeHierarchy, Vocabulary};
 use hddl_scope::{Findings, in_order};
 use hddl_tree::{DomainText, ProblemText};
 use hddl_uses::Declarations;
 use htn_task::Task;
 use std::alloc::{AllocError, Global};
+
+/// Faults of the two texts of a pair, other than cycles of types.
+fn check_with(
+    alloc: Global,
+    problem: &ProblemText,
+    vocabulary: &Vocabulary,
+    types: &TypeHierarchy,
+    objects: Option<&DeclaredTypes>,
+    found: &mut Findings,
+) -> Result<(), AllocError>
+    requires vocabulary { vocabulary.now ≡ vocabulary_of types.now problem.now }
+    requires objects { MatchOption objects (AreKnown types.now problem.now → ⊥) (λ o. AreKnown types.now problem.now × AreDeclaredTypes types.now problem.now o.now) }
+    ensures { OnOk result (Adds (PartPassed types.now problem.now) (PartFails types.now problem.now) found.old found.new) }
+{
+    let domain = types.domain();
+    let declared = Declarations::of(alloc, domain)?;
+    check_texts(
+        alloc, domain, problem, vocabulary, types, objects, &declared, found,
+    )?;
+    Ok(())
+}
 
 /// Faults of a pair.
 fn check_pair(
@@ -34,20 +56,9 @@ fn check_pair(
     ensures added { OnOk result (Adds (PartPassed types.now problem.now) (PairFails types.now problem.now) found.old found.new) }
     ensures known { OnOk result (AreKnown types.now problem.now ⊎ (AreKnown types.now problem.now → ⊥)) }
 {
-    let domain = types.domain();
     check_cycles(alloc, types, found)?;
     let objects = known_objects(alloc, problem, vocabulary, types)?;
-    let declared = Declarations::of(alloc, domain)?;
-    check_texts(
-        alloc,
-        domain,
-        problem,
-        vocabulary,
-        types,
-        objects.as_ref(),
-        &declared,
-        found,
-    )?;
+    check_with(alloc, problem, vocabulary, types, objects.as_ref(), found)?;
     Ok(())
 }
 
@@ -97,8 +108,7 @@ fn task_of(
     ensures { IfOk result (IsTaskOf domain.now problem.now) }
 {
     let types = TypeHierarchy::of(alloc, domain, vocabulary)?;
-    let task = build(alloc, domain, problem, vocabulary, &types)?;
-    Ok(task)
+    build(alloc, domain, problem, vocabulary, &types)
 }
 
 /// The task of a pair, or a fault, or an error where memory was refused.

@@ -1,5 +1,5 @@
 //! What schemas declare and use: methods, actions, the initial network, and the initial atoms with the goal.
-ghost use Rattle.std.specs.Prelude.{◌≡◌, OnOk};
+ghost use Rattle.std.specs.Prelude.{◌≡◌, [], OnOk};
 ghost use Rattle.std.specs.List.{flat_map};
 ghost use Rattle.hddl_meaning.specs.Uses.{parameters_of, schema_of_network, schema_of_states};
 ghost use Rattle.hddl_uses.specs.Contexts.{Fails, PassedOver};
@@ -30,6 +30,25 @@ fn check_parameters(
     Ok(())
 }
 
+/// Faults of a method with these variables in force, but for its network's order.
+fn check_method_in<'a>(
+    context: &Context<'_, '_>,
+    method: &'a MethodText,
+    scope: &mut Scope<'a>,
+    found: &mut Findings,
+) -> Result<(), AllocError>
+    requires { scope.old ≡ parameters_of method.now.parameters }
+    ensures { OnOk result (AddsAny (PassedOver context.now) (Fails context.now) (method_parts method.now) found.old found.new) }
+{
+    let network = &method.network;
+    check_parameters(context, method.parameters.as_slice(), scope, found)?;
+    check_conditions(context, scope, method.precondition.as_slice(), found)?;
+    check_constraints(context, scope, network.constraints.as_slice(), found)?;
+    check_decomposed(context, scope, &method.task, found)?;
+    check_tasks_used(context, scope, network.subtasks.as_slice(), found)?;
+    Ok(())
+}
+
 /// Faults of a method, but for its network's order.
 fn check_method(
     context: &Context<'_, '_>,
@@ -38,14 +57,24 @@ fn check_method(
 ) -> Result<(), AllocError>
     ensures { OnOk result (AddsAny (PassedOver context.now) (Fails context.now) (method_parts method.now) found.old found.new) }
 {
-    let groups = method.parameters.as_slice();
-    let mut scope = Scope::of(context.alloc, groups)?;
-    check_parameters(context, groups, &scope, found)?;
-    let network = &method.network;
-    check_conditions(context, &mut scope, method.precondition.as_slice(), found)?;
-    check_constraints(context, &scope, network.constraints.as_slice(), found)?;
-    check_decomposed(context, &scope, &method.task, found)?;
-    check_tasks_used(context, &scope, network.subtasks.as_slice(), found)?;
+    let mut scope = Scope::of(context.alloc, method.parameters.as_slice())?;
+    check_method_in(context, method, &mut scope, found)?;
+    Ok(())
+}
+
+/// Faults of an action with these variables in force.
+fn check_action_in<'a>(
+    context: &Context<'_, '_>,
+    action: &'a ActionText,
+    scope: &mut Scope<'a>,
+    found: &mut Findings,
+) -> Result<(), AllocError>
+    requires { scope.old ≡ parameters_of action.now.parameters }
+    ensures { OnOk result (AddsAny (PassedOver context.now) (Fails context.now) (action_parts action.now) found.old found.new) }
+{
+    check_parameters(context, action.parameters.as_slice(), scope, found)?;
+    check_conditions(context, scope, action.precondition.as_slice(), found)?;
+    check_effects(context, scope, action.effect.as_slice(), found)?;
     Ok(())
 }
 
@@ -57,11 +86,25 @@ fn check_action(
 ) -> Result<(), AllocError>
     ensures { OnOk result (AddsAny (PassedOver context.now) (Fails context.now) (action_parts action.now) found.old found.new) }
 {
-    let groups = action.parameters.as_slice();
-    let mut scope = Scope::of(context.alloc, groups)?;
-    check_parameters(context, groups, &scope, found)?;
-    check_conditions(context, &mut scope, action.precondition.as_slice(), found)?;
-    check_effects(context, &scope, action.effect.as_slice(), found)?;
+    let mut scope = Scope::of(context.alloc, action.parameters.as_slice())?;
+    check_action_in(context, action, &mut scope, found)?;
+    Ok(())
+}
+
+/// Faults of the initial network with these variables in force, but for its order.
+fn check_initial_in(
+    context: &Context<'_, '_>,
+    problem: &ProblemText,
+    scope: &Scope<'_>,
+    found: &mut Findings,
+) -> Result<(), AllocError>
+    requires { scope.now ≡ parameters_of problem.now.htn.parameters }
+    ensures { OnOk result (AddsAny (PassedOver context.now) (Fails context.now) (schema_parts (schema_of_network problem.now)) found.old found.new) }
+{
+    let network = &problem.htn.network;
+    check_parameters(context, problem.htn.parameters.as_slice(), scope, found)?;
+    check_constraints(context, scope, network.constraints.as_slice(), found)?;
+    check_tasks_used(context, scope, network.subtasks.as_slice(), found)?;
     Ok(())
 }
 
@@ -73,12 +116,24 @@ pub(crate) fn check_initial(
 ) -> Result<(), AllocError>
     ensures { OnOk result (AddsAny (PassedOver context.now) (Fails context.now) (schema_parts (schema_of_network problem.now)) found.old found.new) }
 {
-    let groups = problem.htn.parameters.as_slice();
-    let network = &problem.htn.network;
-    let scope = Scope::of(context.alloc, groups)?;
-    check_parameters(context, groups, &scope, found)?;
-    check_constraints(context, &scope, network.constraints.as_slice(), found)?;
-    check_tasks_used(context, &scope, network.subtasks.as_slice(), found)?;
+    let scope = Scope::of(context.alloc, problem.htn.parameters.as_slice())?;
+    check_initial_in(context, problem, &scope, found)?;
+    Ok(())
+}
+
+/// Faults of the initial atoms and the goal, with no variables in force.
+fn check_states_in<'a>(
+    context: &Context<'_, '_>,
+    problem: &'a ProblemText,
+    scope: &mut Scope<'a>,
+    found: &mut Findings,
+) -> Result<(), AllocError>
+    requires { scope.old ≡ [] }
+    ensures { OnOk result (AddsAny (PassedOver context.now) (Fails context.now) (schema_parts (schema_of_states problem.now)) found.old found.new) }
+{
+    check_parameters(context, &[], scope, found)?;
+    check_atoms(context, scope, problem.init.as_slice(), found)?;
+    check_conditions(context, scope, problem.goal.as_slice(), found)?;
     Ok(())
 }
 
@@ -91,9 +146,7 @@ pub(crate) fn check_states(
     ensures { OnOk result (AddsAny (PassedOver context.now) (Fails context.now) (schema_parts (schema_of_states problem.now)) found.old found.new) }
 {
     let mut scope = Scope::new(context.alloc);
-    check_parameters(context, &[], &scope, found)?;
-    check_atoms(context, &scope, problem.init.as_slice(), found)?;
-    check_conditions(context, &mut scope, problem.goal.as_slice(), found)?;
+    check_states_in(context, problem, &mut scope, found)?;
     Ok(())
 }
 

@@ -1,10 +1,11 @@
 //! What a domain and a problem say, part by part.
-ghost use Rattle.std.specs.Prelude.{◌≡◌, OnOk};
+ghost use Rattle.std.specs.Prelude.{◌≡◌, OnOk, map};
+ghost use Rattle.hddl_meaning.specs.Mentions.{mention_of};
 ghost use Rattle.hddl_meaning.specs.declared.fault.Source.TheVariants as source;
 ghost use Rattle.hddl_uses.specs.Contexts.{Fails, PassedOver};
 ghost use Rattle.hddl_scope.specs.Findings.{Adds, AddsAny};
 ghost use Rattle.hddl_uses.specs.Parts.{Objects, Types};
-ghost use Rattle.hddl_check.specs.TextParts.{body_parts, declared_parts, domain_parts, problem_parts};
+ghost use Rattle.hddl_check.specs.TextParts.{body_parts, declared_parts, domain_parts, name_parts, problem_parts};
 
 use crate::declarations::{check_names, check_predicates, check_task_names, check_tasks};
 use crate::schemas::{
@@ -12,6 +13,7 @@ use crate::schemas::{
 };
 use hddl_meaning::CheckFault;
 use hddl_scope::{Findings, method_names, names_in, past_distinct, predicate_names, types_in};
+use hddl_tree::DomainText;
 use hddl_uses::{Context, check_name_types, check_network};
 use std::alloc::AllocError;
 
@@ -57,19 +59,43 @@ fn check_objects(context: &Context<'_, '_>, found: &mut Findings) -> Result<(), 
     Ok(())
 }
 
+/// Faults of the names of predicates.
+fn check_predicate_names(
+    context: &Context<'_, '_>,
+    domain: &DomainText,
+    found: &mut Findings,
+) -> Result<(), AllocError>
+    ensures { OnOk result (AddsAny (PassedOver context.now) (Fails context.now) (name_parts (map (λ x. mention_of x.name) domain.now.predicates)) found.old found.new) }
+{
+    let predicates = predicate_names(context.alloc, domain.predicates.as_slice())?;
+    check_names(context, &predicates, found)?;
+    Ok(())
+}
+
+/// Faults of the names of methods.
+fn check_method_names(
+    context: &Context<'_, '_>,
+    domain: &DomainText,
+    found: &mut Findings,
+) -> Result<(), AllocError>
+    ensures { OnOk result (AddsAny (PassedOver context.now) (Fails context.now) (name_parts (map (λ x. mention_of x.name) domain.now.methods)) found.old found.new) }
+{
+    let methods = method_names(context.alloc, domain.methods.as_slice())?;
+    check_names(context, &methods, found)?;
+    Ok(())
+}
+
 /// Faults of the names that a domain declares.
 fn check_declared(context: &Context<'_, '_>, found: &mut Findings) -> Result<(), AllocError>
     requires { context.now.source ≡ source.Domain }
     ensures { OnOk result (AddsAny (PassedOver context.now) (Fails context.now) (declared_parts context.now.domain.now) found.old found.new) }
 {
     let domain = context.domain;
-    let predicates = predicate_names(context.alloc, domain.predicates.as_slice())?;
-    let methods = method_names(context.alloc, domain.methods.as_slice())?;
     check_types(context, found)?;
     check_constants(context, found)?;
     check_name_types(context, domain.constants.as_slice(), found)?;
-    check_names(context, &predicates, found)?;
-    check_names(context, &methods, found)?;
+    check_predicate_names(context, domain, found)?;
+    check_method_names(context, domain, found)?;
     check_task_names(context, domain, found)?;
     Ok(())
 }

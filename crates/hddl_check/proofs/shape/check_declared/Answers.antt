@@ -1,7 +1,5 @@
-use Rattle.std.proofs.Common.{◌∙◌, ◌++◌, ◌∷◌, ap, List, map}
+use Rattle.std.proofs.Common.{◌++◌, ◌∷◌, ap, List, map}
 use Rattle.hddl_tree.specs.declared.term.NameGroup.{NameGroup}
-use Rattle.hddl_tree.specs.declared.domain.PredicateText.{PredicateText}
-use Rattle.hddl_tree.specs.declared.domain.MethodText.{MethodText}
 use Rattle.hddl_meaning.specs.Mentions.{Mention, mention_of, typed_names}
 use Rattle.hddl_uses.specs.Contexts.{Fails, PassedOver}
 use Rattle.hddl_uses.specs.Parts.{Part, Types, Objects, type_parts}
@@ -21,11 +19,6 @@ returns c =
     let names : List Part = name_parts predicates ++ (name_parts methods ++ tasks) in
     Adds-cons O P Types (Objects ∷ (types ++ names)) c.in_ok-check_types.ensures
     (Adds-cons O P Objects (types ++ names) c.in_ok-check_constants.ensures
-    (Adds-append O P types names (Adds-list O P (ap (λ (g : List NameGroup). type_parts (typed_names g)) c.as_slice-3.ensures) c.in_ok-check_name_types.ensures)
-    (Adds-append O P (name_parts predicates) (name_parts methods ++ tasks)
-    (Adds-list O P (ap name_parts (c.deref.ensures.value ∙ c.in_ok-predicates.ensures ∙ ap (λ (xs : List PredicateText). map (λ x. mention_of x.name) xs) c.as_slice.ensures))
-    c.in_ok-check_names.ensures)
-    (Adds-append O P (name_parts methods) tasks
-    (Adds-list O P (ap name_parts (c.deref-2.ensures.value ∙ c.in_ok-methods.ensures ∙ ap (λ (xs : List MethodText). map (λ x. mention_of x.name) xs) c.as_slice-2.ensures))
-    c.in_ok-check_names-2.ensures)
-    c.in_ok-check_task_names.ensures))))
+    (Adds-append O P types names (Adds-list O P (ap (λ (g : List NameGroup). type_parts (typed_names g)) c.as_slice.ensures) c.in_ok-check_name_types.ensures)
+    (Adds-append O P (name_parts predicates) (name_parts methods ++ tasks) c.in_ok-check_predicate_names.ensures
+    (Adds-append O P (name_parts methods) tasks c.in_ok-check_method_names.ensures c.in_ok-check_task_names.ensures))))

@@ -7,7 +7,7 @@ use Rattle.hddl_uses.specs.Contexts.{Fails, PassedOver}
 use Rattle.hddl_uses.specs.Parts.{Part, Side, Subtask}
 use Rattle.hddl_check.specs.TextParts.{parameter_parts}
 use Rattle.hddl_scope.proofs.Adding.{Adds-append, Adds-list}
-use Rattle.hddl_check.proofs.schemas.check_initial.Goals as goal
+use Rattle.hddl_check.proofs.schemas.check_initial_in.Goals as goal
 
 pub returns : goal.returns
 returns c =
@@ -17,13 +17,13 @@ returns c =
     let gs : List VariableGroup = p.htn.parameters in
     let own : List Part = parameter_parts gs in
     let w : List Variable = parameters_of gs in
-    let scope : c.in_ok-scope.scope ≡ w = c.in_ok-scope.ensures ∙ ap parameters_of c.as_slice-groups.ensures in
+    let scope : c.args.scope.now ≡ w = c.requires in
     let constraints : List Part = map Side (constraints_in w p.htn.network) in
     let subtasks : List Part = map Subtask (subtasks_in w p.htn.network) in
     Adds-append O P own (constraints ++ subtasks)
-    (Adds-list O P (ap (λ (g : List VariableGroup). parameter_parts g) c.as_slice-groups.ensures) c.in_ok-check_parameters.ensures)
+    (Adds-list O P (ap (λ (g : List VariableGroup). parameter_parts g) c.as_slice.ensures) c.in_ok-check_parameters.ensures)
     (Adds-append O P constraints subtasks
-    (Adds-list O P (λ i. map Side (flat_map (sides (scope i)) (c.as_slice.ensures i))) c.in_ok-check_constraints.ensures)
+    (Adds-list O P (λ i. map Side (flat_map (sides (scope i)) (c.as_slice-2.ensures i))) c.in_ok-check_constraints.ensures)
     (Adds-list O P
-    (λ i. map Subtask (map (λ (s : SubtaskText). record { variables = scope i; atom = s.task }) (c.as_slice-2.ensures i)))
+    (λ i. map Subtask (map (λ (s : SubtaskText). record { variables = scope i; atom = s.task }) (c.as_slice-3.ensures i)))
     c.in_ok-check_tasks_used.ensures))

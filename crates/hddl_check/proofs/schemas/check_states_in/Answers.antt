@@ -9,7 +9,7 @@ use Rattle.hddl_scope.proofs.Adding.{Adds-append, Adds-list}
 use Rattle.hddl_uses.proofs.Arguing.{all_inside}
 use Rattle.hddl_check.proofs.SchemaLists.{states_are}
 use Rattle.hddl_check.proofs.Inside.{schema_added}
-use Rattle.hddl_check.proofs.schemas.check_states.Goals as goal
+use Rattle.hddl_check.proofs.schemas.check_states_in.Goals as goal
 
 pub returns : goal.returns
 returns c =
@@ -24,6 +24,6 @@ returns c =
     (Adds-list N P (states_are p)
     (Adds-append N P atoms goals
     (all_inside context [] atoms
-    (Adds-list (PassedOver context) P (λ i. map Atom (map (λ (a : AtomText). record { variables = c.new-scope.ensures i; atom = a }) (c.as_slice.ensures i))) c.in_ok-check_atoms.ensures))
-    (subst (λ v. AddsAny (PassedInside context v) P (conditions_parts v p.goal) c.check_atoms.new.found c.check_conditions.new.found) c.new-scope.ensures
-    (Adds-list (PassedInside context c.new-scope.result) P (ap (conditions_parts c.new-scope.result) c.as_slice-2.ensures) c.in_ok-check_conditions.ensures.found))))
+    (Adds-list (PassedOver context) P (λ i. map Atom (map (λ (a : AtomText). record { variables = c.requires i; atom = a }) (c.as_slice.ensures i))) c.in_ok-check_atoms.ensures))
+    (subst (λ v. AddsAny (PassedInside context v) P (conditions_parts v p.goal) c.check_atoms.new.found c.check_conditions.new.found) c.requires
+    (Adds-list (PassedInside context c.args.scope.now) P (ap (conditions_parts c.args.scope.now) c.as_slice-2.ensures) c.in_ok-check_conditions.ensures.found))))
