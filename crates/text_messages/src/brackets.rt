@@ -80,7 +80,8 @@ fn section_inside(
     words: &[Token<'_>],
 ) -> Result<Option<(usize, usize)>, AllocError> {
     let mut open: Vec<usize> = Vec::new(alloc);
-    for (index, word) in words.iter().enumerate() {
+    let mut index: usize = 0;
+    for word in words {
         match word.kind {
             Kind::Open => {
                 if let [_, outer, ..] = open.as_slice()
@@ -97,6 +98,7 @@ fn section_inside(
             }
             _ => {}
         }
+        index = index.saturating_add(1);
     }
     Ok(None)
 }
@@ -117,21 +119,14 @@ fn heading<'a>(text: &'a [u8], words: &[Token<'a>], index: usize) -> &'a [u8] {
     }
 }
 
-/// A bracket that is never closed.
-pub(crate) fn unclosed<'a>(alloc: Global, source: &'a Source<'a>) -> Result<Said<'a>, AllocError> {
-    let said = plain_words(alloc, "this bracket is never closed")?;
-    let words = words_or_none(alloc, source.lines.text())?;
-    let Some((inner, outer)) = section_inside(alloc, words.as_slice())? else {
-        return Ok(said);
-    };
-    let (Some(bracket), Some(around)) = (words.get(inner), words.get(outer)) else {
-        return Ok(said);
-    };
-    let text = source.lines.text();
-    let spot = spot_at(source, bracket.place);
-    let line = source.lines.position(spot.place).line;
-    let outer_line = source.lines.position(around.place.min(text.len())).line;
-    let said = said.helped(
+/// That a bracket is never closed.
+fn never_closed<'a>(alloc: Global) -> Result<Said<'a>, AllocError> {
+    plain_words(alloc, "this bracket is never closed")
+}
+
+/// That a bracket is never closed, and may be missing before a line.
+fn missing_before<'a>(alloc: Global, line: usize) -> Result<Said<'a>, AllocError> {
+    never_closed(alloc)?.helped(
         alloc,
         &[
             Part::Words("a "),
@@ -139,14 +134,31 @@ pub(crate) fn unclosed<'a>(alloc: Global, source: &'a Source<'a>) -> Result<Said
             Part::Words(" may be missing before line "),
             Part::Number(line as u64),
         ],
-    )?;
-    said.noted(
+    )
+}
+
+/// A bracket that is never closed, where the section of an index begins inside the list of another.
+fn unclosed_before<'a>(
+    alloc: Global,
+    source: &'a Source<'a>,
+    words: &[Token<'a>],
+    inner: usize,
+    outer: usize,
+) -> Result<Said<'a>, AllocError> {
+    let (Some(bracket), Some(around)) = (words.get(inner), words.get(outer)) else {
+        return never_closed(alloc);
+    };
+    let text = source.lines.text();
+    let spot = spot_at(source, bracket.place);
+    let line = source.lines.position(spot.place).line;
+    let outer_line = source.lines.position(around.place.min(text.len())).line;
+    missing_before(alloc, line)?.noted(
         alloc,
         spot,
         &[
-            Part::Name(heading(text, words.as_slice(), inner)),
+            Part::Name(heading(text, words, inner)),
             Part::Words(" begins here, and "),
-            Part::Name(heading(text, words.as_slice(), outer)),
+            Part::Name(heading(text, words, outer)),
             Part::Words(" of line "),
             Part::Number(outer_line as u64),
             Part::Words(" is still open"),
@@ -154,10 +166,20 @@ pub(crate) fn unclosed<'a>(alloc: Global, source: &'a Source<'a>) -> Result<Said
     )
 }
 
+/// A bracket that is never closed.
+pub(crate) fn unclosed<'a>(alloc: Global, source: &'a Source<'a>) -> Result<Said<'a>, AllocError> {
+    let words = words_or_none(alloc, source.lines.text())?;
+    match section_inside(alloc, words.as_slice())? {
+        Some((inner, outer)) => unclosed_before(alloc, source, words.as_slice(), inner, outer),
+        None => never_closed(alloc),
+    }
+}
+
 /// The index of the closing bracket that completes the text.
 fn completing(words: &[Token<'_>]) -> Option<usize> {
     let mut open: usize = 0;
-    for (index, word) in words.iter().enumerate() {
+    let mut index: usize = 0;
+    for word in words {
         match word.kind {
             Kind::Open => open = open.saturating_add(1),
             Kind::Close => match open {
@@ -167,8 +189,33 @@ fn completing(words: &[Token<'_>]) -> Option<usize> {
             },
             _ => {}
         }
+        index = index.saturating_add(1);
     }
     None
+}
+
+/// The words from the bracket on that completes the text.
+fn completed<'b, 'a>(words: &'b [Token<'a>]) -> Option<&'b [Token<'a>]> {
+    words.get(completing(words)?..)
+}
+
+/// A bracket that closes nothing, in a text of these words.
+fn extra_after<'a>(
+    alloc: Global,
+    source: &'a Source<'a>,
+    words: &[Token<'a>],
+) -> Result<Said<'a>, AllocError> {
+    let said = plain_words(alloc, "this bracket closes nothing")?;
+    let Some([bracket, after @ ..]) = completed(words) else {
+        return Ok(said);
+    };
+    let spot = spot_at(source, bracket.place);
+    let noted = if after.iter().any(|word| is_section(word)) {
+        "the text is complete here, and sections follow: this bracket may be the one too many"
+    } else {
+        "the text is complete here"
+    };
+    said.noted_by(alloc, spot, noted)
 }
 
 /// A bracket that closes nothing.
@@ -176,19 +223,6 @@ pub(crate) fn extra_close<'a>(
     alloc: Global,
     source: &'a Source<'a>,
 ) -> Result<Said<'a>, AllocError> {
-    let said = plain_words(alloc, "this bracket closes nothing")?;
     let words = words_or_none(alloc, source.lines.text())?;
-    let Some(index) = completing(words.as_slice()) else {
-        return Ok(said);
-    };
-    let Some([bracket, after @ ..]) = words.get(index..) else {
-        return Ok(said);
-    };
-    let spot = spot_at(source, bracket.place);
-    let words = if after.iter().any(|word| is_section(word)) {
-        "the text is complete here, and sections follow: this bracket may be the one too many"
-    } else {
-        "the text is complete here"
-    };
-    said.noted_by(alloc, spot, words)
+    extra_after(alloc, source, words.as_slice())
 }

@@ -95,30 +95,43 @@ fn add_listed<'a>(
     names: &[Part<'a>],
     last: &'static str,
 ) -> Result<(), AllocError> {
-    for (index, name) in names.iter().enumerate() {
-        if index > 0 {
-            let is_last = index.saturating_add(1) == names.len();
-            message.push(Part::Words(if is_last { last } else { ", " }))?;
+    let mut left = names.len();
+    for name in names {
+        if left < names.len() {
+            message.push(Part::Words(if left == 1 { last } else { ", " }))?;
         }
         message.push(*name)?;
+        left = left.saturating_sub(1);
     }
     Ok(())
 }
 
-/// `expected A or B`: eight at most, and then `...`.
-fn expectation<'a>(alloc: Global, expected: &Candidates) -> Result<Vec<Part<'a>>, AllocError> {
+/// The words that may stand at a place as they are named: eight at most, and then `...`.
+fn shown_names(alloc: Global, expected: &Candidates) -> Result<Vec<Part<'static>>, AllocError> {
     let mut names = names_of(alloc, expected)?;
     if names.len() > SHOWN {
         names.truncate(SHOWN);
-        names.push(Part::Words("..."))?;
+        names.extend_from_slice(&[Part::Words("...")])?;
     }
-    let mut message = Vec::new(alloc);
-    message.push(Part::Words("expected "))?;
-    if names.is_empty() {
-        message.push(Part::Words("nothing"))?;
-    }
-    add_listed(&mut message, names.as_slice(), " or ")?;
+    Ok(names)
+}
+
+/// `expected A or B`.
+fn expectation_of<'a>(alloc: Global, names: &[Part<'a>]) -> Result<Vec<Part<'a>>, AllocError> {
+    let first = if names.is_empty() {
+        "expected nothing"
+    } else {
+        "expected "
+    };
+    let mut message = vec![in alloc; Part::Words(first)]?;
+    add_listed(&mut message, names, " or ")?;
     Ok(message)
+}
+
+/// `expected A or B`: eight at most, and then `...`.
+fn expectation<'a>(alloc: Global, expected: &Candidates) -> Result<Vec<Part<'a>>, AllocError> {
+    let names = shown_names(alloc, expected)?;
+    expectation_of(alloc, names.as_slice())
 }
 
 /// Whether what may stand at a place wasn't looked for: something may wherever a bracket is open.
@@ -145,6 +158,33 @@ fn left_out<'a>(alloc: Global, word: &'a [u8]) -> Result<Said<'a>, AllocError> {
     )
 }
 
+/// The label beside the carets of a place that is refused.
+fn label_at<'a>(
+    alloc: Global,
+    source: &'a Source<'a>,
+    place: usize,
+) -> Result<Vec<Part<'a>>, AllocError> {
+    let refusal = refused_place(alloc, source, place)?;
+    label_of(alloc, &refusal)
+}
+
+/// A word that means what the language leaves out, with a label.
+fn unsupported_word<'a>(
+    alloc: Global,
+    word: &'a [u8],
+    label: &[Part<'a>],
+) -> Result<Said<'a>, AllocError> {
+    if matches!(word, b"(") {
+        return plain_words(alloc, "a bracket can't stand here")?
+            .labelled(alloc, label)?
+            .helped_by(
+                alloc,
+                "if this is `either`: declare a type above both in `:types`, and name that",
+            );
+    }
+    left_out(alloc, word)?.labelled(alloc, label)
+}
+
 /// A word that means what the language leaves out, where these keywords may be meant.
 pub(crate) fn unsupported<'a>(
     alloc: Global,
@@ -159,17 +199,8 @@ pub(crate) fn unsupported<'a>(
     if let Some(instead) = instead_of(source.role, word) {
         return left_out(alloc, word)?.helped_by(alloc, instead);
     }
-    let refusal = refused_place(alloc, source, place)?;
-    let label = label_of(alloc, &refusal)?;
-    if matches!(word, b"(") {
-        return plain_words(alloc, "a bracket can't stand here")?
-            .labelled(alloc, label.as_slice())?
-            .helped_by(
-                alloc,
-                "if this is `either`: declare a type above both in `:types`, and name that",
-            );
-    }
-    left_out(alloc, word)?.labelled(alloc, label.as_slice())
+    let label = label_at(alloc, source, place)?;
+    unsupported_word(alloc, word, label.as_slice())
 }
 
 /// A problem where a domain is wanted, or the other way round.
@@ -208,6 +239,11 @@ fn first_like(refusal: &RefusedPlace<'_>) -> Option<usize> {
     Some(first.place)
 }
 
+/// That a word can't stand where it does.
+fn cannot_stand<'a>(alloc: Global, word: &'a [u8]) -> Result<Said<'a>, AllocError> {
+    plain(alloc, &[Part::Name(word), Part::Words(" can't stand here")])
+}
+
 /// A keyword that can't stand somewhere, or stands there a second time.
 fn misplaced_keyword<'a>(
     alloc: Global,
@@ -225,11 +261,7 @@ fn misplaced_keyword<'a>(
         .noted_by(alloc, spot, "the first one");
     }
     let label = label_of(alloc, refusal)?;
-    plain(
-        alloc,
-        &[Part::Name(refusal.word), Part::Words(" can't stand here")],
-    )?
-    .labelled(alloc, label.as_slice())
+    cannot_stand(alloc, refusal.word)?.labelled(alloc, label.as_slice())
 }
 
 /// Whether some word is this one.
@@ -282,6 +314,35 @@ fn unfinished<'a>(
     }
 }
 
+/// A word where others are expected.
+fn found_instead<'a>(alloc: Global, refusal: &RefusedPlace<'a>) -> Result<Said<'a>, AllocError> {
+    let found = if refusal.word.is_empty() {
+        Part::Words("the end of the text")
+    } else {
+        Part::Name(refusal.word)
+    };
+    let mut message = expectation(alloc, &refusal.expected)?;
+    message.extend_from_slice(&[Part::Words(", found "), found])?;
+    plain(alloc, message.as_slice())
+}
+
+/// A word that the grammar has not at a refused place.
+fn not_expected_at<'a>(alloc: Global, refusal: &RefusedPlace<'a>) -> Result<Said<'a>, AllocError> {
+    if let Some(said) = exchanged(alloc, refusal)? {
+        return Ok(said);
+    }
+    if is_keyword(refusal.word) {
+        return misplaced_keyword(alloc, refusal);
+    }
+    if let Some(said) = unfinished(alloc, refusal)? {
+        return Ok(said);
+    }
+    if is_unknown(refusal) {
+        return cannot_stand(alloc, refusal.word);
+    }
+    found_instead(alloc, refusal)
+}
+
 /// A word that the grammar has not where it stands.
 pub(crate) fn not_expected<'a>(
     alloc: Global,
@@ -289,27 +350,5 @@ pub(crate) fn not_expected<'a>(
     place: usize,
 ) -> Result<Said<'a>, AllocError> {
     let refusal = refused_place(alloc, source, place)?;
-    if let Some(said) = exchanged(alloc, &refusal)? {
-        return Ok(said);
-    }
-    if is_keyword(refusal.word) {
-        return misplaced_keyword(alloc, &refusal);
-    }
-    if let Some(said) = unfinished(alloc, &refusal)? {
-        return Ok(said);
-    }
-    if is_unknown(&refusal) {
-        return plain(
-            alloc,
-            &[Part::Name(refusal.word), Part::Words(" can't stand here")],
-        );
-    }
-    let mut message = expectation(alloc, &refusal.expected)?;
-    message.push(Part::Words(", found "))?;
-    message.push(if refusal.word.is_empty() {
-        Part::Words("the end of the text")
-    } else {
-        Part::Name(refusal.word)
-    })?;
-    plain(alloc, message.as_slice())
+    not_expected_at(alloc, &refusal)
 }

@@ -1,7 +1,9 @@
 //! The diagnostic of a text's fault.
 
-ghost use Rattle.std.specs.Prelude.{◌≡◌, ◌≢◌, [], IfOk};
+ghost use Rattle.std.specs.Prelude.{◌≡◌, ◌≢◌, [], IfOk, OnOk};
 ghost use Rattle.std.specs.List.{All};
+ghost use Rattle.near_names.specs.Near.{names_of};
+ghost use Rattle.near_names.specs.Offers.{offered};
 ghost use Rattle.text_messages.specs.Following.{OffersMeant};
 ghost use Rattle.text_messages.specs.Notes.{IsNote};
 ghost use Rattle.text_messages.specs.Messages as spec;
@@ -9,8 +11,8 @@ ghost use Rattle.text_messages.specs.Messages.{IsAbout};
 
 use crate::brackets::{extra_close, unclosed};
 use crate::grammar::{not_expected, unsupported};
-use crate::near::{asking, near_words};
-use crate::noted::{looked_up, or_code};
+use crate::near::{ask, near_words};
+use crate::noted::{look_up, or_code};
 use crate::said::{Said, plain, plain_words};
 use crate::spots::{spot_at, word_at};
 use diagnostics::{Diagnostic, Part, Severity, Source, Where};
@@ -107,6 +109,52 @@ fn said_of<'a>(
     }
 }
 
+/// Completes what is said of a fault: its message isn't empty, it offers these keywords alone, and its notes stand
+/// where they may.
+fn complete<'a>(
+    alloc: Global,
+    source: &'a Source<'a>,
+    fault: TextFault,
+    said: &mut Said<'a>,
+    near: &[&'static [u8]],
+) -> Result<(), AllocError>
+    ensures message { OnOk result (said.new.message.items ≢ []) }
+    ensures offers { OnOk result (offered said.new.remarks.items ≡ names_of near.now) }
+    ensures notes { OnOk result (All (λ note. IsNote source.now fault note.spot) said.new.notes.items) }
+{
+    or_code(&mut said.message, code_of(fault))?;
+    ask(alloc, &mut said.remarks, near)?;
+    look_up(alloc, source, fault, &mut said.notes)?;
+    Ok(())
+}
+
+/// The diagnostic of a fault that offers these keywords.
+fn diagnostic_with<'a>(
+    alloc: Global,
+    source: &'a Source<'a>,
+    fault: TextFault,
+    near: &[&'static [u8]],
+) -> Result<Diagnostic<'a>, AllocError>
+    ensures severity { IfOk result (λ d. d.severity ≡ Severity.Error) }
+    ensures code { IfOk result (λ d. d.code.now ≡ spec.code_of fault) }
+    ensures about { IfOk result (λ d. IsAbout source.now fault d.about) }
+    ensures message { IfOk result (λ d. d.message.items ≢ []) }
+    ensures offers { IfOk result (λ d. offered d.remarks.items ≡ names_of near.now) }
+    ensures notes { IfOk result (λ d. All (λ note. IsNote source.now fault note.spot) d.notes.items) }
+{
+    let mut said = said_of(alloc, source, fault, !near.is_empty())?;
+    complete(alloc, source, fault, &mut said, near)?;
+    Ok(Diagnostic {
+        severity: Severity::Error,
+        code: code_of(fault),
+        about: about(source, fault),
+        message: said.message,
+        label: said.label,
+        remarks: said.remarks,
+        notes: said.notes,
+    })
+}
+
 /// The diagnostic of a fault of a text. The text's role says whether it was read as a problem or as a domain. An error
 /// where memory was refused, and for the fault `OutOfMemory`, which has no diagnostic. Takes time linear in the text:
 /// some hundred runs of the reader over at most half a megabyte, and a few passes over the rest.
@@ -125,23 +173,6 @@ pub fn text_diagnostic<'a>(
     ensures notes { IfOk result (λ d. All (λ note. IsNote source.now fault note.spot) d.notes.items) }
 {
     let near = near_words(alloc, source, fault)?;
-    let Said {
-        message,
-        label,
-        remarks,
-        notes,
-    } = said_of(alloc, source, fault, !near.is_empty())?;
-    let code = code_of(fault);
-    let message = or_code(message, code)?;
-    let remarks = asking(alloc, remarks, near.as_slice())?;
-    let notes = looked_up(alloc, source, fault, notes)?;
-    Ok(Diagnostic {
-        severity: Severity::Error,
-        code,
-        about: about(source, fault),
-        message,
-        label,
-        remarks,
-        notes,
-    })
+    let told = diagnostic_with(alloc, source, fault, near.as_slice())?;
+    Ok(told)
 }

@@ -1,6 +1,6 @@
 //! The keywords that may be meant by a word that the language has not.
 
-ghost use Rattle.std.specs.Prelude.{◌≡◌, [], IfOk};
+ghost use Rattle.std.specs.Prelude.{◌≡◌, [], IfOk, OnOk};
 ghost use Rattle.std.specs.List.{All};
 ghost use Rattle.near_names.specs.Near.{names_of};
 ghost use Rattle.near_names.specs.Offers.{offered};
@@ -129,23 +129,24 @@ fn without_questions<'a>(
     Ok(kept)
 }
 
-/// Remarks that ask for these names alone, if there are any.
+/// Makes remarks ask for these names alone, if there are any.
 #[tactic(auto, using(crate::proofs::Offered::offered_more))]
-pub(crate) fn asking<'a>(
+pub(crate) fn ask<'a>(
     alloc: Global,
-    remarks: Vec<Remark<'a>>,
+    remarks: &mut Vec<Remark<'a>>,
     near: &[&'static [u8]],
-) -> Result<Vec<Remark<'a>>, AllocError>
-    ensures { IfOk result (λ remarks. offered remarks.items ≡ names_of near.now) }
+) -> Result<(), AllocError>
+    ensures { OnOk result (offered remarks.new.items ≡ names_of near.now) }
 {
-    let mut remarks = without_questions(alloc, remarks)?;
+    let others = std::mem::replace(remarks, Vec::new(alloc));
+    *remarks = without_questions(alloc, others)?;
     if near.is_empty() {
-        return Ok(remarks);
+        return Ok(());
     }
     let message = did_you_mean(alloc, near)?;
     remarks.push(Remark {
         kind: RemarkKind::Help,
         message,
     })?;
-    Ok(remarks)
+    Ok(())
 }

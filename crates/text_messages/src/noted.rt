@@ -1,6 +1,6 @@
 //! Where notes stand: each place is looked up in the words of the text again, so no contract rests on how it was found.
 
-ghost use Rattle.std.specs.Prelude.{◌≡◌, ◌≢◌, ℕ, [], true, IfOk, IfSome, Ok, Some, map, slice_get, take};
+ghost use Rattle.std.specs.Prelude.{◌≡◌, ◌≢◌, ℕ, [], true, IfOk, IfSome, Ok, OnOk, Some, map, slice_get, take};
 ghost use Rattle.std.specs.List.{All};
 ghost use Rattle.hddl_words.specs.Faults.{Leads};
 ghost use Rattle.hddl_words.specs.Words.{word_of, words as words_of, Word};
@@ -137,7 +137,7 @@ fn noted_spot<'a>(
 }
 
 /// The notes that stand where they may, in their order.
-pub(crate) fn looked_up<'a>(
+fn looked_up<'a>(
     alloc: Global,
     source: &'a Source<'a>,
     fault: TextFault,
@@ -165,16 +165,26 @@ pub(crate) fn looked_up<'a>(
     Ok(noted)
 }
 
-/// The message, with the name of the fault where there is none.
-pub(crate) fn or_code<'a>(
-    message: Vec<Part<'a>>,
-    code: &'static str,
-) -> Result<Vec<Part<'a>>, AllocError>
-    ensures { IfOk result (λ message. message.items ≢ []) }
+/// Leaves only the notes that stand where they may.
+pub(crate) fn look_up<'a>(
+    alloc: Global,
+    source: &'a Source<'a>,
+    fault: TextFault,
+    notes: &mut Vec<Note<'a>>,
+) -> Result<(), AllocError>
+    ensures { OnOk result (All (λ note. IsNote source.now fault note.spot) notes.new.items) }
 {
-    let mut message = message;
+    let found = std::mem::replace(notes, Vec::new(alloc));
+    *notes = looked_up(alloc, source, fault, found)?;
+    Ok(())
+}
+
+/// Adds the name of the fault to a message that is empty.
+pub(crate) fn or_code<'a>(message: &mut Vec<Part<'a>>, code: &'static str) -> Result<(), AllocError>
+    ensures { OnOk result (message.new.items ≢ []) }
+{
     if message.is_empty() {
         message.push(Part::Words(code))?;
     }
-    Ok(message)
+    Ok(())
 }

@@ -6,4 +6,4 @@ use Rattle.text_messages.proofs.message.text_diagnostic.Goals as goal
 
 pub returns-clause-offers : goal.returns-clause-offers
 returns-clause-offers c =
-    subst (All (MayBeMeant c.args.source.now c.args.fault)) (sym (c.in_ok-remarks.ensures ∙ ap names_of c.as_slice.ensures.value)) c.in_ok-near.ensures
+    subst (All (MayBeMeant c.args.source.now c.args.fault)) (sym (c.in_ok-told.ensures.offers ∙ ap names_of c.as_slice.ensures.value)) c.in_ok-near.ensures
