@@ -27,6 +27,23 @@ fn type_name(alloc: Global, cursor: &mut Cursor<'_>) -> Result<Name, Stop>
     }
 }
 
+/// A type for the names before it, if there are any.
+fn names_type(alloc: Global, cursor: &mut Cursor<'_>, parts: &mut NameParts) -> Result<(), Stop>
+    ensures reads { Leaves (run (spec.names_type parts.old.groups parts.old.names) cursor.old) result parts.new cursor.new }
+    ensures shorter { OnOk result (length cursor.new ≤ length cursor.old) }
+{
+    if parts.names.is_empty() {
+        return Err(cursor.refuse());
+    }
+    let of_type = type_name(alloc, cursor)?;
+    let names = std::mem::replace(&mut parts.names, Items::new(alloc));
+    parts.groups.push(NameGroup {
+        names,
+        of_type: Some(of_type),
+    })?;
+    Ok(())
+}
+
 /// A name, or a type for those before it.
 fn name_item(
     alloc: Global,
@@ -44,18 +61,7 @@ fn name_item(
             parts.names.push(name)?;
             Ok(())
         }
-        Class::Minus => {
-            if parts.names.is_empty() {
-                return Err(cursor.refuse());
-            }
-            let of_type = type_name(alloc, cursor)?;
-            let names = std::mem::replace(&mut parts.names, Items::new(alloc));
-            parts.groups.push(NameGroup {
-                names,
-                of_type: Some(of_type),
-            })?;
-            Ok(())
-        }
+        Class::Minus => names_type(alloc, cursor, parts),
         Class::Open => {
             if are_types {
                 Err(cursor.refuse_unsupported())
@@ -111,6 +117,27 @@ pub fn names(
     Ok(grouped_names(parts)?)
 }
 
+/// A type for the variables before it, if there are any.
+fn variables_type(
+    alloc: Global,
+    cursor: &mut Cursor<'_>,
+    parts: &mut VariableParts,
+) -> Result<(), Stop>
+    ensures reads { Leaves (run (spec.variables_type parts.old.groups parts.old.variables) cursor.old) result parts.new cursor.new }
+    ensures shorter { OnOk result (length cursor.new ≤ length cursor.old) }
+{
+    if parts.variables.is_empty() {
+        return Err(cursor.refuse());
+    }
+    let of_type = type_name(alloc, cursor)?;
+    let variables = std::mem::replace(&mut parts.variables, Items::new(alloc));
+    parts.groups.push(VariableGroup {
+        variables,
+        of_type: Some(of_type),
+    })?;
+    Ok(())
+}
+
 /// A variable, or a type for those before it.
 fn variable_item(
     alloc: Global,
@@ -127,18 +154,7 @@ fn variable_item(
             parts.variables.push(variable)?;
             Ok(())
         }
-        Class::Minus => {
-            if parts.variables.is_empty() {
-                return Err(cursor.refuse());
-            }
-            let of_type = type_name(alloc, cursor)?;
-            let variables = std::mem::replace(&mut parts.variables, Items::new(alloc));
-            parts.groups.push(VariableGroup {
-                variables,
-                of_type: Some(of_type),
-            })?;
-            Ok(())
-        }
+        Class::Minus => variables_type(alloc, cursor, parts),
         _ => Err(cursor.refuse()),
     }
 }
