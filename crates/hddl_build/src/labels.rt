@@ -69,9 +69,6 @@ impl Labels {
         ensures { IfOk result (λ position. position ≡ position_in self.now (folded label.now.text)) }
     {
         let text = fold(alloc, label.text())?;
-        match self.positions.get(text.as_slice()) {
-            Some(position) => Ok(Some(*position)),
-            None => Ok(None),
-        }
+        Ok(self.positions.get(text.as_slice()).copied())
     }
 }
