@@ -9,7 +9,7 @@ ghost use Rattle.pair_messages.specs.Offers.{label_text, label_texts, offered, o
 ghost use Rattle.pair_messages.specs.Stands.{IsNetworkIn, IsNetworkOf, IsSectionOf};
 
 use crate::index::PairIndex;
-use crate::near::nearest_within;
+use crate::near::{may_offer, nearest_within};
 use crate::phrases::{Section, did_you_mean, plain, push_names, push_section};
 use crate::saying::Saying;
 use crate::texts::spot_of;
@@ -318,6 +318,23 @@ fn label_help<'a>(
     Ok(Some(list))
 }
 
+/// What helps with a name that no subtask has; nothing where there are many subtasks and many faults come before it.
+fn few_label_help<'a>(
+    alloc: Global,
+    rank: usize,
+    network: &'a NetworkText,
+    word: &'a [u8],
+) -> Result<Option<Vec<Part<'a>>>, AllocError>
+    ensures { IfOk result (λ parts. IfSome parts (λ parts. All (IsNearest word.now (texts (label_mentions network.now))) (offered_by parts.items))) }
+{
+    let count = network.subtasks.len();
+    if count > MOST_LISTED && !may_offer(rank, word, count) {
+        return Ok(None);
+    }
+    let help = label_help(alloc, rank, network, word)?;
+    Ok(help)
+}
+
 /// What helps with the name in an ordering that stands at a place.
 fn ordering_help<'a>(
     alloc: Global,
@@ -331,7 +348,7 @@ fn ordering_help<'a>(
         return Ok(None);
     };
     let word = name.text();
-    let help = label_help(alloc, rank, network, word)?;
+    let help = few_label_help(alloc, rank, network, word)?;
     Ok(help)
 }
 

@@ -261,7 +261,7 @@ fn saying_of<'a>(
     match fault {
         CheckFault::Duplicate(at) => duplicate(alloc, index, at, word_of(index, at)),
         CheckFault::UnknownType(at) => unknown_type_at(alloc, index, rank, at),
-        CheckFault::TypeCycle(at) => type_cycle(alloc, index, word_of(index, at)),
+        CheckFault::TypeCycle(at) => type_cycle(alloc, index, rank, word_of(index, at)),
         CheckFault::UnknownName(at) => unknown(alloc, index, rank, at, word_of(index, at)),
         CheckFault::Arity(at) => arity(alloc, index, at, word_of(index, at)),
         CheckFault::TypeClash(at) => clash(alloc, index, at, word_of(index, at)),
@@ -280,8 +280,8 @@ fn saying_of<'a>(
 /// where memory was refused.
 ///
 /// Names are shown as they are written. Only the first 1,024 variables of a typed list are examined, and the first 32
-/// are shown. The rank is the number of faults before it: near names are offered for the first 200 faults, and for
-/// fewer where that would compare names with more than some 100 million pairs of bytes.
+/// are shown. The rank is the number of faults before it: near names are offered, and cycles of types shown, for the
+/// first 200 faults, and for fewer where that would compare names with more than some 100 million pairs of bytes.
 pub fn pair_diagnostic<'a>(
     alloc: Global,
     index: &PairIndex<'a>,

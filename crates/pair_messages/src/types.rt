@@ -177,10 +177,11 @@ fn cycle_label<'a>(
     Ok(label)
 }
 
-/// A type that is below itself.
+/// A type that is below itself; its cycle is shown where near names would be offered.
 pub(crate) fn type_cycle<'a>(
     alloc: Global,
     index: &PairIndex<'a>,
+    rank: usize,
     word: &'a [u8],
 ) -> Result<Saying<'a>, AllocError>
     ensures { IfOk result (λ s. offered s.remarks.items ≡ []) }
@@ -190,9 +191,10 @@ pub(crate) fn type_cycle<'a>(
         Part::Name(word),
         Part::Words(" is below itself"),
     ]?;
-    let way = cycle_through(alloc, index, word)?;
-    let label = cycle_label(alloc, word, way.as_slice())?;
     let mut saying = Saying::new(alloc, message);
-    saying.label = label;
+    if may_offer(rank, word, 0) {
+        let way = cycle_through(alloc, index, word)?;
+        saying.label = cycle_label(alloc, word, way.as_slice())?;
+    }
     Ok(saying)
 }
