@@ -7,7 +7,6 @@ use std::alloc::{AllocError, Global};
 use std::marker::Model;
 
 /// Names, each with a number. Contracts see the list of the names with their numbers.
-#[derive(Drop)]
 pub(crate) struct NameNumbers {
     entries: IndexMap<Vec<u8>, usize>,
 }
@@ -18,6 +17,13 @@ impl Model for NameNumbers {
     ghost Value = { Entries };
 
     ghost view = { λ numbers. entries_of numbers.entries.entries };
+}
+
+/// They are dropped in one place, as a task is.
+impl Drop for NameNumbers {
+    fn drop(self) {
+        let NameNumbers { entries: _ } = self;
+    }
 }
 
 impl NameNumbers {

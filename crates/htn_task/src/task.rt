@@ -7,6 +7,7 @@ ghost use Rattle.htn_model.specs.Instances.{action_at};
 ghost use Rattle.htn_model.specs.Task.{IsWellTyped, is_compound, method_names, objects_of, predicate_names, predicate_types, task_names, task_types, type_names};
 ghost use Rattle.htn_task.specs.Fluents.{AreFluents};
 ghost use Rattle.htn_task.specs.Numbers.{number_of};
+ghost use Rattle.htn_task.specs.TaskNumbers.{AreNumbersIn};
 
 use crate::fluents::fluents_of;
 use crate::formula::FormulaList;
@@ -96,7 +97,6 @@ impl Declaration {
 }
 
 /// The parts of a task.
-#[derive(Drop)]
 pub struct TaskParts {
     /// The objects, by first declaration.
     pub objects: Vec<Name>,
@@ -133,10 +133,27 @@ impl Model for TaskParts {
     } };
 }
 
+/// The parts are dropped in one place: the check of a function that owns them then has one call for it at each way out,
+/// and not one for each list in them.
+impl Drop for TaskParts {
+    fn drop(self) {
+        let TaskParts {
+            objects: _,
+            types: _,
+            predicates: _,
+            tasks: _,
+            methods: _,
+            actions: _,
+            initial_network: _,
+            initial_atoms: _,
+            goal: _,
+        } = self;
+    }
+}
+
 /// A well-typed planning task: no two objects, types, predicates or methods, and no two tasks or actions, have one
 /// name, each number in it names something, each atom and task has its declaration's number of arguments, and the
 /// orders of its networks are closed.
-#[derive(Drop)]
 pub struct Task {
     parts: TaskParts,
     numbers: TaskNumbers,
@@ -158,18 +175,45 @@ impl Model for Task {
     ghost invariant = { λ t. model.IsWellTyped t.parts × AreNumbersIn t.parts t.numbers × AreFluents t.parts t.fluents.items };
 }
 
+/// A task is dropped in one place, as its parts are.
+impl Drop for Task {
+    fn drop(self) {
+        let Task {
+            parts: _,
+            numbers: _,
+            fluents: _,
+        } = self;
+    }
+}
+
+/// What is derived from the parts of a task.
+#[derive(Drop)]
+struct Derived {
+    numbers: TaskNumbers,
+    fluents: Vec<bool>,
+}
+
+fn derived_of(alloc: Global, parts: &TaskParts) -> Result<Derived, AllocError>
+    ensures numbers { IfOk result (λ d. AreNumbersIn parts.now d.numbers) }
+    ensures fluents { IfOk result (λ d. AreFluents parts.now d.fluents.items) }
+{
+    Ok(Derived {
+        fluents: fluents_of(alloc, parts)?,
+        numbers: TaskNumbers::of(alloc, parts)?,
+    })
+}
+
 impl Task {
     /// The task of these parts, or an error where memory was refused.
     pub fn new(alloc: Global, parts: TaskParts) -> Result<Task, AllocError>
         requires { IsWellTyped parts }
         ensures { IfOk result (λ t. t ≡ parts) }
     {
-        let numbers = TaskNumbers::of(alloc, &parts)?;
-        let fluents = fluents_of(alloc, &parts)?;
+        let derived = derived_of(alloc, &parts)?;
         Ok(Task {
             parts,
-            numbers,
-            fluents,
+            numbers: derived.numbers,
+            fluents: derived.fluents,
         })
     }
 

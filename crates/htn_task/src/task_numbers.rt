@@ -1,5 +1,5 @@
 //! The numbers of what a task declares, by name.
-ghost use Rattle.std.specs.Prelude.{◌≡◌, ◌+◌, ◌++◌, map, IfOk};
+ghost use Rattle.std.specs.Prelude.{◌≡◌, ◌+◌, ◌++◌, map, IfOk, OnOk};
 ghost use Rattle.htn_task.specs.Numbers.{AreNumbersOf};
 ghost use Rattle.htn_task.specs.TaskNumbers.{AreNumbersIn};
 
@@ -10,7 +10,6 @@ use crate::task::{Declaration, ObjectType, TaskParts};
 use std::alloc::{AllocError, Global};
 
 /// The numbers of what a task declares, by kind and name.
-#[derive(Drop)]
 pub(crate) struct TaskNumbers {
     pub(crate) objects: NameNumbers,
     pub(crate) types: NameNumbers,
@@ -19,18 +18,50 @@ pub(crate) struct TaskNumbers {
     pub(crate) methods: NameNumbers,
 }
 
+/// They are dropped in one place, as a task is.
+impl Drop for TaskNumbers {
+    fn drop(self) {
+        let TaskNumbers {
+            objects: _,
+            types: _,
+            predicates: _,
+            tasks: _,
+            methods: _,
+        } = self;
+    }
+}
+
 impl TaskNumbers {
     /// The numbers of what these parts declare, or an error where memory was refused.
     pub(crate) fn of(alloc: Global, parts: &TaskParts) -> Result<TaskNumbers, AllocError>
         ensures { IfOk result (AreNumbersIn parts.now) }
     {
-        Ok(TaskNumbers {
-            objects: object_numbers(alloc, &parts.objects)?,
-            types: type_numbers(alloc, &parts.types)?,
-            predicates: declaration_numbers(alloc, &parts.predicates)?,
-            tasks: task_numbers(alloc, &parts.tasks, &parts.actions)?,
-            methods: method_numbers(alloc, &parts.methods)?,
-        })
+        let mut numbers = TaskNumbers::none(alloc);
+        numbers.number(alloc, parts)?;
+        Ok(numbers)
+    }
+
+    /// No numbers.
+    fn none(alloc: Global) -> TaskNumbers {
+        TaskNumbers {
+            objects: NameNumbers::new(alloc),
+            types: NameNumbers::new(alloc),
+            predicates: NameNumbers::new(alloc),
+            tasks: NameNumbers::new(alloc),
+            methods: NameNumbers::new(alloc),
+        }
+    }
+
+    /// Numbers what these parts declare, in place of what was numbered before.
+    fn number(&mut self, alloc: Global, parts: &TaskParts) -> Result<(), AllocError>
+        ensures { OnOk result (AreNumbersIn parts.now self.new) }
+    {
+        self.objects = object_numbers(alloc, &parts.objects)?;
+        self.types = type_numbers(alloc, &parts.types)?;
+        self.predicates = declaration_numbers(alloc, &parts.predicates)?;
+        self.tasks = task_numbers(alloc, &parts.tasks, &parts.actions)?;
+        self.methods = method_numbers(alloc, &parts.methods)?;
+        Ok(())
     }
 }
 
