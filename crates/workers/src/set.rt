@@ -267,11 +267,13 @@ impl<T: Eq + Hash + Copy + Drop + Send + Sync> ShardedSet<T> {
         let known = self.values.len();
         let mut is_new = Vec::with_capacity(alloc, batch.len())?;
         let shards = self.shards.as_mut_slice();
-        if add_batch(rt, &mut self.values, shards, batch, threads, &mut is_new).is_err() {
-            self.values.truncate(known);
-            give_back(self.shards.as_mut_slice());
-            return Err(AllocError);
+        match add_batch(rt, &mut self.values, shards, batch, threads, &mut is_new) {
+            Ok(()) => Ok(is_new),
+            Err(AllocError) => {
+                self.values.truncate(known);
+                give_back(self.shards.as_mut_slice());
+                Err(AllocError)
+            }
         }
-        Ok(is_new)
     }
 }
