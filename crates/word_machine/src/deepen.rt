@@ -89,6 +89,71 @@ fn none_or_unsolvable<M: Machine, G: Gate, W: Watch, R: Threads + Wait + Sync>(
     Ok(outcome.ending(limits.none_below))
 }
 
+// The ending of searches within growing bounds, from those of `growth` on; below its least bound no word finishes, and
+// the closed list has what a search below that bound kept.
+fn search_growing<M: Machine, G: Gate, W: Watch, R: Threads + Wait + Sync>(
+    rt: &R,
+    alloc: Global,
+    machine: &M,
+    tables: &mut M::Tables,
+    initials: &[M::Configuration],
+    closed: &mut Closed<M::Configuration>,
+    mut growth: Growth,
+    bounds: Bounds,
+    effort: Effort,
+    known: u64,
+    gate: &G,
+    watch: &mut W,
+) -> Result<Ending, SearchFault>
+    requires own { M.owns machine.now tables.old }
+    requires starts { All (M.meaning machine.now tables.old).knows initials.now }
+    requires initials { map (M.meaning machine.now tables.old).point initials.now ≡ (M.words machine.now).initials }
+    requires below { AreAllBelow (M.words machine.now) (M.belongs machine.now) (M.estimate machine.now)
+        (M.meaning machine.now tables.old) growth.least closed.old.keys }
+    requires none { NoneFinishesBefore (M.words machine.now) growth.least }
+    requires known { NoneFinishesBefore (M.words machine.now) known }
+    requires hears { (n : ℕ) → NoneFinishesBefore (M.words machine.now) n → W.may_hear watch.old n }
+    ensures owned { OnOk result (M.owns machine.now tables.new) }
+    ensures ending { IfOk result (IsEnding (M.words machine.now) bounds.nodes) }
+    ensures given_up { IfOk result (λ e. (n : ℕ) → e ≡ GivenUp n → effort.most_kept < 2 ^ 64 - 1) }
+    ensures stopped { IfOk result (λ e. (n : ℕ) → e ≡ Stopped n → W.may_stop watch.old ≡ true) }
+    ensures becomes { W.becomes watch.old watch.new }
+    ensures no_thread { IfErr result (λ e. e ≡ NoThread → 1 < bounds.workers) }
+{
+    while growth.least <= bounds.nodes {
+        let within = bounds.within(growth.nodes.min(bounds.nodes));
+        let none_below = growth.least.max(known);
+        let limits = Limits {
+            bounds: within,
+            measure: Measure::LowerBound,
+            none_within: false,
+            most_kept: effort.most_kept,
+            none_below,
+        };
+        let outcome = search(
+            rt, alloc, machine, tables, initials, closed, limits, gate, watch,
+        )?;
+        match outcome {
+            Outcome::Finished(word) => return Ok(Ending::Answer(Found::Word(word))),
+            Outcome::Exhausted => return Ok(Ending::Answer(Found::Unsolvable)),
+            Outcome::GivenUp => return Ok(Ending::GivenUp { none_below }),
+            Outcome::Stopped => return Ok(Ending::Stopped { none_below }),
+            Outcome::Past { least, wide } => growth = growth.after(within.nodes, least, wide),
+        }
+    }
+    let least = growth.least;
+    let limits = Limits {
+        bounds,
+        measure: Measure::OpenNodes,
+        none_within: true,
+        most_kept: effort.most_kept,
+        none_below: least.max(known),
+    };
+    none_or_unsolvable(
+        rt, alloc, machine, tables, initials, closed, least, limits, gate, watch,
+    )
+}
+
 /// The answer of `find_word`, over the caller's tables, which hold all that was numbered afterwards. The searches use
 /// the machine's own lower bound, within bounds that grow from that of the initial configurations, or from
 /// `effort.first_bound`: each next bound admits about as many more configurations, or, where few were pruned near the
@@ -118,39 +183,10 @@ pub fn find_word_watched<M: Machine, G: Gate, W: Watch, R: Threads + Wait + Sync
     ensures no_thread { IfErr result (λ e. e ≡ NoThread → 1 < bounds.workers) }
 {
     let starts = machine.initials(tables)?;
-    let mut growth = Growth::from(least_bound(machine, tables, &starts), effort.first_bound);
     let mut kept = Closed::new(alloc, bounds.workers as usize)?;
-    while growth.least <= bounds.nodes {
-        let within = bounds.within(growth.nodes.min(bounds.nodes));
-        let none_below = growth.least.max(known);
-        let limits = Limits {
-            bounds: within,
-            measure: Measure::LowerBound,
-            none_within: false,
-            most_kept: effort.most_kept,
-            none_below,
-        };
-        let outcome = search(
-            rt, alloc, machine, tables, &starts, &mut kept, limits, gate, watch,
-        )?;
-        match outcome {
-            Outcome::Finished(word) => return Ok(Ending::Answer(Found::Word(word))),
-            Outcome::Exhausted => return Ok(Ending::Answer(Found::Unsolvable)),
-            Outcome::GivenUp => return Ok(Ending::GivenUp { none_below }),
-            Outcome::Stopped => return Ok(Ending::Stopped { none_below }),
-            Outcome::Past { least, wide } => growth = growth.after(within.nodes, least, wide),
-        }
-    }
-    let least = growth.least;
-    let limits = Limits {
-        bounds,
-        measure: Measure::OpenNodes,
-        none_within: true,
-        most_kept: effort.most_kept,
-        none_below: least.max(known),
-    };
-    none_or_unsolvable(
-        rt, alloc, machine, tables, &starts, &mut kept, least, limits, gate, watch,
+    let growth = Growth::from(least_bound(machine, tables, &starts), effort.first_bound);
+    search_growing(
+        rt, alloc, machine, tables, &starts, &mut kept, growth, bounds, effort, known, gate, watch,
     )
 }
 

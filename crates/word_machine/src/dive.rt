@@ -205,6 +205,51 @@ fn expand<M: Machine, R: Threads + Sync>(
     }
 }
 
+// Whether a dive from these configurations meets one that no word reaches with its steps and its open nodes within the
+// bound.
+fn dive_from<M: Machine, W: Watch, R: Threads + Sync>(
+    rt: &R,
+    alloc: Global,
+    machine: &M,
+    tables: &mut M::Tables,
+    frontier: &mut Frontier<M::Configuration>,
+    closed: &Closed<M::Configuration>,
+    least: u64,
+    limits: Limits,
+    watch: &mut W,
+) -> Result<bool, AllocError>
+    requires own { M.owns machine.now tables.old }
+    requires kept { All
+        (IsVisited (M.words machine.now) (M.belongs machine.now) (M.meaning machine.now tables.old))
+        frontier.old.kept.keys }
+    requires below { AreAllBelow (M.words machine.now) (M.belongs machine.now) (M.estimate machine.now)
+        (M.meaning machine.now tables.old) least closed.now.keys }
+    requires hears { W.may_hear watch.old limits.none_below }
+    ensures owned { OnOk result (M.owns machine.now tables.new) }
+    ensures met { IfOk result (λ is_met. is_met ≡ true → IsMet (M.words machine.now) limits.bounds.nodes) }
+    ensures becomes { W.becomes watch.old watch.new }
+{
+    let bound = limits.bounds.nodes;
+    let most_kept = LEAST_KEPT.max(closed.configurations().len() / 2);
+    for turn in 0..most_kept {
+        let count = frontier.kept.len();
+        if !goes_on_if(watch, turn % TURNS == 0, limits.news(count)) {
+            return Ok(false);
+        }
+        let Some(from) = frontier.pop() else {
+            return Ok(false);
+        };
+        if extent(machine, tables, least, from) > bound && !closed.contains(&from) {
+            return Ok(true);
+        }
+        if frontier.kept.len() >= most_kept {
+            return Ok(false);
+        }
+        expand(rt, alloc, machine, tables, frontier, closed, from, least)?;
+    }
+    Ok(false)
+}
+
 /// Whether a configuration was found that no word reaches with its steps and its open nodes within the bound. The dive
 /// starts at the parents of configurations that a search pruned, expands the greatest extent first, and may give up, as
 /// where its watch stops it.
@@ -229,34 +274,17 @@ pub fn dive<M: Machine, W: Watch, R: Threads + Sync>(
     ensures met { IfOk result (λ is_met. is_met ≡ true → IsMet (M.words machine.now) limits.bounds.nodes) }
     ensures becomes { W.becomes watch.old watch.new }
 {
-    let bound = limits.bounds.nodes;
     let mut frontier = Frontier::new(alloc);
     keep_starts(machine, tables, &mut frontier, initials, closed, least)?;
-    let most_kept = LEAST_KEPT.max(closed.configurations().len() / 2);
-    for turn in 0..most_kept {
-        let count = frontier.kept.len();
-        if !goes_on_if(watch, turn % TURNS == 0, limits.news(count)) {
-            return Ok(false);
-        }
-        let Some(from) = frontier.pop() else {
-            return Ok(false);
-        };
-        if extent(machine, tables, least, from) > bound && !closed.contains(&from) {
-            return Ok(true);
-        }
-        if frontier.kept.len() >= most_kept {
-            return Ok(false);
-        }
-        expand(
-            rt,
-            alloc,
-            machine,
-            tables,
-            &mut frontier,
-            closed,
-            from,
-            least,
-        )?;
-    }
-    Ok(false)
+    dive_from(
+        rt,
+        alloc,
+        machine,
+        tables,
+        &mut frontier,
+        closed,
+        least,
+        limits,
+        watch,
+    )
 }

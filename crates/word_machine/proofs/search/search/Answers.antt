@@ -1,4 +1,4 @@
-use Rattle.std.proofs.Common.{◌≡◌, ℕ, ◌+◌, ◌-◌, ◌<◌, ◌++◌, ◌∷◌, [], length, length-append, map, get_or, ap, ◌∙◌, sym, subst, inl, inr, arith, Option}
+use Rattle.std.proofs.Common.{true, ◌≡◌, ℕ, ◌+◌, ◌-◌, ◌<◌, ◌++◌, ◌∷◌, [], length, length-append, map, get_or, ap, ◌∙◌, sym, subst, inl, inr, arith, Option}
 use Rattle.std.proofs.lemmas.List.{length-map}
 use Rattle.std.proofs.lemmas.Option.{MatchOption-at_some}
 use Rattle.word_machine.specs.Machine.{IsLawful}
@@ -6,13 +6,13 @@ use Rattle.word_machine.specs.Contents.{Contents, initial_successors, offer_all,
 use Rattle.word_machine.specs.Closed.{search_by}
 use Rattle.word_machine.specs.declared.measure.Horizon.{Horizon}
 use Rattle.word_machine.specs.declared.measure.Measure.{Measure}
-use Rattle.word_machine.specs.Answer.{IsBeyond, IsLeastFinishing, measure_of}
+use Rattle.word_machine.specs.Answer.{IsBeyond, IsLeastFinishing, IsOutcome, measure_of}
 use Rattle.word_machine.proofs.Complete.{CountsOpen}
 use Rattle.word_machine.proofs.Answering.{counts_by}
 use Rattle.word_machine.proofs.Meanings.{grown_none, grown_more}
 use Rattle.word_machine.proofs.Advancing.{owned_known, word_before}
 use Rattle.word_machine.proofs.ReadingBack.{length-words_of}
-use Rattle.word_machine.proofs.Numbered.{IsSearched, searched_still, initials_owned, initial_found, started, keys_owned, ended, left_out, word_found, next_searched}
+use Rattle.word_machine.proofs.Numbered.{IsSearched, searched_still, initials_owned, initial_found, started, keys_owned, ended, ended_early, left_out, word_found, next_searched}
 use Rattle.word_machine.proofs.search.search.Given as given
 use Rattle.word_machine.proofs.search.search.Goals as goal
 
@@ -193,3 +193,17 @@ returns-clause-left_out g c = λ _.
     left_out m (g.M.Machine.belongs machine) (laws g machine) (measure_of m (g.M.Machine.estimate machine) c.args.limits.measure) c.args.limits.bounds.nodes (counts g machine c.args.limits.measure c.args.limits.bounds.nodes)
     (g.M.Machine.meaning machine c.loop-level.tables) c.loop-level.closed c.loop-level.level c.loop-level.low (record { closed = i.closed; known = i.known })
     (inl c.loop-level-test.false) c.exhausted-2.result c.exhausted-2.ensures.cut c.exhausted-2.ensures.uncut
+
+pub returns-then-was_cut-clause-outcome : goal.returns-then-was_cut-clause-outcome
+returns-then-was_cut-clause-outcome g c =
+    let machine = c.args.machine.now in
+    let m = g.M.Machine.words machine in
+    let left = measure_of m (g.M.Machine.estimate machine) c.args.limits.measure in
+    let bound = c.args.limits.bounds.nodes in
+    let i = c.loop-level.invariant in
+    let cut : c.loop-level.closed.cut.any ≡ true = cc in
+    let none : c.args.limits.none_within ≡ true = cc in
+    subst (IsOutcome m left bound) (sym c.past.ensures)
+    (ended_early m (g.M.Machine.belongs machine) (laws g machine) left bound (counts g machine c.args.limits.measure bound)
+    (g.M.Machine.meaning machine c.loop-level.tables) c.loop-level.closed c.loop-level.level c.loop-level.low (record { closed = i.closed; known = i.known })
+    cut (c.requires.none none))

@@ -1,7 +1,7 @@
 use Rattle.std.proofs.Common.{All}
 use Rattle.word_machine.specs.Dive.{IsVisited}
 use Rattle.word_machine.specs.Meaning.{IsGrown}
-use Rattle.word_machine.proofs.dive.dive.Given as goal
+use Rattle.word_machine.proofs.dive.dive_from.Given as goal
 
 -- each that was kept is visited
 abbrev pub invariant-loop-turn : goal.invariant-loop-turn
