@@ -42,7 +42,6 @@ pub(crate) struct Work {
 const FEW: usize = 4;
 
 /// A line whose finish is asked, with the networks that may fit it.
-#[derive(Drop)]
 pub(crate) struct Frame<'a> {
     pub question: Question,
     networks: CowSlice<'a, Instance>,
@@ -54,6 +53,20 @@ pub(crate) struct Frame<'a> {
     least: usize,
     /// How far the next one was tried, if that was stored.
     work: Option<Box<Work>>,
+}
+
+// By hand, since a derived one stands in full, and is proved, at each way out of each function that owns one.
+impl Drop for Frame<'_> {
+    fn drop(self) {
+        let Frame {
+            question: _,
+            networks: _,
+            tried: _,
+            best: _,
+            least: _,
+            work: _,
+        } = self;
+    }
 }
 
 /// The children of a line; those of the number past all lines are the roots.

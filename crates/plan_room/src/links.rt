@@ -16,7 +16,6 @@ use htn_order::Order;
 use std::alloc::{AllocError, Global};
 
 /// What a search among the matchings of a network looks up.
-#[derive(Drop)]
 pub(crate) struct Links {
     /// For each position the first child that has its task, or the number past all.
     pub first: Vec<usize>,
@@ -26,6 +25,18 @@ pub(crate) struct Links {
     pub fixed: Vec<bool>,
     /// For each position up to which place of the sequence all are before it, and from which on none is.
     pub ahead: Vec<(usize, usize)>,
+}
+
+// By hand, since a derived one stands in full, and is proved, at each way out of each function that owns one.
+impl Drop for Links {
+    fn drop(self) {
+        let Links {
+            first: _,
+            after: _,
+            fixed: _,
+            ahead: _,
+        } = self;
+    }
 }
 
 /// For each child the next one that has the same task, and where each task comes first.

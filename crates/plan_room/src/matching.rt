@@ -89,7 +89,6 @@ pub trait Choices {
 }
 
 /// How far the matchings are tried.
-#[derive(Drop)]
 pub struct Trial {
     /// The choices of the first positions of the sequence, `depth` many.
     chosen: Vec<usize>,
@@ -104,6 +103,21 @@ pub struct Trial {
     next: usize,
     /// The first gap by which a matching so far has finished.
     best: Option<usize>,
+}
+
+// By hand, since a derived one stands in full, and is proved, at each way out of each function that owns one.
+impl Drop for Trial {
+    fn drop(self) {
+        let Trial {
+            chosen: _,
+            finishes: _,
+            highs: _,
+            taken: _,
+            depth: _,
+            next: _,
+            best: _,
+        } = self;
+    }
 }
 
 /// What a step of the search came to.

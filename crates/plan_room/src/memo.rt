@@ -8,9 +8,15 @@ use std::alloc::{AllocError, Global};
 
 /// How early lines can have finished that may start at given gaps, as far as it is known: none where
 /// they cannot by the last gap.
-#[derive(Drop)]
 pub(crate) struct Memo {
     ends: IndexMap<Question, Option<usize>>,
+}
+
+// By hand, since a derived one stands in full, and is proved, at each way out of each function that owns one.
+impl Drop for Memo {
+    fn drop(self) {
+        let Memo { ends: _ } = self;
+    }
 }
 
 impl Memo {

@@ -96,50 +96,6 @@ returns-then-is_empty-clause-end g c =
     let root : frame.question ≡ c.args.asked = (starts_popped l c.args.asked rest frame starts).0 (none_left rest none) in
     subst (λ (q : Question). IsFinish (LineFits l q.line q.gap) l.actions (answer q (Some c.match-branch-4.end))) root finish
 
-pub loop-frame-smaller-in_ok-note : goal.loop-frame-smaller-in_ok-note
-loop-frame-smaller-in_ok-note g c =
-    let l = g.L.PlanLines.lines c.args.lines.now in
-    let top = suc (line_size l c.args.asked.line) in
-    let inv = c.loop-frame.invariant in
-    let rest = c.pop.new.self.items in
-    let frame = c.in-Some.frame in
-    let stacked : AreStacked l c.loop-frame.memo top (rest ++ frame ∷ []) = subst (AreStacked l c.loop-frame.memo top) c.in-Some.ensures.items inv.stacked in
-    let starts : StartsAt c.args.asked (rest ++ frame ∷ []) = subst (StartsAt c.args.asked) c.in-Some.ensures.items inv.starts in
-    let after = c.go_on.new.self in
-    let finish : IsFinish (LineFits l frame.question.line frame.question.gap) l.actions (answer frame.question (Some c.match-branch-4.end)) = elim c.match-branch-4.branch [
-      | in-Never w ↦ subst (λ e. IsFinish (LineFits l frame.question.line frame.question.gap) l.actions (answer frame.question (Some e))) (sym w.end-is)
-          (subst (IsFinish (LineFits l frame.question.line frame.question.gap) l.actions) w.in-Never.is c.in_ok-question.ensures.finish)
-      | in-At w ↦ subst (λ e. IsFinish (LineFits l frame.question.line frame.question.gap) l.actions (answer frame.question (Some e))) (sym w.end-is)
-          (subst (IsFinish (LineFits l frame.question.line frame.question.gap) l.actions) w.in-At.is c.in_ok-question.ensures.finish)
-    ] in
-    let some : 0 < length rest = some_left rest (λ none. both_ways c.is_empty.result c.if-is_empty.false (c.is_empty.ensures ∙ eq-eqb (vec_len c.pop.new.self) 0 (let o = c.pop.new.self.ok.0 in omega arith))) in
-    subst (λ frames. missing l c.note.new.self * top + last_size l top rest < missing l c.loop-frame.memo * top + last_size l top frames) (sym c.in-Some.ensures.items)
-    (fewer_left l c.requires.lines c.loop-frame.memo top rest frame after c.in_ok-question.ensures.question stacked c.in_ok-question.ensures.frame c.note.new.self c.match-branch-4.end c.in_ok-note.ensures.noted some)
-
-pub loop-frame-preserved-in_ok-note : goal.loop-frame-preserved-in_ok-note
-loop-frame-preserved-in_ok-note g c =
-    let l = g.L.PlanLines.lines c.args.lines.now in
-    let top = suc (line_size l c.args.asked.line) in
-    let inv = c.loop-frame.invariant in
-    let rest = c.pop.new.self.items in
-    let frame = c.in-Some.frame in
-    let stacked : AreStacked l c.loop-frame.memo top (rest ++ frame ∷ []) = subst (AreStacked l c.loop-frame.memo top) c.in-Some.ensures.items inv.stacked in
-    let starts : StartsAt c.args.asked (rest ++ frame ∷ []) = subst (StartsAt c.args.asked) c.in-Some.ensures.items inv.starts in
-    let after = c.go_on.new.self in
-    let finish : IsFinish (LineFits l frame.question.line frame.question.gap) l.actions (answer frame.question (Some c.match-branch-4.end)) = elim c.match-branch-4.branch [
-      | in-Never w ↦ subst (λ e. IsFinish (LineFits l frame.question.line frame.question.gap) l.actions (answer frame.question (Some e))) (sym w.end-is)
-          (subst (IsFinish (LineFits l frame.question.line frame.question.gap) l.actions) w.in-Never.is c.in_ok-question.ensures.finish)
-      | in-At w ↦ subst (λ e. IsFinish (LineFits l frame.question.line frame.question.gap) l.actions (answer frame.question (Some e))) (sym w.end-is)
-          (subst (IsFinish (LineFits l frame.question.line frame.question.gap) l.actions) w.in-At.is c.in_ok-question.ensures.finish)
-    ] in
-    let some : 0 < length rest = some_left rest (λ none. both_ways c.is_empty.result c.if-is_empty.false (c.is_empty.ensures ∙ eq-eqb (vec_len c.pop.new.self) 0 (let o = c.pop.new.self.ok.0 in omega arith))) in
-    record {
-      memo = more_known l c.requires.lines c.loop-frame.memo top rest frame after c.in_ok-question.ensures.question stacked c.in_ok-question.ensures.frame c.note.new.self c.match-branch-4.end c.in_ok-note.ensures.noted finish inv.memo;
-      some = some;
-      starts = (starts_popped l c.args.asked rest frame starts).1 some;
-      stacked = rest_stacked l c.requires.lines c.loop-frame.memo top rest frame after c.in_ok-question.ensures.question stacked c.in_ok-question.ensures.frame c.note.new.self c.match-branch-4.end c.in_ok-note.ensures.noted;
-    }
-
 pub loop-frame-smaller : goal.loop-frame-smaller
 loop-frame-smaller g c =
     let l = g.L.PlanLines.lines c.args.lines.now in
