@@ -131,6 +131,20 @@ impl Ends {
         }
         Ok(())
     }
+
+    /// The tasks of the graph that end.
+    fn tasks(&self, alloc: Global, graph: &TaskGraph) -> Result<IndexSet<GroundTask>, AllocError> {
+        let mut tasks = IndexSet::new(alloc);
+        for (index, node) in graph.nodes().iter().enumerate() {
+            let Child::Task(goal) = node else {
+                continue;
+            };
+            if self.entries.get(index).is_some_and(|entry| entry.ends) {
+                let _ = tasks.insert(goal.clone()?)?;
+            }
+        }
+        Ok(tasks)
+    }
 }
 
 /// The compound tasks of the graph that may end.
@@ -144,14 +158,5 @@ pub(crate) fn ending_tasks(
         ends.add(fine, decomposition)?;
     }
     ends.end_all(alloc)?;
-    let mut tasks = IndexSet::new(alloc);
-    for (index, node) in graph.nodes().iter().enumerate() {
-        let Child::Task(goal) = node else {
-            continue;
-        };
-        if ends.entries.get(index).is_some_and(|entry| entry.ends) {
-            let _ = tasks.insert(goal.clone()?)?;
-        }
-    }
-    Ok(tasks)
+    ends.tasks(alloc, graph)
 }

@@ -24,7 +24,6 @@ struct Met {
 }
 
 /// The worklist: actions and literals by number, and which literals are reachable so far.
-#[derive(Drop)]
 struct Worklist {
     met: Vec<Met>,
     literals: IndexSet<Literal>,
@@ -33,6 +32,19 @@ struct Worklist {
     uses: Vec<Vec<u32>>,
     /// Reachable actions whose effects have not been added yet.
     ready: Vec<u32>,
+}
+
+// By hand, since a derived one stands in full, and is proved, at each way out of each function that owns one.
+impl Drop for Worklist {
+    fn drop(self) {
+        let Worklist {
+            met: _,
+            literals: _,
+            possible: _,
+            uses: _,
+            ready: _,
+        } = self;
+    }
 }
 
 impl Worklist {
@@ -190,27 +202,88 @@ impl Worklist {
         }
     }
 
+    /// The atoms that may be true: those that are true at first, and those that become true.
+    fn rising(&self, alloc: Global, first: &[Atom]) -> Result<State, AllocError> {
+        let mut rising = Vec::from_clones(alloc, first)?;
+        for (number, literal) in self.literals.as_slice().iter().enumerate() {
+            if self.is_reached(number)
+                && let Literal::Positive(atom) = literal
+            {
+                push_copy(&mut rising, atom)?;
+            }
+        }
+        State::of(alloc, &rising)
+    }
+
+    /// The atoms that become false.
+    fn failing(&self, alloc: Global) -> Result<State, AllocError> {
+        let mut failing = Vec::new(alloc);
+        for (number, literal) in self.literals.as_slice().iter().enumerate() {
+            if self.is_reached(number)
+                && let Literal::Negative(atom) = literal
+            {
+                push_copy(&mut failing, atom)?;
+            }
+        }
+        State::of(alloc, &failing)
+    }
+
     /// The atoms that may be true, and those that are true at first and never become false.
     fn facts(&self, alloc: Global, task: &Task) -> Result<Facts, AllocError> {
         let first = task.initial_atoms().atoms();
-        let mut rising = Vec::from_clones(alloc, first)?;
-        let mut failing = Vec::new(alloc);
-        for (number, literal) in self.literals.as_slice().iter().enumerate() {
-            if !self.is_reached(number) {
-                continue;
-            }
-            match literal {
-                Literal::Positive(atom) => rising.push(atom.clone()?)?,
-                Literal::Negative(atom) => failing.push(atom.clone()?)?,
-                Literal::Same(_, _) | Literal::Different(_, _) => {}
-            }
-        }
-        let failing = State::of(alloc, &failing)?;
+        let failing = self.failing(alloc)?;
         Ok(Facts {
-            possible: State::of(alloc, &rising)?,
+            possible: self.rising(alloc, first)?,
             lasting: lasting(alloc, first, &failing)?,
         })
     }
+
+    /// Adds the actions of these ground tasks, and works the list off.
+    fn work_off(
+        &mut self,
+        alloc: Global,
+        task: &Task,
+        goals: &[GroundTask],
+    ) -> Result<(), AllocError> {
+        for (number, goal) in goals.iter().enumerate() {
+            let action = action_of(alloc, task, goal)?;
+            self.add(alloc, task, number, action.as_ref())?;
+        }
+        self.run(alloc)
+    }
+
+    /// Those of the ground tasks that were added whose action is reachable.
+    fn reached(
+        &self,
+        alloc: Global,
+        goals: &[GroundTask],
+    ) -> Result<IndexSet<GroundTask>, AllocError> {
+        let mut actions = IndexSet::new(alloc);
+        for (number, goal) in goals.iter().enumerate() {
+            if self.is_possible(number) {
+                let _ = actions.insert(goal.clone()?)?;
+            }
+        }
+        Ok(actions)
+    }
+
+    /// What is fine by the list, once it is worked off; no task is.
+    fn fine(&self, alloc: Global, task: &Task, goals: &[GroundTask]) -> Result<Fine, AllocError> {
+        Ok(Fine {
+            is_open: false,
+            facts: self.facts(alloc, task)?,
+            actions: self.reached(alloc, goals)?,
+            tasks: IndexSet::new(alloc),
+            barred: IndexSet::new(alloc),
+        })
+    }
+}
+
+/// Adds a copy of an atom to a list.
+fn push_copy(atoms: &mut Vec<Atom>, atom: &Atom) -> Result<(), AllocError> {
+    let copy = atom.clone()?;
+    atoms.push(copy)?;
+    Ok(())
 }
 
 /// The atoms of a state that are not among the atoms of another one.
@@ -231,27 +304,10 @@ pub(crate) fn find_fine(
     graph: &TaskGraph,
     usable: &Usable,
 ) -> Result<Fine, AllocError> {
-    let mut list = Worklist::new(alloc);
     let goals = usable.actions.as_slice();
-    for (number, goal) in goals.iter().enumerate() {
-        let action = action_of(alloc, task, goal)?;
-        list.add(alloc, task, number, action.as_ref())?;
-    }
-    list.run(alloc)?;
-    let mut actions: IndexSet<GroundTask> = IndexSet::new(alloc);
-    for (number, goal) in goals.iter().enumerate() {
-        if list.is_possible(number) {
-            let _ = actions.insert(goal.clone()?)?;
-        }
-    }
-    let mut fine = Fine {
-        is_open: false,
-        facts: list.facts(alloc, task)?,
-        actions,
-        tasks: IndexSet::new(alloc),
-        barred: IndexSet::new(alloc),
-    };
-    let tasks = ending_tasks(alloc, graph, &fine)?;
-    fine.tasks = tasks;
+    let mut list = Worklist::new(alloc);
+    list.work_off(alloc, task, goals)?;
+    let mut fine = list.fine(alloc, task, goals)?;
+    fine.tasks = ending_tasks(alloc, graph, &fine)?;
     Ok(fine)
 }

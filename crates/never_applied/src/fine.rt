@@ -11,7 +11,6 @@ use indexmap::IndexSet;
 use std::alloc::{AllocError, Global};
 
 /// The nodes that a plan may have, as far as is known.
-#[derive(Drop)]
 pub(crate) struct Fine {
     /// Whether nothing is known yet, so that each node is fine, barred actions apart.
     pub(crate) is_open: bool,
@@ -22,6 +21,19 @@ pub(crate) struct Fine {
     pub(crate) tasks: IndexSet<GroundTask>,
     /// Actions that are never carried out, which are not fine where nothing else is known.
     pub(crate) barred: IndexSet<GroundTask>,
+}
+
+// By hand, since a derived one stands in full, and is proved, at each way out of each function that owns one.
+impl Drop for Fine {
+    fn drop(self) {
+        let Fine {
+            is_open: _,
+            facts: _,
+            actions: _,
+            tasks: _,
+            barred: _,
+        } = self;
+    }
 }
 
 impl Fine {

@@ -16,7 +16,6 @@ use std::alloc::{AllocError, Global};
 pub(crate) const MOST: usize = 1_000_000;
 
 /// What arises from the initial networks, by instances whose nodes are all such as a plan may have.
-#[derive(Drop)]
 pub struct Usable {
     /// The compound tasks.
     pub tasks: IndexSet<GroundTask>,
@@ -28,6 +27,19 @@ pub struct Usable {
     pub methods: IndexSet<u16>,
     /// The number of the methods' instances.
     pub instances: usize,
+}
+
+// By hand, since a derived one stands in full, and is proved, at each way out of each function that owns one.
+impl Drop for Usable {
+    fn drop(self) {
+        let Usable {
+            tasks: _,
+            actions: _,
+            names: _,
+            methods: _,
+            instances: _,
+        } = self;
+    }
 }
 
 impl Usable {
