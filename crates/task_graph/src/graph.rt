@@ -14,7 +14,6 @@ use indexmap::IndexSet;
 use std::alloc::{AllocError, Global};
 
 /// A part of the task decomposition graph of a task.
-#[derive(Drop)]
 pub struct TaskGraph {
     pub(crate) nodes: IndexSet<Child>,
     /// By node.
@@ -25,6 +24,19 @@ pub struct TaskGraph {
     pub(crate) listed: usize,
     /// The cost of the listed tasks together.
     pub(crate) cost: u64,
+}
+
+// By hand, since a derived one stands in full, and is proved, at each way out of each function that owns one.
+impl Drop for TaskGraph {
+    fn drop(self) {
+        let TaskGraph {
+            nodes: _,
+            groundings: _,
+            decompositions: _,
+            listed: _,
+            cost: _,
+        } = self;
+    }
 }
 
 impl TaskGraph {
