@@ -23,7 +23,6 @@ struct Met {
 }
 
 /// The worklist: ground actions and literals by number, and which literals are reachable so far.
-#[derive(Drop)]
 pub(crate) struct Actions {
     goals: IndexSet<GroundTask>,
     met: Vec<Met>,
@@ -33,6 +32,20 @@ pub(crate) struct Actions {
     uses: Vec<Vec<u32>>,
     /// Reachable actions whose effects have not been added yet.
     ready: Vec<u32>,
+}
+
+// By hand, since a derived one stands in full, and is proved, at each way out of each function that owns one.
+impl Drop for Actions {
+    fn drop(self) {
+        let Actions {
+            goals: _,
+            met: _,
+            literals: _,
+            possible: _,
+            uses: _,
+            ready: _,
+        } = self;
+    }
 }
 
 /// Adds a copy of a ground task to a set.

@@ -11,10 +11,19 @@ use indexmap::IndexSet;
 use std::alloc::Global;
 
 /// Ground tasks that are known, and those that never end.
-#[derive(Drop)]
 pub(crate) struct Marks {
     pub(crate) known: IndexSet<GroundTask>,
     pub(crate) blocked: IndexSet<GroundTask>,
+}
+
+// By hand, since a derived one stands in full, and is proved, at each way out of each function that owns one.
+impl Drop for Marks {
+    fn drop(self) {
+        let Marks {
+            known: _,
+            blocked: _,
+        } = self;
+    }
 }
 
 impl Marks {
@@ -32,13 +41,24 @@ impl Marks {
 
 /// What is reached from the initial state by the nodes of enumerated instances. A node is known where all that may
 /// become of it was enumerated.
-#[derive(Drop)]
 pub struct RelaxedReach {
     pub(crate) facts: FactSets,
     pub(crate) actions: Marks,
     pub(crate) tasks: Marks,
     /// Actions that are never carried out.
     pub(crate) barred: IndexSet<GroundTask>,
+}
+
+// By hand, since a derived one stands in full, and is proved, at each way out of each function that owns one.
+impl Drop for RelaxedReach {
+    fn drop(self) {
+        let RelaxedReach {
+            facts: _,
+            actions: _,
+            tasks: _,
+            barred: _,
+        } = self;
+    }
 }
 
 impl RelaxedReach {
