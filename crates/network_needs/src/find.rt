@@ -31,7 +31,6 @@ enum Node {
 }
 
 /// The state of the search for rows.
-#[derive(Drop)]
 struct Search {
     leaves: Leaves,
     /// By decomposition, the number of its task.
@@ -42,6 +41,19 @@ struct Search {
     gives: Vec<Vec<u64>>,
     /// By task, the literals that it wants; None until the search has found a decomposition tree of the task.
     wants: Vec<Option<Vec<u32>>>,
+}
+
+// By hand, since a derived one stands in full, and is proved, at each way out of each function that owns one.
+impl Drop for Search {
+    fn drop(self) {
+        let Search {
+            leaves: _,
+            owners: _,
+            nodes: _,
+            gives: _,
+            wants: _,
+        } = self;
+    }
 }
 
 /// The number of a compound task; past all others if it has none.
@@ -417,11 +429,18 @@ impl Search {
     fn rows(self, alloc: Global, tasks: usize) -> Result<Rows, AllocError> {
         let task_rows = self.task_rows(alloc, tasks)?;
         let leaf_rows = self.leaf_rows(alloc)?;
-        let leaves = self.leaves;
+        let Search {
+            leaves,
+            owners: _,
+            nodes: _,
+            gives: _,
+            wants: _,
+        } = self;
+        let (literals, leaves) = leaves.into_sets();
         Ok(Rows {
-            literals: leaves.literals,
+            literals,
             task_rows,
-            leaves: leaves.leaves,
+            leaves,
             leaf_rows,
         })
     }

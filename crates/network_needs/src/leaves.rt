@@ -10,12 +10,23 @@ use task_graph::TaskGraph;
 
 /// Precondition steps and actions by number, each with the numbers of the literals that it wants and gives: its fluent
 /// preconditions, and its effects.
-#[derive(Drop)]
 pub(crate) struct Leaves {
     pub(crate) literals: IndexSet<Literal>,
     pub(crate) leaves: IndexSet<Child>,
     pub(crate) wants: Vec<Vec<u32>>,
     pub(crate) gives: Vec<Vec<u32>>,
+}
+
+// By hand, since a derived one stands in full, and is proved, at each way out of each function that owns one.
+impl Drop for Leaves {
+    fn drop(self) {
+        let Leaves {
+            literals: _,
+            leaves: _,
+            wants: _,
+            gives: _,
+        } = self;
+    }
 }
 
 /// Whether the atom of a literal is fluent.
@@ -35,6 +46,17 @@ impl Leaves {
             wants: Vec::new(alloc),
             gives: Vec::new(alloc),
         }
+    }
+
+    /// The literals, and the steps and actions.
+    pub(crate) fn into_sets(self) -> (IndexSet<Literal>, IndexSet<Child>) {
+        let Leaves {
+            literals,
+            leaves,
+            wants: _,
+            gives: _,
+        } = self;
+        (literals, leaves)
     }
 
     /// The number of a literal, which is added if it is new.

@@ -12,13 +12,23 @@ use htn_state::Literal;
 use indexmap::IndexSet;
 
 /// The literals that the nodes of networks want and give. A node without a row wants none and gives all.
-#[derive(Drop)]
 pub struct Needs {
     /// Compound tasks by number, of which the first have rows.
     pub(crate) tasks: IndexSet<GroundTask>,
     /// Actions that are never carried out.
     pub(crate) barred: IndexSet<GroundTask>,
     pub(crate) rows: Rows,
+}
+
+// By hand, since a derived one stands in full, and is proved, at each way out of each function that owns one.
+impl Drop for Needs {
+    fn drop(self) {
+        let Needs {
+            tasks: _,
+            barred: _,
+            rows: _,
+        } = self;
+    }
 }
 
 impl Needs {
