@@ -9,7 +9,7 @@
 set -eu
 root=$(cd "$(dirname "$0")/.." && pwd)
 if [ "$#" -eq 0 ]; then
-    set -- text_tests search_tests task_tests acceptance
+    set -- text_tests search_tests task_tests
 fi
 numbers=${NUMBERS:-$(seq 1 50) 64 128 256 512 1024 2048 4096 8192 16384 32768 65536}
 

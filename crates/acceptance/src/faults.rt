@@ -1,25 +1,20 @@
-//! The line of each fault says what its `Display` says.
+//! The line of each fault, as a run writes it and as its `Display` says it.
 
-use crate::pairs::text_of;
 use hddl_check::{At, CheckFault, Source};
 use hddl_text::TextFault;
 use htn_plan::PlanFault;
 use htn_run::{RunFault, Sink, write_fault};
-use std::alloc::Global;
-use std::process::Abort;
-use std::test::Fail;
+use std::io;
+use std::io::ErrorKind;
 
-fn expect_line<R: Abort>(rt: &R, alloc: Global, fault: RunFault) -> Result<(), Fail> {
-    let mut out = Sink::new(Vec::new(alloc));
-    assert!(rt; write_fault(&mut out, fault).is_ok());
-    let line = text_of(alloc, out.into_inner().as_slice())?;
-    let text = format!(in alloc; "{fault}\n")?;
-    assert_eq!(rt; line.as_str(), text.as_str());
-    Ok(())
+fn print_fault<R: Print>(rt: &R, fault: RunFault) -> io::Result<()> {
+    if write_fault(&mut Sink::new(io::writer(rt)), fault).is_err() {
+        return Err(io::Error::from(ErrorKind::WriteZero));
+    }
+    println!(rt; "{fault}")
 }
 
-#[test]
-fn faults_of_texts(rt: HostRuntime) -> Result<(), Fail> {
+fn print_text_faults<R: Print>(rt: &R) -> io::Result<()> {
     let faults = [
         TextFault::NotAscii(0),
         TextFault::BadWord(1),
@@ -32,37 +27,33 @@ fn faults_of_texts(rt: HostRuntime) -> Result<(), Fail> {
         TextFault::OutOfMemory,
     ];
     for fault in faults {
-        expect_line(&rt, rt.alloc(), RunFault::Domain(fault))?;
-        expect_line(&rt, rt.alloc(), RunFault::Problem(fault))?;
+        print_fault(rt, RunFault::Domain(fault))?;
+        print_fault(rt, RunFault::Problem(fault))?;
     }
     Ok(())
 }
 
-#[test]
-fn faults_of_pairs(rt: HostRuntime) -> Result<(), Fail> {
-    for (source, place) in [(Source::Domain, 10), (Source::Problem, 0)] {
-        let at = At { source, place };
-        let faults = [
-            CheckFault::Duplicate(at),
-            CheckFault::UnknownType(at),
-            CheckFault::TypeCycle(at),
-            CheckFault::UnknownName(at),
-            CheckFault::Arity(at),
-            CheckFault::TypeClash(at),
-            CheckFault::OrderCycle(at),
-            CheckFault::UnknownSubtask(at),
-            CheckFault::TooMany(at),
-            CheckFault::OutOfMemory,
-        ];
-        for fault in faults {
-            expect_line(&rt, rt.alloc(), RunFault::Check(fault))?;
-        }
+fn print_pair_faults<R: Print>(rt: &R, source: Source, place: usize) -> io::Result<()> {
+    let at = At { source, place };
+    let faults = [
+        CheckFault::Duplicate(at),
+        CheckFault::UnknownType(at),
+        CheckFault::TypeCycle(at),
+        CheckFault::UnknownName(at),
+        CheckFault::Arity(at),
+        CheckFault::TypeClash(at),
+        CheckFault::OrderCycle(at),
+        CheckFault::UnknownSubtask(at),
+        CheckFault::TooMany(at),
+        CheckFault::OutOfMemory,
+    ];
+    for fault in faults {
+        print_fault(rt, RunFault::Check(fault))?;
     }
     Ok(())
 }
 
-#[test]
-fn faults_of_plans_and_runs(rt: HostRuntime) -> Result<(), Fail> {
+fn print_plan_faults<R: Print>(rt: &R) -> io::Result<()> {
     let faults = [
         PlanFault::NoStart,
         PlanFault::NoEnd,
@@ -75,10 +66,18 @@ fn faults_of_plans_and_runs(rt: HostRuntime) -> Result<(), Fail> {
         PlanFault::OutOfMemory,
     ];
     for fault in faults {
-        expect_line(&rt, rt.alloc(), RunFault::Plan(fault))?;
-    }
-    for fault in [RunFault::OutOfMemory, RunFault::NoThread, RunFault::Output] {
-        expect_line(&rt, rt.alloc(), fault)?;
+        print_fault(rt, RunFault::Plan(fault))?;
     }
     Ok(())
+}
+
+/// Prints the lines of the faults of texts, of a domain with a problem, of plans and of runs.
+pub fn print_faults<R: Print>(rt: &R) -> io::Result<()> {
+    print_text_faults(rt)?;
+    print_pair_faults(rt, Source::Domain, 10)?;
+    print_pair_faults(rt, Source::Problem, 0)?;
+    print_plan_faults(rt)?;
+    print_fault(rt, RunFault::OutOfMemory)?;
+    print_fault(rt, RunFault::NoThread)?;
+    print_fault(rt, RunFault::Output)
 }

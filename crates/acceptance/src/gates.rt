@@ -1,58 +1,31 @@
-//! Each piece passes the gate once, workers run at the same time, and the answer doesn't depend on them.
+//! A gate that counts, and at which the first piece waits for a later one.
 
-use crate::pairs::{
-    DOUBLING, ENDLESS, LATE, NEED, ONE_OF_THREE, ONE_OF_TWO, Pair, ROAD, TRIP, TWICE,
-};
-use htn_run::{Bounds, Gate, NoGate};
-use std::process::Abort;
-use std::sync::Wait;
-use std::sync::atomic::{AtomicBool, AtomicU64, Ordering};
-use std::test::Fail;
-use std::thread;
-use std::thread::Threads;
+use htn_run::Gate;
+use std::sync::atomic::{AtomicU64, Ordering};
+use std::{io, thread};
 
-// Counts the calls.
+/// The nth call for piece 0 waits until piece `later` was called n times, for at most `TURNS` turns. It doesn't wait
+/// where that is piece 0 itself.
 #[derive(Drop)]
-struct CountingGate {
-    calls: AtomicU64,
-}
-
-impl CountingGate {
-    fn new() -> CountingGate {
-        CountingGate {
-            calls: AtomicU64::new(0),
-        }
-    }
-
-    fn calls(&self) -> u64 {
-        self.calls.load(Ordering::SeqCst)
-    }
-}
-
-impl Gate for CountingGate {
-    fn at(&self, _piece: u64) {
-        self.calls.fetch_add(1, Ordering::SeqCst);
-    }
-}
-
-// The nth call for piece 0 waits until piece `later` was called n times, for at most `TURNS` turns.
-#[derive(Drop)]
-struct WaitingGate {
+pub struct Meeting {
     later: u64,
+    calls: AtomicU64,
     firsts: AtomicU64,
     laters: AtomicU64,
-    ran_out: AtomicBool,
+    in_vain: AtomicU64,
 }
 
 const TURNS: u64 = 10_000_000;
 
-impl WaitingGate {
-    fn new(later: u64) -> WaitingGate {
-        WaitingGate {
+impl Meeting {
+    /// The gate at which the first piece waits for this one.
+    pub fn new(later: u64) -> Meeting {
+        Meeting {
             later,
+            calls: AtomicU64::new(0),
             firsts: AtomicU64::new(0),
             laters: AtomicU64::new(0),
-            ran_out: AtomicBool::new(false),
+            in_vain: AtomicU64::new(0),
         }
     }
 
@@ -63,16 +36,24 @@ impl WaitingGate {
             }
             thread::yield_now();
         }
-        self.ran_out.store(true, Ordering::SeqCst);
+        self.in_vain.fetch_add(1, Ordering::SeqCst);
     }
 
-    fn ran_out(&self) -> bool {
-        self.ran_out.load(Ordering::SeqCst)
+    /// Prints how often a wait ended in vain; without waits, how many pieces passed the gate.
+    pub fn print_calls<R: Print>(&self, rt: &R) -> io::Result<()> {
+        if self.later == 0 {
+            let calls = self.calls.load(Ordering::SeqCst);
+            return println!(rt; "pieces that passed the gate: {calls}");
+        }
+        let waits = self.firsts.load(Ordering::SeqCst);
+        let in_vain = self.in_vain.load(Ordering::SeqCst);
+        println!(rt; "waits of the first piece: {waits}, in vain: {in_vain}")
     }
 }
 
-impl Gate for WaitingGate {
+impl Gate for Meeting {
     fn at(&self, piece: u64) {
+        self.calls.fetch_add(1, Ordering::SeqCst);
         if piece == self.later {
             self.laters.fetch_add(1, Ordering::SeqCst);
         }
@@ -81,77 +62,4 @@ impl Gate for WaitingGate {
             self.wait(before);
         }
     }
-}
-
-// Expects the answer, and that no wait for the later piece ran out.
-fn expect_meeting<R: Threads + Wait + Sync + Abort + AllocGlobal>(
-    rt: &R,
-    pair: Pair,
-    nodes: u64,
-    later: u64,
-    text: &str,
-) -> Result<(), Fail> {
-    let gate = WaitingGate::new(later);
-    let bounds = Bounds::new(nodes, 2, 1).ok_or("in range")?;
-    let answer = pair.answer(rt, rt.alloc(), bounds, &gate)?;
-    assert!(rt; !gate.ran_out());
-    assert_eq!(rt; answer.as_str(), text);
-    Ok(())
-}
-
-#[test]
-fn a_piece_waits_for_a_later_one(rt: HostRuntime) -> Result<(), Fail> {
-    let touched = "==>\n0 touch o1\nroot 0\n<==\n";
-    expect_meeting(&rt, ONE_OF_TWO, 1, 1, touched)?;
-    expect_meeting(&rt, ONE_OF_THREE, 1, 2, touched)?;
-    let twice = "==>\n0 touch o1\n1 touch o1\nroot 0 1\n<==\n";
-    expect_meeting(&rt, TWICE, 2, 1, twice)
-}
-
-// Expects the answer, and that `calls` pieces passed the gate.
-fn expect_calls<R: Threads + Wait + Sync + Abort + AllocGlobal>(
-    rt: &R,
-    pair: Pair,
-    nodes: u64,
-    calls: u64,
-    text: &str,
-) -> Result<(), Fail> {
-    let gate = CountingGate::new();
-    let bounds = Bounds::new(nodes, 1, 1).ok_or("in range")?;
-    let answer = pair.answer(rt, rt.alloc(), bounds, &gate)?;
-    assert_eq!(rt; answer.as_str(), text);
-    assert_eq!(rt; gate.calls(), calls);
-    Ok(())
-}
-
-// The endless task leads from its one configuration to the same one. The task in need has two instances, one of them
-// dead, so there are two levels of one configuration each.
-#[test]
-fn each_piece_passes_the_gate_once(rt: HostRuntime) -> Result<(), Fail> {
-    expect_calls(&rt, ENDLESS, 10_000, 1, "unsolvable\n")?;
-    expect_calls(&rt, NEED, 2, 2, "==>\nroot 0\n0 t -> m-need\n<==\n")
-}
-
-#[test]
-fn workers_and_pieces_change_nothing(rt: HostRuntime) -> Result<(), Fail> {
-    let alloc = rt.alloc();
-    let rows = [
-        (ROAD, 8, TRIP),
-        (ROAD, 7, "none\n"),
-        (LATE, 3, "==>\n0 make-p\nroot 1 0\n1 a -> m-a\n<==\n"),
-        (LATE, 2, "none\n"),
-        (ENDLESS, 50, "unsolvable\n"),
-        (DOUBLING, 50, "none\n"),
-        (ONE_OF_THREE, 1, "==>\n0 touch o1\nroot 0\n<==\n"),
-    ];
-    for (pair, nodes, text) in rows {
-        for workers in [1, 2, 4, 64] {
-            for piece in [1, 1_000_000] {
-                let bounds = Bounds::new(nodes, workers, piece).ok_or("in range")?;
-                let answer = pair.answer(&rt, alloc, bounds, &NoGate)?;
-                assert_eq!(rt; answer.as_str(), text);
-            }
-        }
-    }
-    Ok(())
 }

@@ -1,10 +1,10 @@
 //! The library over texts in memory: a plan, and the verdict on it.
 
-use crate::pairs::{ROAD, TRIP};
 use htn_run::{Bounds, NoGate, Outcome, RunFault, Sink, Verdict, run_plan, run_verify};
 use std::alloc::Global;
+use std::io;
+use std::io::Write;
 use std::sync::Wait;
-use std::test::Fail;
 use std::thread::Threads;
 
 /// The plan with the fewest nodes, as `htnplan plan` prints it; None where no plan has at most 100.
@@ -25,21 +25,32 @@ fn plan_of<R: Threads + Wait + Sync>(
 }
 
 /// Whether a text is a valid plan.
-fn is_valid(alloc: Global, domain: &[u8], problem: &[u8], plan: &[u8]) -> Result<bool, RunFault> {
+pub fn is_valid(
+    alloc: Global,
+    domain: &[u8],
+    problem: &[u8],
+    plan: &[u8],
+) -> Result<bool, RunFault> {
     let mut out = Sink::new(Vec::new(alloc));
     let verdict = run_verify(alloc, domain, problem, plan, &mut out)?;
     Ok(matches!(verdict, Verdict::Valid))
 }
 
-#[test]
-fn a_plan_in_memory_is_valid(rt: HostRuntime) -> Result<(), Fail> {
-    let alloc = rt.alloc();
-    let (domain, problem) = (ROAD.domain.as_bytes(), ROAD.problem.as_bytes());
-    let plan = plan_of(&rt, alloc, domain, problem)?.ok_or("no plan")?;
-    assert!(rt; plan.as_slice() == TRIP.as_bytes(), "the plan");
-    assert!(rt;
-        is_valid(alloc, domain, problem, plan.as_slice())?,
-        "its verdict"
-    );
-    Ok(())
+/// Prints the plan for a domain and a problem, and whether it is valid.
+pub fn print_plan<R: Threads + Wait + Sync + Print>(
+    rt: &R,
+    alloc: Global,
+    domain: &[u8],
+    problem: &[u8],
+) -> io::Result<()> {
+    let plan = match plan_of(rt, alloc, domain, problem) {
+        Ok(Some(plan)) => plan,
+        Ok(None) => return println!(rt; "no plan"),
+        Err(fault) => return println!(rt; "{fault}"),
+    };
+    io::writer(rt).write_all(plan.as_slice())?;
+    match is_valid(alloc, domain, problem, plan.as_slice()) {
+        Ok(is_valid) => println!(rt; "valid: {is_valid}"),
+        Err(fault) => println!(rt; "{fault}"),
+    }
 }

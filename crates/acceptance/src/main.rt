@@ -1,30 +1,23 @@
 //! Runs `htnplan` on each line of `command_lines.txt`, and prints what it writes and its status. Each plan that is
-//! printed is verified, and the last line says how many plans there are and how many of them are valid.
+//! printed is verified, and a line says how many plans there are and how many of them are valid. Then come runs with
+//! outputs that fail and files that are refused memory, runs over texts in memory, and what no command line shows.
 #![tactic(auto)]
 
-use htn_run::{Disk, Sink, Source, Verdict, run_verify, run_words};
+use htn_run::{Disk, Sink, Source, run_words};
 use std::alloc::{AllocError, Global};
 use std::io::Write;
+use std::rt::Files;
+use std::sync::Wait;
+use std::thread::Threads;
+use std::time::Clock;
 use std::{fs, io};
 
-#[cfg(test)]
 mod faults;
-#[cfg(test)]
 mod gates;
-#[cfg(test)]
 mod library;
-#[cfg(test)]
-mod pairs;
-#[cfg(test)]
+mod outputs;
 mod process;
-#[cfg(test)]
-mod refusals;
-#[cfg(test)]
-mod verdicts;
-#[cfg(test)]
-mod words;
-#[cfg(test)]
-mod writers;
+mod runs;
 
 // The words of a line, after the program's name.
 fn words_of(alloc: Global, line: &str) -> Result<Vec<String>, AllocError> {
@@ -45,26 +38,28 @@ fn is_valid<S: Source>(alloc: Global, files: &mut S, line: &str, plan: &[u8]) ->
     let (Ok(domain), Ok(problem)) = (files.read(alloc, domain), files.read(alloc, problem)) else {
         return false;
     };
-    let mut out = Sink::new(Vec::new(alloc));
-    let verdict = run_verify(alloc, domain.as_slice(), problem.as_slice(), plan, &mut out);
-    matches!(verdict, Ok(Verdict::Valid))
+    let verdict = library::is_valid(alloc, domain.as_slice(), problem.as_slice(), plan);
+    matches!(verdict, Ok(true))
 }
 
-fn main(rt: HostRuntime) -> io::Result<()> {
-    let alloc = rt.alloc();
-    let mut files = Disk { files: &rt };
+// Runs the command lines, and prints what they write.
+fn print_command_lines<R: Threads + Wait + Clock + Sync + Files + Print>(
+    rt: &R,
+    alloc: Global,
+    lines: &str,
+) -> io::Result<()> {
+    let mut files = Disk { files: rt };
     let mut printed: u64 = 0;
     let mut valid: u64 = 0;
-    let lines = fs::read_to_string(&rt, "command_lines.txt")?;
     for line in lines.lines() {
         let words = words_of(alloc, line)?;
         let mut out = Sink::new(Vec::new(alloc));
         let mut err = Sink::new(Vec::new(alloc));
-        let status = run_words(&rt, alloc, words.as_slice(), &mut files, &mut out, &mut err);
+        let status = run_words(rt, alloc, words.as_slice(), &mut files, &mut out, &mut err);
         let answer = out.into_inner();
         println!(rt; "> htnplan {line}")?;
-        rt.stdout().write_all(answer.as_slice())?;
-        rt.stdout().write_all(err.into_inner().as_slice())?;
+        io::writer(rt).write_all(answer.as_slice())?;
+        io::writer(rt).write_all(err.into_inner().as_slice())?;
         println!(rt; "status {status}")?;
         if status == 0 && line.starts_with("plan ") {
             printed = printed.saturating_add(1);
@@ -73,6 +68,21 @@ fn main(rt: HostRuntime) -> io::Result<()> {
             }
         }
     }
-    println!(rt; "plans printed: {printed}, of which valid: {valid}")?;
-    Ok(())
+    println!(rt; "plans printed: {printed}, of which valid: {valid}")
+}
+
+fn main(rt: HostRuntime) -> io::Result<()> {
+    let alloc = rt.alloc();
+    let lines = fs::read_to_string(&rt, "command_lines.txt")?;
+    print_command_lines(&rt, alloc, lines.as_str())?;
+    println!(rt; "= outputs that fail, and files that are refused memory")?;
+    let lines = fs::read_to_string(&rt, "outputs.txt")?;
+    outputs::print_lines(&rt, alloc, lines.as_str())?;
+    println!(rt; "= runs over texts in memory")?;
+    let lines = fs::read_to_string(&rt, "runs.txt")?;
+    runs::print_runs(&rt, lines.as_str())?;
+    println!(rt; "= the parts of a process around its run")?;
+    process::print_parts(&rt, alloc)?;
+    println!(rt; "= the line of each fault, as it is written and as its Display says it")?;
+    faults::print_faults(&rt)
 }

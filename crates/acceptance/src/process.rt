@@ -1,11 +1,10 @@
 //! The parts of a process around its run.
 
-use crate::pairs::text_of;
 use htn_run::{ProcessFault, Sink, flush, words_of};
+use std::alloc::Global;
 use std::env::{Env, FillError};
 use std::io;
 use std::io::{ErrorKind, Write};
-use std::test::Fail;
 
 // The program's name, and one word in bytes.
 #[derive(Drop)]
@@ -36,48 +35,21 @@ impl<'a> Env for Arguments<'a> {
     }
 }
 
-#[test]
-fn words_are_text(rt: HostRuntime) -> Result<(), Fail> {
-    let alloc = rt.alloc();
-    let text = Arguments {
-        word: "é".as_bytes(),
-    };
-    let words = words_of(alloc, &text)?;
-    assert_eq!(rt; words.len(), 2);
-    assert_eq!(rt; words[0].as_str(), "htnplan");
-    assert_eq!(rt; words[1].as_str(), "é");
-    let no_text = Arguments {
-        word: b"\xff".as_slice(),
-    };
-    let fault = words_of(alloc, &no_text).err();
-    assert!(rt; fault == Some(ProcessFault::NotText));
-    Ok(())
-}
-
-#[test]
-fn faults_have_a_line_and_a_status(rt: HostRuntime) -> Result<(), Fail> {
-    let alloc = rt.alloc();
-    let rows = [
-        (
-            ProcessFault::NotText,
-            "error: an argument is not UTF-8\n",
-            2,
-        ),
-        (ProcessFault::OutOfMemory, "OutOfMemory\n", 4),
-        (ProcessFault::Output, "output: cannot be written\n", 5),
-    ];
-    for (fault, line, status) in rows {
-        let mut err = Sink::new(Vec::new(alloc));
-        assert_eq!(rt; fault.tell(&mut err), status);
-        let told = text_of(alloc, err.into_inner().as_slice())?;
-        assert_eq!(rt; told.as_str(), line);
-        let text = format!(in alloc; "{fault}\n")?;
-        assert_eq!(rt; text.as_str(), line);
+fn print_words<R: Print>(rt: &R, alloc: Global, word: &[u8]) -> io::Result<()> {
+    match words_of(alloc, &Arguments { word }) {
+        Ok(words) => println!(rt; "words: {words:?}"),
+        Err(fault) => println!(rt; "{fault}"),
     }
-    Ok(())
 }
 
-// Keeps what is written, and can't be flushed.
+// Its line on an output, the same by its `Display`, and the status.
+fn print_fault<R: Print>(rt: &R, fault: ProcessFault) -> io::Result<()> {
+    let status = fault.tell(&mut Sink::new(io::writer(rt)));
+    println!(rt; "{fault}")?;
+    println!(rt; "status {status}")
+}
+
+// Takes what is written, and can't be flushed.
 #[derive(Drop)]
 struct Stuck;
 
@@ -91,25 +63,23 @@ impl Write for Stuck {
     }
 }
 
-#[test]
-fn an_answer_that_is_not_flushed(rt: HostRuntime) -> Result<(), Fail> {
-    let alloc = rt.alloc();
-    let line = "output: cannot be written\n";
-    for (status, found, text) in [
-        (0, 5, line),
-        (1, 5, line),
-        (2, 2, ""),
-        (3, 5, line),
-        (5, 5, ""),
-        (6, 5, line),
-    ] {
-        let mut err = Sink::new(Vec::new(alloc));
-        assert_eq!(rt; flush(status, Sink::new(Stuck), &mut err), found);
-        let told = text_of(alloc, err.into_inner().as_slice())?;
-        assert_eq!(rt; told.as_str(), text, "status {status}");
+// What is said of an answer that is not flushed, and the status before and after.
+fn print_flush<R: Print>(rt: &R, status: u8) -> io::Result<()> {
+    let found = flush(status, Sink::new(Stuck), &mut Sink::new(io::writer(rt)));
+    println!(rt; "status {status}, not flushed: {found}")
+}
+
+/// Prints the words of a process, its faults, and its status after a flush.
+pub fn print_parts<R: Print>(rt: &R, alloc: Global) -> io::Result<()> {
+    print_words(rt, alloc, "é".as_bytes())?;
+    print_words(rt, alloc, b"\xff".as_slice())?;
+    print_fault(rt, ProcessFault::NotText)?;
+    print_fault(rt, ProcessFault::OutOfMemory)?;
+    print_fault(rt, ProcessFault::Output)?;
+    for status in [0, 1, 2, 3, 5, 6] {
+        print_flush(rt, status)?;
     }
-    let mut err = Sink::new(Vec::new(alloc));
-    assert_eq!(rt; flush(0, Sink::new(Vec::new(alloc)), &mut err), 0);
-    assert!(rt; err.into_inner().is_empty());
-    Ok(())
+    let mut err = Sink::new(io::writer(rt));
+    let found = flush(0, Sink::new(Vec::new(alloc)), &mut err);
+    println!(rt; "status 0, flushed: {found}")
 }

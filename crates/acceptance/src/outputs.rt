@@ -1,0 +1,125 @@
+//! Command lines whose outputs take so many bytes and no more, with the files that they ask for.
+
+use crate::runs::number_of;
+use crate::words_of;
+use htn_run::{Disk, ReadFault, Sink, Source, run_words};
+use std::alloc::Global;
+use std::io;
+use std::io::{ErrorKind, Write};
+use std::rt::Files;
+use std::sync::Wait;
+use std::thread::Threads;
+use std::time::Clock;
+
+/// A writer that takes at most `step` bytes at a time, and `room` in all.
+#[derive(Drop)]
+pub struct Narrow {
+    pub taken: Vec<u8>,
+    pub step: usize,
+    pub room: usize,
+}
+
+impl Write for Narrow {
+    fn write(&mut self, bytes: &[u8]) -> io::Result<usize> {
+        let count = bytes.len().min(self.step).min(self.room);
+        self.taken.extend_from_slice(&bytes[..count])?;
+        self.room -= count;
+        Ok(count)
+    }
+
+    fn flush(&mut self) -> io::Result<()> {
+        Ok(())
+    }
+}
+
+// The files of the system, where `full` is refused memory, and no name from the root on can be read. Each name that is
+// asked for is noted.
+#[derive(Drop)]
+struct Noted<'a, F: Files> {
+    files: Disk<'a, F>,
+    asked: String,
+}
+
+impl<'a, F: Files> Source for Noted<'a, F> {
+    ghost use Rattle.std.specs.Prelude.{None};
+    ghost use Rattle.htn_run.specs.Files.{Untold};
+
+    ghost files = { λ _ _. Untold };
+
+    ghost reads = { λ _. None };
+
+    fn read(&mut self, alloc: Global, name: &str) -> Result<Vec<u8>, ReadFault> {
+        if self.asked.push(' ').is_err() || self.asked.push_str(name).is_err() {
+            return Err(ReadFault::OutOfMemory);
+        }
+        match name {
+            "full" => Err(ReadFault::OutOfMemory),
+            "/dev/stdin" => Err(ReadFault::Unreadable),
+            _ => self.files.read(alloc, name),
+        }
+    }
+}
+
+// Prints the names of the files that were asked for, the standard output, the standard error and the status.
+fn print_end<R: Print>(rt: &R, asked: &str, out: &[u8], err: &[u8], status: u8) -> io::Result<()> {
+    let mut writer = io::writer(rt);
+    print!(rt; "asked for:{asked}|")?;
+    writer.write_all(out)?;
+    writer.write_all(b"|")?;
+    writer.write_all(err)?;
+    println!(rt; "|{status}")
+}
+
+// Runs a command line whose outputs take `room` and `room_of_errors` bytes.
+fn print_line<R: Threads + Wait + Clock + Sync + Files + Print>(
+    rt: &R,
+    alloc: Global,
+    line: &str,
+    room: usize,
+    room_of_errors: usize,
+) -> io::Result<()> {
+    let words = words_of(alloc, line)?;
+    let mut files = Noted {
+        files: Disk { files: rt },
+        asked: String::new(alloc),
+    };
+    let mut out = Sink::new(Narrow {
+        taken: Vec::new(alloc),
+        step: 1_000,
+        room,
+    });
+    let mut err = Sink::new(Narrow {
+        taken: Vec::new(alloc),
+        step: 1_000,
+        room: room_of_errors,
+    });
+    let status = run_words(rt, alloc, words.as_slice(), &mut files, &mut out, &mut err);
+    let printed = out.into_inner().taken;
+    let told = err.into_inner().taken;
+    print_end(
+        rt,
+        files.asked.as_str(),
+        printed.as_slice(),
+        told.as_slice(),
+        status,
+    )
+}
+
+/// Runs each line: the bytes that its standard output takes, those that its standard error takes, and its words.
+pub fn print_lines<R: Threads + Wait + Clock + Sync + Files + Print>(
+    rt: &R,
+    alloc: Global,
+    lines: &str,
+) -> io::Result<()> {
+    for line in lines.lines() {
+        println!(rt; "> {line}")?;
+        let mut parts = line.splitn(3, ' ');
+        let (room, room_of_errors) = (number_of(parts.next()), number_of(parts.next()));
+        let (Some(room), Some(room_of_errors), Some(words)) = (room, room_of_errors, parts.next())
+        else {
+            return Err(io::Error::from(ErrorKind::InvalidInput));
+        };
+        print_line(rt, alloc, words, room as usize, room_of_errors as usize)?;
+    }
+    Ok(())
+}

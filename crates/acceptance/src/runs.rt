@@ -1,0 +1,216 @@
+//! Runs over texts in memory: with several workers, pieces and gates, into outputs that have room for a beginning of the
+//! answer alone, and once more after memory was refused.
+
+use crate::gates::Meeting;
+use crate::library;
+use crate::outputs::Narrow;
+use htn_run::{Bounds, Gate, NoGate, Out, Outcome, RunFault, Sink, run_plan, run_verify};
+use std::alloc::Global;
+use std::io::{ErrorKind, Write};
+use std::rt::Files;
+use std::sync::Wait;
+use std::thread::Threads;
+use std::{fs, io};
+
+// The texts and the bounds of a run, and a number that its kind gives a meaning.
+#[derive(Drop)]
+struct Run {
+    domain: Vec<u8>,
+    problem: Vec<u8>,
+    plan: Vec<u8>,
+    bounds: Bounds,
+    number: u64,
+}
+
+impl Run {
+    // Plans into an output.
+    fn plan_into<O: Out, G: Gate, R: Threads + Wait + Sync>(
+        &self,
+        rt: &R,
+        alloc: Global,
+        gate: &G,
+        out: &mut O,
+    ) -> Result<Outcome, RunFault> {
+        let (domain, problem) = (self.domain.as_slice(), self.problem.as_slice());
+        run_plan(rt, alloc, domain, problem, self.bounds, gate, out)
+    }
+}
+
+/// The number that a word is.
+pub fn number_of(word: Option<&str>) -> Option<u64> {
+    word?.parse::<u64>().ok()
+}
+
+// The number and the bounds of a row, which stand after its kind.
+fn bounds_of(line: &str) -> Option<(u64, Bounds)> {
+    let mut words = line.split(' ').skip(1);
+    let number = number_of(words.next())?;
+    let nodes = number_of(words.next())?;
+    let workers = number_of(words.next())?;
+    let piece = number_of(words.next())?;
+    Some((number, Bounds::new(nodes, workers, piece)?))
+}
+
+// The bytes of a file; none where no file is named.
+fn bytes_of<R: Files + AllocGlobal>(rt: &R, name: Option<&str>) -> io::Result<Vec<u8>> {
+    match name {
+        Some(name) => fs::read(rt, name),
+        None => Ok(Vec::new(rt.alloc())),
+    }
+}
+
+// The run of a row: after its bounds stand the names of its domain, its problem and its plan.
+fn run_of<R: Files + AllocGlobal>(rt: &R, line: &str) -> io::Result<Run> {
+    let Some((number, bounds)) = bounds_of(line) else {
+        return Err(io::Error::from(ErrorKind::InvalidInput));
+    };
+    let mut names = line.split(' ').skip(5);
+    let domain = bytes_of(rt, names.next())?;
+    let problem = bytes_of(rt, names.next())?;
+    let plan = bytes_of(rt, names.next())?;
+    Ok(Run {
+        domain,
+        problem,
+        plan,
+        bounds,
+        number,
+    })
+}
+
+// Prints what was written, and how the run ended.
+fn print_end<R: Print>(rt: &R, written: &[u8], end: Result<Outcome, RunFault>) -> io::Result<()> {
+    io::writer(rt).write_all(written)?;
+    match end {
+        Ok(outcome) => println!(rt; "{outcome:?}"),
+        Err(fault) => println!(rt; "{fault}"),
+    }
+}
+
+// A run that may be refused is made once more after a refusal. The output has its room before.
+fn print_plan<R: Threads + Wait + Sync + Print>(
+    rt: &R,
+    alloc: Global,
+    run: &Run,
+    may_be_refused: bool,
+) -> io::Result<()> {
+    let mut out = Sink::new(Vec::with_capacity(alloc, 200)?);
+    let mut end = run.plan_into(rt, alloc, &NoGate, &mut out);
+    let no_thread = end == Err(RunFault::NoThread) && 1 < run.bounds.workers;
+    if may_be_refused && (end == Err(RunFault::OutOfMemory) || no_thread) {
+        end = run.plan_into(rt, alloc, &NoGate, &mut out);
+    }
+    print_end(rt, out.into_inner().as_slice(), end)
+}
+
+// A verdict, which is asked for once more after a refusal. The output has its room before.
+fn print_verdict<R: Print>(rt: &R, alloc: Global, run: &Run) -> io::Result<()> {
+    let (domain, problem) = (run.domain.as_slice(), run.problem.as_slice());
+    let mut out = Sink::new(Vec::with_capacity(alloc, 200)?);
+    let mut end = run_verify(alloc, domain, problem, run.plan.as_slice(), &mut out);
+    if end == Err(RunFault::OutOfMemory) {
+        end = run_verify(alloc, domain, problem, run.plan.as_slice(), &mut out);
+    }
+    io::writer(rt).write_all(out.into_inner().as_slice())?;
+    match end {
+        Ok(verdict) => println!(rt; "{verdict:?}"),
+        Err(fault) => println!(rt; "{fault}"),
+    }
+}
+
+// The number is that of the piece that the first piece waits for.
+fn print_meeting<R: Threads + Wait + Sync + Print>(
+    rt: &R,
+    alloc: Global,
+    run: &Run,
+) -> io::Result<()> {
+    let gate = Meeting::new(run.number);
+    let mut out = Sink::new(Vec::new(alloc));
+    let end = run.plan_into(rt, alloc, &gate, &mut out);
+    print_end(rt, out.into_inner().as_slice(), end)?;
+    gate.print_calls(rt)
+}
+
+// Whether an output that has room for a beginning of the answer gets just that, and the run ends as it should; what
+// comes out is printed where it doesn't.
+fn fits_room<R: Threads + Wait + Sync + Print>(
+    rt: &R,
+    alloc: Global,
+    run: &Run,
+    beginning: &[u8],
+    expected: Result<Outcome, RunFault>,
+) -> io::Result<bool> {
+    let room = beginning.len();
+    let mut out = Sink::new(Narrow {
+        taken: Vec::new(alloc),
+        step: run.number as usize,
+        room,
+    });
+    let end = run.plan_into(rt, alloc, &NoGate, &mut out);
+    let has_failed = out.has_failed();
+    let taken = out.into_inner().taken;
+    if end == expected && has_failed == expected.is_err() && taken.as_slice() == beginning {
+        return Ok(true);
+    }
+    println!(rt; "with room for {room} bytes, failed: {has_failed}")?;
+    print_end(rt, taken.as_slice(), end)?;
+    Ok(false)
+}
+
+// The number is that of the bytes that the output takes at a time.
+fn print_rooms<R: Threads + Wait + Sync + Print>(
+    rt: &R,
+    alloc: Global,
+    run: &Run,
+) -> io::Result<()> {
+    let mut out = Sink::new(Vec::new(alloc));
+    let end = run.plan_into(rt, alloc, &NoGate, &mut out);
+    let answer = out.into_inner();
+    print_end(rt, answer.as_slice(), end)?;
+    let mut fits: u64 = 0;
+    for room in 0..answer.len() {
+        let beginning = &answer.as_slice()[..room];
+        if fits_room(rt, alloc, run, beginning, Err(RunFault::Output))? {
+            fits = fits.saturating_add(1);
+        }
+    }
+    let whole = fits_room(rt, alloc, run, answer.as_slice(), end)?;
+    println!(rt;
+        "smaller outputs with a beginning and the fault: {fits}; one of its size with all: {whole}"
+    )
+}
+
+// Makes the run of a row by its kind, which is the row's first word.
+fn print_run<R: Threads + Wait + Sync + Print>(
+    rt: &R,
+    alloc: Global,
+    kind: Option<&str>,
+    run: &Run,
+) -> io::Result<()> {
+    match kind {
+        Some("library") => library::print_plan(
+            rt,
+            alloc,
+            run.domain.as_slice(),
+            run.problem.as_slice(),
+        ),
+        Some("plan") => print_plan(rt, alloc, run, false),
+        Some("again") => print_plan(rt, alloc, run, true),
+        Some("verdict") => print_verdict(rt, alloc, run),
+        Some("meeting") => print_meeting(rt, alloc, run),
+        Some("rooms") => print_rooms(rt, alloc, run),
+        _ => Err(io::Error::from(ErrorKind::InvalidInput)),
+    }
+}
+
+/// Makes the run of each row: its kind, a number, the bounds, and the names of its texts.
+pub fn print_runs<R: Threads + Wait + Sync + Files + Print + AllocGlobal>(
+    rt: &R,
+    lines: &str,
+) -> io::Result<()> {
+    for line in lines.lines() {
+        println!(rt; "> {line}")?;
+        let run = run_of(rt, line)?;
+        print_run(rt, rt.alloc(), line.split(' ').next(), &run)?;
+    }
+    Ok(())
+}
