@@ -1,4 +1,4 @@
-//! Command lines whose outputs take so many bytes and no more, with the files that they ask for.
+//! Command lines whose outputs have little room, and the files that they ask for.
 
 use crate::runs::number_of;
 use crate::words_of;
@@ -32,8 +32,8 @@ impl Write for Narrow {
     }
 }
 
-// The files of the system, where `full` is refused memory, and no name from the root on can be read. Each name that is
-// asked for is noted.
+// The files of the system, where `full` is refused memory, and the standard input can't be read. Each name that is asked
+// for is noted.
 #[derive(Drop)]
 struct Noted<'a, F: Files> {
     files: Disk<'a, F>,
@@ -95,12 +95,12 @@ fn print_line<R: Threads + Wait + Clock + Sync + Files + Print>(
     });
     let status = run_words(rt, alloc, words.as_slice(), &mut files, &mut out, &mut err);
     let printed = out.into_inner().taken;
-    let told = err.into_inner().taken;
+    let errors = err.into_inner().taken;
     print_end(
         rt,
         files.asked.as_str(),
         printed.as_slice(),
-        told.as_slice(),
+        errors.as_slice(),
         status,
     )
 }
