@@ -42,8 +42,8 @@ fn is_valid<S: Source>(alloc: Global, files: &mut S, line: &str, plan: &[u8]) ->
     matches!(verdict, Ok(true))
 }
 
-// Runs the command lines, and prints what they write.
-fn print_command_lines<R: Threads + Wait + Clock + Sync + Files + Print>(
+// Runs each command line, and prints what it writes.
+fn print_lines<R: Threads + Wait + Clock + Sync + Files + Print>(
     rt: &R,
     alloc: Global,
     lines: &str,
@@ -71,18 +71,22 @@ fn print_command_lines<R: Threads + Wait + Clock + Sync + Files + Print>(
     println!(rt; "plans printed: {printed}, of which valid: {valid}")
 }
 
+// Runs the command lines of `command_lines.txt`.
+fn print_command_lines<R: Threads + Wait + Clock + Sync + Files + Print + AllocGlobal>(
+    rt: &R,
+) -> io::Result<()> {
+    let lines = fs::read_to_string(rt, "command_lines.txt")?;
+    print_lines(rt, rt.alloc(), lines.as_str())
+}
+
 fn main(rt: HostRuntime) -> io::Result<()> {
-    let alloc = rt.alloc();
-    let lines = fs::read_to_string(&rt, "command_lines.txt")?;
-    print_command_lines(&rt, alloc, lines.as_str())?;
+    print_command_lines(&rt)?;
     println!(rt; "= outputs that fail, and files that are refused memory")?;
-    let lines = fs::read_to_string(&rt, "outputs.txt")?;
-    outputs::print_lines(&rt, alloc, lines.as_str())?;
+    outputs::print_outputs(&rt)?;
     println!(rt; "= runs over texts in memory")?;
-    let lines = fs::read_to_string(&rt, "runs.txt")?;
-    runs::print_runs(&rt, lines.as_str())?;
+    runs::print_runs(&rt)?;
     println!(rt; "= the parts of a process around its run")?;
-    process::print_parts(&rt, alloc)?;
+    process::print_parts(&rt, rt.alloc())?;
     println!(rt; "= the line of each fault, as it is written and as its Display says it")?;
     faults::print_faults(&rt)
 }

@@ -4,12 +4,12 @@ use crate::runs::number_of;
 use crate::words_of;
 use htn_run::{Disk, ReadFault, Sink, Source, run_words};
 use std::alloc::Global;
-use std::io;
 use std::io::{ErrorKind, Write};
 use std::rt::Files;
 use std::sync::Wait;
 use std::thread::Threads;
 use std::time::Clock;
+use std::{fs, io};
 
 /// A writer that takes at most `step` bytes at a time, and `room` in all.
 #[derive(Drop)]
@@ -62,12 +62,9 @@ impl<'a, F: Files> Source for Noted<'a, F> {
 
 // Prints the names of the files that were asked for, the standard output, the standard error and the status.
 fn print_end<R: Print>(rt: &R, asked: &str, out: &[u8], err: &[u8], status: u8) -> io::Result<()> {
-    let mut writer = io::writer(rt);
-    print!(rt; "asked for:{asked}|")?;
-    writer.write_all(out)?;
-    writer.write_all(b"|")?;
-    writer.write_all(err)?;
-    println!(rt; "|{status}")
+    let out = str::from_utf8(out).unwrap_or("no text");
+    let err = str::from_utf8(err).unwrap_or("no text");
+    println!(rt; "asked for:{asked}|{out}|{err}|{status}")
 }
 
 // Runs a command line whose outputs take `room` and `room_of_errors` bytes.
@@ -105,8 +102,8 @@ fn print_line<R: Threads + Wait + Clock + Sync + Files + Print>(
     )
 }
 
-/// Runs each line: the bytes that its standard output takes, those that its standard error takes, and its words.
-pub fn print_lines<R: Threads + Wait + Clock + Sync + Files + Print>(
+// Runs each line: the bytes that its standard output takes, those that its standard error takes, and its words.
+fn print_lines<R: Threads + Wait + Clock + Sync + Files + Print>(
     rt: &R,
     alloc: Global,
     lines: &str,
@@ -122,4 +119,12 @@ pub fn print_lines<R: Threads + Wait + Clock + Sync + Files + Print>(
         print_line(rt, alloc, words, room as usize, room_of_errors as usize)?;
     }
     Ok(())
+}
+
+/// Runs the command lines of `outputs.txt`.
+pub fn print_outputs<R: Threads + Wait + Clock + Sync + Files + Print + AllocGlobal>(
+    rt: &R,
+) -> io::Result<()> {
+    let lines = fs::read_to_string(rt, "outputs.txt")?;
+    print_lines(rt, rt.alloc(), lines.as_str())
 }

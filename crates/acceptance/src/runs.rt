@@ -6,6 +6,7 @@ use crate::library;
 use crate::outputs::Narrow;
 use htn_run::{Bounds, Gate, NoGate, Out, Outcome, RunFault, Sink, run_plan, run_verify};
 use std::alloc::Global;
+use std::fmt::Debug;
 use std::io::{ErrorKind, Write};
 use std::rt::Files;
 use std::sync::Wait;
@@ -44,10 +45,12 @@ pub fn number_of(word: Option<&str>) -> Option<u64> {
 // The number and the bounds of a row, which stand after its kind.
 fn bounds_of(line: &str) -> Option<(u64, Bounds)> {
     let mut words = line.split(' ').skip(1);
-    let number = number_of(words.next())?;
-    let nodes = number_of(words.next())?;
-    let workers = number_of(words.next())?;
-    let piece = number_of(words.next())?;
+    let (number, nodes) = (number_of(words.next()), number_of(words.next()));
+    let (workers, piece) = (number_of(words.next()), number_of(words.next()));
+    let (Some(number), Some(nodes), Some(workers), Some(piece)) = (number, nodes, workers, piece)
+    else {
+        return None;
+    };
     Some((number, Bounds::new(nodes, workers, piece)?))
 }
 
@@ -78,7 +81,11 @@ fn run_of<R: Files + AllocGlobal>(rt: &R, line: &str) -> io::Result<Run> {
 }
 
 // Prints what was written, and how the run ended.
-fn print_end<R: Print>(rt: &R, written: &[u8], end: Result<Outcome, RunFault>) -> io::Result<()> {
+fn print_end<T: Debug + Drop, R: Print>(
+    rt: &R,
+    written: &[u8],
+    end: Result<T, RunFault>,
+) -> io::Result<()> {
     io::writer(rt).write_all(written)?;
     match end {
         Ok(outcome) => println!(rt; "{outcome:?}"),
@@ -110,11 +117,19 @@ fn print_verdict<R: Print>(rt: &R, alloc: Global, run: &Run) -> io::Result<()> {
     if end == Err(RunFault::OutOfMemory) {
         end = run_verify(alloc, domain, problem, run.plan.as_slice(), &mut out);
     }
-    io::writer(rt).write_all(out.into_inner().as_slice())?;
-    match end {
-        Ok(verdict) => println!(rt; "{verdict:?}"),
-        Err(fault) => println!(rt; "{fault}"),
-    }
+    print_end(rt, out.into_inner().as_slice(), end)
+}
+
+// Plans at a gate, and prints the answer.
+fn print_at<R: Threads + Wait + Sync + Print>(
+    rt: &R,
+    alloc: Global,
+    run: &Run,
+    gate: &Meeting,
+) -> io::Result<()> {
+    let mut out = Sink::new(Vec::new(alloc));
+    let end = run.plan_into(rt, alloc, gate, &mut out);
+    print_end(rt, out.into_inner().as_slice(), end)
 }
 
 // The number is that of the piece that the first piece waits for.
@@ -124,14 +139,30 @@ fn print_meeting<R: Threads + Wait + Sync + Print>(
     run: &Run,
 ) -> io::Result<()> {
     let gate = Meeting::new(run.number);
-    let mut out = Sink::new(Vec::new(alloc));
-    let end = run.plan_into(rt, alloc, &gate, &mut out);
-    print_end(rt, out.into_inner().as_slice(), end)?;
+    print_at(rt, alloc, run, &gate)?;
     gate.print_calls(rt)
 }
 
-// Whether an output that has room for a beginning of the answer gets just that, and the run ends as it should; what
-// comes out is printed where it doesn't.
+// Whether an output took just the bytes that it had room for, and the run ended as it should; what came out is printed
+// where it didn't.
+fn is_expected<R: Print>(
+    rt: &R,
+    beginning: &[u8],
+    expected: Result<Outcome, RunFault>,
+    taken: &[u8],
+    end: Result<Outcome, RunFault>,
+    has_failed: bool,
+) -> io::Result<bool> {
+    if end == expected && has_failed == expected.is_err() && taken == beginning {
+        return Ok(true);
+    }
+    let room = beginning.len();
+    println!(rt; "with room for {room} bytes, failed: {has_failed}")?;
+    print_end(rt, taken, end)?;
+    Ok(false)
+}
+
+// Plans into an output that has room for a beginning of the answer, and compares.
 fn fits_room<R: Threads + Wait + Sync + Print>(
     rt: &R,
     alloc: Global,
@@ -139,21 +170,36 @@ fn fits_room<R: Threads + Wait + Sync + Print>(
     beginning: &[u8],
     expected: Result<Outcome, RunFault>,
 ) -> io::Result<bool> {
-    let room = beginning.len();
     let mut out = Sink::new(Narrow {
         taken: Vec::new(alloc),
         step: run.number as usize,
-        room,
+        room: beginning.len(),
     });
     let end = run.plan_into(rt, alloc, &NoGate, &mut out);
     let has_failed = out.has_failed();
     let taken = out.into_inner().taken;
-    if end == expected && has_failed == expected.is_err() && taken.as_slice() == beginning {
-        return Ok(true);
+    is_expected(rt, beginning, expected, taken.as_slice(), end, has_failed)
+}
+
+// Plans into outputs with room for each beginning of the answer.
+fn print_beginnings<R: Threads + Wait + Sync + Print>(
+    rt: &R,
+    alloc: Global,
+    run: &Run,
+    answer: &[u8],
+    end: Result<Outcome, RunFault>,
+) -> io::Result<()> {
+    print_end(rt, answer, end)?;
+    let mut fits: u64 = 0;
+    for room in 0..answer.len() {
+        if fits_room(rt, alloc, run, &answer[..room], Err(RunFault::Output))? {
+            fits = fits.saturating_add(1);
+        }
     }
-    println!(rt; "with room for {room} bytes, failed: {has_failed}")?;
-    print_end(rt, taken.as_slice(), end)?;
-    Ok(false)
+    let whole = fits_room(rt, alloc, run, answer, end)?;
+    println!(rt;
+        "smaller outputs with a beginning and the fault: {fits}; one of its size with all: {whole}"
+    )
 }
 
 // The number is that of the bytes that the output takes at a time.
@@ -164,19 +210,7 @@ fn print_rooms<R: Threads + Wait + Sync + Print>(
 ) -> io::Result<()> {
     let mut out = Sink::new(Vec::new(alloc));
     let end = run.plan_into(rt, alloc, &NoGate, &mut out);
-    let answer = out.into_inner();
-    print_end(rt, answer.as_slice(), end)?;
-    let mut fits: u64 = 0;
-    for room in 0..answer.len() {
-        let beginning = &answer.as_slice()[..room];
-        if fits_room(rt, alloc, run, beginning, Err(RunFault::Output))? {
-            fits = fits.saturating_add(1);
-        }
-    }
-    let whole = fits_room(rt, alloc, run, answer.as_slice(), end)?;
-    println!(rt;
-        "smaller outputs with a beginning and the fault: {fits}; one of its size with all: {whole}"
-    )
+    print_beginnings(rt, alloc, run, out.into_inner().as_slice(), end)
 }
 
 // Makes the run of a row by its kind, which is the row's first word.
@@ -202,15 +236,23 @@ fn print_run<R: Threads + Wait + Sync + Print>(
     }
 }
 
-/// Makes the run of each row: its kind, a number, the bounds, and the names of its texts.
-pub fn print_runs<R: Threads + Wait + Sync + Files + Print + AllocGlobal>(
+// Makes the run of each row: its kind, a number, the bounds, and the names of its texts.
+fn print_rows<R: Threads + Wait + Sync + Files + Print + AllocGlobal>(
     rt: &R,
-    lines: &str,
+    rows: &str,
 ) -> io::Result<()> {
-    for line in lines.lines() {
-        println!(rt; "> {line}")?;
-        let run = run_of(rt, line)?;
-        print_run(rt, rt.alloc(), line.split(' ').next(), &run)?;
+    for row in rows.lines() {
+        println!(rt; "> {row}")?;
+        let run = run_of(rt, row)?;
+        print_run(rt, rt.alloc(), row.split(' ').next(), &run)?;
     }
     Ok(())
+}
+
+/// Makes the runs of `runs.txt`.
+pub fn print_runs<R: Threads + Wait + Sync + Files + Print + AllocGlobal>(
+    rt: &R,
+) -> io::Result<()> {
+    let rows = fs::read_to_string(rt, "runs.txt")?;
+    print_rows(rt, rows.as_str())
 }
