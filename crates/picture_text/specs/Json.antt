@@ -56,13 +56,17 @@ caption_members caption =
     (codes "format", string (codes "htnplan-tree")) ∷ (codes "version", count 1) ∷ (codes "domain", string caption.domain.now)
     ∷ (codes "problem", string caption.problem.now) ∷ (codes "verdict", string caption.verdict.now) ∷ []
 
--- The whole picture: what it is of, the ids of the actions in the order in which they are carried out, the ids of the
--- roots, and the lines from the top down.
-abbrev pub picture_json : Caption → Picture → Data
-picture_json caption picture =
+-- The members for the lines of a picture: the ids of the actions in the order in which they are carried out, the ids of
+-- the roots, and the lines from the top down.
+abbrev pub lines_members : Picture → List Named
+lines_members picture =
     let file = picture.file.now in
-    object_of (caption_members caption ++ (codes "actions", array_of (map (λ line. count line.id) file.actions)) ∷ (codes "roots", ids_json file picture.roots.items)
-    ∷ (codes "nodes", array_of (flat_map (λ r. nodes_json file (lists_of picture.children.items) (seen r) (line_at file r.line)) picture.rows.items)) ∷ [])
+    (codes "actions", array_of (map (λ line. count line.id) file.actions)) ∷ (codes "roots", ids_json file picture.roots.items)
+    ∷ (codes "nodes", array_of (flat_map (λ r. nodes_json file (lists_of picture.children.items) (seen r) (line_at file r.line)) picture.rows.items)) ∷ []
+
+-- The whole picture: what it is of, and its lines.
+abbrev pub picture_json : Caption → Picture → Data
+picture_json caption picture = object_of (caption_members caption ++ lines_members picture)
 
 -- the text of its value, and a line feed
 abbrev pub json_bytes : Caption → Picture → List ℕ

@@ -1,6 +1,6 @@
 //! Pictures as JSON.
 
-ghost use Rattle.std.specs.Prelude.{◌≡◌, ◌++◌, [], IsUtf8, Some, map, IfOk, OnOk};
+ghost use Rattle.std.specs.Prelude.{◌≡◌, ◌∷◌, ◌++◌, [], IsUtf8, Some, codes, map, IfOk, OnOk};
 ghost use Rattle.std.specs.List.{flat_map};
 ghost use Rattle.diagnostics.specs.Json.{with_members, array_of, count, IsReadAs};
 ghost use Rattle.plan_forest.specs.Forest.{lists_of};
@@ -9,13 +9,14 @@ ghost use Rattle.picture_text.specs.Json as spec;
 ghost use Rattle.picture_text.specs.Lines as lines;
 ghost use Rattle.plan_picture.specs.Seen.{seen};
 ghost use Rattle.picture_text.specs.SeenLine.{seen_line};
+ghost use Rattle.serde_json.specs.Data.{string};
 ghost use Rattle.serde_json.specs.View.{view, members_view};
 
 use crate::caption::Caption;
 use crate::line::{Line, id_at, line_at};
 use crate::words::say;
 use plan_picture::{Picture, Row, children_at};
-use plan_text::{ActionLine, PlanFile, Word};
+use plan_text::{ActionLine, DecompositionLine, PlanFile, Word};
 use serde_json::{Map, Value, put};
 use std::alloc::{AllocError, Global};
 
@@ -72,6 +73,48 @@ fn parent_value(file: &PlanFile, parent: Option<usize>) -> Value
     }
 }
 
+/// Adds what an action line is, which has this number among the lines.
+fn put_action(
+    map: &mut Map<String, Value>,
+    alloc: Global,
+    number: usize,
+    line: &ActionLine,
+) -> Result<(), AllocError>
+    ensures { OnOk result (members_view map.new.entries ≡ with_members (members_view map.old.entries) ((codes "kind", string (codes "action")) ∷ (codes "task", spec.task_json line.now.name line.now.arguments) ∷ (codes "position", count number) ∷ [])) }
+{
+    put(map, alloc, "kind", Value::try_from_str(alloc, "action")?)?;
+    put(
+        map,
+        alloc,
+        "task",
+        task_value(alloc, line.name(), line.arguments())?,
+    )?;
+    put(map, alloc, "position", Value::from(number))?;
+    Ok(())
+}
+
+/// Adds what a decomposition line is, whose children these are.
+fn put_task(
+    map: &mut Map<String, Value>,
+    alloc: Global,
+    file: &PlanFile,
+    children: &[usize],
+    line: &DecompositionLine,
+) -> Result<(), AllocError>
+    ensures { OnOk result (members_view map.new.entries ≡ with_members (members_view map.old.entries) ((codes "kind", string (codes "task")) ∷ (codes "task", spec.task_json line.now.task line.now.arguments) ∷ (codes "method", spec.word_json line.now.method) ∷ (codes "children", spec.ids_json file.now children.now) ∷ [])) }
+{
+    put(map, alloc, "kind", Value::try_from_str(alloc, "task")?)?;
+    put(
+        map,
+        alloc,
+        "task",
+        task_value(alloc, line.task(), line.arguments())?,
+    )?;
+    put(map, alloc, "method", word_value(alloc, line.method())?)?;
+    put(map, alloc, "children", ids_value(alloc, file, children)?)?;
+    Ok(())
+}
+
 /// Adds what a line is, whose children these are.
 fn put_line(
     map: &mut Map<String, Value>,
@@ -84,22 +127,9 @@ fn put_line(
     ensures { OnOk result (members_view map.new.entries ≡ with_members (members_view map.old.entries) (spec.line_members file.now children.now number (seen_line line.entry))) }
 {
     match line {
-        Line::Action(action) => {
-            let task = task_value(alloc, action.name(), action.arguments())?;
-            put(map, alloc, "kind", Value::try_from_str(alloc, "action")?)?;
-            put(map, alloc, "task", task)?;
-            put(map, alloc, "position", Value::from(number))?;
-        }
-        Line::Task(task) => {
-            let words = task_value(alloc, task.task(), task.arguments())?;
-            let below = ids_value(alloc, file, children)?;
-            put(map, alloc, "kind", Value::try_from_str(alloc, "task")?)?;
-            put(map, alloc, "task", words)?;
-            put(map, alloc, "method", word_value(alloc, task.method())?)?;
-            put(map, alloc, "children", below)?;
-        }
+        Line::Action(action) => put_action(map, alloc, number, action),
+        Line::Task(task) => put_task(map, alloc, file, children, task),
     }
-    Ok(())
 }
 
 /// A line in its place.
@@ -164,8 +194,12 @@ fn put_caption(
 ) -> Result<(), AllocError>
     ensures { OnOk result (members_view map.new.entries ≡ with_members (members_view map.old.entries) (spec.caption_members caption.now)) }
 {
-    let format = Value::try_from_str(alloc, "htnplan-tree")?;
-    put(map, alloc, "format", format)?;
+    put(
+        map,
+        alloc,
+        "format",
+        Value::try_from_str(alloc, "htnplan-tree")?,
+    )?;
     put(map, alloc, "version", Value::from(1usize))?;
     put(
         map,
@@ -188,6 +222,30 @@ fn put_caption(
     Ok(())
 }
 
+/// Adds the actions, the roots and the lines of a picture.
+fn put_lines(
+    map: &mut Map<String, Value>,
+    alloc: Global,
+    picture: &Picture<'_>,
+) -> Result<(), AllocError>
+    ensures { OnOk result (members_view map.new.entries ≡ with_members (members_view map.old.entries) (spec.lines_members picture.now)) }
+{
+    put(
+        map,
+        alloc,
+        "actions",
+        actions_value(alloc, picture.file.actions())?,
+    )?;
+    put(
+        map,
+        alloc,
+        "roots",
+        ids_value(alloc, picture.file, picture.roots.as_slice())?,
+    )?;
+    put(map, alloc, "nodes", nodes_value(alloc, picture)?)?;
+    Ok(())
+}
+
 /// The whole picture.
 fn picture_value(
     alloc: Global,
@@ -196,14 +254,9 @@ fn picture_value(
 ) -> Result<Value, AllocError>
     ensures { IfOk result (λ v. view v ≡ spec.picture_json caption.now picture.now) }
 {
-    let actions = actions_value(alloc, picture.file.actions())?;
-    let roots = ids_value(alloc, picture.file, picture.roots.as_slice())?;
-    let nodes = nodes_value(alloc, picture)?;
     let mut map = Map::new(alloc);
     put_caption(&mut map, alloc, caption)?;
-    put(&mut map, alloc, "actions", actions)?;
-    put(&mut map, alloc, "roots", roots)?;
-    put(&mut map, alloc, "nodes", nodes)?;
+    put_lines(&mut map, alloc, picture)?;
     Ok(Value::Object(map))
 }
 
