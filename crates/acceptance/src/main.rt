@@ -42,32 +42,56 @@ fn is_valid<S: Source>(alloc: Global, files: &mut S, line: &str, plan: &[u8]) ->
     matches!(verdict, Ok(true))
 }
 
-// Runs each command line, and prints what it writes.
+// How many plans were printed, and how many of them are valid.
+#[derive(Clone, Copy)]
+struct Plans {
+    printed: u64,
+    valid: u64,
+}
+
+// Prints a command line, what it wrote, and its status.
+fn print_end<R: Print>(rt: &R, line: &str, out: &[u8], err: &[u8], status: u8) -> io::Result<()> {
+    println!(rt; "> htnplan {line}")?;
+    io::writer(rt).write_all(out)?;
+    io::writer(rt).write_all(err)?;
+    println!(rt; "status {status}")
+}
+
+// Runs a command line, and counts its plan if it prints one.
+fn print_line<R: Threads + Wait + Clock + Sync + Files + Print>(
+    rt: &R,
+    alloc: Global,
+    line: &str,
+    plans: &mut Plans,
+) -> io::Result<()> {
+    let words = words_of(alloc, line)?;
+    let mut files = Disk { files: rt };
+    let mut out = Sink::new(Vec::new(alloc));
+    let mut err = Sink::new(Vec::new(alloc));
+    let status = run_words(rt, alloc, words.as_slice(), &mut files, &mut out, &mut err);
+    let (answer, errors) = (out.into_inner(), err.into_inner());
+    if status == 0 && line.starts_with("plan ") {
+        plans.printed = plans.printed.saturating_add(1);
+        let is_valid = is_valid(alloc, &mut files, line, answer.as_slice());
+        plans.valid = plans.valid.saturating_add(u64::from(is_valid));
+    }
+    print_end(rt, line, answer.as_slice(), errors.as_slice(), status)
+}
+
+// Runs each command line.
 fn print_lines<R: Threads + Wait + Clock + Sync + Files + Print>(
     rt: &R,
     alloc: Global,
     lines: &str,
 ) -> io::Result<()> {
-    let mut files = Disk { files: rt };
-    let mut printed: u64 = 0;
-    let mut valid: u64 = 0;
+    let mut plans = Plans {
+        printed: 0,
+        valid: 0,
+    };
     for line in lines.lines() {
-        let words = words_of(alloc, line)?;
-        let mut out = Sink::new(Vec::new(alloc));
-        let mut err = Sink::new(Vec::new(alloc));
-        let status = run_words(rt, alloc, words.as_slice(), &mut files, &mut out, &mut err);
-        let answer = out.into_inner();
-        println!(rt; "> htnplan {line}")?;
-        io::writer(rt).write_all(answer.as_slice())?;
-        io::writer(rt).write_all(err.into_inner().as_slice())?;
-        println!(rt; "status {status}")?;
-        if status == 0 && line.starts_with("plan ") {
-            printed = printed.saturating_add(1);
-            if is_valid(alloc, &mut files, line, answer.as_slice()) {
-                valid = valid.saturating_add(1);
-            }
-        }
+        print_line(rt, alloc, line, &mut plans)?;
     }
+    let Plans { printed, valid } = plans;
     println!(rt; "plans printed: {printed}, of which valid: {valid}")
 }
 

@@ -102,18 +102,22 @@ fn print_line<R: Threads + Wait + Clock + Sync + Files + Print>(
     )
 }
 
-// Runs each line: the bytes that its standard output takes, those that its standard error takes, and its words.
-fn print_lines<R: Threads + Wait + Clock + Sync + Files + Print>(
+// The bytes that the standard output of a row takes, those that its standard error takes, and its words.
+fn rooms_of(row: &str) -> Option<(u64, u64, &str)> {
+    let (room, rest) = number_of(row)?;
+    let (room_of_errors, words) = number_of(rest)?;
+    Some((room, room_of_errors, words))
+}
+
+// Runs each row.
+fn print_rows<R: Threads + Wait + Clock + Sync + Files + Print>(
     rt: &R,
     alloc: Global,
-    lines: &str,
+    rows: &str,
 ) -> io::Result<()> {
-    for line in lines.lines() {
-        println!(rt; "> {line}")?;
-        let mut parts = line.splitn(3, ' ');
-        let (room, room_of_errors) = (number_of(parts.next()), number_of(parts.next()));
-        let (Some(room), Some(room_of_errors), Some(words)) = (room, room_of_errors, parts.next())
-        else {
+    for row in rows.lines() {
+        println!(rt; "> {row}")?;
+        let Some((room, room_of_errors, words)) = rooms_of(row) else {
             return Err(io::Error::from(ErrorKind::InvalidInput));
         };
         print_line(rt, alloc, words, room as usize, room_of_errors as usize)?;
@@ -125,6 +129,6 @@ fn print_lines<R: Threads + Wait + Clock + Sync + Files + Print>(
 pub fn print_outputs<R: Threads + Wait + Clock + Sync + Files + Print + AllocGlobal>(
     rt: &R,
 ) -> io::Result<()> {
-    let lines = fs::read_to_string(rt, "outputs.txt")?;
-    print_lines(rt, rt.alloc(), lines.as_str())
+    let rows = fs::read_to_string(rt, "outputs.txt")?;
+    print_rows(rt, rt.alloc(), rows.as_str())
 }

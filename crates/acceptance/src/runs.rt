@@ -37,21 +37,18 @@ impl Run {
     }
 }
 
-/// The number that a word is.
-pub fn number_of(word: Option<&str>) -> Option<u64> {
-    word?.parse::<u64>().ok()
+/// The number that a row begins with, and what follows it.
+pub fn number_of(row: &str) -> Option<(u64, &str)> {
+    let (word, rest) = row.split_once(' ')?;
+    Some((word.parse::<u64>().ok()?, rest))
 }
 
-// The number and the bounds of a row, which stand after its kind.
-fn bounds_of(line: &str) -> Option<(u64, Bounds)> {
-    let mut words = line.split(' ').skip(1);
-    let (number, nodes) = (number_of(words.next()), number_of(words.next()));
-    let (workers, piece) = (number_of(words.next()), number_of(words.next()));
-    let (Some(number), Some(nodes), Some(workers), Some(piece)) = (number, nodes, workers, piece)
-    else {
-        return None;
-    };
-    Some((number, Bounds::new(nodes, workers, piece)?))
+// The bounds that a row begins with, and what follows them.
+fn bounds_of(row: &str) -> Option<(Bounds, &str)> {
+    let (nodes, rest) = number_of(row)?;
+    let (workers, rest) = number_of(rest)?;
+    let (piece, rest) = number_of(rest)?;
+    Some((Bounds::new(nodes, workers, piece)?, rest))
 }
 
 // The bytes of a file; none where no file is named.
@@ -62,12 +59,15 @@ fn bytes_of<R: Files + AllocGlobal>(rt: &R, name: Option<&str>) -> io::Result<Ve
     }
 }
 
-// The run of a row: after its bounds stand the names of its domain, its problem and its plan.
-fn run_of<R: Files + AllocGlobal>(rt: &R, line: &str) -> io::Result<Run> {
-    let Some((number, bounds)) = bounds_of(line) else {
+// The run of a row without its kind: its number, its bounds, and the names of its domain, its problem and its plan.
+fn run_of<R: Files + AllocGlobal>(rt: &R, row: &str) -> io::Result<Run> {
+    let Some((number, row)) = number_of(row) else {
         return Err(io::Error::from(ErrorKind::InvalidInput));
     };
-    let mut names = line.split(' ').skip(5);
+    let Some((bounds, row)) = bounds_of(row) else {
+        return Err(io::Error::from(ErrorKind::InvalidInput));
+    };
+    let mut names = row.split(' ');
     let domain = bytes_of(rt, names.next())?;
     let problem = bytes_of(rt, names.next())?;
     let plan = bytes_of(rt, names.next())?;
@@ -213,25 +213,20 @@ fn print_rooms<R: Threads + Wait + Sync + Print>(
     print_beginnings(rt, alloc, run, out.into_inner().as_slice(), end)
 }
 
-// Makes the run of a row by its kind, which is the row's first word.
+// Makes a run by its kind.
 fn print_run<R: Threads + Wait + Sync + Print>(
     rt: &R,
     alloc: Global,
-    kind: Option<&str>,
+    kind: &str,
     run: &Run,
 ) -> io::Result<()> {
     match kind {
-        Some("library") => library::print_plan(
-            rt,
-            alloc,
-            run.domain.as_slice(),
-            run.problem.as_slice(),
-        ),
-        Some("plan") => print_plan(rt, alloc, run, false),
-        Some("again") => print_plan(rt, alloc, run, true),
-        Some("verdict") => print_verdict(rt, alloc, run),
-        Some("meeting") => print_meeting(rt, alloc, run),
-        Some("rooms") => print_rooms(rt, alloc, run),
+        "library" => library::print_plan(rt, alloc, run.domain.as_slice(), run.problem.as_slice()),
+        "plan" => print_plan(rt, alloc, run, false),
+        "again" => print_plan(rt, alloc, run, true),
+        "verdict" => print_verdict(rt, alloc, run),
+        "meeting" => print_meeting(rt, alloc, run),
+        "rooms" => print_rooms(rt, alloc, run),
         _ => Err(io::Error::from(ErrorKind::InvalidInput)),
     }
 }
@@ -243,8 +238,11 @@ fn print_rows<R: Threads + Wait + Sync + Files + Print + AllocGlobal>(
 ) -> io::Result<()> {
     for row in rows.lines() {
         println!(rt; "> {row}")?;
+        let Some((kind, row)) = row.split_once(' ') else {
+            return Err(io::Error::from(ErrorKind::InvalidInput));
+        };
         let run = run_of(rt, row)?;
-        print_run(rt, rt.alloc(), row.split(' ').next(), &run)?;
+        print_run(rt, rt.alloc(), kind, &run)?;
     }
     Ok(())
 }
