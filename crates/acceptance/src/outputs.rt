@@ -32,8 +32,8 @@ impl Write for Narrow {
     }
 }
 
-// The files of the system, where `full` is refused memory, and the standard input can't be read. Each name that is asked
-// for is noted.
+// The files of the system, where `full` is refused memory, and the standard input can't be read. Each name that is
+// asked for is noted.
 #[derive(Drop)]
 struct Noted<'a, F: Files> {
     files: Disk<'a, F>,

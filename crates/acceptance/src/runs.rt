@@ -1,5 +1,5 @@
-//! Runs over texts in memory: with several workers, pieces and gates, into outputs that have room for a beginning of the
-//! answer alone, and once more after memory was refused.
+//! Runs over texts in memory: with several workers, pieces and gates, into outputs that have room for a beginning of
+//! the answer alone, and once more after memory was refused.
 
 use crate::gates::Meeting;
 use crate::library;
