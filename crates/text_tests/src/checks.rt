@@ -1,411 +1,171 @@
-use hddl_check::{At, CheckFault, Source, check};
-use hddl_text::{read_domain, read_problem};
-use std::alloc::Global;
-use std::test::Fail;
+//! Domains and problems that don't fit together, by their first fault.
 
-/// The fault of two texts, or none where one isn't read or they fit together.
-pub(crate) fn fault(alloc: Global, domain: &str, problem: &str) -> Option<CheckFault> {
-    let domain = read_domain(alloc, domain.as_bytes()).ok()?;
-    let problem = read_problem(alloc, problem.as_bytes()).ok()?;
-    check(alloc, &domain, &problem).err()
-}
+use crate::tables::{Ask, expect};
+use hddl_check::CheckFault;
+use hddl_text::TextFault;
+use plan_text::PlanFault;
+use std::alloc::{AllocError, Global};
+use std::fmt::Display;
 
-pub(crate) fn in_domain(place: usize) -> At {
-    At {
-        source: Source::Domain,
-        place,
-    }
-}
+/// The problem of the domains below that have none beside them, unless another one is named.
+const EMPTY: &str = "(define (problem x) (:domain d) (:htn))";
 
-pub(crate) fn in_problem(place: usize) -> At {
-    At {
-        source: Source::Problem,
-        place,
-    }
-}
+/// The same, with a list of subtasks.
+const NO_SUBTASKS: &str = "(define (problem x) (:domain d) (:htn :subtasks ()))";
 
 /// Names, types and orders that are declared.
-#[test]
-fn declarations(rt: HostRuntime) -> Result<(), Fail> {
-    let rows: [(&str, &str, Option<CheckFault>); 10] = [
-        (
-            "(define (domain d) (:action y) (:action x))",
-            "(define (problem x) (:domain d) (:htn :ordered-subtasks (and (s1 (x)) (s2 (y))) :ordering (< s2 s1)))",
-            Some(CheckFault::OrderCycle(in_problem(32))),
-        ),
-        (
-            "(define (domain d) (:predicates (p) (p)))",
-            "(define (problem x) (:domain d) (:htn))",
-            Some(CheckFault::Duplicate(in_domain(37))),
-        ),
-        (
-            "(define (domain d) (:predicates (p ?x - t)))",
-            "(define (problem x) (:domain d) (:htn))",
-            Some(CheckFault::UnknownType(in_domain(40))),
-        ),
-        (
-            "(define (domain d) (:action y) (:action x))",
-            "(define (problem x) (:domain d) (:htn :subtasks (and (s1 (x)) (s2 (y))) :ordering (s1 < s3)))",
-            Some(CheckFault::UnknownSubtask(in_problem(88))),
-        ),
-        (
-            "(define (domain d) (:predicates (p) (P)))",
-            "(define (problem x) (:domain d) (:htn))",
-            Some(CheckFault::Duplicate(in_domain(37))),
-        ),
-        (
-            "(define (domain d) (:types t) (:predicates (p ?x - T ?y - object)))",
-            "(define (problem x) (:domain d) (:htn))",
-            None,
-        ),
-        (
-            "(define (domain d) (:task x :parameters ()) (:action X))",
-            "(define (problem x) (:domain d) (:htn))",
-            Some(CheckFault::Duplicate(in_domain(53))),
-        ),
-        (
-            "(define (domain d) (:action a :parameters (?x ?X)))",
-            "(define (problem x) (:domain d) (:htn))",
-            Some(CheckFault::Duplicate(in_domain(46))),
-        ),
-        (
-            "(define (domain d) (:action a :parameters (?x) :precondition (forall (?y ?x) ())))",
-            "(define (problem x) (:domain d) (:htn))",
-            Some(CheckFault::Duplicate(in_domain(73))),
-        ),
-        (
-            "(define (domain d) (:action a :precondition (and (forall (?x) ()) (forall (?x) ()))))",
-            "(define (problem x) (:domain d) (:htn))",
-            None,
-        ),
-    ];
-    for (domain, problem, expected) in rows {
-        assert_eq!(rt; fault(rt.alloc(), domain, problem), expected);
-    }
-    Ok(())
-}
+const DECLARATIONS: &str = "
+problem: OrderCycle at 32     | (define (domain d) (:action y) (:action x)) \
+    | (define (problem x) (:domain d) (:htn :ordered-subtasks (and (s1 (x)) (s2 (y))) :ordering (< s2 s1)))
+domain: Duplicate at 37       | (define (domain d) (:predicates (p) (p)))
+domain: UnknownType at 40     | (define (domain d) (:predicates (p ?x - t)))
+problem: UnknownSubtask at 88 | (define (domain d) (:action y) (:action x)) \
+    | (define (problem x) (:domain d) (:htn :subtasks (and (s1 (x)) (s2 (y))) :ordering (s1 < s3)))
+domain: Duplicate at 37       | (define (domain d) (:predicates (p) (P)))
+ok                            | (define (domain d) (:types t) (:predicates (p ?x - T ?y - object)))
+domain: Duplicate at 53       | (define (domain d) (:task x :parameters ()) (:action X))
+domain: Duplicate at 46       | (define (domain d) (:action a :parameters (?x ?X)))
+domain: Duplicate at 73       | (define (domain d) (:action a :parameters (?x) :precondition (forall (?y ?x) ())))
+ok                            | (define (domain d) (:action a :precondition (and (forall (?x) ()) (forall (?x) ()))))
+domain: UnknownType at 71     | (define (domain d) (:action a :precondition (forall (?x) (forall (?y - u) ()))))
+domain: UnknownType at 35     | (define (domain d) (:constants c - t)) \
+    | (define (problem x) (:domain d) (:objects o - u) (:htn))
+problem: UnknownType at 71    | (define (domain d)) \
+    | (define (problem x) (:domain d) (:objects o o) (:htn :parameters (?x - u)))
+problem: Duplicate at 62      | (define (domain d) (:action a) (:action b)) \
+    | (define (problem x) (:domain d) (:htn :subtasks (and (s (a)) (S (b)))))
+# Limits.
+ok                            | (define (domain d) \
+    (:predicates (p ?x0 ?x1 ?x2 ?x3 ?x4 ?x5 ?x6 ?x7 ?x8 ?x9 ?x10 ?x11 ?x12 ?x13 ?x14 ?x15 ?x16 ?x17 ?x18 ?x19 ?x20 \
+    ?x21 ?x22 ?x23 ?x24 ?x25 ?x26 ?x27 ?x28 ?x29 ?x30 ?x31)))
+domain: TooMany at 185        | (define (domain d) \
+    (:predicates (p ?x0 ?x1 ?x2 ?x3 ?x4 ?x5 ?x6 ?x7 ?x8 ?x9 ?x10 ?x11 ?x12 ?x13 ?x14 ?x15 ?x16 ?x17 ?x18 ?x19 ?x20 \
+    ?x21 ?x22 ?x23 ?x24 ?x25 ?x26 ?x27 ?x28 ?x29 ?x30 ?x31 ?x32)))
+ok                            | (define (domain d) (:task t \
+    :parameters (?x0 ?x1 ?x2 ?x3 ?x4 ?x5 ?x6 ?x7 ?x8 ?x9 ?x10 ?x11 ?x12 ?x13 ?x14 ?x15 ?x16 ?x17 ?x18 ?x19 ?x20 ?x21 \
+    ?x22 ?x23 ?x24 ?x25 ?x26 ?x27 ?x28 ?x29 ?x30 ?x31 ?x32)))
+# The first of several faults.
+domain: Duplicate at 37       | (define (domain d) (:predicates (p) (p) (q ?x - u))) \
+    | (define (problem x) (:domain d) (:htn :parameters (?x ?x)))
+domain: UnknownType at 40     | (define (domain d) (:predicates (q ?x - u) (p) (p)))
+# A type that isn't declared clashes with none.
+domain: UnknownType at 88     | (define (domain d) (:predicates (p ?x)) (:action a :precondition (p c)) \
+    (:constants c - u))
+problem: UnknownType at 60    | (define (domain d) (:predicates (p ?x))) \
+    | (define (problem x) (:domain d) (:init (p o)) (:objects o - u) (:htn))
+";
 
-/// More of them, and the limits.
 #[test]
-fn declarations_and_limits(rt: HostRuntime) -> Result<(), Fail> {
-    let rows: [(&str, &str, Option<CheckFault>); 9] = [
-        (
-            "(define (domain d) (:action a :precondition (forall (?x) (forall (?y - u) ()))))",
-            "(define (problem x) (:domain d) (:htn))",
-            Some(CheckFault::UnknownType(in_domain(71))),
-        ),
-        (
-            "(define (domain d) (:constants c - t))",
-            "(define (problem x) (:domain d) (:objects o - u) (:htn))",
-            Some(CheckFault::UnknownType(in_domain(35))),
-        ),
-        (
-            "(define (domain d))",
-            "(define (problem x) (:domain d) (:objects o o) (:htn :parameters (?x - u)))",
-            Some(CheckFault::UnknownType(in_problem(71))),
-        ),
-        (
-            "(define (domain d) (:action a) (:action b))",
-            "(define (problem x) (:domain d) (:htn :subtasks (and (s (a)) (S (b)))))",
-            Some(CheckFault::Duplicate(in_problem(62))),
-        ),
-        (
-            "(define (domain d) (:predicates (p ?x0 ?x1 ?x2 ?x3 ?x4 ?x5 ?x6 ?x7 ?x8 ?x9 ?x10 ?x11 ?x12 ?x13 ?x14 ?x15 ?x16 ?x17 ?x18 ?x19 ?x20 ?x21 ?x22 ?x23 ?x24 ?x25 ?x26 ?x27 ?x28 ?x29 ?x30 ?x31)))",
-            "(define (problem x) (:domain d) (:htn))",
-            None,
-        ),
-        (
-            "(define (domain d) (:predicates (p ?x0 ?x1 ?x2 ?x3 ?x4 ?x5 ?x6 ?x7 ?x8 ?x9 ?x10 ?x11 ?x12 ?x13 ?x14 ?x15 ?x16 ?x17 ?x18 ?x19 ?x20 ?x21 ?x22 ?x23 ?x24 ?x25 ?x26 ?x27 ?x28 ?x29 ?x30 ?x31 ?x32)))",
-            "(define (problem x) (:domain d) (:htn))",
-            Some(CheckFault::TooMany(in_domain(185))),
-        ),
-        (
-            "(define (domain d) (:task t :parameters (?x0 ?x1 ?x2 ?x3 ?x4 ?x5 ?x6 ?x7 ?x8 ?x9 ?x10 ?x11 ?x12 ?x13 ?x14 ?x15 ?x16 ?x17 ?x18 ?x19 ?x20 ?x21 ?x22 ?x23 ?x24 ?x25 ?x26 ?x27 ?x28 ?x29 ?x30 ?x31 ?x32)))",
-            "(define (problem x) (:domain d) (:htn))",
-            None,
-        ),
-        (
-            "(define (domain d) (:predicates (p) (p) (q ?x - u)))",
-            "(define (problem x) (:domain d) (:htn :parameters (?x ?x)))",
-            Some(CheckFault::Duplicate(in_domain(37))),
-        ),
-        (
-            "(define (domain d) (:predicates (q ?x - u) (p) (p)))",
-            "(define (problem x) (:domain d) (:htn))",
-            Some(CheckFault::UnknownType(in_domain(40))),
-        ),
-    ];
-    for (domain, problem, expected) in rows {
-        assert_eq!(rt; fault(rt.alloc(), domain, problem), expected);
-    }
-    Ok(())
+fn declarations(rt: HostRuntime) -> Result<(), AllocError> {
+    expect(&rt, rt.alloc(), Ask::Pair(EMPTY), DECLARATIONS)
 }
 
 /// Names, arguments and their types where they are used.
+const USES: &str = "
+domain: UnknownName at 45  | (define (domain d) (:action a :precondition (p)))
+domain: TypeClash at 108   | (define (domain d) (:types p q) (:predicates (at ?x - p)) (:action a \
+    :parameters (?y - q) :precondition (at ?y)))
+domain: Arity at 66        | (define (domain d) (:predicates (p ?x)) (:action a :precondition (p)))
+domain: TypeCycle at 27    | (define (domain d) (:types a - b b - a))
+ok                         | (define (domain d) (:types object - object))
+domain: TypeClash at 125   | (define (domain d) (:types box - thing) (:predicates (done ?b - box)) (:action ship \
+    :precondition (forall (?x - thing) (done ?x))))
+ok                         | (define (domain d) (:types box - thing) (:predicates (done ?b - thing)) (:action ship \
+    :precondition (forall (?x - box) (done ?x))))
+ok                         | (define (domain d) (:types box - thing) (:predicates (done ?b - box)) (:action ship \
+    :parameters (?x - thing) :precondition (done ?x)))
+ok                         | (define (domain d) (:types a b) (:constants c - a) (:predicates (p ?x - a) (q ?x - b))) \
+    | (define (problem x) (:domain d) (:objects c - b) (:init (p c) (q C)) (:htn))
+# In problems and methods.
+problem: TypeClash at 48   | (define (domain d) (:types a b) (:constants c - a) (:predicates (p ?x - a) (q ?x - b))) \
+    | (define (problem x) (:domain d) (:init (p c) (q C)) (:htn))
+problem: UnknownName at 42 | (define (domain d) (:types a b) (:constants c - a) (:predicates (p ?x - a) (q ?x - b))) \
+    | (define (problem x) (:domain d) (:goal (p e)) (:htn))
+domain: UnknownName at 49  | (define (domain d) (:action a) (:method m :task (a)))
+domain: UnknownName at 76  | (define (domain d) (:task t :parameters ()) (:method m :task (T) :subtasks (u)))
+domain: UnknownName at 79  | (define (domain d) (:predicates (p ?x)) (:action a :parameters (?x) :effect (p ?y)))
+problem: UnknownName at 92 | (define (domain d)) \
+    | (define (problem x) (:domain d) (:htn :parameters (?x) :subtasks () :constraints (not (= ?x ?y))))
+domain: UnknownName at 45  | (define (domain d) (:action a :precondition (p)) (:action a))
+domain: TypeCycle at 27    | (define (domain d) (:types t - t) (:action a :precondition (p)))
+problem: UnknownType at 46 | (define (domain d) (:types t) (:predicates (p ?x - t))) \
+    | (define (problem x) (:domain d) (:objects o - u) (:init (p o)) (:htn))
+# Types with several parents, and cycles beside other faults.
+domain: UnknownName at 45  | (define (domain d) (:action a :precondition (p)) (:types t - t))
+domain: TypeClash at 93    | (define (domain d) (:predicates (p ?x - u)) (:action a :parameters (?y - t) \
+    :precondition (p ?y)) (:types t u s - s))
+domain: TypeCycle at 27    | (define (domain d) (:types s - s t u) (:predicates (p ?x - u)) (:action a \
+    :parameters (?y - t) :precondition (p ?y)))
+ok                         | (define (domain d) (:types c - a c - b) (:predicates (p ?x - a)) (:action m \
+    :parameters (?y - b) :precondition (p ?y)))
+domain: TypeClash at 110   | (define (domain d) (:types c - a c - b) (:predicates (p ?x - a)) (:action m \
+    :precondition (forall (?y - b) (p ?y))))
+ok                         | (define (domain d) (:types c - a c - b e - c) (:predicates (p ?x - a)) (:action m \
+    :precondition (forall (?y - e) (p ?y))))
+";
+
 #[test]
-fn uses(rt: HostRuntime) -> Result<(), Fail> {
-    let rows: [(&str, &str, Option<CheckFault>); 9] = [
-        (
-            "(define (domain d) (:action a :precondition (p)))",
-            "(define (problem x) (:domain d) (:htn :subtasks ()))",
-            Some(CheckFault::UnknownName(in_domain(45))),
-        ),
-        (
-            "(define (domain d) (:types p q) (:predicates (at ?x - p)) (:action a :parameters (?y - q) :precondition (at ?y)))",
-            "(define (problem x) (:domain d) (:htn :subtasks ()))",
-            Some(CheckFault::TypeClash(in_domain(108))),
-        ),
-        (
-            "(define (domain d) (:predicates (p ?x)) (:action a :precondition (p)))",
-            "(define (problem x) (:domain d) (:htn :subtasks ()))",
-            Some(CheckFault::Arity(in_domain(66))),
-        ),
-        (
-            "(define (domain d) (:types a - b b - a))",
-            "(define (problem x) (:domain d) (:htn :subtasks ()))",
-            Some(CheckFault::TypeCycle(in_domain(27))),
-        ),
-        (
-            "(define (domain d) (:types object - object))",
-            "(define (problem x) (:domain d) (:htn :subtasks ()))",
-            None,
-        ),
-        (
-            "(define (domain d) (:types box - thing) (:predicates (done ?b - box)) (:action ship :precondition (forall (?x - thing) (done ?x))))",
-            "(define (problem x) (:domain d) (:htn :subtasks ()))",
-            Some(CheckFault::TypeClash(in_domain(125))),
-        ),
-        (
-            "(define (domain d) (:types box - thing) (:predicates (done ?b - thing)) (:action ship :precondition (forall (?x - box) (done ?x))))",
-            "(define (problem x) (:domain d) (:htn :subtasks ()))",
-            None,
-        ),
-        (
-            "(define (domain d) (:types box - thing) (:predicates (done ?b - box)) (:action ship :parameters (?x - thing) :precondition (done ?x)))",
-            "(define (problem x) (:domain d) (:htn :subtasks ()))",
-            None,
-        ),
-        (
-            "(define (domain d) (:types a b) (:constants c - a) (:predicates (p ?x - a) (q ?x - b)))",
-            "(define (problem x) (:domain d) (:objects c - b) (:init (p c) (q C)) (:htn))",
-            None,
-        ),
-    ];
-    for (domain, problem, expected) in rows {
-        assert_eq!(rt; fault(rt.alloc(), domain, problem), expected);
-    }
-    Ok(())
+fn uses(rt: HostRuntime) -> Result<(), AllocError> {
+    expect(&rt, rt.alloc(), Ask::Pair(NO_SUBTASKS), USES)
 }
 
-/// The same in methods, problems and together with other faults.
-#[test]
-fn more_uses(rt: HostRuntime) -> Result<(), Fail> {
-    let rows: [(&str, &str, Option<CheckFault>); 9] = [
-        (
-            "(define (domain d) (:types a b) (:constants c - a) (:predicates (p ?x - a) (q ?x - b)))",
-            "(define (problem x) (:domain d) (:init (p c) (q C)) (:htn))",
-            Some(CheckFault::TypeClash(in_problem(48))),
-        ),
-        (
-            "(define (domain d) (:types a b) (:constants c - a) (:predicates (p ?x - a) (q ?x - b)))",
-            "(define (problem x) (:domain d) (:goal (p e)) (:htn))",
-            Some(CheckFault::UnknownName(in_problem(42))),
-        ),
-        (
-            "(define (domain d) (:action a) (:method m :task (a)))",
-            "(define (problem x) (:domain d) (:htn :subtasks ()))",
-            Some(CheckFault::UnknownName(in_domain(49))),
-        ),
-        (
-            "(define (domain d) (:task t :parameters ()) (:method m :task (T) :subtasks (u)))",
-            "(define (problem x) (:domain d) (:htn :subtasks ()))",
-            Some(CheckFault::UnknownName(in_domain(76))),
-        ),
-        (
-            "(define (domain d) (:predicates (p ?x)) (:action a :parameters (?x) :effect (p ?y)))",
-            "(define (problem x) (:domain d) (:htn :subtasks ()))",
-            Some(CheckFault::UnknownName(in_domain(79))),
-        ),
-        (
-            "(define (domain d))",
-            "(define (problem x) (:domain d) (:htn :parameters (?x) :subtasks () :constraints (not (= ?x ?y))))",
-            Some(CheckFault::UnknownName(in_problem(92))),
-        ),
-        (
-            "(define (domain d) (:action a :precondition (p)) (:action a))",
-            "(define (problem x) (:domain d) (:htn :subtasks ()))",
-            Some(CheckFault::UnknownName(in_domain(45))),
-        ),
-        (
-            "(define (domain d) (:types t - t) (:action a :precondition (p)))",
-            "(define (problem x) (:domain d) (:htn :subtasks ()))",
-            Some(CheckFault::TypeCycle(in_domain(27))),
-        ),
-        (
-            "(define (domain d) (:types t) (:predicates (p ?x - t)))",
-            "(define (problem x) (:domain d) (:objects o - u) (:init (p o)) (:htn))",
-            Some(CheckFault::UnknownType(in_problem(46))),
-        ),
-    ];
-    for (domain, problem, expected) in rows {
-        assert_eq!(rt; fault(rt.alloc(), domain, problem), expected);
-    }
-    Ok(())
-}
+/// Cycles of types, at the first name of a declared pair that lies on one.
+const TYPE_CYCLES: &str = "
+domain: TypeCycle at 43 | (define (domain d) (:types object - object object - a))
+domain: TypeCycle at 33 | (define (domain d) (:types c - a a - b b - a))
+domain: TypeCycle at 27 | (define (domain d) (:types object - a))
+domain: TypeCycle at 38 | (define (domain d) (:types c - object object - a))
+domain: TypeCycle at 33 | (define (domain d) (:types a - c a - b b - a))
+domain: TypeCycle at 29 | (define (domain d) (:types x a - b b - a))
+";
 
-/// Types with several parents, and cycles beside other faults.
 #[test]
-fn hierarchies(rt: HostRuntime) -> Result<(), Fail> {
-    let rows: [(&str, Option<CheckFault>); 6] = [
-        (
-            "(define (domain d) (:action a :precondition (p)) (:types t - t))",
-            Some(CheckFault::UnknownName(in_domain(45))),
-        ),
-        (
-            "(define (domain d) (:predicates (p ?x - u)) (:action a :parameters (?y - t) :precondition (p ?y)) (:types t u s - s))",
-            Some(CheckFault::TypeClash(in_domain(93))),
-        ),
-        (
-            "(define (domain d) (:types s - s t u) (:predicates (p ?x - u)) (:action a :parameters (?y - t) :precondition (p ?y)))",
-            Some(CheckFault::TypeCycle(in_domain(27))),
-        ),
-        (
-            "(define (domain d) (:types c - a c - b) (:predicates (p ?x - a)) (:action m :parameters (?y - b) :precondition (p ?y)))",
-            None,
-        ),
-        (
-            "(define (domain d) (:types c - a c - b) (:predicates (p ?x - a)) (:action m :precondition (forall (?y - b) (p ?y))))",
-            Some(CheckFault::TypeClash(in_domain(110))),
-        ),
-        (
-            "(define (domain d) (:types c - a c - b e - c) (:predicates (p ?x - a)) (:action m :precondition (forall (?y - e) (p ?y))))",
-            None,
-        ),
-    ];
-    for (domain, expected) in rows {
-        let problem = "(define (problem x) (:domain d) (:htn :subtasks ()))";
-        assert_eq!(rt; fault(rt.alloc(), domain, problem), expected);
-    }
-    Ok(())
-}
-
-/// Cycles of types at the first name of a declared pair that lies on one.
-#[test]
-fn type_cycles(rt: HostRuntime) -> Result<(), Fail> {
-    let rows: [(&str, usize); 6] = [
-        (
-            "(define (domain d) (:types object - object object - a))",
-            43,
-        ),
-        ("(define (domain d) (:types c - a a - b b - a))", 33),
-        ("(define (domain d) (:types object - a))", 27),
-        ("(define (domain d) (:types c - object object - a))", 38),
-        ("(define (domain d) (:types a - c a - b b - a))", 33),
-        ("(define (domain d) (:types x a - b b - a))", 29),
-    ];
-    for (domain, place) in rows {
-        let problem = "(define (problem x) (:domain d) (:htn))";
-        let expected = Some(CheckFault::TypeCycle(in_domain(place)));
-        assert_eq!(rt; fault(rt.alloc(), domain, problem), expected);
-    }
-    Ok(())
-}
-
-/// A type that isn't declared clashes with none.
-#[test]
-fn undeclared_types(rt: HostRuntime) -> Result<(), Fail> {
-    let constant = fault(
-        rt.alloc(),
-        "(define (domain d) (:predicates (p ?x)) (:action a :precondition (p c)) (:constants c - u))",
-        "(define (problem x) (:domain d) (:htn))",
-    );
-    let object = fault(
-        rt.alloc(),
-        "(define (domain d) (:predicates (p ?x)))",
-        "(define (problem x) (:domain d) (:init (p o)) (:objects o - u) (:htn))",
-    );
-    assert_eq!(rt; constant, Some(CheckFault::UnknownType(in_domain(88))));
-    assert_eq!(rt; object, Some(CheckFault::UnknownType(in_problem(60))));
-    Ok(())
+fn type_cycles(rt: HostRuntime) -> Result<(), AllocError> {
+    expect(&rt, rt.alloc(), Ask::Pair(EMPTY), TYPE_CYCLES)
 }
 
 /// The variables of a `forall` are in force in its body alone.
-#[test]
-fn quantified_variables(rt: HostRuntime) -> Result<(), Fail> {
-    let rows: [(&str, Option<CheckFault>); 4] = [
-        (
-            "(define (domain d) (:predicates (p ?x)) (:action a :precondition (and (forall (?x) (p ?x)) (p ?x))))",
-            Some(CheckFault::UnknownName(in_domain(94))),
-        ),
-        (
-            "(define (domain d) (:predicates (p ?x)) (:action a :precondition (forall (?x) (forall (?y) (forall (?x) ())))))",
-            Some(CheckFault::Duplicate(in_domain(100))),
-        ),
-        (
-            "(define (domain d) (:predicates (p ?x)) (:action a :precondition (and (forall (?x) (forall (?y) (p ?y))) (forall (?y) (p ?y)))))",
-            None,
-        ),
-        (
-            "(define (domain d) (:predicates (p ?x)) (:action a :parameters (?x) :precondition (and (forall (?y) (p ?x)) (forall (?y ?z) (p ?z)))))",
-            None,
-        ),
-    ];
-    for (domain, expected) in rows {
-        let problem = "(define (problem x) (:domain d) (:htn))";
-        assert_eq!(rt; fault(rt.alloc(), domain, problem), expected);
-    }
-    Ok(())
-}
-
-/// A domain with a `forall` for each letter in one another, of which the innermost uses a variable.
-fn nested(alloc: Global, used: &str) -> Result<String, Fail> {
-    let mut text = String::new(alloc);
-    text.push_str("(define (domain d) (:predicates (p ?x)) (:action a :precondition ")?;
-    for letter in 'a'..='z' {
-        text.push_str("(forall (?")?;
-        text.push(letter)?;
-        text.push_str(") ")?;
-    }
-    text.push_str("(p ")?;
-    text.push_str(used)?;
-    text.push_str(")")?;
-    for _ in 'a'..='z' {
-        text.push_str(")")?;
-    }
-    text.push_str("))")?;
-    Ok(text)
-}
-
-/// The variables of all of them are in force in the innermost one.
-#[test]
-fn deep_quantifiers(rt: HostRuntime) -> Result<(), Fail> {
-    let problem = "(define (problem x) (:domain d) (:htn))";
-    let outer = nested(rt.alloc(), "?a")?;
-    let inner = nested(rt.alloc(), "?z")?;
-    let none = nested(rt.alloc(), "?aa")?;
-    assert_eq!(rt; fault(rt.alloc(), &outer, problem), None);
-    assert_eq!(rt; fault(rt.alloc(), &inner, problem), None);
-    assert_eq!(rt;
-        fault(rt.alloc(), &none, problem),
-        Some(CheckFault::UnknownName(in_domain(406)))
-    );
-    Ok(())
-}
+const QUANTIFIERS: &str = "
+domain: UnknownName at 94  | (define (domain d) (:predicates (p ?x)) (:action a \
+    :precondition (and (forall (?x) (p ?x)) (p ?x))))
+domain: Duplicate at 100   | (define (domain d) (:predicates (p ?x)) (:action a \
+    :precondition (forall (?x) (forall (?y) (forall (?x) ())))))
+ok                         | (define (domain d) (:predicates (p ?x)) (:action a \
+    :precondition (and (forall (?x) (forall (?y) (p ?y))) (forall (?y) (p ?y)))))
+ok                         | (define (domain d) (:predicates (p ?x)) (:action a :parameters (?x) \
+    :precondition (and (forall (?y) (p ?x)) (forall (?y ?z) (p ?z)))))
+# Those of many in one another are all in force in the innermost one.
+ok                         | (define (domain d) (:predicates (p ?x)) (:action a \
+    :precondition (forall (?a) (forall (?b) (forall (?c) (forall (?d) (forall (?e) (forall (?f) (forall (?g) (forall \
+    (?h) (forall (?i) (forall (?j) (forall (?k) (forall (?l) (forall (?m) (forall (?n) (forall (?o) (forall (?p) \
+    (forall (?q) (forall (?r) (forall (?s) (forall (?t) (forall (?u) (forall (?v) (forall (?w) (forall (?x) (forall \
+    (?y) (forall (?z) (p ?a)))))))))))))))))))))))))))))
+ok                         | (define (domain d) (:predicates (p ?x)) (:action a \
+    :precondition (forall (?a) (forall (?b) (forall (?c) (forall (?d) (forall (?e) (forall (?f) (forall (?g) (forall \
+    (?h) (forall (?i) (forall (?j) (forall (?k) (forall (?l) (forall (?m) (forall (?n) (forall (?o) (forall (?p) \
+    (forall (?q) (forall (?r) (forall (?s) (forall (?t) (forall (?u) (forall (?v) (forall (?w) (forall (?x) (forall \
+    (?y) (forall (?z) (p ?z)))))))))))))))))))))))))))))
+domain: UnknownName at 406 | (define (domain d) (:predicates (p ?x)) (:action a \
+    :precondition (forall (?a) (forall (?b) (forall (?c) (forall (?d) (forall (?e) (forall (?f) (forall (?g) (forall \
+    (?h) (forall (?i) (forall (?j) (forall (?k) (forall (?l) (forall (?m) (forall (?n) (forall (?o) (forall (?p) \
+    (forall (?q) (forall (?r) (forall (?s) (forall (?t) (forall (?u) (forall (?v) (forall (?w) (forall (?x) (forall \
+    (?y) (forall (?z) (p ?aa)))))))))))))))))))))))))))))
+";
 
 #[test]
-fn faults_are_told(rt: HostRuntime) -> Result<(), Fail> {
-    let first = CheckFault::Duplicate(At {
-        source: Source::Domain,
-        place: 37,
-    });
-    let second = CheckFault::OrderCycle(At {
-        source: Source::Problem,
-        place: 32,
-    });
-    let text = format!(in rt.alloc(); "{first}, {second}, {}", CheckFault::OutOfMemory)?;
-    assert_eq!(rt;
-        text.as_str(),
-        "domain: Duplicate at 37, problem: OrderCycle at 32, OutOfMemory"
-    );
+fn quantifiers(rt: HostRuntime) -> Result<(), AllocError> {
+    expect(&rt, rt.alloc(), Ask::Pair(EMPTY), QUANTIFIERS)
+}
+
+fn is_want<F: Display>(alloc: Global, fault: &F) -> Result<bool, AllocError> {
+    Ok(fault.to_string(alloc)?.as_str() == "OutOfMemory")
+}
+
+/// What is printed of the faults without a place that no table has.
+#[test]
+fn wants(rt: HostRuntime) -> Result<(), AllocError> {
+    assert!(rt; is_want(rt.alloc(), &TextFault::OutOfMemory)?, "a text");
+    assert!(rt; is_want(rt.alloc(), &CheckFault::OutOfMemory)?, "a pair");
+    assert!(rt; is_want(rt.alloc(), &PlanFault::OutOfMemory)?, "a plan");
     Ok(())
 }

@@ -1,313 +1,148 @@
-use htn_command::{Colour, Drawing, Format, Refusal, Request, parse};
+//! Command lines: which are refused, what is asked for, and the texts that are shown.
+
+use crate::answers::shown;
+use crate::tables::{Ask, expect};
 use std::alloc::{AllocError, Global};
 use std::process::Abort;
-use std::test::Fail;
 
-fn words_of(alloc: Global, line: &str) -> Result<Vec<String>, AllocError> {
-    let mut words = Vec::new(alloc);
-    for word in line.split(' ') {
-        words.push(String::from_str(alloc, word)?)?;
-    }
-    Ok(words)
-}
-
-// The request of the words; a failure says whether memory was wanted.
-fn request_of<'a>(alloc: Global, words: &'a [String]) -> Result<Request<'a>, Fail> {
-    match parse(alloc, words) {
-        Ok(request) => Ok(request),
-        Err(Refusal::OutOfMemory) => Err(Fail::new("OutOfMemory")),
-        Err(_) => Err(Fail::new("no request")),
-    }
-}
+/// The status of each command line that is refused (2), or for which a text is shown (0).
+const STATUSES: &str = "
+# `plan`, and numbers out of range.
+request | htnplan plan d p --nodes 10000 --workers 64 --piece 1000000
+2       | htnplan plan d p --nodes 10001
+2       | htnplan plan d p --workers 0
+2       | htnplan plan d p --workers 65
+2       | htnplan plan d p --piece 0
+request | htnplan plan d p --seconds 1
+request | htnplan plan d p --seconds=31536000 --progress
+2       | htnplan plan d p --seconds 0
+2       | htnplan plan d p --seconds 31536001
+2       | htnplan plan d p --seconds soon
+2       | htnplan plan d p --seconds
+2       | htnplan plan d p --progress=yes
+2       | htnplan plan d
+2       | htnplan
+# `verify`: fewer files and more.
+request | htnplan verify d p f
+request | htnplan verify -- d p f
+2       | htnplan verify
+2       | htnplan verify d
+2       | htnplan verify d p
+2       | htnplan verify d p f g
+2       | htnplan verify d p f --nodes 5
+2       | htnplan verify d p f --progress
+2       | htnplan plan d p f
+# `check`.
+request | htnplan check d p --format short --color always --limit 1000000
+request | htnplan check d -
+2       | htnplan check
+2       | htnplan check d p f
+2       | htnplan check d --format xml
+2       | htnplan check d --format=
+2       | htnplan check d --color red
+2       | htnplan check d --limit 1000001
+2       | htnplan check d --limit -1
+2       | htnplan check d --strict=yes
+2       | htnplan check - -
+2       | htnplan check d --nodes 5
+2       | htnplan plan d p --strict
+request | htnplan plan - -
+request | htnplan verify - - -
+# `explain`.
+request | htnplan explain d p f
+request | htnplan explain - p f --states --format=json
+2       | htnplan explain d p
+2       | htnplan explain d p f g
+2       | htnplan explain d p f --format svg
+2       | htnplan explain d p f --color red
+2       | htnplan explain d p f --strict
+2       | htnplan explain - - f
+2       | htnplan explain - p -
+2       | htnplan explain d - -
+# `tree`.
+request | htnplan tree d p f
+request | htnplan tree - p f --format json
+request | htnplan tree d p f --format=dot --color=never
+2       | htnplan tree d p
+2       | htnplan tree d p f g
+2       | htnplan tree d p f --format short
+request | htnplan tree d p f --format svg
+request | htnplan tree d p f --format html
+2       | htnplan tree d p f --format page
+2       | htnplan tree d p f --color red
+2       | htnplan tree - - f
+2       | htnplan tree - p -
+2       | htnplan tree d - -
+# Help and the version.
+0       | htnplan --help
+0       | htnplan plan --help
+0       | htnplan plan -h
+0       | htnplan help plan
+0       | htnplan verify --help
+0       | htnplan verify d -h
+0       | htnplan help verify
+0       | htnplan check --help
+0       | htnplan help check
+0       | htnplan check - - -h
+0       | htnplan explain --help
+0       | htnplan help explain
+0       | htnplan tree --help
+0       | htnplan help tree
+0       | htnplan tree - - -h
+0       | htnplan --version
+0       | htnplan -V
+2       | htnplan verify --version
+2       | htnplan paint --version
+";
 
 #[test]
-fn reads_the_defaults(rt: HostRuntime) -> Result<(), Fail> {
-    let words = words_of(rt.alloc(), "htnplan plan d.hddl p.hddl")?;
-    let Request::Plan {
-        domain,
-        problem,
-        bounds,
-        seconds,
-        has_progress,
-    } = request_of(rt.alloc(), words.as_slice())?
-    else {
-        return Err(Fail::new("another request"));
-    };
-    assert!(rt; domain == "d.hddl" && problem == "p.hddl");
-    assert!(rt; bounds.nodes == 100 && bounds.workers == 1 && bounds.piece == 64);
-    assert!(rt; seconds.is_none() && !has_progress);
+fn statuses(rt: HostRuntime) -> Result<(), AllocError> {
+    expect(&rt, rt.alloc(), Ask::Status, STATUSES)
+}
+
+/// Expects the request of a command line, or the text that is shown for it.
+fn expect_shown<R: Abort>(
+    rt: &R,
+    alloc: Global,
+    line: &str,
+    expected: &str,
+) -> Result<(), AllocError> {
+    let found = shown(alloc, line)?;
+    assert!(rt; found.as_str() == expected, "{line}\nfound: {found}");
     Ok(())
 }
 
+/// The defaults, how a search is watched, three files, and the options of each command.
 #[test]
-fn reads_how_a_search_is_watched(rt: HostRuntime) -> Result<(), Fail> {
-    let words = words_of(rt.alloc(), "htnplan plan --progress d p --seconds 10")?;
-    let Request::Plan {
-        seconds,
-        has_progress,
-        ..
-    } = request_of(rt.alloc(), words.as_slice())?
-    else {
-        return Err(Fail::new("another request"));
-    };
-    assert!(rt; seconds == Some(10) && has_progress);
-    Ok(())
-}
-
-fn status_of(alloc: Global, line: &str) -> Result<i32, AllocError> {
-    let words = words_of(alloc, line)?;
-    Ok(match parse(alloc, words.as_slice()) {
-        Ok(_) => -1,
-        Err(Refusal::Help(_) | Refusal::Version(_)) => 0,
-        Err(Refusal::Words(_)) => 2,
-        Err(Refusal::OutOfMemory) => 4,
-    })
-}
-
-// The status of each line is the one beside it; one below 0 is that of a request.
-fn expect_statuses<R: Abort>(rt: &R, alloc: Global, rows: &[(&str, i32)]) -> Result<(), Fail> {
-    for (line, status) in rows {
-        let found = status_of(alloc, line)?;
-        assert!(rt; found == *status, "{line}");
-    }
-    Ok(())
-}
-
-#[test]
-fn refuses_numbers_out_of_range(rt: HostRuntime) -> Result<(), Fail> {
-    let rows = [
-        (
-            "htnplan plan d p --nodes 10000 --workers 64 --piece 1000000",
-            -1,
-        ),
-        ("htnplan plan d p --nodes 10001", 2),
-        ("htnplan plan d p --workers 0", 2),
-        ("htnplan plan d p --workers 65", 2),
-        ("htnplan plan d p --piece 0", 2),
-        ("htnplan plan d p --seconds 1", -1),
-        ("htnplan plan d p --seconds=31536000 --progress", -1),
-        ("htnplan plan d p --seconds 0", 2),
-        ("htnplan plan d p --seconds 31536001", 2),
-        ("htnplan plan d p --seconds soon", 2),
-        ("htnplan plan d p --seconds", 2),
-        ("htnplan plan d p --progress=yes", 2),
-        ("htnplan plan d", 2),
-        ("htnplan", 2),
-    ];
-    expect_statuses(&rt, rt.alloc(), &rows)
-}
-
-#[test]
-fn reads_three_files(rt: HostRuntime) -> Result<(), Fail> {
-    let words = words_of(rt.alloc(), "htnplan verify d.hddl p.hddl f.txt")?;
-    let Request::Verify {
-        domain,
-        problem,
-        plan,
-    } = request_of(rt.alloc(), words.as_slice())?
-    else {
-        return Err(Fail::new("another request"));
-    };
-    assert!(rt; domain == "d.hddl" && problem == "p.hddl" && plan == "f.txt");
-    Ok(())
-}
-
-#[test]
-fn refuses_fewer_files_and_more(rt: HostRuntime) -> Result<(), Fail> {
-    let rows = [
-        ("htnplan verify d p f", -1),
-        ("htnplan verify -- d p f", -1),
-        ("htnplan verify", 2),
-        ("htnplan verify d", 2),
-        ("htnplan verify d p", 2),
-        ("htnplan verify d p f g", 2),
-        ("htnplan verify d p f --nodes 5", 2),
-        ("htnplan verify d p f --progress", 2),
-        ("htnplan plan d p f", 2),
-    ];
-    expect_statuses(&rt, rt.alloc(), &rows)
-}
-
-#[test]
-fn reads_a_check(rt: HostRuntime) -> Result<(), Fail> {
-    let words = words_of(rt.alloc(), "htnplan check d.hddl")?;
-    let Request::Check {
-        domain,
-        problem,
-        format,
-        limit,
-        is_strict,
-        colour,
-    } = request_of(rt.alloc(), words.as_slice())?
-    else {
-        return Err(Fail::new("another request"));
-    };
-    assert!(rt; domain == "d.hddl" && problem.is_none());
-    assert!(rt; format == Format::Text && limit == 20 && !is_strict && colour == Colour::Auto);
-    Ok(())
-}
-
-#[test]
-fn reads_the_options_of_a_check(rt: HostRuntime) -> Result<(), Fail> {
+fn requests(rt: HostRuntime) -> Result<(), AllocError> {
+    let alloc = rt.alloc();
+    let line = "htnplan plan d.hddl p.hddl";
+    let request = "Plan { domain: \"d.hddl\", problem: \"p.hddl\", \
+        bounds: Bounds { nodes: 100, workers: 1, piece: 64 }, seconds: None, has_progress: false }";
+    expect_shown(&rt, alloc, line, request)?;
+    let line = "htnplan plan --progress d p --seconds 10";
+    let request = "Plan { domain: \"d\", problem: \"p\", \
+        bounds: Bounds { nodes: 100, workers: 1, piece: 64 }, seconds: Some(10), has_progress: true }";
+    expect_shown(&rt, alloc, line, request)?;
+    let line = "htnplan verify d.hddl p.hddl f.txt";
+    let request = "Verify { domain: \"d.hddl\", problem: \"p.hddl\", plan: \"f.txt\" }";
+    expect_shown(&rt, alloc, line, request)?;
+    let line = "htnplan check d.hddl";
+    let request = "Check { domain: \"d.hddl\", problem: None, \
+        format: Text, limit: 20, is_strict: false, colour: Auto }";
+    expect_shown(&rt, alloc, line, request)?;
     let line = "htnplan check - p.hddl --format json --limit=0 --strict --color never";
-    let words = words_of(rt.alloc(), line)?;
-    let Request::Check {
-        domain,
-        problem,
-        format,
-        limit,
-        is_strict,
-        colour,
-    } = request_of(rt.alloc(), words.as_slice())?
-    else {
-        return Err(Fail::new("another request"));
-    };
-    assert!(rt; domain == "-" && problem == Some("p.hddl"));
-    assert!(rt; format == Format::Json && limit == 0 && is_strict && colour == Colour::Never);
-    Ok(())
-}
-
-#[test]
-fn reads_a_tree(rt: HostRuntime) -> Result<(), Fail> {
-    let words = words_of(
-        rt.alloc(),
-        "htnplan tree d.hddl p.hddl - --format ascii --color always",
-    )?;
-    let Request::Tree {
-        domain,
-        problem,
-        plan,
-        drawing,
-        colour,
-    } = request_of(rt.alloc(), words.as_slice())?
-    else {
-        return Err(Fail::new("another request"));
-    };
-    assert!(rt; domain == "d.hddl" && problem == "p.hddl" && plan == "-");
-    assert!(rt; drawing == Drawing::Ascii && colour == Colour::Always);
-    Ok(())
-}
-
-#[test]
-fn reads_an_explanation(rt: HostRuntime) -> Result<(), Fail> {
-    let words = words_of(
-        rt.alloc(),
-        "htnplan explain d.hddl p.hddl --states - --format short --color always",
-    )?;
-    let Request::Explain {
-        domain,
-        problem,
-        plan,
-        format,
-        has_states,
-        colour,
-    } = request_of(rt.alloc(), words.as_slice())?
-    else {
-        return Err(Fail::new("another request"));
-    };
-    assert!(rt; domain == "d.hddl" && problem == "p.hddl" && plan == "-");
-    assert!(rt; format == Format::Short && has_states && colour == Colour::Always);
-    Ok(())
-}
-
-#[test]
-fn refuses_words_of_an_explanation(rt: HostRuntime) -> Result<(), Fail> {
-    let rows = [
-        ("htnplan explain d p f", -1),
-        ("htnplan explain - p f --states --format=json", -1),
-        ("htnplan explain d p", 2),
-        ("htnplan explain d p f g", 2),
-        ("htnplan explain d p f --format svg", 2),
-        ("htnplan explain d p f --color red", 2),
-        ("htnplan explain d p f --strict", 2),
-        ("htnplan explain - - f", 2),
-        ("htnplan explain - p -", 2),
-        ("htnplan explain d - -", 2),
-    ];
-    expect_statuses(&rt, rt.alloc(), &rows)
-}
-
-#[test]
-fn refuses_words_of_a_tree(rt: HostRuntime) -> Result<(), Fail> {
-    let rows = [
-        ("htnplan tree d p f", -1),
-        ("htnplan tree - p f --format json", -1),
-        ("htnplan tree d p f --format=dot --color=never", -1),
-        ("htnplan tree d p", 2),
-        ("htnplan tree d p f g", 2),
-        ("htnplan tree d p f --format short", 2),
-        ("htnplan tree d p f --format svg", -1),
-        ("htnplan tree d p f --format html", -1),
-        ("htnplan tree d p f --format page", 2),
-        ("htnplan tree d p f --color red", 2),
-        ("htnplan tree - - f", 2),
-        ("htnplan tree - p -", 2),
-        ("htnplan tree d - -", 2),
-    ];
-    expect_statuses(&rt, rt.alloc(), &rows)
-}
-
-#[test]
-fn refuses_words_of_a_check(rt: HostRuntime) -> Result<(), Fail> {
-    let rows = [
-        (
-            "htnplan check d p --format short --color always --limit 1000000",
-            -1,
-        ),
-        ("htnplan check d -", -1),
-        ("htnplan check", 2),
-        ("htnplan check d p f", 2),
-        ("htnplan check d --format xml", 2),
-        ("htnplan check d --format=", 2),
-        ("htnplan check d --color red", 2),
-        ("htnplan check d --limit 1000001", 2),
-        ("htnplan check d --limit -1", 2),
-        ("htnplan check d --strict=yes", 2),
-        ("htnplan check - -", 2),
-        ("htnplan check d --nodes 5", 2),
-        ("htnplan plan d p --strict", 2),
-        ("htnplan plan - -", -1),
-        ("htnplan verify - - -", -1),
-    ];
-    expect_statuses(&rt, rt.alloc(), &rows)
-}
-
-#[test]
-fn shows_help_and_the_version(rt: HostRuntime) -> Result<(), Fail> {
-    let rows = [
-        ("htnplan --help", 0),
-        ("htnplan plan --help", 0),
-        ("htnplan plan -h", 0),
-        ("htnplan help plan", 0),
-        ("htnplan verify --help", 0),
-        ("htnplan verify d -h", 0),
-        ("htnplan help verify", 0),
-        ("htnplan check --help", 0),
-        ("htnplan help check", 0),
-        ("htnplan check - - -h", 0),
-        ("htnplan explain --help", 0),
-        ("htnplan help explain", 0),
-        ("htnplan tree --help", 0),
-        ("htnplan help tree", 0),
-        ("htnplan tree - - -h", 0),
-        ("htnplan --version", 0),
-        ("htnplan -V", 0),
-        ("htnplan verify --version", 2),
-        ("htnplan paint --version", 2),
-    ];
-    expect_statuses(&rt, rt.alloc(), &rows)
-}
-
-// The text that is shown for a line, or the text of its refusal.
-fn shown(alloc: Global, line: &str) -> Result<String, Fail> {
-    let words = words_of(alloc, line)?;
-    match parse(alloc, words.as_slice()) {
-        Err(Refusal::Help(text) | Refusal::Version(text) | Refusal::Words(text)) => Ok(
-            format!(in alloc; "{text}")?,
-        ),
-        Err(Refusal::OutOfMemory) => Err(Fail::new("OutOfMemory")),
-        Ok(_) => Err(Fail::new("no text")),
-    }
+    let request = "Check { domain: \"-\", problem: Some(\"p.hddl\"), \
+        format: Json, limit: 0, is_strict: true, colour: Never }";
+    expect_shown(&rt, alloc, line, request)?;
+    let line = "htnplan tree d.hddl p.hddl - --format ascii --color always";
+    let request = "Tree { domain: \"d.hddl\", problem: \"p.hddl\", plan: \"-\", \
+        drawing: Ascii, colour: Always }";
+    expect_shown(&rt, alloc, line, request)?;
+    let line = "htnplan explain d.hddl p.hddl --states - --format short --color always";
+    let request = "Explain { domain: \"d.hddl\", problem: \"p.hddl\", plan: \"-\", \
+        format: Short, has_states: true, colour: Always }";
+    expect_shown(&rt, alloc, line, request)
 }
 
 const HELP: &str =
@@ -513,25 +348,18 @@ For more information, try '--help'.
 ";
 
 #[test]
-fn texts(rt: HostRuntime) -> Result<(), Fail> {
+fn texts(rt: HostRuntime) -> Result<(), AllocError> {
     let alloc = rt.alloc();
-    let rows = [
-        ("htnplan --version", "htnplan 0.1.0\n"),
-        ("htnplan --help", HELP),
-        ("htnplan plan --help", HELP_OF_PLAN),
-        ("htnplan verify --help", HELP_OF_VERIFY),
-        ("htnplan check --help", HELP_OF_CHECK),
-        ("htnplan explain --help", HELP_OF_EXPLAIN),
-        ("htnplan tree --help", HELP_OF_TREE),
-        ("htnplan tree d p f --format short", NO_DRAWING),
-        ("htnplan tree d - -", INPUT_TWICE),
-        ("htnplan check d --format xml", NO_FORMAT),
-        ("htnplan check d --color red", NO_COLOUR),
-        ("htnplan check - -", TWO_INPUTS),
-    ];
-    for (line, text) in rows {
-        let found = shown(alloc, line)?;
-        assert_eq!(rt; found.as_str(), text, "{line}");
-    }
-    Ok(())
+    expect_shown(&rt, alloc, "htnplan --version", "htnplan 0.1.0\n")?;
+    expect_shown(&rt, alloc, "htnplan --help", HELP)?;
+    expect_shown(&rt, alloc, "htnplan plan --help", HELP_OF_PLAN)?;
+    expect_shown(&rt, alloc, "htnplan verify --help", HELP_OF_VERIFY)?;
+    expect_shown(&rt, alloc, "htnplan check --help", HELP_OF_CHECK)?;
+    expect_shown(&rt, alloc, "htnplan explain --help", HELP_OF_EXPLAIN)?;
+    expect_shown(&rt, alloc, "htnplan tree --help", HELP_OF_TREE)?;
+    expect_shown(&rt, alloc, "htnplan tree d p f --format short", NO_DRAWING)?;
+    expect_shown(&rt, alloc, "htnplan tree d - -", INPUT_TWICE)?;
+    expect_shown(&rt, alloc, "htnplan check d --format xml", NO_FORMAT)?;
+    expect_shown(&rt, alloc, "htnplan check d --color red", NO_COLOUR)?;
+    expect_shown(&rt, alloc, "htnplan check - -", TWO_INPUTS)
 }

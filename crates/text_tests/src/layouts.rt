@@ -1,51 +1,51 @@
-use picture_svg::{Area, layout_of, svg};
-use picture_text::Caption;
+//! Where the parts of a picture stand, and the picture as SVG.
+
+use crate::pictures::{Drawing, GRAIN, VALID, drawn};
+use picture_svg::{Area, Layout, layout_of};
 use plan_picture::picture_of;
-use plan_text::read_plan;
-use std::test::Fail;
+use plan_text::{PlanFault, PlanFile, read_plan};
+use std::alloc::{AllocError, Global};
 
-/// One task with one action.
-const GRAIN: &[u8] = b"==>\n0 drop grain\nroot 8\n8 deliver grain -> m-deliver 0\n<==\n";
-
-/// A task, an action and an argument whose names are written like markup.
-const MARKUP: &[u8] = b"==>\n0 a</title>\nroot 1\n1 t<b>&x o\"y -> m 0\n<==\n";
-
-/// A caption without a mark.
-const VALID: Caption<'_> = Caption {
-    domain: "d",
-    problem: "p",
-    verdict: "valid",
-    mark: None,
-};
-
-/// The four numbers of a box.
-fn numbers_of(area: Area) -> [usize; 4] {
+fn numbers_of(area: &Area) -> [usize; 4] {
     [area.x, area.y, area.width, area.height]
 }
 
-#[test]
-fn boxes_stand_in_columns(rt: HostRuntime) -> Result<(), Fail> {
-    let file = read_plan(rt.alloc(), GRAIN).ok().ok_or("refused")?;
-    let picture = picture_of(rt.alloc(), &file)?.ok_or("no picture")?;
-    let layout = layout_of(rt.alloc(), &VALID, &picture)?;
-    assert_eq!(rt; numbers_of(layout.problem), [16, 14, 50, 34]);
-    assert_eq!(rt; layout.boxes.len(), 2);
-    assert_eq!(rt; numbers_of(layout.boxes[0]), [100, 14, 111, 34]);
-    assert_eq!(rt; numbers_of(layout.boxes[1]), [245, 19, 109, 24]);
-    assert_eq!(rt; layout.edges.len(), 2);
-    assert_eq!(rt; layout.edges[1].from_x, 211);
-    assert_eq!(rt; layout.edges[1].to_x, 245);
-    assert_eq!(rt; layout.width, 370);
-    assert_eq!(rt; layout.height, 62);
-    Ok(())
+/// Whether the boxes of a problem, a task and an action stand in columns.
+fn has_columns(layout: &Layout) -> bool {
+    match (layout.boxes.as_slice(), layout.edges.as_slice()) {
+        ([task, action], [_, edge]) => {
+            numbers_of(&layout.problem) == [16, 14, 50, 34]
+                && numbers_of(task) == [100, 14, 111, 34]
+                && numbers_of(action) == [245, 19, 109, 24]
+                && edge.from_x == 211
+                && edge.to_x == 245
+                && layout.width == 370
+                && layout.height == 62
+        }
+        _ => false,
+    }
+}
+
+fn is_in_columns(alloc: Global, file: &PlanFile) -> Result<bool, AllocError> {
+    let Some(picture) = picture_of(alloc, file)? else {
+        return Ok(false);
+    };
+    Ok(has_columns(&layout_of(alloc, &VALID, &picture)?))
 }
 
 #[test]
-fn names_are_no_markup(rt: HostRuntime) -> Result<(), Fail> {
-    let file = read_plan(rt.alloc(), MARKUP).ok().ok_or("refused")?;
-    let picture = picture_of(rt.alloc(), &file)?.ok_or("no picture")?;
-    let bytes = svg(rt.alloc(), &VALID, &picture)?;
-    let text = String::from_utf8_lossy(rt.alloc(), bytes.as_slice())?;
+fn boxes_stand_in_columns(rt: HostRuntime) -> Result<(), PlanFault> {
+    let file = read_plan(rt.alloc(), GRAIN)?;
+    assert!(rt; is_in_columns(rt.alloc(), &file)?);
+    Ok(())
+}
+
+/// A task, an action and an argument whose names are written like markup.
+pub(crate) const MARKUP: &[u8] = b"==>\n0 a</title>\nroot 1\n1 t<b>&x o\"y -> m 0\n<==\n";
+
+#[test]
+fn names_are_no_markup(rt: HostRuntime) -> Result<(), PlanFault> {
+    let text = drawn(rt.alloc(), Drawing::Svg, &VALID, MARKUP)?;
     let title = "<g><title>0  a&lt;/title&gt;</title>\n";
     assert!(rt; text.as_str().contains(title), "{title}");
     let title = "<g><title>t&lt;b&gt;&amp;x o&quot;y -&gt; m  #1</title>\n";

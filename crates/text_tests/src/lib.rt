@@ -1,8 +1,11 @@
-//! Tests of words, texts, places, names, checks, pairs, warnings, plan texts, forests, pictures, reports and command lines.
+//! Tests of words, texts, places, names, checks, pairs, warnings, plan texts, forests, pictures, reports and command
+//! lines.
 #![tactic(auto)]
 
 #[cfg(test)]
 mod all_faults;
+#[cfg(test)]
+mod answers;
 #[cfg(test)]
 mod checks;
 #[cfg(test)]
@@ -29,6 +32,10 @@ mod places;
 mod plan_texts;
 #[cfg(test)]
 mod reports;
+#[cfg(test)]
+mod sources;
+#[cfg(test)]
+mod tables;
 #[cfg(test)]
 mod texts;
 #[cfg(test)]

@@ -1,17 +1,24 @@
+//! Pages of pictures.
+
+use crate::layouts::MARKUP;
 use picture_html::{Remarks, html};
 use picture_text::{Caption, Mark};
 use plan_picture::picture_of;
 use plan_reasons::{Change, Fact, Run};
-use plan_text::read_plan;
+use plan_text::{PlanFault, read_plan};
 use std::alloc::{AllocError, Global};
-use std::test::Fail;
+use std::process::Abort;
 
 /// Two tasks, of which the first has an action before and one after that of the second.
-const INTERLEAVED: &[u8] =
-    b"==>\n0 boil\n1 cut\n2 brew\nroot 3 4\n3 make tea -> m-tea 0 2\n4 make toast -> m-toast 1\n<==\n";
-
-/// A task, an action and an argument whose names are written like markup.
-const MARKUP: &[u8] = b"==>\n0 a</title>\nroot 1\n1 t<b>&x o\"y -> m 0\n<==\n";
+const INTERLEAVED: &[u8] = b"==>
+0 boil
+1 cut
+2 brew
+root 3 4
+3 make tea -> m-tea 0 2
+4 make toast -> m-toast 1
+<==
+";
 
 /// A caption that marks the action in the middle.
 const MARKED: Caption<'_> = Caption {
@@ -24,17 +31,18 @@ const MARKED: Caption<'_> = Caption {
     }),
 };
 
-// The text of the page of a plan file.
-fn page_of(alloc: Global, plan: &[u8], remarks: &Remarks<'_>) -> Result<String, Fail> {
-    let file = read_plan(alloc, plan).ok().ok_or("refused")?;
-    let picture = picture_of(alloc, &file)?.ok_or("no picture")?;
+/// The page of a plan text, which has a picture.
+fn page_of(alloc: Global, plan: &[u8], remarks: &Remarks<'_>) -> Result<String, PlanFault> {
+    let file = read_plan(alloc, plan)?;
+    let Some(picture) = picture_of(alloc, &file)? else {
+        return Ok(String::new(alloc));
+    };
     let bytes = html(alloc, &MARKED, remarks, &picture)?;
-    let text = String::from_utf8_lossy(alloc, bytes.as_slice())?;
-    Ok(text)
+    Ok(String::from_utf8_lossy(alloc, bytes.as_slice())?)
 }
 
-// The text of a page on which nothing is said beside the picture.
-fn silent_page_of(alloc: Global, plan: &[u8]) -> Result<String, Fail> {
+/// The page of a plan beside which nothing is said.
+fn silent_page_of(alloc: Global, plan: &[u8]) -> Result<String, PlanFault> {
     let remarks = Remarks {
         why: b"",
         run: None,
@@ -42,8 +50,8 @@ fn silent_page_of(alloc: Global, plan: &[u8]) -> Result<String, Fail> {
     page_of(alloc, plan, &remarks)
 }
 
-// The text of a page with reasons and a run.
-fn full_page_of(alloc: Global, why: &[u8], run: &Run<'_>) -> Result<String, Fail> {
+/// The page of a plan, with reasons and a run.
+fn full_page_of(alloc: Global, why: &[u8], run: &Run<'_>) -> Result<String, PlanFault> {
     let remarks = Remarks {
         why,
         run: Some(run),
@@ -51,63 +59,68 @@ fn full_page_of(alloc: Global, why: &[u8], run: &Run<'_>) -> Result<String, Fail
     page_of(alloc, INTERLEAVED, &remarks)
 }
 
-// A fact of two words.
-fn fact_of(
+fn expect_parts<R: Abort>(rt: &R, page: &str, parts: &[&str]) {
+    for part in parts {
+        assert!(rt; page.contains(*part), "{part}");
+    }
+}
+
+#[test]
+fn rows_have_bars(rt: HostRuntime) -> Result<(), PlanFault> {
+    let page = silent_page_of(rt.alloc(), INTERLEAVED)?;
+    let parts = [
+        "<i class=\"link\" style=\"--a:0;--b:2\"></i>\
+            <i style=\"--a:0;--b:0\"></i><i style=\"--a:2;--b:2\"></i>",
+        "class=\"row act bad\" id=\"marked\"><span class=\"label\"><b class=\"no\">1</b>",
+        "<mark>NotExecutable</mark>",
+    ];
+    expect_parts(&rt, page.as_str(), parts.as_slice());
+    Ok(())
+}
+
+#[test]
+fn names_are_words(rt: HostRuntime) -> Result<(), PlanFault> {
+    let page = silent_page_of(rt.alloc(), MARKUP)?;
+    let parts = [
+        "<b>a&lt;/title&gt;</b>",
+        "<b>t&lt;b&gt;&amp;x</b> o&quot;y <em>m</em>",
+    ];
+    expect_parts(&rt, page.as_str(), parts.as_slice());
+    Ok(())
+}
+
+/// A fact of two words.
+fn facts_of(
     alloc: Global,
     first: &'static [u8],
     second: &'static [u8],
-) -> Result<Fact<'static>, AllocError> {
+) -> Result<Vec<Fact<'static>>, AllocError> {
     let words = vec![in alloc; first, second]?;
-    Ok(Fact { words })
+    Ok(vec![in alloc; Fact { words }]?)
 }
 
-// The run of one action, which makes a fact true and another one false.
+/// The run of one action, which makes a fact true and another one false.
 fn run_of(alloc: Global) -> Result<Run<'static>, AllocError> {
-    let added = vec![in alloc; fact_of(alloc, b"hot", b"w<")?]?;
-    let deleted = vec![in alloc; fact_of(alloc, b"cold", b"w")?]?;
+    let added = facts_of(alloc, b"hot", b"w<")?;
+    let deleted = facts_of(alloc, b"cold", b"w")?;
     let changes = vec![in alloc; Change { added, deleted }]?;
-    Ok(Run {
-        start: Vec::new(alloc),
-        changes,
-    })
+    let start = Vec::new(alloc);
+    Ok(Run { start, changes })
 }
 
 #[test]
-fn rows_have_their_bars(rt: HostRuntime) -> Result<(), Fail> {
-    let text = silent_page_of(rt.alloc(), INTERLEAVED)?;
-    let bars =
-        "<i class=\"link\" style=\"--a:0;--b:2\"></i><i style=\"--a:0;--b:0\"></i><i style=\"--a:2;--b:2\"></i>";
-    let row = "class=\"row act bad\" id=\"marked\"><span class=\"label\"><b class=\"no\">1</b>";
-    let flag = "<mark>NotExecutable</mark>";
-    assert!(rt; text.as_str().contains(bars), "{bars}");
-    assert!(rt; text.as_str().contains(row), "{row}");
-    assert!(rt; text.as_str().contains(flag), "{flag}");
-    Ok(())
-}
-
-#[test]
-fn names_are_words(rt: HostRuntime) -> Result<(), Fail> {
-    let text = silent_page_of(rt.alloc(), MARKUP)?;
-    let action = "<b>a&lt;/title&gt;</b>";
-    let task = "<b>t&lt;b&gt;&amp;x</b> o&quot;y <em>m</em>";
-    assert!(rt; text.as_str().contains(action), "{action}");
-    assert!(rt; text.as_str().contains(task), "{task}");
-    Ok(())
-}
-
-#[test]
-fn reasons_and_runs_are_shown(rt: HostRuntime) -> Result<(), Fail> {
+fn reasons_and_runs_are_shown(rt: HostRuntime) -> Result<(), PlanFault> {
     let run = run_of(rt.alloc())?;
-    let text = full_page_of(rt.alloc(), b"\np:1:2: error: `(a)` > `<b>`\n", &run)?;
-    let why = "</header>\n<pre class=\"why no\">\np:1:2: error: `(a)` &gt; `&lt;b&gt;`\n</pre>\n";
-    let start =
-        "<tr><td></td><td>at the start</td><td class=\"add\"></td><td class=\"del\"></td></tr>\n";
-    let row = "<tr><td>0</td><td><b>boil</b></td><td class=\"add\"><span>(hot w&lt;)</span> </td>";
-    let end =
-        "<td class=\"del\"><span>(cold w)</span> </td></tr>\n</table>\n</div>\n</main>\n</body>\n</html>\n";
-    assert!(rt; text.as_str().contains(why), "{why}");
-    assert!(rt; text.as_str().contains(start), "{start}");
-    assert!(rt; text.as_str().contains(row), "{row}");
-    assert!(rt; text.as_str().ends_with(end), "{end}");
+    let why = b"\np:1:2: error: `(a)` > `<b>`\n";
+    let page = full_page_of(rt.alloc(), why, &run)?;
+    let parts = [
+        "</header>\n<pre class=\"why no\">\np:1:2: error: `(a)` &gt; `&lt;b&gt;`\n</pre>\n",
+        "<tr><td></td><td>at the start</td><td class=\"add\"></td><td class=\"del\"></td></tr>\n",
+        "<tr><td>0</td><td><b>boil</b></td><td class=\"add\"><span>(hot w&lt;)</span> </td>",
+    ];
+    expect_parts(&rt, page.as_str(), parts.as_slice());
+    let end = "<td class=\"del\"><span>(cold w)</span> </td></tr>\n\
+        </table>\n</div>\n</main>\n</body>\n</html>\n";
+    assert!(rt; page.as_str().ends_with(end), "{end}");
     Ok(())
 }

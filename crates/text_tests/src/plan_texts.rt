@@ -1,283 +1,241 @@
+//! Plan texts: which are read, what is written of them, the faults of the others, and outputs that fail.
+
+use crate::answers::{Reader, read};
+use crate::tables::{Ask, expect, expect_run};
 use plan_text::{
-    LinePlaces, MAX_BYTES, PlanFault, Sink, WriteFault, line_places, read_plan, write_plan,
+    ActionLine, DecompositionLine, LinePlaces, MAX_BYTES, PlanFault, PlanFile, Sink, line_places,
+    read_plan, write_plan,
 };
-use std::alloc::Global;
+use std::alloc::{AllocError, Global};
 use std::io;
 use std::io::Write;
-use std::test::Fail;
+use std::process::Abort;
 
 /// A plan of the road domain, as it is written.
-const ROAD: &[u8] =
-    b"==>\n0 drive t1 a b\n1 drive t1 b c\nroot 2\n2 go t1 c -> m-step 0 3\n3 go t1 c -> m-step 1 4\n4 go t1 c -> m-stay\n<==\n";
+const ROAD: &str = "==>
+0 drive t1 a b
+1 drive t1 b c
+root 2
+2 go t1 c -> m-step 0 3
+3 go t1 c -> m-step 1 4
+4 go t1 c -> m-stay
+<==
+";
 
-fn fault(alloc: Global, text: &[u8]) -> Option<PlanFault> {
-    read_plan(alloc, text).err()
+fn is_drive(action: &ActionLine) -> bool {
+    action.id() == 0
+        && action.name().as_bytes() == b"drive".as_slice()
+        && action.arguments().len() == 3
 }
 
-/// The text that is written of the file that a text holds.
-fn rewritten(alloc: Global, text: &[u8]) -> Option<Vec<u8>> {
-    let file = read_plan(alloc, text).ok()?;
-    let mut sink = Sink::new(Vec::new(alloc));
-    write_plan(&file, &mut sink).ok()?;
-    Some(sink.into_inner())
+fn is_step(line: &DecompositionLine) -> bool {
+    line.id() == 2
+        && line.task().as_bytes() == b"go".as_slice()
+        && line.arguments().len() == 2
+        && line.method().as_bytes() == b"m-step".as_slice()
+        && line.children() == [0, 3].as_slice()
 }
 
-#[test]
-fn reads_what_is_written(rt: HostRuntime) -> Result<(), Fail> {
-    assert_eq!(rt; ROAD.len(), 113);
-    let file = read_plan(rt.alloc(), ROAD).ok().ok_or("refused")?;
-    assert_eq!(rt; file.actions().len(), 2);
-    assert_eq!(rt; file.roots(), [2].as_slice());
-    assert_eq!(rt; file.decompositions().len(), 3);
-    let text = rewritten(rt.alloc(), ROAD).ok_or("refused")?;
-    assert_eq!(rt; text.as_slice(), ROAD);
-    Ok(())
-}
-
-fn places_of(alloc: Global, text: &[u8]) -> Option<LinePlaces> {
-    line_places(alloc, text).ok()?
-}
-
-#[test]
-fn lines_have_places(rt: HostRuntime) -> Result<(), Fail> {
-    let places = places_of(rt.alloc(), ROAD).ok_or("no plan")?;
-    assert_eq!(rt; places.actions.as_slice(), [4, 19].as_slice());
-    assert_eq!(rt; places.roots.as_slice(), [34].as_slice());
-    assert_eq!(rt; places.decompositions.as_slice(), [41, 65, 89].as_slice());
-    Ok(())
-}
-
-#[test]
-fn reads_other_spellings(rt: HostRuntime) -> Result<(), Fail> {
-    let text =
-        b"log\n==>\n0 (drive t1 a b)\n01 DRIVE T1 B C\n\n2 go t1 c -> m-step 3 0\n3 (go t1 c) -> m-step 1 4\n4 go t1 c -> m-stay\nroot 2\n<==\ndone";
-    let expected =
-        b"==>\n0 drive t1 a b\n1 drive t1 b c\nroot 2\n2 go t1 c -> m-step 3 0\n3 go t1 c -> m-step 1 4\n4 go t1 c -> m-stay\n<==\n";
-    let written = rewritten(rt.alloc(), text.as_slice()).ok_or("refused")?;
-    assert_eq!(rt; written.as_slice(), expected.as_slice());
-    let mut returns = Vec::new(rt.alloc());
-    for byte in text.as_slice() {
-        if *byte == b'\n' {
-            returns.push(b'\r')?;
+fn is_road(file: &PlanFile) -> bool {
+    match (file.actions(), file.decompositions()) {
+        ([drive, _], [step, _, _]) => {
+            file.roots() == [2].as_slice() && is_drive(drive) && is_step(step)
         }
-        returns.push(*byte)?;
+        _ => false,
     }
-    let written = rewritten(rt.alloc(), returns.as_slice()).ok_or("refused")?;
-    assert_eq!(rt; written.as_slice(), expected.as_slice());
-    Ok(())
+}
+
+fn are_places(places: &LinePlaces) -> bool {
+    places.actions.as_slice() == [4, 19].as_slice()
+        && places.roots.as_slice() == [34].as_slice()
+        && places.decompositions.as_slice() == [41, 65, 89].as_slice()
 }
 
 #[test]
-fn lends_its_lines(rt: HostRuntime) -> Result<(), Fail> {
-    let file = read_plan(rt.alloc(), ROAD).ok().ok_or("refused")?;
-    let action = file.actions().first().ok_or("no action")?;
-    assert_eq!(rt; action.id(), 0);
-    assert_eq!(rt; action.name().as_bytes(), b"drive".as_slice());
-    assert_eq!(rt; action.arguments().len(), 3);
-    let line = file.decompositions().first().ok_or("no decomposition")?;
-    assert_eq!(rt; line.id(), 2);
-    assert_eq!(rt; line.task().as_bytes(), b"go".as_slice());
-    assert_eq!(rt; line.arguments().len(), 2);
-    assert_eq!(rt; line.method().as_bytes(), b"m-step".as_slice());
-    assert_eq!(rt; line.children(), [0, 3].as_slice());
-    Ok(())
-}
-
-#[test]
-fn accepts(rt: HostRuntime) -> Result<(), Fail> {
-    let rows: [(&[u8], &[u8]); 5] = [
-        (b"==>\nroot\n<==\n", b"==>\nroot\n<==\n"),
-        // Any bytes stand outside the markers, and blanks round these.
-        (
-            b"\x80\n<==\n (==>)\r\nRoot 0\n0 ROOT 7\n\t<==\n\xff 0\n==>",
-            b"==>\n0 root 7\nroot 0\n<==\n",
-        ),
-        (b"==>\n0 t->m\nroot 0\n<==\n", b"==>\n0 t->m\nroot 0\n<==\n"),
-        (
-            b"==>\nroot 0\n0 T -> M\n<==\n",
-            b"==>\nroot 0\n0 t -> m\n<==\n",
-        ),
-        // Lines of different kinds stand in any order.
-        (
-            b"==>\n1 t -> m 0\nrOOt 1\n\n0 a\n<==\n",
-            b"==>\n0 a\nroot 1\n1 t -> m 0\n<==\n",
-        ),
-    ];
-    for (text, expected) in rows {
-        let written = rewritten(rt.alloc(), text).ok_or("refused")?;
-        assert_eq!(rt; written.as_slice(), expected);
-    }
-    Ok(())
-}
-
-#[test]
-fn accepts_numbers(rt: HostRuntime) -> Result<(), Fail> {
-    let rows: [(&[u8], &[u8]); 4] = [
-        // The greatest id, and leading zeros.
-        (
-            b"==>\n18446744073709551615 a\nroot 018446744073709551615\n<==",
-            b"==>\n18446744073709551615 a\nroot 18446744073709551615\n<==\n",
-        ),
-        (
-            b"==>\n0000000000000000000000000 a\nroot 00000000000000000000000000000007\n<==\n",
-            b"==>\n0 a\nroot 7\n<==\n",
-        ),
-        // A number of any size is a word like any other where no number is read.
-        (
-            b"==>\n0 99999999999999999999 00\nroot\n<==\n",
-            b"==>\n0 99999999999999999999 00\nroot\n<==\n",
-        ),
-        (
-            b"==>\nroot 0\n0 05 06 -> 99999999999999999999 007\n<==\n",
-            b"==>\nroot 0\n0 05 06 -> 99999999999999999999 7\n<==\n",
-        ),
-    ];
-    for (text, expected) in rows {
-        let written = rewritten(rt.alloc(), text).ok_or("refused")?;
-        assert_eq!(rt; written.as_slice(), expected);
-    }
-    Ok(())
-}
-
-#[test]
-fn accepts_blanks(rt: HostRuntime) -> Result<(), Fail> {
-    let rows: [(&[u8], &[u8]); 4] = [
-        // Round brackets part words, and needn't pair.
-        (
-            b"==>\n0(go)a)\nroot(0\n)<==(\n",
-            b"==>\n0 go a\nroot 0\n<==\n",
-        ),
-        (b"==>\n()\nroot\n((\n<==\n", b"==>\nroot\n<==\n"),
-        // A carriage return alone ends no line.
-        (
-            b"==>\r\n0\rgo\x0ca\tb\r\r\nroot 0\r\n<==\r\n",
-            b"==>\n0 go a b\nroot 0\n<==\n",
-        ),
-        (b"==>\nroot\n \t\x0c\r\n<==", b"==>\nroot\n<==\n"),
-    ];
-    for (text, expected) in rows {
-        let written = rewritten(rt.alloc(), text).ok_or("refused")?;
-        assert_eq!(rt; written.as_slice(), expected);
-    }
-    Ok(())
-}
-
-#[test]
-fn refuses(rt: HostRuntime) -> Result<(), Fail> {
-    let rows: [(&[u8], PlanFault); 10] = [
-        (b"", PlanFault::NoStart),
-        (b"==> 1\n<==\n", PlanFault::NoStart),
-        (b"==>\r<==\n", PlanFault::NoStart),
-        (b"==>\n<==\n", PlanFault::NoRoot),
-        (b"==>\n0 a\nroot 0\n", PlanFault::NoEnd),
-        (b"==>\nroot\n<== 1\n", PlanFault::NoEnd),
-        // The end marker is looked for first.
-        (b"<==\n==>\n0\n", PlanFault::NoEnd),
-        (b"==>\nroot\nroot\n<==\n", PlanFault::TwoRoots(9)),
-        (
-            b"==>\nroot\n  ROOT 99999999999999999999\n<==\n",
-            PlanFault::TwoRoots(9),
-        ),
-        (b"==>\nroot\nroot x\n<==\n", PlanFault::BadLine(9)),
-    ];
-    for (text, expected) in rows {
-        assert_eq!(rt; fault(rt.alloc(), text), Some(expected));
-    }
-    Ok(())
-}
-
-#[test]
-fn refuses_lines(rt: HostRuntime) -> Result<(), Fail> {
-    let rows: [&[u8]; 12] = [
-        b"==>\n0\nroot 0\n<==\n",
-        b"==>\nroot 0 x\n<==\n",
-        b"==>\nroots 0\n<==\n",
-        b"==>\n99999999999999999999\nroot\n<==\n",
-        b"==>\n0 -> m\nroot\n<==\n",
-        b"==>\n0 t ->\nroot\n<==\n",
-        b"==>\n0 t -> m x\nroot\n<==\n",
-        b"==>\n0 t -> m -> n\nroot\n<==\n",
-        b"==>\n==>\nroot\n<==\n",
-        b"==>\n+1 a\nroot\n<==\n",
-        b"==>\n-1 a\nroot\n<==\n",
-        b"==>\n  a 1\nroot\n<==\n",
-    ];
-    for text in rows {
-        assert_eq!(rt; fault(rt.alloc(), text), Some(PlanFault::BadLine(4)));
-    }
-    Ok(())
-}
-
-#[test]
-fn refuses_numbers_and_bytes(rt: HostRuntime) -> Result<(), Fail> {
-    let rows: [(&[u8], PlanFault); 8] = [
-        (
-            b"==>\nroot 18446744073709551616\n<==\n",
-            PlanFault::NumberTooLarge(9),
-        ),
-        (
-            b"==>\n00018446744073709551616 a\nroot\n<==\n",
-            PlanFault::NumberTooLarge(4),
-        ),
-        (
-            b"==>\n0 t -> m 7 99999999999999999999\nroot\n<==\n",
-            PlanFault::NumberTooLarge(15),
-        ),
-        (b"==>\n0 \x80\nroot\n<==\n", PlanFault::NotAscii(6)),
-        (b"==>\nx \x7f\nroot\n<==\n", PlanFault::NotAscii(6)),
-        (b"==>\nroot\n\x00\n<==\n", PlanFault::NotAscii(9)),
-        (b"==>\nroot \x0b\n<==\n", PlanFault::NotAscii(9)),
-        // In a line the bytes come first.
-        (
-            b"==>\nroot 99999999999999999999 \xff\n<==\n",
-            PlanFault::NotAscii(30),
-        ),
-    ];
-    for (text, expected) in rows {
-        assert_eq!(rt; fault(rt.alloc(), text), Some(expected));
-    }
-    Ok(())
-}
-
-#[test]
-fn refuses_long_texts(rt: HostRuntime) -> Result<(), Fail> {
-    let mut text = Vec::new(rt.alloc());
-    for _ in 0..MAX_BYTES {
-        text.push(b' ')?;
-    }
-    assert_eq!(rt;
-        fault(rt.alloc(), text.as_slice()),
-        Some(PlanFault::NoStart)
-    );
-    text.push(b' ')?;
-    assert_eq!(rt;
-        fault(rt.alloc(), text.as_slice()),
-        Some(PlanFault::TooLong(MAX_BYTES))
+fn road(rt: HostRuntime) -> Result<(), PlanFault> {
+    assert!(rt; ROAD.len() == 113);
+    let file = read_plan(rt.alloc(), ROAD.as_bytes())?;
+    assert!(rt; is_road(&file), "the lines");
+    let places = line_places(rt.alloc(), ROAD.as_bytes())?;
+    assert!(rt;
+        places.is_some_and(|places| are_places(&places)),
+        "their places"
     );
     Ok(())
 }
 
-#[test]
-fn tells_the_fault(rt: HostRuntime) -> Result<(), Fail> {
-    let text = format!(in rt.alloc(); "{}, {}", PlanFault::BadLine(4), PlanFault::NoRoot)?;
-    assert_eq!(rt; text.as_str(), "BadLine at 4, NoRoot");
+/// The same plan in another order and spelling, between lines that are no part of it.
+const SPELLED: &str = "log
+==>
+0 (drive t1 a b)
+01 DRIVE T1 B C
+
+2 go t1 c -> m-step 3 0
+3 (go t1 c) -> m-step 1 4
+4 go t1 c -> m-stay
+root 2
+<==
+done";
+
+const SPELLED_WITH_RETURNS: &str = "log\r\n\
+==>\r\n\
+0 (drive t1 a b)\r\n\
+01 DRIVE T1 B C\r\n\
+\r\n\
+2 go t1 c -> m-step 3 0\r\n\
+3 (go t1 c) -> m-step 1 4\r\n\
+4 go t1 c -> m-stay\r\n\
+root 2\r\n\
+<==\r\n\
+done";
+
+/// What is written of it.
+const RESPELLED: &str = "==>
+0 drive t1 a b
+1 drive t1 b c
+root 2
+2 go t1 c -> m-step 3 0
+3 go t1 c -> m-step 1 4
+4 go t1 c -> m-stay
+<==
+";
+
+fn expect_written<R: Abort>(
+    rt: &R,
+    alloc: Global,
+    text: &str,
+    expected: &str,
+) -> Result<(), AllocError> {
+    let found = read(alloc, Reader::Plan, text.as_bytes())?;
+    assert!(rt; found.as_str() == expected, "{found}");
     Ok(())
+}
+
+#[test]
+fn spellings(rt: HostRuntime) -> Result<(), AllocError> {
+    expect_written(&rt, rt.alloc(), ROAD, ROAD)?;
+    expect_written(&rt, rt.alloc(), SPELLED, RESPELLED)?;
+    expect_written(&rt, rt.alloc(), SPELLED_WITH_RETURNS, RESPELLED)
+}
+
+/// What is written of plan texts.
+const ACCEPTED: &str = r"
+==>\nroot\n<==\n | ==>\nroot\n<==\n
+# Any bytes stand outside the markers, and blanks round these.
+==>\n0 root 7\nroot 0\n<==\n | \x80\n<==\n (==>)\r\nRoot 0\n0 ROOT 7\n\t<==\n\xff 0\n==>
+==>\n0 t->m\nroot 0\n<==\n | ==>\n0 t->m\nroot 0\n<==\n
+==>\nroot 0\n0 t -> m\n<==\n | ==>\nroot 0\n0 T -> M\n<==\n
+# Lines of different kinds stand in any order.
+==>\n0 a\nroot 1\n1 t -> m 0\n<==\n | ==>\n1 t -> m 0\nrOOt 1\n\n0 a\n<==\n
+# Leading zeros.
+==>\n0 a\nroot 7\n<==\n | ==>\n0000000000000000000000000 a\nroot 00000000000000000000000000000007\n<==\n
+# A number of any size is a word like any other where no number is read.
+==>\n0 99999999999999999999 00\nroot\n<==\n | ==>\n0 99999999999999999999 00\nroot\n<==\n
+==>\nroot 0\n0 05 06 -> 99999999999999999999 7\n<==\n | ==>\nroot 0\n0 05 06 -> 99999999999999999999 007\n<==\n
+# Round brackets part words, and needn't pair.
+==>\n0 go a\nroot 0\n<==\n | ==>\n0(go)a)\nroot(0\n)<==(\n
+==>\nroot\n<==\n | ==>\n()\nroot\n((\n<==\n
+# A carriage return alone ends no line.
+==>\n0 go a b\nroot 0\n<==\n | ==>\r\n0\rgo\x0ca\tb\r\r\nroot 0\r\n<==\r\n
+==>\nroot\n<==\n | ==>\nroot\n \t\x0c\r\n<==
+";
+
+#[test]
+fn accepts(rt: HostRuntime) -> Result<(), AllocError> {
+    expect(&rt, rt.alloc(), Ask::Read(Reader::Plan), ACCEPTED)?;
+    // The greatest id.
+    let text = "==>\n18446744073709551615 a\nroot 018446744073709551615\n<==";
+    let written = "==>\n18446744073709551615 a\nroot 18446744073709551615\n<==\n";
+    expect_written(&rt, rt.alloc(), text, written)
+}
+
+/// The faults of plan texts.
+const REFUSED: &str = r"
+NoStart              | ==> 1\n<==\n
+NoStart              | ==>\r<==\n
+NoRoot               | ==>\n<==\n
+NoEnd                | ==>\n0 a\nroot 0\n
+NoEnd                | ==>\nroot\n<== 1\n
+# The end marker is looked for first.
+NoEnd                | <==\n==>\n0\n
+TwoRoots at 9        | ==>\nroot\nroot\n<==\n
+TwoRoots at 9        | ==>\nroot\n  ROOT 99999999999999999999\n<==\n
+BadLine at 9         | ==>\nroot\nroot x\n<==\n
+# Lines of no kind.
+BadLine at 4         | ==>\n0\nroot 0\n<==\n
+BadLine at 4         | ==>\nroot 0 x\n<==\n
+BadLine at 4         | ==>\nroots 0\n<==\n
+BadLine at 4         | ==>\n99999999999999999999\nroot\n<==\n
+BadLine at 4         | ==>\n0 -> m\nroot\n<==\n
+BadLine at 4         | ==>\n0 t ->\nroot\n<==\n
+BadLine at 4         | ==>\n0 t -> m x\nroot\n<==\n
+BadLine at 4         | ==>\n0 t -> m -> n\nroot\n<==\n
+BadLine at 4         | ==>\n==>\nroot\n<==\n
+BadLine at 4         | ==>\n+1 a\nroot\n<==\n
+BadLine at 4         | ==>\n-1 a\nroot\n<==\n
+BadLine at 4         | ==>\n  a 1\nroot\n<==\n
+# Numbers and bytes.
+NumberTooLarge at 9  | ==>\nroot 18446744073709551616\n<==\n
+NumberTooLarge at 4  | ==>\n00018446744073709551616 a\nroot\n<==\n
+NumberTooLarge at 15 | ==>\n0 t -> m 7 99999999999999999999\nroot\n<==\n
+NotAscii at 6        | ==>\n0 \x80\nroot\n<==\n
+NotAscii at 6        | ==>\nx \x7f\nroot\n<==\n
+NotAscii at 9        | ==>\nroot\n\x00\n<==\n
+NotAscii at 9        | ==>\nroot \x0b\n<==\n
+# In a line the bytes come first.
+NotAscii at 30       | ==>\nroot 99999999999999999999 \xff\n<==\n
+";
+
+#[test]
+fn refuses(rt: HostRuntime) -> Result<(), AllocError> {
+    expect(&rt, rt.alloc(), Ask::Read(Reader::Plan), REFUSED)?;
+    expect_run(&rt, rt.alloc(), Reader::Plan, (b' ', 0), "NoStart")
+}
+
+#[test]
+fn refuses_long_texts(rt: HostRuntime) -> Result<(), AllocError> {
+    let (alloc, reader) = (rt.alloc(), Reader::Plan);
+    expect_run(&rt, alloc, reader, (b' ', MAX_BYTES), "NoStart")?;
+    expect_run(
+        &rt,
+        alloc,
+        reader,
+        (b' ', MAX_BYTES + 1),
+        "TooLong at 16777216",
+    )
+}
+
+/// What the first write to an output does.
+#[derive(Clone, Copy)]
+enum First {
+    Takes,
+    TakesNothing,
+    Fails,
 }
 
 /// A writer that takes at most `step` bytes in one write, and `room` in all.
 #[derive(Drop)]
 struct Narrow {
     taken: Vec<u8>,
+    first: First,
     step: usize,
     room: usize,
 }
 
 impl Write for Narrow {
     fn write(&mut self, bytes: &[u8]) -> io::Result<usize> {
-        let count = bytes.len().min(self.step).min(self.room);
-        self.taken.extend_from_slice(&bytes[..count])?;
-        self.room -= count;
-        Ok(count)
+        let first = self.first;
+        self.first = First::Takes;
+        match first {
+            First::Takes => {
+                let count = bytes.len().min(self.step).min(self.room);
+                self.taken.extend_from_slice(&bytes[..count])?;
+                self.room -= count;
+                Ok(count)
+            }
+            First::TakesNothing => Ok(0),
+            First::Fails => Err(io::Error::from(io::ErrorKind::Other)),
+        }
     }
 
     fn flush(&mut self) -> io::Result<()> {
@@ -285,67 +243,62 @@ impl Write for Narrow {
     }
 }
 
+/// Whether a writer gets the road's plan as far as it has room, and fails where that is too little.
+fn is_cut(alloc: Global, file: &PlanFile, step: usize, room: usize) -> Result<bool, AllocError> {
+    let mut sink = Sink::new(Narrow {
+        taken: Vec::with_capacity(alloc, ROAD.len())?,
+        first: First::Takes,
+        step,
+        room,
+    });
+    let is_whole = write_plan(file, &mut sink).is_ok();
+    let has_failed = sink.has_failed();
+    let taken = sink.into_inner().taken;
+    Ok(
+        is_whole == (room >= 113)
+            && has_failed == (room < 113)
+            && taken.len() == room.min(113)
+            && ROAD.as_bytes().starts_with(taken.as_slice()),
+    )
+}
+
 #[test]
-fn stops_where_the_output_fails(rt: HostRuntime) -> Result<(), Fail> {
-    let file = read_plan(rt.alloc(), ROAD).ok().ok_or("refused")?;
-    for step in [1, 7, 1000] {
-        for room in 0..114 {
-            let taken = Vec::new(rt.alloc());
-            let mut sink = Sink::new(Narrow { taken, step, room });
-            let result = write_plan(&file, &mut sink);
-            assert_eq!(rt; result.is_ok(), room >= 113);
-            assert_eq!(rt; sink.has_failed(), room < 113);
-            if room < 113 {
-                assert_eq!(rt; result, Err(WriteFault::Device));
-            }
-            let taken = sink.into_inner().taken;
-            assert_eq!(rt; taken.len(), room.min(113));
-            assert_eq!(rt; ROAD.starts_with(taken.as_slice()), true);
-        }
+fn stops_where_the_output_fails(rt: HostRuntime) -> Result<(), PlanFault> {
+    let file = read_plan(rt.alloc(), ROAD.as_bytes())?;
+    for room in 0..114 {
+        assert!(rt;
+            is_cut(rt.alloc(), &file, 1, room)?,
+            "{room} bytes, each alone"
+        );
+        assert!(rt;
+            is_cut(rt.alloc(), &file, 7, room)?,
+            "{room} bytes, by seven"
+        );
+        assert!(rt; is_cut(rt.alloc(), &file, 1000, room)?, "{room} bytes");
     }
     Ok(())
 }
 
-/// A writer whose first write takes nothing, or answers an error. Each later one takes all.
-#[derive(Drop)]
-struct Late {
-    taken: Vec<u8>,
-    answers_error: bool,
-    has_failed: bool,
-}
-
-impl Write for Late {
-    fn write(&mut self, bytes: &[u8]) -> io::Result<usize> {
-        if !self.has_failed {
-            self.has_failed = true;
-            if self.answers_error {
-                return Err(io::Error::from(io::ErrorKind::Other));
-            }
-            return Ok(0);
-        }
-        self.taken.extend_from_slice(bytes)?;
-        Ok(bytes.len())
-    }
-
-    fn flush(&mut self) -> io::Result<()> {
-        Ok(())
-    }
+/// Whether an output whose first write takes nothing has failed from then on.
+fn stays_failed(alloc: Global, file: &PlanFile, first: First) -> bool {
+    let mut sink = Sink::new(Narrow {
+        taken: Vec::new(alloc),
+        first,
+        step: 1000,
+        room: 1000,
+    });
+    let is_refused = write_plan(file, &mut sink).is_err() && sink.has_failed();
+    let is_refused_again = write_plan(file, &mut sink).is_err() && sink.has_failed();
+    is_refused && is_refused_again && sink.into_inner().taken.is_empty()
 }
 
 #[test]
-fn stays_failed(rt: HostRuntime) -> Result<(), Fail> {
-    let file = read_plan(rt.alloc(), ROAD).ok().ok_or("refused")?;
-    for answers_error in [false, true] {
-        let mut sink = Sink::new(Late {
-            taken: Vec::new(rt.alloc()),
-            answers_error,
-            has_failed: false,
-        });
-        for _ in 0..2 {
-            assert_eq!(rt; write_plan(&file, &mut sink), Err(WriteFault::Device));
-            assert!(rt; sink.has_failed());
-        }
-        assert!(rt; sink.into_inner().taken.is_empty());
-    }
+fn outputs_stay_failed(rt: HostRuntime) -> Result<(), PlanFault> {
+    let file = read_plan(rt.alloc(), ROAD.as_bytes())?;
+    assert!(rt;
+        stays_failed(rt.alloc(), &file, First::TakesNothing),
+        "no byte"
+    );
+    assert!(rt; stays_failed(rt.alloc(), &file, First::Fails), "an error");
     Ok(())
 }

@@ -1,10 +1,136 @@
-use hddl_text::{
-    Condition, DomainText, ProblemText, Term, TextFault, lex, read_domain, read_problem,
-};
+//! Texts of domains and problems: which are read, the faults of the others, and what the trees have.
+
+use crate::answers::Reader;
+use crate::tables::{Ask, expect, expect_run};
+use hddl_text::{Condition, DomainText, ProblemText, Term, TextFault, read_domain, read_problem};
 use hddl_tree::{LiteralText, MethodText, NetworkText};
-use std::alloc::Global;
+use std::alloc::{AllocError, Global};
 use std::process::Abort;
-use std::test::Fail;
+
+/// The faults of texts of domains.
+const DOMAINS: &str = "
+Unclosed at 0     | (define (domain d)
+ExtraClose at 19  | (define (domain d)))
+Unsupported at 20 | (define (domain d) (:functions))
+Expected at 9     | (define (problem x))
+ok                | (DEFINE (Domain d))
+Expected at 16    | (define (domain and))
+Unsupported at 16 | (define (domain or))
+Expected at 1     | (forall (domain d))
+Expected at 20    | (define (domain d)) x
+Expected at 20    | (define (domain d) (or))
+Unsupported at 20 | (define (domain d) (:domain d))
+# A section that stands twice.
+Expected at 34    | (define (domain d) (:predicates) (:predicates))
+Expected at 34    | (define (domain d) (:requirements a))
+# Typed lists.
+ok                | (define (domain d) (:types a b - c d))
+Expected at 27    | (define (domain d) (:types - a))
+Unsupported at 27 | (define (domain d) (:types (either a b)))
+Unsupported at 31 | (define (domain d) (:types a - (either b)))
+Expected at 31    | (define (domain d) (:constants (a)))
+Unsupported at 35 | (define (domain d) (:constants a - (a)))
+Unsupported at 31 | (define (domain d) (:constants either))
+Unsupported at 40 | (define (domain d) (:predicates (p ?x - when)))
+Expected at 35    | (define (domain d) (:predicates (p x)))
+# Compound tasks.
+ok                | (define (domain d) (:task t :effect () :parameters (?x) :precondition ( )))
+Expected at 37    | (define (domain d) (:task t :effect (and)))
+Expected at 39    | (define (domain d) (:task t :effect () :effect ()))
+Expected at 26    | (define (domain d) (:task :parameters ()))
+# A method without its task: its closing bracket.
+Expected at 29    | (define (domain d) (:method m))
+Expected at 40    | (define (domain d) (:method m :task (t) :task (t)))
+Unsupported at 30 | (define (domain d) (:method m :effect ()))
+# Conditions and effects.
+ok                | (define (domain d) (:action a \
+    :precondition (forall (?x) (and (= ?x ?x) (forall () (not (= a ?x)))))))
+Unsupported at 50 | (define (domain d) (:action a :precondition (not (forall () ()))))
+Expected at 50    | (define (domain d) (:action a :precondition (not (not (p)))))
+Expected at 45    | (define (domain d) (:action a :precondition (< a b)))
+BadWord at 45     | (define (domain d) (:action a :precondition (<= a b)))
+Unsupported at 47 | (define (domain d) (:action a :precondition (p (f))))
+Unsupported at 39 | (define (domain d) (:action a :effect (forall (?x) (p))))
+Expected at 39    | (define (domain d) (:action a :effect (= a b)))
+Unsupported at 39 | (define (domain d) (:action a :effect (when (p) (q))))
+# A clash of types is no fault of the text.
+ok                | (define (domain d) (:types p q) (:predicates (at ?x - p)) (:action a :parameters (?y - q) \
+    :precondition (at ?y)))
+";
+
+/// Texts of domains with line feeds and bytes that are not ASCII.
+const BYTES: &str = r"
+Expected at 4  |  ;)\n
+NotAscii at 18 | (define (domain d)\x80
+ok             | (define (domain d) ; \x80\n)
+";
+
+#[test]
+fn domains(rt: HostRuntime) -> Result<(), AllocError> {
+    let alloc = rt.alloc();
+    expect(&rt, alloc, Ask::Read(Reader::Domain), DOMAINS)?;
+    expect(&rt, alloc, Ask::Read(Reader::Domain), BYTES)?;
+    expect_run(&rt, alloc, Reader::Domain, (b' ', 0), "Expected at 0")?;
+    expect_run(&rt, alloc, Reader::Domain, (b'(', 64), "Unclosed at 63")?;
+    expect_run(&rt, alloc, Reader::Domain, (b'(', 65), "TooDeep at 64")?;
+    expect_run(
+        &rt,
+        alloc,
+        Reader::Domain,
+        (b' ', 16_777_216),
+        "Expected at 16777216",
+    )
+}
+
+/// The faults of texts of problems.
+const PROBLEMS: &str = "
+ok                | (define (problem x) (:domain d) (:htn))
+ok                | (define (problem x) (:domain d) (:htn :subtasks ()))
+Expected at 9     | (define (domain d))
+# A required section is missing: the closing bracket.
+Expected at 26    | (define (problem x) (:htn))
+Expected at 31    | (define (problem x) (:domain d))
+# A seventh section stands twice.
+Expected at 86    | (define (problem x) (:htn) (:goal ()) (:init) (:objects) (:requirements) (:domain d) (:init))
+Unsupported at 33 | (define (problem x) (:domain d) (:metric))
+Expected at 31    | (define (problem x) (:domain d e))
+Unsupported at 28 | (define (problem x) (:init (= a b)))
+Unsupported at 28 | (define (problem x) (:init (not (p))))
+Expected at 28    | (define (problem x) (:init (and (p))))
+Expected at 27    | (define (problem x) (:init p))
+ok                | (define (problem x) (:goal (forall (?x - t) (p ?x))) (:htn) (:domain d))
+Unsupported at 28 | (define (problem x) (:goal (exists (?x) (p ?x))))
+Expected at 30    | (define (problem x) (:goal () ()))
+# Networks.
+ok                | (define (problem x) (:domain d) (:htn :ordered-subtasks (and (s1 (x)) (s2 (y))) \
+    :ordering (< s2 s1)))
+ok                | (define (problem x) (:domain d) (:htn :tasks (t ?x a) :order (and (a < b) (< b c))))
+Expected at 36    | (define (problem x) (:htn :tasks () :ordered-tasks ()))
+Expected at 39    | (define (problem x) (:htn :ordering () :order ()))
+Unsupported at 26 | (define (problem x) (:htn :precondition ()))
+Expected at 41    | (define (problem x) (:htn :subtasks (and t)))
+Expected at 43    | (define (problem x) (:htn :subtasks (s (t) u)))
+Unsupported at 41 | (define (problem x) (:htn :subtasks (t u (v))))
+Unsupported at 37 | (define (problem x) (:htn :subtasks (or (t) (u))))
+Expected at 39    | (define (problem x) (:htn :ordering (a > b)))
+Expected at 37    | (define (problem x) (:htn :ordering (= a b)))
+ok                | (define (problem x) (:htn :constraints (and () (= ?x a) (not (= ?x b))))(:domain d))
+Expected at 40    | (define (problem x) (:htn :constraints (p)))
+Unsupported at 40 | (define (problem x) (:htn :constraints (forall () ())))
+Unsupported at 45 | (define (problem x) (:htn :constraints (= ?x (f))))
+";
+
+#[test]
+fn problems(rt: HostRuntime) -> Result<(), AllocError> {
+    expect(&rt, rt.alloc(), Ask::Read(Reader::Problem), PROBLEMS)?;
+    expect_run(
+        &rt,
+        rt.alloc(),
+        Reader::Problem,
+        (b' ', 16_777_217),
+        "TooLong at 16777216",
+    )
+}
 
 const ROAD: &[u8] = b"(define (domain road)
   (:requirements :typing :hierarchy :method-preconditions)
@@ -26,378 +152,69 @@ const ROAD: &[u8] = b"(define (domain road)
     :precondition (and (at ?t ?a) (road ?a ?b))
     :effect (and (not (at ?t ?a)) (at ?t ?b))))";
 
-fn domain_fault(alloc: Global, text: &[u8]) -> Option<TextFault> {
-    read_domain(alloc, text).err()
-}
-
-fn problem_fault(alloc: Global, text: &[u8]) -> Option<TextFault> {
-    read_problem(alloc, text).err()
-}
-
-#[test]
-fn domains(rt: HostRuntime) -> Result<(), Fail> {
-    let rows: [(&[u8], Option<TextFault>); 44] = [
-        (b"(define (domain d)", Some(TextFault::Unclosed(0))),
-        (b"(define (domain d)))", Some(TextFault::ExtraClose(19))),
-        (
-            b"(define (domain d) (:functions))",
-            Some(TextFault::Unsupported(20)),
-        ),
-        (b"(define (problem x))", Some(TextFault::Expected(9))),
-        (b"", Some(TextFault::Expected(0))),
-        (b" ;)\n", Some(TextFault::Expected(4))),
-        (b"(define (domain d)\x80", Some(TextFault::NotAscii(18))),
-        (b"(define (domain d) ; \x80\n)", None),
-        (b"(DEFINE (Domain d))", None),
-        (b"(define (domain and))", Some(TextFault::Expected(16))),
-        (b"(define (domain or))", Some(TextFault::Unsupported(16))),
-        (b"(forall (domain d))", Some(TextFault::Expected(1))),
-        (b"(define (domain d)) x", Some(TextFault::Expected(20))),
-        (b"(define (domain d) (or))", Some(TextFault::Expected(20))),
-        (
-            b"(define (domain d) (:domain d))",
-            Some(TextFault::Unsupported(20)),
-        ),
-        // A section that stands twice.
-        (
-            b"(define (domain d) (:predicates) (:predicates))",
-            Some(TextFault::Expected(34)),
-        ),
-        (
-            b"(define (domain d) (:requirements a))",
-            Some(TextFault::Expected(34)),
-        ),
-        // Typed lists.
-        (b"(define (domain d) (:types a b - c d))", None),
-        (
-            b"(define (domain d) (:types - a))",
-            Some(TextFault::Expected(27)),
-        ),
-        (
-            b"(define (domain d) (:types (either a b)))",
-            Some(TextFault::Unsupported(27)),
-        ),
-        (
-            b"(define (domain d) (:types a - (either b)))",
-            Some(TextFault::Unsupported(31)),
-        ),
-        (
-            b"(define (domain d) (:constants (a)))",
-            Some(TextFault::Expected(31)),
-        ),
-        (
-            b"(define (domain d) (:constants a - (a)))",
-            Some(TextFault::Unsupported(35)),
-        ),
-        (
-            b"(define (domain d) (:constants either))",
-            Some(TextFault::Unsupported(31)),
-        ),
-        (
-            b"(define (domain d) (:predicates (p ?x - when)))",
-            Some(TextFault::Unsupported(40)),
-        ),
-        (
-            b"(define (domain d) (:predicates (p x)))",
-            Some(TextFault::Expected(35)),
-        ),
-        // Compound tasks.
-        (
-            b"(define (domain d) (:task t :effect () :parameters (?x) :precondition ( )))",
-            None,
-        ),
-        (
-            b"(define (domain d) (:task t :effect (and)))",
-            Some(TextFault::Expected(37)),
-        ),
-        (
-            b"(define (domain d) (:task t :effect () :effect ()))",
-            Some(TextFault::Expected(39)),
-        ),
-        (
-            b"(define (domain d) (:task :parameters ()))",
-            Some(TextFault::Expected(26)),
-        ),
-        // A method without its task: its closing bracket.
-        (
-            b"(define (domain d) (:method m))",
-            Some(TextFault::Expected(29)),
-        ),
-        (
-            b"(define (domain d) (:method m :task (t) :task (t)))",
-            Some(TextFault::Expected(40)),
-        ),
-        (
-            b"(define (domain d) (:method m :effect ()))",
-            Some(TextFault::Unsupported(30)),
-        ),
-        // Conditions and effects.
-        (
-            b"(define (domain d) (:action a :precondition (forall (?x) (and (= ?x ?x) (forall () (not (= a ?x)))))))",
-            None,
-        ),
-        (
-            b"(define (domain d) (:action a :precondition (not (forall () ()))))",
-            Some(TextFault::Unsupported(50)),
-        ),
-        (
-            b"(define (domain d) (:action a :precondition (not (not (p)))))",
-            Some(TextFault::Expected(50)),
-        ),
-        (
-            b"(define (domain d) (:action a :precondition (< a b)))",
-            Some(TextFault::Expected(45)),
-        ),
-        (
-            b"(define (domain d) (:action a :precondition (<= a b)))",
-            Some(TextFault::BadWord(45)),
-        ),
-        (
-            b"(define (domain d) (:action a :precondition (p (f))))",
-            Some(TextFault::Unsupported(47)),
-        ),
-        (
-            b"(define (domain d) (:action a :effect (forall (?x) (p))))",
-            Some(TextFault::Unsupported(39)),
-        ),
-        (
-            b"(define (domain d) (:action a :effect (= a b)))",
-            Some(TextFault::Expected(39)),
-        ),
-        (
-            b"(define (domain d) (:action a :effect (when (p) (q))))",
-            Some(TextFault::Unsupported(39)),
-        ),
-        // A clash of types is no fault of the text.
-        (
-            b"(define (domain d) (:types p q) (:predicates (at ?x - p)) (:action a :parameters (?y - q) :precondition (at ?y)))",
-            None,
-        ),
-        (ROAD, None),
-    ];
-    for (text, expected) in rows {
-        assert_eq!(rt; domain_fault(rt.alloc(), text), expected);
-    }
-    Ok(())
+/// Expects the fault of a beginning of that text, which ends before its last bracket.
+fn expect_refused<R: Abort>(rt: &R, alloc: Global, text: &[u8]) {
+    let fault = read_domain(alloc, text).err();
+    let is_its = match text.split_last() {
+        None => fault == Some(TextFault::Expected(0)),
+        Some((b'?' | b':', before)) => fault == Some(TextFault::BadWord(before.len())),
+        Some(_) => matches!(fault, Some(TextFault::Unclosed(_))),
+    };
+    assert!(rt; is_its, "{} bytes: {fault:?}", text.len());
 }
 
 #[test]
-fn problems(rt: HostRuntime) -> Result<(), Fail> {
-    let rows: [(&[u8], Option<TextFault>); 30] = [
-        (b"(define (problem x) (:domain d) (:htn))", None),
-        (
-            b"(define (problem x) (:domain d) (:htn :subtasks ()))",
-            None,
-        ),
-        (b"(define (domain d))", Some(TextFault::Expected(9))),
-        // A required section is missing: the closing bracket.
-        (
-            b"(define (problem x) (:htn))",
-            Some(TextFault::Expected(26)),
-        ),
-        (
-            b"(define (problem x) (:domain d))",
-            Some(TextFault::Expected(31)),
-        ),
-        // A seventh section stands twice.
-        (
-            b"(define (problem x) (:htn) (:goal ()) (:init) (:objects) (:requirements) (:domain d) (:init))",
-            Some(TextFault::Expected(86)),
-        ),
-        (
-            b"(define (problem x) (:domain d) (:metric))",
-            Some(TextFault::Unsupported(33)),
-        ),
-        (
-            b"(define (problem x) (:domain d e))",
-            Some(TextFault::Expected(31)),
-        ),
-        (
-            b"(define (problem x) (:init (= a b)))",
-            Some(TextFault::Unsupported(28)),
-        ),
-        (
-            b"(define (problem x) (:init (not (p))))",
-            Some(TextFault::Unsupported(28)),
-        ),
-        (
-            b"(define (problem x) (:init (and (p))))",
-            Some(TextFault::Expected(28)),
-        ),
-        (
-            b"(define (problem x) (:init p))",
-            Some(TextFault::Expected(27)),
-        ),
-        (
-            b"(define (problem x) (:goal (forall (?x - t) (p ?x))) (:htn) (:domain d))",
-            None,
-        ),
-        (
-            b"(define (problem x) (:goal (exists (?x) (p ?x))))",
-            Some(TextFault::Unsupported(28)),
-        ),
-        (
-            b"(define (problem x) (:goal () ()))",
-            Some(TextFault::Expected(30)),
-        ),
-        // Networks.
-        (
-            b"(define (problem x) (:domain d) (:htn :ordered-subtasks (and (s1 (x)) (s2 (y))) :ordering (< s2 s1)))",
-            None,
-        ),
-        (
-            b"(define (problem x) (:domain d) (:htn :tasks (t ?x a) :order (and (a < b) (< b c))))",
-            None,
-        ),
-        (
-            b"(define (problem x) (:htn :tasks () :ordered-tasks ()))",
-            Some(TextFault::Expected(36)),
-        ),
-        (
-            b"(define (problem x) (:htn :ordering () :order ()))",
-            Some(TextFault::Expected(39)),
-        ),
-        (
-            b"(define (problem x) (:htn :precondition ()))",
-            Some(TextFault::Unsupported(26)),
-        ),
-        (
-            b"(define (problem x) (:htn :subtasks (and t)))",
-            Some(TextFault::Expected(41)),
-        ),
-        (
-            b"(define (problem x) (:htn :subtasks (s (t) u)))",
-            Some(TextFault::Expected(43)),
-        ),
-        (
-            b"(define (problem x) (:htn :subtasks (t u (v))))",
-            Some(TextFault::Unsupported(41)),
-        ),
-        (
-            b"(define (problem x) (:htn :subtasks (or (t) (u))))",
-            Some(TextFault::Unsupported(37)),
-        ),
-        (
-            b"(define (problem x) (:htn :ordering (a > b)))",
-            Some(TextFault::Expected(39)),
-        ),
-        (
-            b"(define (problem x) (:htn :ordering (= a b)))",
-            Some(TextFault::Expected(37)),
-        ),
-        (
-            b"(define (problem x) (:htn :constraints (and () (= ?x a) (not (= ?x b))))(:domain d))",
-            None,
-        ),
-        (
-            b"(define (problem x) (:htn :constraints (p)))",
-            Some(TextFault::Expected(40)),
-        ),
-        (
-            b"(define (problem x) (:htn :constraints (forall () ())))",
-            Some(TextFault::Unsupported(40)),
-        ),
-        (
-            b"(define (problem x) (:htn :constraints (= ?x (f))))",
-            Some(TextFault::Unsupported(45)),
-        ),
-    ];
-    for (text, expected) in rows {
-        assert_eq!(rt; problem_fault(rt.alloc(), text), expected);
-    }
-    Ok(())
-}
-
-#[test]
-fn brackets(rt: HostRuntime) -> Result<(), Fail> {
-    let mut text = vec![in rt.alloc(); b'('; 64]?;
-    assert_eq!(rt;
-        domain_fault(rt.alloc(), text.as_slice()),
-        Some(TextFault::Unclosed(63))
-    );
-    text.push(b'(')?;
-    assert_eq!(rt;
-        domain_fault(rt.alloc(), text.as_slice()),
-        Some(TextFault::TooDeep(64))
-    );
-    Ok(())
-}
-
-#[test]
-fn longest(rt: HostRuntime) -> Result<(), Fail> {
-    let mut text = vec![in rt.alloc(); b' '; 16_777_216]?;
-    assert_eq!(rt;
-        domain_fault(rt.alloc(), text.as_slice()),
-        Some(TextFault::Expected(16_777_216))
-    );
-    text.push(b' ')?;
-    assert_eq!(rt;
-        problem_fault(rt.alloc(), text.as_slice()),
-        Some(TextFault::TooLong(16_777_216))
-    );
-    Ok(())
-}
-
-/// Each beginning of a text that ends before its last bracket is refused.
-#[test]
-fn beginnings(rt: HostRuntime) -> Result<(), Fail> {
+fn beginnings(rt: HostRuntime) {
     for len in 0..ROAD.len() {
-        let text = &ROAD[..len];
-        let fault = domain_fault(rt.alloc(), text);
-        let last = text.last().copied();
-        if len == 0 {
-            assert_eq!(rt; fault, Some(TextFault::Expected(0)));
-        } else if last == Some(b'?') || last == Some(b':') {
-            assert_eq!(rt; fault, Some(TextFault::BadWord(len - 1)));
-        } else {
-            assert!(rt; matches!(fault, Some(TextFault::Unclosed(_))));
-        }
+        expect_refused(&rt, rt.alloc(), &ROAD[..len]);
     }
-    Ok(())
 }
 
-/// The parts of the domain of roads.
-fn expect_road(rt: &impl Abort, domain: &DomainText) -> Result<(), Fail> {
-    assert_eq!(rt; domain.name.place(), 16);
-    assert!(rt; domain.name.text() == b"road".as_slice());
-    assert_eq!(rt; domain.requirements.len(), 3);
-    assert_eq!(rt; domain.types.len(), 1);
-    assert_eq!(rt; domain.constants.len(), 0);
-    assert_eq!(rt; domain.predicates.len(), 2);
-    assert_eq!(rt; domain.tasks.len(), 1);
-    assert_eq!(rt; domain.methods.len(), 2);
-    assert_eq!(rt; domain.actions.len(), 1);
-    Ok(())
+fn is_road(domain: &DomainText) -> bool {
+    domain.name.place() == 16
+        && domain.name.text() == b"road".as_slice()
+        && domain.requirements.len() == 3
+        && domain.types.len() == 1
+        && domain.constants.len() == 0
+        && domain.predicates.len() == 2
+        && domain.tasks.len() == 1
+        && domain.methods.len() == 2
+        && domain.actions.len() == 1
 }
 
-/// The parts of its second method.
-fn expect_step(rt: &impl Abort, step: &MethodText) -> Result<(), Fail> {
-    assert_eq!(rt; ROAD.get(step.place).copied(), Some(b'('));
-    assert!(rt; step.name.text() == b"m-step".as_slice());
-    assert_eq!(rt; step.parameters.len(), 2);
-    assert_eq!(rt; step.parameters.as_slice()[1].variables.len(), 3);
-    assert_eq!(rt; step.precondition.len(), 2);
-    assert!(rt; step.network.is_ordered);
-    assert_eq!(rt; step.network.subtasks.len(), 2);
-    Ok(())
+fn is_step(step: &MethodText) -> bool {
+    let [_, places] = step.parameters.as_slice() else {
+        return false;
+    };
+    ROAD.get(step.place).copied() == Some(b'(')
+        && step.name.text() == b"m-step".as_slice()
+        && places.variables.len() == 3
+        && step.precondition.len() == 2
+        && step.network.is_ordered
+        && step.network.subtasks.len() == 2
 }
 
-/// The effects of its action.
-fn expect_effects(rt: &impl Abort, effects: &[LiteralText]) -> Result<(), Fail> {
-    assert_eq!(rt; effects.len(), 2);
-    assert!(rt; !effects[0].is_positive);
-    assert!(rt; effects[1].is_positive);
-    Ok(())
+/// Whether the effects of driving are to leave a place and to be at another one.
+fn are_moves(effects: &[LiteralText]) -> bool {
+    let [leaves, arrives] = effects else {
+        return false;
+    };
+    !leaves.is_positive && arrives.is_positive
+}
+
+fn has_parts(domain: &DomainText) -> bool {
+    match (domain.methods.as_slice(), domain.actions.as_slice()) {
+        ([_, step], [drive]) => is_step(step) && are_moves(drive.effect.as_slice()),
+        _ => false,
+    }
 }
 
 #[test]
-fn road(rt: HostRuntime) -> Result<(), Fail> {
-    let domain: DomainText = read_domain(rt.alloc(), ROAD).ok().ok_or("refused")?;
-    expect_road(&rt, &domain)?;
-    let step = domain.methods.as_slice().get(1).ok_or("one method")?;
-    expect_step(&rt, step)?;
-    let action = domain.actions.as_slice().first().ok_or("no action")?;
-    expect_effects(&rt, action.effect.as_slice())
+fn road(rt: HostRuntime) -> Result<(), TextFault> {
+    let domain: DomainText = read_domain(rt.alloc(), ROAD)?;
+    assert!(rt; is_road(&domain), "the sections");
+    assert!(rt; has_parts(&domain), "the second method and the action");
+    Ok(())
 }
 
 /// A problem with each of its sections.
@@ -405,62 +222,41 @@ const DELIVERY: &[u8] = b"(define (problem p) (:domain d) (:objects a b - t c) (
         (:goal (and (p b) (and (not (q ?x)) (forall (?y) (= ?y b)))))
         (:htn :parameters (?x) :subtasks (and (s1 (go t1 c)) (go ?x)) :ordering (s1 < s1)))";
 
-/// The parts of the problem.
-fn expect_delivery(rt: &impl Abort, problem: &ProblemText) -> Result<(), Fail> {
-    assert!(rt; problem.name.text() == b"p".as_slice());
-    assert!(rt; problem.domain.text() == b"d".as_slice());
-    assert_eq!(rt; problem.objects.len(), 2);
-    assert_eq!(rt; problem.init.len(), 1);
-    // A nested `and` adds its parts in its place.
-    assert_eq!(rt; problem.goal.len(), 3);
-    assert_eq!(rt; DELIVERY.get(problem.htn.place).copied(), Some(b'('));
-    Ok(())
+fn is_delivery(problem: &ProblemText) -> bool {
+    problem.name.text() == b"p".as_slice()
+        && problem.domain.text() == b"d".as_slice()
+        && problem.objects.len() == 2
+        && problem.init.len() == 1
+        && DELIVERY.get(problem.htn.place).copied() == Some(b'(')
 }
 
-/// The parts of the last condition of its goal.
-fn expect_forall(rt: &impl Abort, condition: &Condition) -> Result<(), Fail> {
-    let Condition::Forall(parameters, body) = condition else {
-        return Err(Fail::new("no forall"));
+/// Whether a goal of three conditions, since a nested `and` adds its parts in its place, ends with a `forall`.
+fn ends_with_forall(goal: &[Condition]) -> bool {
+    match goal {
+        [_, _, Condition::Forall(parameters, body)] => parameters.len() == 1 && body.len() == 1,
+        _ => false,
+    }
+}
+
+fn is_delivered(network: &NetworkText) -> bool {
+    let [first, second] = network.subtasks.as_slice() else {
+        return false;
     };
-    assert_eq!(rt; parameters.len(), 1);
-    assert_eq!(rt; body.len(), 1);
-    Ok(())
-}
-
-/// The parts of its network.
-fn expect_network(rt: &impl Abort, network: &NetworkText) -> Result<(), Fail> {
-    assert!(rt; !network.is_ordered);
-    assert_eq!(rt; network.orderings.len(), 1);
-    let first = network.subtasks.as_slice().first().ok_or("no subtask")?;
-    assert!(rt; first.label.is_some());
-    let within = first.task.name.place().checked_sub(first.place());
-    assert_eq!(rt; within, Some(4));
-    Ok(())
-}
-
-/// The argument of its second subtask.
-fn expect_variable(rt: &impl Abort, network: &NetworkText) -> Result<(), Fail> {
-    let second = network.subtasks.as_slice().get(1).ok_or("one subtask")?;
     let [Term::Variable(variable)] = second.task.terms.as_slice() else {
-        return Err(Fail::new("no variable"));
+        return false;
     };
-    assert!(rt; variable.text() == b"?x".as_slice());
-    Ok(())
+    !network.is_ordered
+        && network.orderings.len() == 1
+        && first.label.is_some()
+        && first.task.name.place().checked_sub(first.place()) == Some(4)
+        && variable.text() == b"?x".as_slice()
 }
 
 #[test]
-fn delivery(rt: HostRuntime) -> Result<(), Fail> {
-    let problem: ProblemText = read_problem(rt.alloc(), DELIVERY).ok().ok_or("refused")?;
-    expect_delivery(&rt, &problem)?;
-    let last = problem.goal.as_slice().get(2).ok_or("no condition")?;
-    expect_forall(&rt, last)?;
-    expect_network(&rt, &problem.htn.network)?;
-    expect_variable(&rt, &problem.htn.network)
-}
-
-#[test]
-fn words_are_passed_on(rt: HostRuntime) -> Result<(), Fail> {
-    assert_eq!(rt; lex(rt.alloc(), b"(a ?b)").ok().ok_or("refused")?.len(), 4);
-    assert_eq!(rt; lex(rt.alloc(), b"a ?").err(), Some(TextFault::BadWord(2)));
+fn delivery(rt: HostRuntime) -> Result<(), TextFault> {
+    let problem: ProblemText = read_problem(rt.alloc(), DELIVERY)?;
+    assert!(rt; is_delivery(&problem), "the sections");
+    assert!(rt; ends_with_forall(problem.goal.as_slice()), "the goal");
+    assert!(rt; is_delivered(&problem.htn.network), "the network");
     Ok(())
 }

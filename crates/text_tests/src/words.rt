@@ -1,147 +1,138 @@
-use hddl_words::{
-    Class, Cursor, Items, Keyword, Kind, Name, Stop, TextFault, Token, Variable, check_brackets,
-    class_of, is_same, lex,
-};
+//! Words with their kinds and classes, their faults, and what grammars are read with.
+
+use crate::answers::Reader;
+use crate::tables::{Ask, expect, expect_run};
+use hddl_text::lex;
+use hddl_words::{Class, Cursor, Items, Name, Stop, TextFault, Token, Variable, class_of, is_same};
 use std::alloc::{AllocError, Global};
-use std::test::Fail;
+use std::process::Abort;
 
-/// The fault of the words of a text or, if there is none, of its brackets.
-fn fault_of(alloc: Global, text: &[u8]) -> Option<TextFault> {
-    match lex(alloc, text) {
-        Ok(tokens) => check_brackets(alloc, tokens.as_slice()).err(),
-        Err(fault) => Some(fault),
-    }
-}
+/// The first fault of the words of a text or, if there is none, of its brackets.
+const FAULTS: &str = r"
+ok               | ; no words
+ok               | (define (domain d))
+Unclosed at 0    | (define (domain d)
+ExtraClose at 19 | (define (domain d)))
+NotAscii at 18   | (define (domain d)\x80
+Unclosed at 0    | (define (domain d);\x80
+ok               | (define (domain d) ; \x80\n)
+Unclosed at 8    | (define (dom
+BadWord at 8     | (:types ?
+BadWord at 8     | (define :
+BadWord at 0     | ->
+BadWord at 0     | -1
+BadWord at 0     | <=
+BadWord at 1     | )<and=
+ok               | > >= a-b a? x=y
+NotAscii at 0    | \x0b
+NotAscii at 1    | a\x7f
+# Words before brackets, and the leftmost of two faults.
+BadWord at 2     | ) ?
+BadWord at 2     | a ? \x80
+NotAscii at 2    | a \x80 ?
+BadWord at 6     | ; ? \n ? ; ?
+ExtraClose at 3  | (a))(
+";
 
 #[test]
-fn words_have_kinds_and_places(rt: HostRuntime) -> Result<(), Fail> {
+fn faults(rt: HostRuntime) -> Result<(), AllocError> {
+    let alloc = rt.alloc();
+    expect(&rt, alloc, Ask::Read(Reader::Words), FAULTS)?;
+    expect_run(&rt, alloc, Reader::Words, (b' ', 0), "ok")?;
+    expect_run(&rt, alloc, Reader::Words, (b'(', 64), "Unclosed at 63")?;
+    expect_run(&rt, alloc, Reader::Words, (b'(', 65), "TooDeep at 64")?;
+    expect_run(&rt, alloc, Reader::Words, (b' ', 16_777_216), "ok")?;
+    expect_run(
+        &rt,
+        alloc,
+        Reader::Words,
+        (b' ', 16_777_217),
+        "TooLong at 16777216",
+    )
+}
+
+/// Expects the words of a text: the place, the kind, the class and the text of each.
+fn expect_words<R: Abort>(
+    rt: &R,
+    alloc: Global,
+    text: &[u8],
+    expected: &str,
+) -> Result<(), TextFault> {
+    let tokens = lex(alloc, text)?;
+    let mut lines = String::new(alloc);
+    for token in tokens.as_slice() {
+        let class = class_of(token);
+        let word = String::from_utf8_lossy(alloc, token.text)?;
+        writeln!(lines, "{} {:?} {class:?} {word}", token.place, token.kind)?;
+    }
+    assert!(rt; lines.as_str() == expected, "{lines}");
+    Ok(())
+}
+
+/// Words that no blanks part, and a comment.
+const PLACES: &str = "0 Open Open (
+1 Name Name s1
+20 Variable Variable ?x
+23 Keyword Keyword(Other) :key
+28 Sign Minus -
+29 Close Close )
+30 Sign Less <
+32 Name Name and=
+37 Name Reserved or
+";
+
+const CLASSES: &str = "0 Open Open (
+2 Close Close )
+4 Variable Variable ?x
+7 Sign Minus -
+9 Sign Equal =
+11 Sign Less <
+13 Name And and
+17 Name Not NOT
+21 Name Forall forAll
+28 Name Reserved either
+35 Name Name a
+37 Keyword Keyword(Types) :Types
+44 Keyword Keyword(Subtasks) :tasks
+51 Keyword Keyword(Subtasks) :SUBTASKS
+61 Keyword Keyword(OrderedSubtasks) :ordered-tasks
+76 Keyword Keyword(Ordering) :order
+83 Keyword Keyword(Ordering) :ordering
+93 Keyword Keyword(Other) :functions
+";
+
+/// Words of HDDL that are left out.
+const RESERVED: &str = "0 Name Reserved or
+3 Name Reserved imply
+9 Name Reserved exists
+16 Name Reserved When
+21 Name Reserved either
+28 Name Reserved increase
+37 Name Reserved preference
+";
+
+#[test]
+fn words(rt: HostRuntime) -> Result<(), TextFault> {
     let text = b"(s1 ; a (comment \x80\n\t?x\x0c:key\r-)< and= or";
-    let expected: [(Kind, usize, &[u8]); 9] = [
-        (Kind::Open, 0, b"("),
-        (Kind::Name, 1, b"s1"),
-        (Kind::Variable, 20, b"?x"),
-        (Kind::Keyword, 23, b":key"),
-        (Kind::Sign, 28, b"-"),
-        (Kind::Close, 29, b")"),
-        (Kind::Sign, 30, b"<"),
-        (Kind::Name, 32, b"and="),
-        (Kind::Name, 37, b"or"),
-    ];
-    let tokens = lex(rt.alloc(), text)?;
-    assert_eq!(rt; tokens.len(), 9);
-    for (token, (kind, place, word)) in tokens.as_slice().iter().zip(expected) {
-        assert_eq!(rt; token.kind, kind);
-        assert_eq!(rt; token.place, place);
-        assert!(rt; token.text == word);
-    }
-    Ok(())
-}
-
-#[test]
-fn first_fault(rt: HostRuntime) -> Result<(), Fail> {
-    let rows: [(&[u8], Option<TextFault>); 23] = [
-        (b"", None),
-        (b"; no words", None),
-        (b"(define (domain d))", None),
-        (b"(define (domain d)", Some(TextFault::Unclosed(0))),
-        (b"(define (domain d)))", Some(TextFault::ExtraClose(19))),
-        (b"(define (domain d)\x80", Some(TextFault::NotAscii(18))),
-        (b"(define (domain d);\x80", Some(TextFault::Unclosed(0))),
-        (b"(define (domain d) ; \x80\n)", None),
-        (b"(define (dom", Some(TextFault::Unclosed(8))),
-        (b"(:types ?", Some(TextFault::BadWord(8))),
-        (b"(define :", Some(TextFault::BadWord(8))),
-        (b"->", Some(TextFault::BadWord(0))),
-        (b"-1", Some(TextFault::BadWord(0))),
-        (b"<=", Some(TextFault::BadWord(0))),
-        (b")<and=", Some(TextFault::BadWord(1))),
-        (b"> >= a-b a? x=y", None),
-        (b"\x0b", Some(TextFault::NotAscii(0))),
-        (b"a\x7f", Some(TextFault::NotAscii(1))),
-        // Words before brackets, and the leftmost of two faults.
-        (b") ?", Some(TextFault::BadWord(2))),
-        (b"a ? \x80", Some(TextFault::BadWord(2))),
-        (b"a \x80 ?", Some(TextFault::NotAscii(2))),
-        (b"; ? \n ? ; ?", Some(TextFault::BadWord(6))),
-        (b"(a))(", Some(TextFault::ExtraClose(3))),
-    ];
-    for (text, expected) in rows {
-        assert_eq!(rt; fault_of(rt.alloc(), text), expected);
-    }
-    Ok(())
-}
-
-/// The fault of a text that is one byte, this often.
-fn fault_of_run(alloc: Global, byte: u8, len: usize) -> Result<Option<TextFault>, AllocError> {
-    let text = vec![in alloc; byte; len]?;
-    Ok(fault_of(alloc, text.as_slice()))
-}
-
-#[test]
-fn limits(rt: HostRuntime) -> Result<(), Fail> {
-    let rows = [
-        (b'(', 64, Some(TextFault::Unclosed(63))),
-        (b'(', 65, Some(TextFault::TooDeep(64))),
-        (b' ', 16_777_216, None),
-        (b' ', 16_777_217, Some(TextFault::TooLong(16_777_216))),
-    ];
-    for (byte, len, expected) in rows {
-        assert_eq!(rt; fault_of_run(rt.alloc(), byte, len)?, expected);
-    }
-    Ok(())
-}
-
-#[test]
-fn classes(rt: HostRuntime) -> Result<(), Fail> {
-    let text =
-        b"( ) ?x - = < and NOT forAll either a :Types :tasks :SUBTASKS :ordered-tasks :order :ordering :functions";
-    let expected = [
-        Class::Open,
-        Class::Close,
-        Class::Variable,
-        Class::Minus,
-        Class::Equal,
-        Class::Less,
-        Class::And,
-        Class::Not,
-        Class::Forall,
-        Class::Reserved,
-        Class::Name,
-        Class::Keyword(Keyword::Types),
-        Class::Keyword(Keyword::Subtasks),
-        Class::Keyword(Keyword::Subtasks),
-        Class::Keyword(Keyword::OrderedSubtasks),
-        Class::Keyword(Keyword::Ordering),
-        Class::Keyword(Keyword::Ordering),
-        Class::Keyword(Keyword::Other),
-    ];
-    let tokens = lex(rt.alloc(), text)?;
-    assert_eq!(rt; tokens.len(), 18);
-    for (token, class) in tokens.as_slice().iter().zip(expected) {
-        assert_eq!(rt; class_of(token), class);
-    }
-    for word in [
-        b"or".as_slice(),
-        b"imply",
-        b"exists",
-        b"When",
-        b"either",
-        b"increase",
-        b"preference",
-    ] {
-        let tokens = lex(rt.alloc(), word)?;
-        for token in tokens.as_slice() {
-            assert_eq!(rt; class_of(token), Class::Reserved);
-        }
-    }
+    expect_words(&rt, rt.alloc(), text, PLACES)?;
+    let text = b"( ) ?x - = < and NOT forAll either a \
+        :Types :tasks :SUBTASKS :ordered-tasks :order :ordering :functions";
+    expect_words(&rt, rt.alloc(), text, CLASSES)?;
+    let text = b"or imply exists When either increase preference";
+    expect_words(&rt, rt.alloc(), text, RESERVED)?;
+    let text = b"(a ?b)";
+    expect_words(
+        &rt,
+        rt.alloc(),
+        text,
+        "0 Open Open (\n1 Name Name a\n3 Variable Variable ?b\n5 Close Close )\n",
+    )?;
     assert!(rt; is_same(b"DeFine", b"define"));
     Ok(())
 }
 
-#[test]
-fn cursor(rt: HostRuntime) -> Result<(), Fail> {
-    let tokens = lex(rt.alloc(), b"Road ?x")?;
-    let mut cursor = Cursor::new(tokens.as_slice());
+/// Expects that a cursor over two words refuses each where it stands, and ends after them.
+fn expect_end<R: Abort>(rt: &R, cursor: &mut Cursor<'_>) {
     assert!(rt; cursor.next().is_ok());
     assert!(rt; matches!(cursor.refuse(), Stop::Refused(false, 2)));
     assert!(rt; matches!(cursor.refuse_unsupported(), Stop::Refused(true, 2)));
@@ -149,7 +140,6 @@ fn cursor(rt: HostRuntime) -> Result<(), Fail> {
     assert!(rt; cursor.next().is_ok());
     assert!(rt; cursor.end().is_ok());
     assert!(rt; matches!(cursor.next(), Err(Stop::Refused(false, 0))));
-    Ok(())
 }
 
 /// Whether a word is a name or a variable with this text and at this place.
@@ -173,12 +163,15 @@ fn is_named(
 }
 
 #[test]
-fn names_and_variables(rt: HostRuntime) -> Result<(), Fail> {
-    let expected: [(&[u8], usize); 2] = [(b"Road", 0), (b"?x", 5)];
+fn cursors_and_names(rt: HostRuntime) -> Result<(), TextFault> {
     let tokens = lex(rt.alloc(), b"Road ?x")?;
-    for (token, (text, place)) in tokens.as_slice().iter().zip(expected) {
-        assert!(rt; is_named(rt.alloc(), token, text, place)?);
-    }
+    let mut cursor = Cursor::new(tokens.as_slice());
+    expect_end(&rt, &mut cursor);
+    let [name, variable] = tokens.as_slice() else {
+        panic!(rt; "not two words")
+    };
+    assert!(rt; is_named(rt.alloc(), name, b"Road", 0)?, "the name");
+    assert!(rt; is_named(rt.alloc(), variable, b"?x", 5)?, "the variable");
     Ok(())
 }
 
@@ -189,40 +182,28 @@ enum Tree {
     Node(Items<Tree>),
 }
 
-#[test]
-fn items(rt: HostRuntime) -> Result<(), Fail> {
-    let mut children = Items::new(rt.alloc());
-    assert!(rt; children.is_empty());
+fn make_tree(alloc: Global) -> Result<Tree, AllocError> {
+    let mut children = Items::new(alloc);
     children.push(Tree::Leaf(7))?;
-    children.push(Tree::Node(Items::new(rt.alloc())))?;
-    let tree = Tree::Node(children);
-    match &tree {
-        Tree::Node(children) => {
-            assert_eq!(rt; children.len(), 2);
-            assert!(rt; matches!(children.as_slice(), [Tree::Leaf(7), Tree::Node(_)]));
-        }
-        Tree::Leaf(_) => {}
+    children.push(Tree::Node(Items::new(alloc)))?;
+    Ok(Tree::Node(children))
+}
+
+fn is_tree(tree: &Tree) -> bool {
+    let Tree::Node(children) = tree else {
+        return false;
+    };
+    match children.as_slice() {
+        [Tree::Leaf(7), Tree::Node(none)] => children.len() == 2 && none.is_empty(),
+        _ => false,
     }
-    let bytes = Items::from_slice(rt.alloc(), b"abc")?;
-    assert!(rt; bytes.as_slice() == b"abc".as_slice());
-    Ok(())
 }
 
 #[test]
-fn messages(rt: HostRuntime) -> Result<(), Fail> {
-    let rows = [
-        (TextFault::NotAscii(18), "NotAscii at 18"),
-        (TextFault::BadWord(1), "BadWord at 1"),
-        (TextFault::Unclosed(0), "Unclosed at 0"),
-        (TextFault::ExtraClose(19), "ExtraClose at 19"),
-        (TextFault::TooDeep(64), "TooDeep at 64"),
-        (TextFault::Expected(9), "Expected at 9"),
-        (TextFault::Unsupported(20), "Unsupported at 20"),
-        (TextFault::TooLong(16_777_216), "TooLong at 16777216"),
-        (TextFault::OutOfMemory, "OutOfMemory"),
-    ];
-    for (fault, message) in rows {
-        assert!(rt; fault.to_string(rt.alloc())?.as_str() == message);
-    }
+fn items(rt: HostRuntime) -> Result<(), AllocError> {
+    let tree = make_tree(rt.alloc())?;
+    assert!(rt; is_tree(&tree), "a list of lists");
+    let bytes = Items::from_slice(rt.alloc(), b"abc")?;
+    assert!(rt; bytes.as_slice() == b"abc".as_slice(), "a copy");
     Ok(())
 }
