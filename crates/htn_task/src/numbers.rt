@@ -19,7 +19,7 @@ impl Model for NameNumbers {
     ghost view = { λ numbers. entries_of numbers.entries.entries };
 }
 
-/// They are dropped in one place, as a task is.
+// `Drop` is written by hand: a derived one is expanded, and proved, at each way out of each owner.
 impl Drop for NameNumbers {
     fn drop(self) {
         let NameNumbers { entries: _ } = self;

@@ -133,8 +133,7 @@ impl Model for TaskParts {
     } };
 }
 
-/// The parts are dropped in one place: the check of a function that owns them then has one call for it at each way out,
-/// and not one for each list in them.
+// `Drop` is written by hand: a derived one is expanded, and proved, at each way out of each owner.
 impl Drop for TaskParts {
     fn drop(self) {
         let TaskParts {
@@ -175,7 +174,7 @@ impl Model for Task {
     ghost invariant = { λ t. model.IsWellTyped t.parts × AreNumbersIn t.parts t.numbers × AreFluents t.parts t.fluents.items };
 }
 
-/// A task is dropped in one place, as its parts are.
+// `Drop` is written by hand: a derived one is expanded, and proved, at each way out of each owner.
 impl Drop for Task {
     fn drop(self) {
         let Task {

@@ -18,7 +18,7 @@ pub(crate) struct TaskNumbers {
     pub(crate) methods: NameNumbers,
 }
 
-/// They are dropped in one place, as a task is.
+// `Drop` is written by hand: a derived one is expanded, and proved, at each way out of each owner.
 impl Drop for TaskNumbers {
     fn drop(self) {
         let TaskNumbers {

@@ -43,7 +43,7 @@ struct Search {
     wants: Vec<Option<Vec<u32>>>,
 }
 
-// By hand, since a derived one stands in full, and is proved, at each way out of each function that owns one.
+// `Drop` is written by hand: a derived one is expanded, and proved, at each way out of each owner.
 impl Drop for Search {
     fn drop(self) {
         let Search {

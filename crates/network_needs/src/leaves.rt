@@ -17,7 +17,7 @@ pub(crate) struct Leaves {
     pub(crate) gives: Vec<Vec<u32>>,
 }
 
-// By hand, since a derived one stands in full, and is proved, at each way out of each function that owns one.
+// `Drop` is written by hand: a derived one is expanded, and proved, at each way out of each owner.
 impl Drop for Leaves {
     fn drop(self) {
         let Leaves {

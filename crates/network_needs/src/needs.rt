@@ -20,7 +20,7 @@ pub struct Needs {
     pub(crate) rows: Rows,
 }
 
-// By hand, since a derived one stands in full, and is proved, at each way out of each function that owns one.
+// `Drop` is written by hand: a derived one is expanded, and proved, at each way out of each owner.
 impl Drop for Needs {
     fn drop(self) {
         let Needs {

@@ -24,7 +24,7 @@ pub(crate) struct Rows {
     pub(crate) leaf_rows: Vec<Row>,
 }
 
-// By hand, since a derived one stands in full, and is proved, at each way out of each function that owns one.
+// `Drop` is written by hand: a derived one is expanded, and proved, at each way out of each owner.
 impl Drop for Rows {
     fn drop(self) {
         let Rows {

@@ -34,7 +34,7 @@ struct Worklist {
     ready: Vec<u32>,
 }
 
-// By hand, since a derived one stands in full, and is proved, at each way out of each function that owns one.
+// `Drop` is written by hand: a derived one is expanded, and proved, at each way out of each owner.
 impl Drop for Worklist {
     fn drop(self) {
         let Worklist {

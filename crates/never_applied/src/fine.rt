@@ -23,7 +23,7 @@ pub(crate) struct Fine {
     pub(crate) barred: IndexSet<GroundTask>,
 }
 
-// By hand, since a derived one stands in full, and is proved, at each way out of each function that owns one.
+// `Drop` is written by hand: a derived one is expanded, and proved, at each way out of each owner.
 impl Drop for Fine {
     fn drop(self) {
         let Fine {

@@ -29,7 +29,7 @@ pub struct Usable {
     pub instances: usize,
 }
 
-// By hand, since a derived one stands in full, and is proved, at each way out of each function that owns one.
+// `Drop` is written by hand: a derived one is expanded, and proved, at each way out of each owner.
 impl Drop for Usable {
     fn drop(self) {
         let Usable {

@@ -55,7 +55,7 @@ pub(crate) struct Frame<'a> {
     work: Option<Box<Work>>,
 }
 
-// By hand, since a derived one stands in full, and is proved, at each way out of each function that owns one.
+// `Drop` is written by hand: a derived one is expanded, and proved, at each way out of each owner.
 impl Drop for Frame<'_> {
     fn drop(self) {
         let Frame {

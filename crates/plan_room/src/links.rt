@@ -27,7 +27,7 @@ pub(crate) struct Links {
     pub ahead: Vec<(usize, usize)>,
 }
 
-// By hand, since a derived one stands in full, and is proved, at each way out of each function that owns one.
+// `Drop` is written by hand: a derived one is expanded, and proved, at each way out of each owner.
 impl Drop for Links {
     fn drop(self) {
         let Links {

@@ -105,7 +105,7 @@ pub struct Trial {
     best: Option<usize>,
 }
 
-// By hand, since a derived one stands in full, and is proved, at each way out of each function that owns one.
+// `Drop` is written by hand: a derived one is expanded, and proved, at each way out of each owner.
 impl Drop for Trial {
     fn drop(self) {
         let Trial {

@@ -12,7 +12,7 @@ pub(crate) struct Memo {
     ends: IndexMap<Question, Option<usize>>,
 }
 
-// By hand, since a derived one stands in full, and is proved, at each way out of each function that owns one.
+// `Drop` is written by hand: a derived one is expanded, and proved, at each way out of each owner.
 impl Drop for Memo {
     fn drop(self) {
         let Memo { ends: _ } = self;

@@ -59,7 +59,7 @@ pub(crate) struct Places<'a> {
     first: IndexMap<TaskKey<'a>, usize>,
 }
 
-// By hand, since a derived one stands in full, and is proved, at each way out of each function that owns one.
+// `Drop` is written by hand: a derived one is expanded, and proved, at each way out of each owner.
 impl Drop for Places<'_> {
     fn drop(self) {
         let Places { first: _ } = self;

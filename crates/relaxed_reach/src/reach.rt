@@ -16,7 +16,7 @@ pub(crate) struct Marks {
     pub(crate) blocked: IndexSet<GroundTask>,
 }
 
-// By hand, since a derived one stands in full, and is proved, at each way out of each function that owns one.
+// `Drop` is written by hand: a derived one is expanded, and proved, at each way out of each owner.
 impl Drop for Marks {
     fn drop(self) {
         let Marks {
@@ -49,7 +49,7 @@ pub struct RelaxedReach {
     pub(crate) barred: IndexSet<GroundTask>,
 }
 
-// By hand, since a derived one stands in full, and is proved, at each way out of each function that owns one.
+// `Drop` is written by hand: a derived one is expanded, and proved, at each way out of each owner.
 impl Drop for RelaxedReach {
     fn drop(self) {
         let RelaxedReach {

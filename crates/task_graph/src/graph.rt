@@ -26,7 +26,7 @@ pub struct TaskGraph {
     pub(crate) cost: u64,
 }
 
-// By hand, since a derived one stands in full, and is proved, at each way out of each function that owns one.
+// `Drop` is written by hand: a derived one is expanded, and proved, at each way out of each owner.
 impl Drop for TaskGraph {
     fn drop(self) {
         let TaskGraph {

@@ -90,7 +90,7 @@ fn none_or_unsolvable<M: Machine, G: Gate, W: Watch, R: Threads + Wait + Sync>(
 }
 
 // The ending of searches within growing bounds, from those of `growth` on; below its least bound no word finishes, and
-// the closed list has what a search below that bound kept.
+// the closed list holds the configurations that a search below that bound stored.
 fn search_growing<M: Machine, G: Gate, W: Watch, R: Threads + Wait + Sync>(
     rt: &R,
     alloc: Global,
