@@ -40,7 +40,6 @@ pub(crate) struct Item {
 }
 
 /// What is known of a call.
-#[derive(Drop)]
 pub(crate) struct Called {
     /// The least steps before the call and behind it.
     pub around: u64,
@@ -49,8 +48,17 @@ pub(crate) struct Called {
     waits: Vec<u32>,
 }
 
+impl Drop for Called {
+    fn drop(self) {
+        let Called {
+            around: _,
+            exits: _,
+            waits: _,
+        } = self;
+    }
+}
+
 /// The search so far.
-#[derive(Drop)]
 pub(crate) struct Chart {
     alloc: Global,
     /// The most steps that a word may have.
@@ -69,6 +77,24 @@ pub(crate) struct Chart {
     work: u64,
     is_given_up: bool,
     is_finished: bool,
+}
+
+impl Drop for Chart {
+    fn drop(self) {
+        let Chart {
+            alloc: _,
+            most_steps: _,
+            sites: _,
+            calls: _,
+            points: _,
+            items: _,
+            agenda: _,
+            total: _,
+            work: _,
+            is_given_up: _,
+            is_finished: _,
+        } = self;
+    }
 }
 
 /// How far a search has come.

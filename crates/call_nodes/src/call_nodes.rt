@@ -26,7 +26,6 @@ use std::alloc::{AllocError, Global};
 use tree_sizes::TreeSizes;
 
 /// The states and the nodes of a task that were met, by number, with what each node does, and lists of nodes.
-#[derive(Drop)]
 pub struct CallNodes {
     atoms: AtomTable,
     goal: CompiledLiterals,
@@ -36,6 +35,20 @@ pub struct CallNodes {
     /// By node.
     operators: Vec<Operator>,
     lists: ListTable,
+}
+
+impl Drop for CallNodes {
+    fn drop(self) {
+        let CallNodes {
+            atoms: _,
+            goal: _,
+            states: _,
+            sizes: _,
+            nodes: _,
+            operators: _,
+            lists: _,
+        } = self;
+    }
 }
 
 /// Whether each node of an instance is before all later ones.

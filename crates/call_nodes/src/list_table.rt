@@ -11,11 +11,19 @@ use std::marker::Model;
 
 /// Nodes with their sizes, and lists of nodes, of which equal ones have one number. Number 0 is the empty list, and
 /// so is each number that no list has.
-#[derive(Drop)]
 pub struct ListTable {
     lists: BlockLists,
     /// The number of each list with some node, by its first node and the list of the others.
     numbers: IndexMap<Cell, u32>,
+}
+
+impl Drop for ListTable {
+    fn drop(self) {
+        let ListTable {
+            lists: _,
+            numbers: _,
+        } = self;
+    }
 }
 
 impl Model for ListTable {

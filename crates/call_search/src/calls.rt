@@ -32,7 +32,6 @@ const GROWTH: usize = 10;
 
 /// A search by calls of the least finishing word of a task's ranks, beside another search of the same task. It does a
 /// small fraction of the work of that.
-#[derive(Drop)]
 pub struct Calls<'a> {
     alloc: Global,
     task: &'a Task,
@@ -45,6 +44,20 @@ pub struct Calls<'a> {
     trial: Option<Trial>,
     /// The word that was found.
     word: Option<Vec<u64>>,
+}
+
+impl Drop for Calls<'_> {
+    fn drop(self) {
+        let Calls {
+            alloc: _,
+            task: _,
+            bound: _,
+            next: _,
+            asked: _,
+            trial: _,
+            word: _,
+        } = self;
+    }
 }
 
 /// How many configurations there are when the next search by calls begins: none does that would list as much.

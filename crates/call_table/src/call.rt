@@ -27,7 +27,6 @@ pub struct Place {
 
 /// A block in a state: its rules, the states in which it ends with their costs, the floor, below which it has no other
 /// end, and the places by which these are checked.
-#[derive(Drop)]
 pub struct Call {
     pub rules: Vec<Rule>,
     pub exits: Vec<Exit>,
@@ -35,8 +34,24 @@ pub struct Call {
     pub places: Vec<Place>,
 }
 
+impl Drop for Call {
+    fn drop(self) {
+        let Call {
+            rules: _,
+            exits: _,
+            floor: _,
+            places: _,
+        } = self;
+    }
+}
+
 /// Calls, each by its state and its block.
-#[derive(Drop)]
 pub struct CallTable {
     pub calls: IndexMap<Site, Call>,
+}
+
+impl Drop for CallTable {
+    fn drop(self) {
+        let CallTable { calls: _ } = self;
+    }
 }

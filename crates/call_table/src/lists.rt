@@ -16,10 +16,18 @@ pub struct Link {
 
 /// Blocks, each with the number of its nodes, and lists of blocks. A list is a block before another list, so that lists
 /// share their ends. Number 0 is the empty list.
-#[derive(Drop)]
 pub struct BlockLists {
     counts: Vec<u64>,
     links: Vec<Link>,
+}
+
+impl Drop for BlockLists {
+    fn drop(self) {
+        let BlockLists {
+            counts: _,
+            links: _,
+        } = self;
+    }
 }
 
 impl Model for BlockLists {

@@ -14,12 +14,20 @@ use reach_messages::reach_warnings;
 use std::alloc::{AllocError, Global};
 
 /// What no plan uses of a domain and a problem that fit together.
-#[derive(Drop)]
 pub(crate) struct Reach {
     /// The task of the two.
     pub(crate) task: Task,
     /// None where too much would have to be listed.
     pub(crate) findings: Option<Findings>,
+}
+
+impl Drop for Reach {
+    fn drop(self) {
+        let Reach {
+            task: _,
+            findings: _,
+        } = self;
+    }
 }
 
 /// The task of two trees that fit together.

@@ -3,10 +3,15 @@
 use std::alloc::{AllocError, Global};
 
 /// The pairs that lead from each position, as lists of their numbers: where each list begins, and which one follows.
-#[derive(Drop)]
 struct Onward {
     first: Vec<Option<usize>>,
     next: Vec<Option<usize>>,
+}
+
+impl Drop for Onward {
+    fn drop(self) {
+        let Onward { first: _, next: _ } = self;
+    }
 }
 
 fn onward_of(alloc: Global, size: usize, pairs: &[(usize, usize)]) -> Result<Onward, AllocError> {
@@ -130,10 +135,18 @@ fn one_back(pairs: &[(usize, usize)], back: &[Option<usize>], at: usize) -> usiz
 
 /// A search from a position: the pair that led to each position first, and the positions in the order in which they
 /// were come to.
-#[derive(Drop)]
 struct Search {
     from: Vec<Option<usize>>,
     reached: Vec<usize>,
+}
+
+impl Drop for Search {
+    fn drop(self) {
+        let Search {
+            from: _,
+            reached: _,
+        } = self;
+    }
 }
 
 /// Continues from a position. The number of a pair that leads to the start, if there is one.

@@ -78,7 +78,6 @@ pub struct Note<'a> {
 }
 
 /// A diagnostic: an error or a warning about a text.
-#[derive(Drop)]
 pub struct Diagnostic<'a> {
     pub severity: Severity,
     /// The name of the fault or of the warning, as `UnknownName`.
@@ -89,4 +88,18 @@ pub struct Diagnostic<'a> {
     pub label: Vec<Part<'a>>,
     pub remarks: Vec<Remark<'a>>,
     pub notes: Vec<Note<'a>>,
+}
+
+impl Drop for Diagnostic<'_> {
+    fn drop(self) {
+        let Diagnostic {
+            severity: _,
+            code: _,
+            about: _,
+            message: _,
+            label: _,
+            remarks: _,
+            notes: _,
+        } = self;
+    }
 }

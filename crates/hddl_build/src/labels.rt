@@ -11,9 +11,14 @@ use indexmap::IndexMap;
 use std::alloc::{AllocError, Global};
 
 /// The labels of a network, each with the position of its first subtask.
-#[derive(Drop)]
 pub(crate) struct Labels {
     positions: IndexMap<Vec<u8>, usize>,
+}
+
+impl Drop for Labels {
+    fn drop(self) {
+        let Labels { positions: _ } = self;
+    }
 }
 
 impl Labels {

@@ -25,13 +25,22 @@ use std::alloc::{AllocError, Global};
 use std::marker::Model;
 
 /// Which number leads to which. Contracts see its parts as lists.
-#[derive(Drop)]
 pub(crate) struct Closure {
     /// The numbers with several parents, `0` aside.
     junctions: IndexSet<usize>,
     lines: Lines,
     /// For each number the positions of the junctions that lead to it.
     sets: Vec<NumberSet>,
+}
+
+impl Drop for Closure {
+    fn drop(self) {
+        let Closure {
+            junctions: _,
+            lines: _,
+            sets: _,
+        } = self;
+    }
 }
 
 impl Model for Closure {

@@ -22,11 +22,19 @@ use std::alloc::{AllocError, Global};
 use std::marker::Model;
 
 /// Which number leads to which. Contracts see the heads and their closure.
-#[derive(Drop)]
 pub(crate) struct Condensed {
     /// Of each number, or of none where each is its own.
     heads: Vec<usize>,
     closure: Closure,
+}
+
+impl Drop for Condensed {
+    fn drop(self) {
+        let Condensed {
+            heads: _,
+            closure: _,
+        } = self;
+    }
 }
 
 impl Model for Condensed {

@@ -22,7 +22,6 @@ use std::alloc::{AllocError, Global};
 use std::marker::Model;
 
 /// The types of a domain by their numbers. Contracts see the domain.
-#[derive(Drop)]
 pub struct TypeHierarchy<'a> {
     domain: &'a DomainText,
     names: &'a Names,
@@ -32,6 +31,18 @@ pub struct TypeHierarchy<'a> {
     children: Rows,
     /// The closure of the types' parents, which decides which type is below which: for speed.
     closure: Option<Condensed>,
+}
+
+impl Drop for TypeHierarchy<'_> {
+    fn drop(self) {
+        let TypeHierarchy {
+            domain: _,
+            names: _,
+            parents: _,
+            children: _,
+            closure: _,
+        } = self;
+    }
 }
 
 impl<'a> Model for TypeHierarchy<'a> {

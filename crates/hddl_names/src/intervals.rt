@@ -180,12 +180,20 @@ fn have_tops(intervals: &[Interval], tops: &[usize], parents: &Rows) -> bool
 }
 
 /// The intervals and tops that decide along lines whether one number leads to another.
-#[derive(Drop)]
 pub(crate) struct Lines {
     /// Of each number.
     pub(crate) intervals: Vec<Interval>,
     /// Of each number the last one of its line.
     pub(crate) tops: Vec<usize>,
+}
+
+impl Drop for Lines {
+    fn drop(self) {
+        let Lines {
+            intervals: _,
+            tops: _,
+        } = self;
+    }
 }
 
 /// The intervals and tops that decide which number leads to which along the parents; None where a number has several or

@@ -12,9 +12,14 @@ use std::marker::Model;
 
 /// Different names in lower case, as a plan file can hold them, each with its position as its number. Contracts see the
 /// list of the names.
-#[derive(Drop)]
 pub struct Names {
     texts: IndexSet<Vec<u8>>,
+}
+
+impl Drop for Names {
+    fn drop(self) {
+        let Names { texts: _ } = self;
+    }
 }
 
 impl Model for Names {

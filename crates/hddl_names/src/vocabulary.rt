@@ -12,12 +12,22 @@ use std::alloc::{AllocError, Global};
 use std::marker::Model;
 
 /// The names that a domain and a problem declare, by kind. A name's number is its position among those of its kind.
-#[derive(Drop)]
 pub struct Vocabulary {
     types: Names,
     objects: Names,
     predicates: Names,
     tasks: Names,
+}
+
+impl Drop for Vocabulary {
+    fn drop(self) {
+        let Vocabulary {
+            types: _,
+            objects: _,
+            predicates: _,
+            tasks: _,
+        } = self;
+    }
 }
 
 impl Model for Vocabulary {

@@ -31,13 +31,22 @@ struct Entry<'a> {
 /// The variables in force: the parameters of a schema, and then those of each `forall` around. Variables are put in
 /// force and taken back at the end, and the work is that of these variables alone. Contracts see the list of the
 /// variables.
-#[derive(Drop)]
 pub struct Scope<'a> {
     entries: Vec<Entry<'a>>,
     /// The position of the first variable of each text.
     positions: Numbers,
     /// The place of a variable whose text occurs before it, if there is one.
     repeat: Option<usize>,
+}
+
+impl Drop for Scope<'_> {
+    fn drop(self) {
+        let Scope {
+            entries: _,
+            positions: _,
+            repeat: _,
+        } = self;
+    }
 }
 
 impl<'a> Model for Scope<'a> {

@@ -20,7 +20,6 @@ struct Numbered {
 }
 
 /// Texts, each with a number: the first that was given. Contracts see the list of the texts with their numbers.
-#[derive(Drop)]
 pub struct Numbers {
     /// How many texts are looked through one by one: none in a list that was to be long.
     limit: usize,
@@ -28,6 +27,16 @@ pub struct Numbers {
     few: Vec<Numbered>,
     /// The others.
     rest: IndexMap<Vec<u8>, usize>,
+}
+
+impl Drop for Numbers {
+    fn drop(self) {
+        let Numbers {
+            limit: _,
+            few: _,
+            rest: _,
+        } = self;
+    }
 }
 
 impl Model for Numbers {

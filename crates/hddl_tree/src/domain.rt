@@ -7,21 +7,38 @@ use crate::term::{AtomText, NameGroup, VariableGroup};
 use hddl_words::{Items, Name};
 
 /// The declaration of a predicate.
-#[derive(Debug, Drop)]
+#[derive(Debug)]
 pub struct PredicateText {
     pub name: Name,
     pub parameters: Items<VariableGroup>,
 }
 
+impl Drop for PredicateText {
+    fn drop(self) {
+        let PredicateText {
+            name: _,
+            parameters: _,
+        } = self;
+    }
+}
+
 /// The declaration of a compound task.
-#[derive(Debug, Drop)]
+#[derive(Debug)]
 pub struct TaskText {
     pub name: Name,
     pub parameters: Items<VariableGroup>,
 }
 
+impl Drop for TaskText {
+    fn drop(self) {
+        let TaskText {
+            name: _,
+            parameters: _,
+        } = self;
+    }
+}
+
 /// A method: a way to decompose a compound task.
-#[derive(Drop)]
 pub struct MethodText {
     /// The byte offset of its opening bracket.
     pub place: usize,
@@ -33,8 +50,20 @@ pub struct MethodText {
     pub network: NetworkText,
 }
 
+impl Drop for MethodText {
+    fn drop(self) {
+        let MethodText {
+            place: _,
+            name: _,
+            parameters: _,
+            task: _,
+            precondition: _,
+            network: _,
+        } = self;
+    }
+}
+
 /// An action: a primitive task.
-#[derive(Drop)]
 pub struct ActionText {
     pub name: Name,
     pub parameters: Items<VariableGroup>,
@@ -42,8 +71,18 @@ pub struct ActionText {
     pub effect: Items<LiteralText>,
 }
 
+impl Drop for ActionText {
+    fn drop(self) {
+        let ActionText {
+            name: _,
+            parameters: _,
+            precondition: _,
+            effect: _,
+        } = self;
+    }
+}
+
 /// The tree of a domain's text. The sections of each kind stand in the order of the text.
-#[derive(Drop)]
 pub struct DomainText {
     pub name: Name,
     pub requirements: Items<Requirement>,
@@ -54,4 +93,19 @@ pub struct DomainText {
     pub tasks: Items<TaskText>,
     pub methods: Items<MethodText>,
     pub actions: Items<ActionText>,
+}
+
+impl Drop for DomainText {
+    fn drop(self) {
+        let DomainText {
+            name: _,
+            requirements: _,
+            types: _,
+            constants: _,
+            predicates: _,
+            tasks: _,
+            methods: _,
+            actions: _,
+        } = self;
+    }
 }

@@ -5,7 +5,7 @@ use crate::term::AtomText;
 use hddl_words::{Items, Name};
 
 /// A subtask of a network.
-#[derive(Debug, Drop)]
+#[derive(Debug)]
 pub struct SubtaskText {
     /// Its name for `:ordering`, as `s1` in `(s1 (go t1 c))`.
     pub label: Option<Name>,
@@ -13,15 +13,30 @@ pub struct SubtaskText {
     pub task: AtomText,
 }
 
+impl Drop for SubtaskText {
+    fn drop(self) {
+        let SubtaskText { label: _, task: _ } = self;
+    }
+}
+
 /// The subtask that has the first name comes before the one that has the second.
-#[derive(Debug, Drop)]
+#[derive(Debug)]
 pub struct OrderingText {
     pub before: Name,
     pub after: Name,
 }
 
+impl Drop for OrderingText {
+    fn drop(self) {
+        let OrderingText {
+            before: _,
+            after: _,
+        } = self;
+    }
+}
+
 /// The network of a method or of `:htn`. What isn't written is empty.
-#[derive(Debug, Drop)]
+#[derive(Debug)]
 pub struct NetworkText {
     /// Whether the order of the list is an order of the subtasks too, as under `:ordered-subtasks` and
     /// `:ordered-tasks`.
@@ -30,6 +45,17 @@ pub struct NetworkText {
     /// The pairs of `:ordering` or `:order`.
     pub orderings: Items<OrderingText>,
     pub constraints: Items<EqualityText>,
+}
+
+impl Drop for NetworkText {
+    fn drop(self) {
+        let NetworkText {
+            is_ordered: _,
+            subtasks: _,
+            orderings: _,
+            constraints: _,
+        } = self;
+    }
 }
 
 impl SubtaskText {

@@ -7,7 +7,7 @@ use crate::term::{AtomText, NameGroup, VariableGroup};
 use hddl_words::{Items, Name};
 
 /// The initial task network, `:htn`.
-#[derive(Debug, Drop)]
+#[derive(Debug)]
 pub struct HtnText {
     /// The byte offset of its opening bracket.
     pub place: usize,
@@ -15,8 +15,17 @@ pub struct HtnText {
     pub network: NetworkText,
 }
 
+impl Drop for HtnText {
+    fn drop(self) {
+        let HtnText {
+            place: _,
+            parameters: _,
+            network: _,
+        } = self;
+    }
+}
+
 /// The tree of a problem's text. What isn't written is empty.
-#[derive(Drop)]
 pub struct ProblemText {
     pub name: Name,
     /// The name of the domain that it names.
@@ -26,4 +35,18 @@ pub struct ProblemText {
     pub init: Items<AtomText>,
     pub goal: Items<Condition>,
     pub htn: HtnText,
+}
+
+impl Drop for ProblemText {
+    fn drop(self) {
+        let ProblemText {
+            name: _,
+            domain: _,
+            requirements: _,
+            objects: _,
+            init: _,
+            goal: _,
+            htn: _,
+        } = self;
+    }
 }

@@ -13,10 +13,15 @@ use htn_order::{OrderFault, close};
 use std::alloc::{AllocError, Global};
 
 /// The pairs that lead from each position, as lists of their indices: where each list begins, and which index follows.
-#[derive(Drop)]
 struct Onward {
     first: Vec<Option<usize>>,
     next: Vec<Option<usize>>,
+}
+
+impl Drop for Onward {
+    fn drop(self) {
+        let Onward { first: _, next: _ } = self;
+    }
 }
 
 fn onward_of(alloc: Global, size: usize, pairs: &[(usize, usize)]) -> Result<Onward, AllocError> {

@@ -9,11 +9,19 @@ use hddl_tree::DomainText;
 use std::alloc::{AllocError, Global};
 
 /// The declarations of a domain, by name.
-#[derive(Drop)]
 pub struct Declarations<'a> {
     pub(crate) predicates: Signatures<'a>,
     /// The compound tasks, and then the actions.
     pub(crate) tasks: Signatures<'a>,
+}
+
+impl Drop for Declarations<'_> {
+    fn drop(self) {
+        let Declarations {
+            predicates: _,
+            tasks: _,
+        } = self;
+    }
 }
 
 fn predicates_of(alloc: Global, domain: &DomainText) -> Result<Signatures<'_>, AllocError>

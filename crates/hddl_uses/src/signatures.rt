@@ -9,10 +9,18 @@ use hddl_tree::{ActionText, Name, PredicateText, TaskText, VariableGroup};
 use std::alloc::{AllocError, Global};
 
 /// The places of declarations, and for each name the number of the first one.
-#[derive(Drop)]
 pub(crate) struct Signatures<'a> {
     numbers: Numbers,
     places: Vec<Vec<Declared<'a>>>,
+}
+
+impl Drop for Signatures<'_> {
+    fn drop(self) {
+        let Signatures {
+            numbers: _,
+            places: _,
+        } = self;
+    }
 }
 
 impl<'a> Signatures<'a> {

@@ -7,12 +7,22 @@ use hddl_tree::{DomainText, NameGroup, NetworkText, ProblemText};
 use std::alloc::{AllocError, Global};
 
 /// The first subtask of each name, and the first declaration of each object, by their places in the two texts.
-#[derive(Drop)]
 pub(crate) struct FirstPlaces {
     domain_subtasks: Numbers,
     problem_subtasks: Numbers,
     constants: Numbers,
     objects: Numbers,
+}
+
+impl Drop for FirstPlaces {
+    fn drop(self) {
+        let FirstPlaces {
+            domain_subtasks: _,
+            problem_subtasks: _,
+            constants: _,
+            objects: _,
+        } = self;
+    }
 }
 
 /// Keeps a place for a text, unless it has one.

@@ -12,11 +12,17 @@ use std::alloc::{AllocError, Global};
 use std::marker::Model;
 
 /// A name of the grammar, which is not reserved, as it is written.
-#[derive(Debug, Drop)]
+#[derive(Debug)]
 pub struct Name {
     place: usize,
     /// Most are short, and need no allocation.
     text: SmallVec<u8, 16>,
+}
+
+impl Drop for Name {
+    fn drop(self) {
+        let Name { place: _, text: _ } = self;
+    }
 }
 
 impl Model for Name {

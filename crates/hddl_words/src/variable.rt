@@ -12,11 +12,17 @@ use std::alloc::{AllocError, Global};
 use std::marker::Model;
 
 /// A variable as it is written, its `?` included.
-#[derive(Debug, Drop)]
+#[derive(Debug)]
 pub struct Variable {
     place: usize,
     /// Most are short, and need no allocation.
     text: SmallVec<u8, 16>,
+}
+
+impl Drop for Variable {
+    fn drop(self) {
+        let Variable { place: _, text: _ } = self;
+    }
 }
 
 impl Model for Variable {

@@ -17,7 +17,6 @@ use htn_task::Term;
 use std::alloc::{AllocError, Global};
 
 /// The objects that a literal leaves to the parameter at `depth`, once those before it have values.
-#[derive(Drop)]
 pub(crate) struct Candidates {
     depth: usize,
     predicate: u16,
@@ -26,6 +25,17 @@ pub(crate) struct Candidates {
     /// The true atoms with the argument of the parameter moved behind the others; None where it is the last one
     /// already.
     rows: Option<State>,
+}
+
+impl Drop for Candidates {
+    fn drop(self) {
+        let Candidates {
+            depth: _,
+            predicate: _,
+            arguments: _,
+            rows: _,
+        } = self;
+    }
 }
 
 impl Candidates {

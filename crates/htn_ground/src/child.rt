@@ -99,9 +99,14 @@ impl MadeWith<Global> for Child {
 }
 
 /// The nodes of a ground network, in their order.
-#[derive(Drop)]
 pub struct ChildList {
     children: SmallVec<Child, 4>,
+}
+
+impl Drop for ChildList {
+    fn drop(self) {
+        let ChildList { children: _ } = self;
+    }
 }
 
 impl Model for ChildList {

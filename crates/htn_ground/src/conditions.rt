@@ -22,11 +22,20 @@ pub struct Place {
 
 /// The conditions of a schema on the values of its parameters: the parameters' types, equalities, and the types of the
 /// argument places at which parameters and objects are.
-#[derive(Drop)]
 pub struct Conditions {
     parameters: Vec<u16>,
     equalities: Vec<EqualitySchema>,
     places: Vec<Place>,
+}
+
+impl Drop for Conditions {
+    fn drop(self) {
+        let Conditions {
+            parameters: _,
+            equalities: _,
+            places: _,
+        } = self;
+    }
 }
 
 impl Model for Conditions {

@@ -7,12 +7,22 @@ use htn_order::Order;
 use std::marker::Model;
 
 /// An instance of a method or of the initial network: a ground network with where it comes from.
-#[derive(Drop)]
 pub struct Instance {
     method: Option<u16>,
     values: ObjectList,
     children: ChildList,
     order: Order,
+}
+
+impl Drop for Instance {
+    fn drop(self) {
+        let Instance {
+            method: _,
+            values: _,
+            children: _,
+            order: _,
+        } = self;
+    }
 }
 
 impl Model for Instance {

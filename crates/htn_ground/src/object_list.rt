@@ -7,9 +7,14 @@ use std::hash::{Hash, Hasher};
 use std::marker::Model;
 
 /// A list of objects by their numbers, as the arguments of a task or the values of parameters.
-#[derive(Drop)]
 pub struct ObjectList {
     objects: SmallVec<u16, 4>,
+}
+
+impl Drop for ObjectList {
+    fn drop(self) {
+        let ObjectList { objects: _ } = self;
+    }
 }
 
 impl Model for ObjectList {

@@ -20,11 +20,20 @@ use std::marker::Model;
 use std::sync::Arc;
 
 /// A state, the open nodes, and which of them are before which others.
-#[derive(Drop)]
 pub struct Config {
     state: Arc<State>,
     open_nodes: ChildList,
     order: Order,
+}
+
+impl Drop for Config {
+    fn drop(self) {
+        let Config {
+            state: _,
+            open_nodes: _,
+            order: _,
+        } = self;
+    }
 }
 
 impl Model for Config {

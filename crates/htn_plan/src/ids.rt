@@ -56,9 +56,14 @@ impl<'a> Hash for Place<'a> {
 }
 
 /// The ids of actions, by their places.
-#[derive(Drop)]
 pub(crate) struct ActionIds<'a> {
     by_place: IndexMap<Place<'a>, u64>,
+}
+
+impl Drop for ActionIds<'_> {
+    fn drop(self) {
+        let ActionIds { by_place: _ } = self;
+    }
 }
 
 impl<'a> ActionIds<'a> {

@@ -17,11 +17,20 @@ use htn_task::Task;
 use std::alloc::Global;
 
 /// The trees of a domain and a problem that fit together, and their task.
-#[derive(Drop)]
 pub(crate) struct Pair {
     pub(crate) domain: DomainText,
     pub(crate) problem: ProblemText,
     pub(crate) task: Task,
+}
+
+impl Drop for Pair {
+    fn drop(self) {
+        let Pair {
+            domain: _,
+            problem: _,
+            task: _,
+        } = self;
+    }
 }
 
 /// Reads the domain, then the problem, and then checks the pair.

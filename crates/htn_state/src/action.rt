@@ -5,13 +5,22 @@ use crate::state::State;
 use std::marker::Model;
 
 /// A ground action: its precondition and its effects.
-#[derive(Drop)]
 pub struct Action {
     pub precondition: LiteralList,
     /// The atoms that become false.
     pub deletes: State,
     /// The atoms that are true afterwards, also those deleted.
     pub adds: State,
+}
+
+impl Drop for Action {
+    fn drop(self) {
+        let Action {
+            precondition: _,
+            deletes: _,
+            adds: _,
+        } = self;
+    }
 }
 
 impl Model for Action {

@@ -10,10 +10,18 @@ use std::hash::{Hash, Hasher};
 use std::marker::Model;
 
 /// A predicate at a list of objects, all by their numbers.
-#[derive(Drop)]
 pub struct Atom {
     predicate: u16,
     arguments: SmallVec<u16, 4>,
+}
+
+impl Drop for Atom {
+    fn drop(self) {
+        let Atom {
+            predicate: _,
+            arguments: _,
+        } = self;
+    }
 }
 
 impl Model for Atom {

@@ -8,10 +8,18 @@ use htn_order::Order;
 use std::marker::Model;
 
 /// The subtasks of a method or of the initial network, and their closed order.
-#[derive(Drop)]
 pub struct NetworkSchema {
     subtasks: Vec<TaskSchema>,
     order: Order,
+}
+
+impl Drop for NetworkSchema {
+    fn drop(self) {
+        let NetworkSchema {
+            subtasks: _,
+            order: _,
+        } = self;
+    }
 }
 
 impl Model for NetworkSchema {
@@ -48,7 +56,6 @@ impl NetworkSchema {
 }
 
 /// A way to decompose a compound task.
-#[derive(Drop)]
 pub struct MethodSchema {
     name: Name,
     parameters: Vec<u16>,
@@ -56,6 +63,19 @@ pub struct MethodSchema {
     precondition: FormulaList,
     constraints: Vec<EqualitySchema>,
     network: NetworkSchema,
+}
+
+impl Drop for MethodSchema {
+    fn drop(self) {
+        let MethodSchema {
+            name: _,
+            parameters: _,
+            task: _,
+            precondition: _,
+            constraints: _,
+            network: _,
+        } = self;
+    }
 }
 
 impl Model for MethodSchema {
@@ -144,13 +164,24 @@ impl MethodSchema {
 }
 
 /// An action: a primitive task.
-#[derive(Drop)]
 pub struct ActionSchema {
     name: Name,
     parameters: Vec<u16>,
     precondition: FormulaList,
     deletes: Vec<AtomSchema>,
     adds: Vec<AtomSchema>,
+}
+
+impl Drop for ActionSchema {
+    fn drop(self) {
+        let ActionSchema {
+            name: _,
+            parameters: _,
+            precondition: _,
+            deletes: _,
+            adds: _,
+        } = self;
+    }
 }
 
 impl Model for ActionSchema {
@@ -230,11 +261,20 @@ impl ActionSchema {
 }
 
 /// The initial network: its parameters, constraints on them, and the tasks to be done.
-#[derive(Drop)]
 pub struct InitialSchema {
     parameters: Vec<u16>,
     constraints: Vec<EqualitySchema>,
     network: NetworkSchema,
+}
+
+impl Drop for InitialSchema {
+    fn drop(self) {
+        let InitialSchema {
+            parameters: _,
+            constraints: _,
+            network: _,
+        } = self;
+    }
 }
 
 impl Model for InitialSchema {

@@ -19,10 +19,18 @@ use std::alloc::{AllocError, Global};
 use std::marker::Model;
 
 /// A type, with the objects that have it.
-#[derive(Drop)]
 pub struct ObjectType {
     name: Name,
     objects: Vec<u16>,
+}
+
+impl Drop for ObjectType {
+    fn drop(self) {
+        let ObjectType {
+            name: _,
+            objects: _,
+        } = self;
+    }
 }
 
 impl Model for ObjectType {
@@ -58,10 +66,15 @@ impl ObjectType {
 }
 
 /// A predicate or a compound task, with the types of its places.
-#[derive(Drop)]
 pub struct Declaration {
     name: Name,
     types: Vec<u16>,
+}
+
+impl Drop for Declaration {
+    fn drop(self) {
+        let Declaration { name: _, types: _ } = self;
+    }
 }
 
 impl Model for Declaration {

@@ -119,7 +119,6 @@ impl Drop for Node {
 
 /// A forest of decomposition trees for one instance of the initial network, and an order of all its
 /// actions and steps. A place is the list of child positions from the roots down.
-#[derive(Drop)]
 pub struct Solution {
     /// The instance of the initial network.
     pub initial: Instance,
@@ -127,4 +126,14 @@ pub struct Solution {
     pub trees: Vec<Node>,
     /// The places of all actions and steps, in the order in which they are carried out.
     pub linearisation: Vec<Vec<usize>>,
+}
+
+impl Drop for Solution {
+    fn drop(self) {
+        let Solution {
+            initial: _,
+            trees: _,
+            linearisation: _,
+        } = self;
+    }
 }

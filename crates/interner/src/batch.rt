@@ -9,10 +9,18 @@ use std::marker::Model;
 use workers::shard_of;
 
 /// Values in the order in which they were added, sorted by their shards, so that shards can add them side by side.
-#[derive(Drop)]
 pub struct Batch<T: Eq + Hash> {
     by_shard: Vec<Vec<T>>,
     routes: Vec<Spot>,
+}
+
+impl<T: Eq + Hash + Drop> Drop for Batch<T> {
+    fn drop(self) {
+        let Batch {
+            by_shard: _,
+            routes: _,
+        } = self;
+    }
 }
 
 impl<T: Eq + Hash> Model for Batch<T> {

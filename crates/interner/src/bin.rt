@@ -11,7 +11,6 @@ use std::hash::Hash;
 use std::mem::swap;
 
 /// The values of one shard with their numbers, and those of a batch that are to be added.
-#[derive(Drop)]
 pub(crate) struct Bin<T: Eq + Hash> {
     pub(crate) values: IndexSet<T>,
     /// By the place among the values, the number of a value.
@@ -22,6 +21,19 @@ pub(crate) struct Bin<T: Eq + Hash> {
     /// By the place in the last batch, the place of a value among those that it has.
     pub(crate) taken: Vec<usize>,
     pub(crate) is_refused: bool,
+}
+
+impl<T: Eq + Hash + Drop> Drop for Bin<T> {
+    fn drop(self) {
+        let Bin {
+            values: _,
+            numbers: _,
+            known: _,
+            pending: _,
+            taken: _,
+            is_refused: _,
+        } = self;
+    }
 }
 
 impl<T: Eq + Hash + Drop> Bin<T> {

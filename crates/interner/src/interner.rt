@@ -18,11 +18,16 @@ use workers::shard_of;
 
 /// An interner: each value has a number, by the order in which values were added, and equal values have the same.
 /// Values are moved in, into shards by hash, so that several workers add a batch side by side, each to its own shards.
-#[derive(Drop)]
 pub struct Interner<T: Eq + Hash> {
     bins: Vec<Bin<T>>,
     /// The place of each value, by its number.
     spots: Vec<Spot>,
+}
+
+impl<T: Eq + Hash + Drop> Drop for Interner<T> {
+    fn drop(self) {
+        let Interner { bins: _, spots: _ } = self;
+    }
 }
 
 impl<T: Eq + Hash> Model for Interner<T> {

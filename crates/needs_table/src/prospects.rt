@@ -17,10 +17,15 @@ use task_graph::TaskGraph;
 
 /// Facts about nodes that are found before a search: the literals that they want and give, and what is reached in the
 /// delete relaxation, if that was computed.
-#[derive(Drop)]
 pub struct Prospects {
     pub needs: Needs,
     pub reach: Option<RelaxedReach>,
+}
+
+impl Drop for Prospects {
+    fn drop(self) {
+        let Prospects { needs: _, reach: _ } = self;
+    }
 }
 
 /// Whether a node never ends by relaxed reachability; false where that was not computed.

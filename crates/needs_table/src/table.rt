@@ -23,7 +23,6 @@ use state_table::{AtomTable, BitState, CompiledLiterals};
 use std::alloc::{AllocError, Global};
 
 /// The needs of each network of a table: the literals that have to hold initially, for its nodes and for a goal.
-#[derive(Drop)]
 pub struct NeedsTable {
     pub(crate) goal: LiteralList,
     /// The goal's literals, compiled; empty until the table is first updated.
@@ -36,6 +35,19 @@ pub struct NeedsTable {
     pub(crate) wanted: WantTable,
     /// By the number of a network, the ids of its needs if it is a chain.
     pub(crate) lists: Vec<Vec<u32>>,
+}
+
+impl Drop for NeedsTable {
+    fn drop(self) {
+        let NeedsTable {
+            goal: _,
+            goals: _,
+            nodes: _,
+            needs: _,
+            wanted: _,
+            lists: _,
+        } = self;
+    }
 }
 
 impl NeedsTable {

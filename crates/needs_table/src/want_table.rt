@@ -11,11 +11,16 @@ use std::alloc::{AllocError, Global};
 use std::collections::HashMap;
 
 /// Wants by ids. A want that is added again mostly gets the id that it has, and no proof rests on that.
-#[derive(Drop)]
 pub(crate) struct WantTable {
     pub(crate) wants: Vec<Want>,
     /// An id by the code of a literal, as a hint: the want of the id is compared.
     ids: HashMap<u64, u32>,
+}
+
+impl Drop for WantTable {
+    fn drop(self) {
+        let WantTable { wants: _, ids: _ } = self;
+    }
 }
 
 /// The code of a literal, which no other literal has.

@@ -7,13 +7,22 @@ use indexmap::IndexSet;
 use std::alloc::Global;
 
 /// Of a node: the literals that it wants, and which of the numbered ones it gives.
-#[derive(Drop)]
 pub(crate) struct Row {
     pub(crate) wants: Vec<Literal>,
     /// As the bits of words, by the numbers of literals.
     pub(crate) gives: Vec<u64>,
     /// Nothing ever ends it.
     pub(crate) is_blocked: bool,
+}
+
+impl Drop for Row {
+    fn drop(self) {
+        let Row {
+            wants: _,
+            gives: _,
+            is_blocked: _,
+        } = self;
+    }
 }
 
 /// The rows of compound tasks by their numbers, and of steps and actions.

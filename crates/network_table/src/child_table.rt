@@ -10,10 +10,18 @@ use indexmap::IndexSet;
 use std::alloc::{AllocError, Global};
 
 /// Nodes with numbers, each with a lower bound on the steps that it takes; the caller supplies the bound.
-#[derive(Drop)]
 pub struct ChildTable {
     children: IndexSet<Child>,
     bounds: Vec<u32>,
+}
+
+impl Drop for ChildTable {
+    fn drop(self) {
+        let ChildTable {
+            children: _,
+            bounds: _,
+        } = self;
+    }
 }
 
 impl ChildTable {

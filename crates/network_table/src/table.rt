@@ -22,13 +22,24 @@ use std::alloc::{AllocError, Global};
 
 /// Networks with numbers, each with its count of nodes, a lower bound on the steps that it takes, and its expansion
 /// once it is found.
-#[derive(Drop)]
 pub struct NetworkTable {
     pub(crate) children: ChildTable,
     pub(crate) networks: NetworkSet,
     pub(crate) open_lens: Vec<u64>,
     pub(crate) bounds: Vec<u64>,
     pub(crate) expansions: Vec<Option<Expansion>>,
+}
+
+impl Drop for NetworkTable {
+    fn drop(self) {
+        let NetworkTable {
+            children: _,
+            networks: _,
+            open_lens: _,
+            bounds: _,
+            expansions: _,
+        } = self;
+    }
 }
 
 /// A place as a number, if a word of 32 bits holds it. A place past them is no number: to add a network there is an

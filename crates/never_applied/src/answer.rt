@@ -37,7 +37,6 @@ pub struct Unused {
 }
 
 /// The methods and actions that no plan of a task uses, whatever its size.
-#[derive(Drop)]
 pub struct Findings {
     /// Why there is no plan; none where there may be one.
     pub no_plan: Option<NoPlan>,
@@ -49,4 +48,16 @@ pub struct Findings {
     pub usable: Usable,
     /// The number of atoms that may be true, each on its own.
     pub facts: usize,
+}
+
+impl Drop for Findings {
+    fn drop(self) {
+        let Findings {
+            no_plan: _,
+            methods: _,
+            actions: _,
+            usable: _,
+            facts: _,
+        } = self;
+    }
 }

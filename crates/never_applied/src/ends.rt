@@ -26,7 +26,6 @@ struct Pending {
 }
 
 /// The worklist.
-#[derive(Drop)]
 struct Ends {
     /// By node.
     entries: Vec<Entry>,
@@ -34,6 +33,16 @@ struct Ends {
     pending: Vec<Pending>,
     /// Tasks that end, whose uses are not yet visited.
     ended: Vec<NodeId>,
+}
+
+impl Drop for Ends {
+    fn drop(self) {
+        let Ends {
+            entries: _,
+            pending: _,
+            ended: _,
+        } = self;
+    }
 }
 
 impl Ends {

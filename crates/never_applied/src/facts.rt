@@ -9,10 +9,18 @@ ghost use Rattle.never_applied.specs.Fine.{facts_of};
 use htn_state::{Action, Atom, Literal, State};
 
 /// The atoms that may be true, and those that are true in each state.
-#[derive(Drop)]
 pub(crate) struct Facts {
     pub(crate) possible: State,
     pub(crate) lasting: State,
+}
+
+impl Drop for Facts {
+    fn drop(self) {
+        let Facts {
+            possible: _,
+            lasting: _,
+        } = self;
+    }
 }
 
 /// Whether all of the atoms are true in a state.

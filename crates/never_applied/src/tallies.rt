@@ -11,17 +11,33 @@ use std::alloc::{AllocError, Global};
 
 /// Tallies of the methods and of the actions, by place; none for those that a plan may use, or that no network asks
 /// for.
-#[derive(Drop)]
 struct Tallies {
     methods: Vec<Option<Tally>>,
     actions: Vec<Option<Tally>>,
 }
 
+impl Drop for Tallies {
+    fn drop(self) {
+        let Tallies {
+            methods: _,
+            actions: _,
+        } = self;
+    }
+}
+
 /// The causes of the methods and of the actions that have a tally.
-#[derive(Drop)]
 pub(crate) struct Causes {
     pub(crate) methods: Vec<Unused>,
     pub(crate) actions: Vec<Unused>,
+}
+
+impl Drop for Causes {
+    fn drop(self) {
+        let Causes {
+            methods: _,
+            actions: _,
+        } = self;
+    }
 }
 
 /// The cause of each tally, with its place.

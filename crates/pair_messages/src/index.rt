@@ -42,14 +42,21 @@ pub(crate) struct Type<'a> {
 }
 
 /// What has types: the types, and the constants and objects.
-#[derive(Drop)]
 pub(crate) struct Typed<'a> {
     pub(crate) types: ByName<Type<'a>>,
     pub(crate) objects: ByName<Object<'a>>,
 }
 
+impl Drop for Typed<'_> {
+    fn drop(self) {
+        let Typed {
+            types: _,
+            objects: _,
+        } = self;
+    }
+}
+
 /// What a domain declares with parameters: predicates, compound tasks, actions and methods.
-#[derive(Drop)]
 pub(crate) struct Called<'a> {
     pub(crate) predicates: ByName<Declaration<'a>>,
     pub(crate) tasks: ByName<Declaration<'a>>,
@@ -57,8 +64,18 @@ pub(crate) struct Called<'a> {
     pub(crate) methods: ByName<&'a MethodText>,
 }
 
+impl Drop for Called<'_> {
+    fn drop(self) {
+        let Called {
+            predicates: _,
+            tasks: _,
+            actions: _,
+            methods: _,
+        } = self;
+    }
+}
+
 /// The texts of a pair with their declarations by name, made once for all faults of the pair.
-#[derive(Drop)]
 pub struct PairIndex<'a> {
     pub(crate) texts: &'a PairTexts<'a>,
     pub(crate) known: Known,
@@ -68,6 +85,18 @@ pub struct PairIndex<'a> {
     pub(crate) names_len: usize,
     ghost types: { known.types ≡ known_types texts.now.domain_tree.now },
     ghost objects: { known.objects ≡ object_names texts.now.domain_tree.now texts.now.problem_tree.now },
+}
+
+impl Drop for PairIndex<'_> {
+    fn drop(self) {
+        let PairIndex {
+            texts: _,
+            known: _,
+            typed: _,
+            called: _,
+            names_len: _,
+        } = self;
+    }
 }
 
 /// How many variables a typed list has.

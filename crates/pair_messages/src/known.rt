@@ -12,10 +12,18 @@ use hddl_tree::{DomainText, NameGroup, ProblemText};
 use std::alloc::{AllocError, Global};
 
 /// The names that a pair declares: types with `object`, and constants with objects.
-#[derive(Drop)]
 pub(crate) struct Known {
     pub(crate) types: Names,
     pub(crate) objects: Names,
+}
+
+impl Drop for Known {
+    fn drop(self) {
+        let Known {
+            types: _,
+            objects: _,
+        } = self;
+    }
 }
 
 /// Adds the names of a typed list.

@@ -36,7 +36,7 @@ pub struct Edge {
 }
 
 /// The places and sizes of a picture's parts.
-#[derive(Debug, Drop)]
+#[derive(Debug)]
 pub struct Layout {
     /// The box of the problem.
     pub problem: Area,
@@ -46,6 +46,18 @@ pub struct Layout {
     pub edges: Vec<Edge>,
     pub width: usize,
     pub height: usize,
+}
+
+impl Drop for Layout {
+    fn drop(self) {
+        let Layout {
+            problem: _,
+            boxes: _,
+            edges: _,
+            width: _,
+            height: _,
+        } = self;
+    }
 }
 
 /// What is measured: the width and the middle of each line's box, and where each column begins.

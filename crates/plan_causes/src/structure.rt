@@ -9,7 +9,6 @@ use plan_text::PlanFile;
 use std::alloc::{AllocError, Global};
 
 /// Numbers of lines with which something is wrong, each once.
-#[derive(Drop)]
 pub struct WrongIds {
     /// Numbers that two lines have.
     pub defined_twice: Vec<u64>,
@@ -19,6 +18,17 @@ pub struct WrongIds {
     pub undefined: Vec<u64>,
     /// Numbers that a line has and that are listed nowhere.
     pub unlisted: Vec<u64>,
+}
+
+impl Drop for WrongIds {
+    fn drop(self) {
+        let WrongIds {
+            defined_twice: _,
+            listed_twice: _,
+            undefined: _,
+            unlisted: _,
+        } = self;
+    }
 }
 
 /// The numbers of the lines of a file.

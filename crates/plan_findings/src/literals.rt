@@ -48,7 +48,6 @@ fn unchanged_in(
 }
 
 /// Where literals and initial facts are written.
-#[derive(Drop)]
 pub(crate) struct Written {
     /// The place of each literal, by its number.
     pub(crate) literals: Vec<usize>,
@@ -56,6 +55,16 @@ pub(crate) struct Written {
     pub(crate) other: usize,
     /// The place of each initial fact, as `(full box)`, if these are sought.
     pub(crate) initial: IndexMap<Vec<u8>, usize>,
+}
+
+impl Drop for Written {
+    fn drop(self) {
+        let Written {
+            literals: _,
+            other: _,
+            initial: _,
+        } = self;
+    }
 }
 
 /// Whether a literal is false since its atom is true from the start.

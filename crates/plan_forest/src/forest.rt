@@ -11,10 +11,18 @@ use std::marker::Model;
 
 /// The lines of a file as a forest. A line's number is its place among the action lines and then the
 /// decomposition lines.
-#[derive(Drop)]
 pub struct Forest {
     roots: Vec<usize>,
     children: Vec<Vec<usize>>,
+}
+
+impl Drop for Forest {
+    fn drop(self) {
+        let Forest {
+            roots: _,
+            children: _,
+        } = self;
+    }
 }
 
 impl Model for Forest {

@@ -13,10 +13,18 @@ use std::marker::Model;
 
 /// The values of the instances of one schema: of a method for a task, or of the initial network. Contracts see what the
 /// values have to meet, and which of them are given.
-#[derive(Drop)]
 pub struct AllowedValues {
     conditions: Conditions,
     given: Vec<Option<u16>>,
+}
+
+impl Drop for AllowedValues {
+    fn drop(self) {
+        let AllowedValues {
+            conditions: _,
+            given: _,
+        } = self;
+    }
 }
 
 impl Model for AllowedValues {

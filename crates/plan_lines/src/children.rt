@@ -10,9 +10,14 @@ use std::alloc::{AllocError, Global};
 use std::marker::Model;
 
 /// The different tasks of a line's children. Contracts see the list of them.
-#[derive(Drop)]
 pub(crate) struct Children {
     tasks: IndexSet<GroundTask>,
+}
+
+impl Drop for Children {
+    fn drop(self) {
+        let Children { tasks: _ } = self;
+    }
 }
 
 impl Model for Children {

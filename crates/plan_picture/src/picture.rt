@@ -14,7 +14,6 @@ use plan_text::PlanFile;
 use std::alloc::{AllocError, Global};
 
 /// The forest that the lines of a plan file are, as it is drawn. Lines are known by their numbers.
-#[derive(Drop)]
 pub struct Picture<'a> {
     pub file: &'a PlanFile,
     /// The lines of the root line, as they are drawn.
@@ -23,6 +22,17 @@ pub struct Picture<'a> {
     pub children: Vec<Vec<usize>>,
     /// All lines from the top down.
     pub rows: Vec<Row>,
+}
+
+impl Drop for Picture<'_> {
+    fn drop(self) {
+        let Picture {
+            file: _,
+            roots: _,
+            children: _,
+            rows: _,
+        } = self;
+    }
 }
 
 /// The children of each decomposition line, as they are listed.

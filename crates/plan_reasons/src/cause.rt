@@ -3,7 +3,6 @@
 use crate::literals::FalseLiteral;
 use plan_causes::WrongIds;
 /// An action that can't be carried out when it comes.
-#[derive(Drop)]
 pub struct FailedAction {
     /// The number of its line among the action lines.
     pub number: usize,
@@ -13,6 +12,17 @@ pub struct FailedAction {
     pub literals: Vec<FalseLiteral>,
     /// The number of the next action line that makes the first of them true, if there is one.
     pub next: Option<usize>,
+}
+
+impl Drop for FailedAction {
+    fn drop(self) {
+        let FailedAction {
+            number: _,
+            text: _,
+            literals: _,
+            next: _,
+        } = self;
+    }
 }
 
 /// Why a plan file has its verdict.

@@ -15,7 +15,6 @@ pub enum Sign {
 }
 
 /// A literal that is false where it has to hold.
-#[derive(Drop)]
 pub struct FalseLiteral {
     /// As it is written at objects: `(at truck junction)`, `(not (full box))`.
     pub text: Vec<u8>,
@@ -30,4 +29,18 @@ pub struct FalseLiteral {
     pub initial: Option<usize>,
     /// The name of its predicate, where no action changes that.
     pub unchanged: Option<Vec<u8>>,
+}
+
+impl Drop for FalseLiteral {
+    fn drop(self) {
+        let FalseLiteral {
+            text: _,
+            atom: _,
+            sign: _,
+            standing: _,
+            place: _,
+            initial: _,
+            unchanged: _,
+        } = self;
+    }
 }

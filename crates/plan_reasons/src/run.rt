@@ -7,7 +7,6 @@ pub struct Fact<'a> {
 }
 
 /// The changes of an action.
-#[derive(Drop)]
 pub struct Change<'a> {
     /// The atoms that it makes true and that were false, in the order of the words.
     pub added: Vec<Fact<'a>>,
@@ -15,11 +14,28 @@ pub struct Change<'a> {
     pub deleted: Vec<Fact<'a>>,
 }
 
+impl Drop for Change<'_> {
+    fn drop(self) {
+        let Change {
+            added: _,
+            deleted: _,
+        } = self;
+    }
+}
+
 /// The run of a plan's action lines, as far as they can be carried out.
-#[derive(Drop)]
 pub struct Run<'a> {
     /// The atoms that are true initially and may change, in the order of the words.
     pub start: Vec<Fact<'a>>,
     /// The changes of each action, in turn.
     pub changes: Vec<Change<'a>>,
+}
+
+impl Drop for Run<'_> {
+    fn drop(self) {
+        let Run {
+            start: _,
+            changes: _,
+        } = self;
+    }
 }

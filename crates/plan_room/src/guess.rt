@@ -33,11 +33,20 @@ struct Span {
 }
 
 /// A position for a child, with the places of those before and after it.
-#[derive(Drop)]
 struct Seat {
     task: usize,
     before: Vec<usize>,
     after: Vec<usize>,
+}
+
+impl Drop for Seat {
+    fn drop(self) {
+        let Seat {
+            task: _,
+            before: _,
+            after: _,
+        } = self;
+    }
 }
 
 /// The first action below a line, or the number past all.

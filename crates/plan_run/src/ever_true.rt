@@ -65,11 +65,16 @@ impl Hash for Slot {
 }
 
 /// Atoms by their slots.
-#[derive(Drop)]
 pub(crate) struct Lists<'a> {
     pub(crate) slots: IndexSet<Slot>,
     /// For each of these the atoms that have it.
     pub(crate) atoms: Vec<Vec<&'a Atom>>,
+}
+
+impl Drop for Lists<'_> {
+    fn drop(self) {
+        let Lists { slots: _, atoms: _ } = self;
+    }
 }
 
 impl<'a> Lists<'a> {

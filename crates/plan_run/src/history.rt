@@ -16,7 +16,6 @@ use std::alloc::{AllocError, Global};
 use std::marker::Model;
 
 /// The truth of atoms gap by gap, from an initial state on.
-#[derive(Drop)]
 pub struct Turns<'a> {
     initial: &'a State,
     /// The last gap so far.
@@ -25,6 +24,17 @@ pub struct Turns<'a> {
     atoms: IndexSet<Atom>,
     /// For each of these the gaps at which it turned true or false, ascending.
     turns: Vec<Vec<usize>>,
+}
+
+impl Drop for Turns<'_> {
+    fn drop(self) {
+        let Turns {
+            initial: _,
+            last: _,
+            atoms: _,
+            turns: _,
+        } = self;
+    }
 }
 
 impl<'a> Model for Turns<'a> {

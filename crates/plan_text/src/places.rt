@@ -15,7 +15,7 @@ use crate::reader::{count_to_end, skip_start};
 use std::alloc::{AllocError, Global};
 
 /// Where the lines of a plan file begin, as offsets in bytes from 0.
-#[derive(Debug, Drop)]
+#[derive(Debug)]
 pub struct LinePlaces {
     /// Of each action line, in their order.
     pub actions: Vec<usize>,
@@ -23,6 +23,16 @@ pub struct LinePlaces {
     pub roots: Vec<usize>,
     /// Of each decomposition line, in their order.
     pub decompositions: Vec<usize>,
+}
+
+impl Drop for LinePlaces {
+    fn drop(self) {
+        let LinePlaces {
+            actions: _,
+            roots: _,
+            decompositions: _,
+        } = self;
+    }
 }
 
 /// Adds the place of a line of a kind.

@@ -4,11 +4,21 @@ use crate::word::Word;
 use std::marker::Model;
 
 /// An action line: the action with these arguments is one step of the plan, under this id.
-#[derive(Debug, Drop)]
+#[derive(Debug)]
 pub struct ActionLine {
     id: u64,
     name: Word,
     arguments: Vec<Word>,
+}
+
+impl Drop for ActionLine {
+    fn drop(self) {
+        let ActionLine {
+            id: _,
+            name: _,
+            arguments: _,
+        } = self;
+    }
 }
 
 impl Model for ActionLine {
@@ -55,13 +65,25 @@ impl ActionLine {
 
 /// A decomposition line: the method decomposes the compound task with these arguments, which has this id, into the
 /// nodes with the ids of the children.
-#[derive(Debug, Drop)]
+#[derive(Debug)]
 pub struct DecompositionLine {
     id: u64,
     task: Word,
     arguments: Vec<Word>,
     method: Word,
     children: Vec<u64>,
+}
+
+impl Drop for DecompositionLine {
+    fn drop(self) {
+        let DecompositionLine {
+            id: _,
+            task: _,
+            arguments: _,
+            method: _,
+            children: _,
+        } = self;
+    }
 }
 
 impl Model for DecompositionLine {
@@ -131,11 +153,21 @@ impl DecompositionLine {
 /// A plan of a hierarchical task network: its actions in order of execution, the nodes of the initial task network, and
 /// a decomposition for each compound node. Each name, argument and method is a word that a line of a plan text can
 /// hold.
-#[derive(Debug, Drop)]
+#[derive(Debug)]
 pub struct PlanFile {
     actions: Vec<ActionLine>,
     roots: Vec<u64>,
     decompositions: Vec<DecompositionLine>,
+}
+
+impl Drop for PlanFile {
+    fn drop(self) {
+        let PlanFile {
+            actions: _,
+            roots: _,
+            decompositions: _,
+        } = self;
+    }
 }
 
 impl Model for PlanFile {

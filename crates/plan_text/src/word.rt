@@ -8,10 +8,16 @@ use std::alloc::{AllocError, Global};
 use std::marker::Model;
 
 /// A name, an argument or a method of a plan file, as bytes.
-#[derive(Debug, Drop)]
+#[derive(Debug)]
 pub struct Word {
     /// Most words are short, and need no allocation.
     bytes: SmallVec<u8, 16>,
+}
+
+impl Drop for Word {
+    fn drop(self) {
+        let Word { bytes: _ } = self;
+    }
 }
 
 impl Model for Word {

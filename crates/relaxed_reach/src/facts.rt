@@ -9,13 +9,22 @@ ghost use Rattle.relaxed_reach.specs.Tables.{facts_of, is_fluent};
 use htn_state::{Action, Atom, Literal, State};
 
 /// The fluent atoms that may become true, and those that are true in each reachable state.
-#[derive(Drop)]
 pub(crate) struct FactSets {
     /// Whether each predicate is fluent. A static atom counts as one that may hold: a static precondition that is false
     /// makes the instance of its step dead, or its action barred, without these sets.
     pub(crate) fluents: Vec<bool>,
     pub(crate) possible: State,
     pub(crate) lasting: State,
+}
+
+impl Drop for FactSets {
+    fn drop(self) {
+        let FactSets {
+            fluents: _,
+            possible: _,
+            lasting: _,
+        } = self;
+    }
 }
 
 /// Whether all of the atoms are true in a state.

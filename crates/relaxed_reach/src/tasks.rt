@@ -21,7 +21,6 @@ fn mark(marks: &mut Marks, goal: &GroundTask, entry: &Entry) -> Result<(), Alloc
 }
 
 /// What is known of a listed node. That of a step or an action is not used.
-#[derive(Drop)]
 struct Entry {
     /// All nodes below the task are in the graph, as far as is found.
     is_known: bool,
@@ -33,6 +32,17 @@ struct Entry {
     uses: Vec<u32>,
 }
 
+impl Drop for Entry {
+    fn drop(self) {
+        let Entry {
+            is_known: _,
+            ends: _,
+            parents: _,
+            uses: _,
+        } = self;
+    }
+}
+
 /// A decomposition.
 #[derive(Drop)]
 struct Pending {
@@ -42,7 +52,6 @@ struct Pending {
 }
 
 /// The worklists.
-#[derive(Drop)]
 struct Tasks {
     /// By listed node.
     entries: Vec<Entry>,
@@ -52,6 +61,17 @@ struct Tasks {
     unknown: Vec<NodeId>,
     /// Tasks that end, whose uses are not yet visited.
     ended: Vec<NodeId>,
+}
+
+impl Drop for Tasks {
+    fn drop(self) {
+        let Tasks {
+            entries: _,
+            pending: _,
+            unknown: _,
+            ended: _,
+        } = self;
+    }
 }
 
 impl Tasks {

@@ -22,7 +22,6 @@ pub enum Conflict {
 }
 
 /// A precondition that holds in no gap of a range.
-#[derive(Drop)]
 pub struct Unmet {
     /// The values of the method's parameters.
     pub values: ObjectList,
@@ -33,6 +32,18 @@ pub struct Unmet {
     pub until: usize,
 }
 
+impl Drop for Unmet {
+    fn drop(self) {
+        let Unmet {
+            values: _,
+            literals: _,
+            literal: _,
+            from: _,
+            until: _,
+        } = self;
+    }
+}
+
 /// A node of a network: a child by its line, or the precondition.
 #[derive(Drop)]
 pub enum Node {
@@ -41,7 +52,6 @@ pub enum Node {
 }
 
 /// Two nodes of a network, one of which has to come before the other and can't.
-#[derive(Drop)]
 pub struct OrderConflict {
     /// The values of the method's parameters.
     pub values: ObjectList,
@@ -59,4 +69,20 @@ pub struct OrderConflict {
     pub early: Option<usize>,
     /// The second line's precondition, where it holds in no gap from this one on.
     pub unmet: Option<Unmet>,
+}
+
+impl Drop for OrderConflict {
+    fn drop(self) {
+        let OrderConflict {
+            values: _,
+            before: _,
+            after: _,
+            first: _,
+            second: _,
+            from: _,
+            late: _,
+            early: _,
+            unmet: _,
+        } = self;
+    }
 }

@@ -10,13 +10,22 @@ use std::alloc::{AllocError, Global};
 use std::marker::Model;
 
 /// The atoms of fluent predicates by number, as they are first asked for, and the static atoms that are true.
-#[derive(Drop)]
 pub struct AtomTable {
     /// By predicate: whether some effect names it. A predicate past the last one is static.
     fluents: Vec<bool>,
     /// The initial atoms of static predicates.
     statics: State,
     atoms: IndexSet<Atom>,
+}
+
+impl Drop for AtomTable {
+    fn drop(self) {
+        let AtomTable {
+            fluents: _,
+            statics: _,
+            atoms: _,
+        } = self;
+    }
 }
 
 impl Model for AtomTable {

@@ -15,7 +15,6 @@ use htn_state::{Action, Atom, Literal};
 use std::alloc::{AllocError, Global};
 
 /// A conjunction of literals by the numbers of its fluent atoms. Static atoms and equalities are decided.
-#[derive(Drop)]
 pub struct CompiledLiterals {
     /// Some literal can never hold.
     is_never: bool,
@@ -25,13 +24,32 @@ pub struct CompiledLiterals {
     negatives: Vec<u32>,
 }
 
+impl Drop for CompiledLiterals {
+    fn drop(self) {
+        let CompiledLiterals {
+            is_never: _,
+            positives: _,
+            negatives: _,
+        } = self;
+    }
+}
+
 /// The literals that must hold, the numbers of the atoms that become false, and those of the atoms that become true
 /// after that.
-#[derive(Drop)]
 pub struct CompiledAction {
     precondition: CompiledLiterals,
     deletes: Vec<u32>,
     adds: Vec<u32>,
+}
+
+impl Drop for CompiledAction {
+    fn drop(self) {
+        let CompiledAction {
+            precondition: _,
+            deletes: _,
+            adds: _,
+        } = self;
+    }
 }
 
 /// Sorts numbers, and drops repeats.

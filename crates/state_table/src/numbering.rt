@@ -8,9 +8,14 @@ use std::alloc::{AllocError, Global};
 use std::marker::Model;
 
 /// States by number, in the order in which they were added, none of them twice.
-#[derive(Drop)]
 pub struct StateTable {
     states: IndexSet<BitState>,
+}
+
+impl Drop for StateTable {
+    fn drop(self) {
+        let StateTable { states: _ } = self;
+    }
 }
 
 impl Model for StateTable {

@@ -5,7 +5,6 @@ use htn_ground::ChildList;
 use htn_order::Order;
 
 /// One way to decompose a compound task: the network of an instance of one of its methods.
-#[derive(Drop)]
 pub struct Decomposition {
     /// The compound task.
     pub task: NodeId,
@@ -15,4 +14,15 @@ pub struct Decomposition {
     pub children: ChildList,
     /// Which nodes are before which others.
     pub order: Order,
+}
+
+impl Drop for Decomposition {
+    fn drop(self) {
+        let Decomposition {
+            task: _,
+            nodes: _,
+            children: _,
+            order: _,
+        } = self;
+    }
 }

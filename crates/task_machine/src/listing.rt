@@ -22,12 +22,20 @@ pub struct Source {
 }
 
 /// The instances that are listed for a compound task, in their order.
-#[derive(Drop)]
 pub struct Listing {
     /// Their networks, the nodes by numbers.
     pub networks: Vec<Network>,
     /// Where they come from.
     pub sources: Vec<Source>,
+}
+
+impl Drop for Listing {
+    fn drop(self) {
+        let Listing {
+            networks: _,
+            sources: _,
+        } = self;
+    }
 }
 
 /// Where instances come from, in their order.

@@ -22,7 +22,6 @@ use word_machine::{Horizon, Machine, Measured};
 /// The word machine of a task as a search takes it: from a configuration a rank leads to the next
 /// one. Of instances with equal networks only the first is listed, and so no number is counted.
 /// By the sizes of open nodes, by what their network needs and by what is reached, it bounds how many steps are left.
-#[derive(Drop)]
 pub struct TaskMachine<'a> {
     pub task: &'a Task,
     pub(crate) alloc: Global,
@@ -30,6 +29,17 @@ pub struct TaskMachine<'a> {
     prospects: Prospects,
     ghost grounded: { IsGrounded (problem_of task.now) } by { grounded-prop (problem_of task.now) },
     ghost known: { ProspectsHold (problem_of task.now) (listing_machine task.now).initials (size_of sizes) most_steps prospects } by { prospects-prop (problem_of task.now) (listing_machine task.now).initials (size_of sizes) prospects },
+}
+
+impl Drop for TaskMachine<'_> {
+    fn drop(self) {
+        let TaskMachine {
+            task: _,
+            alloc: _,
+            sizes: _,
+            prospects: _,
+        } = self;
+    }
 }
 
 impl<'a> TaskMachine<'a> {

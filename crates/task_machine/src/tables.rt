@@ -32,7 +32,6 @@ const MOST_STEPS: u64 = 10_000;
 const OUT_OF_REACH: u64 = 10_001;
 
 /// The atoms, states and task networks that a search has met, by number, and what is stored beside them.
-#[derive(Drop)]
 pub struct Tables {
     pub(crate) atoms: AtomTable,
     pub(crate) states: StateTable,
@@ -45,6 +44,20 @@ pub struct Tables {
     pub(crate) instances: Vec<Option<Listing>>,
     /// By the number of a network, what it needs from the start.
     pub(crate) needs: NeedsTable,
+}
+
+impl Drop for Tables {
+    fn drop(self) {
+        let Tables {
+            atoms: _,
+            states: _,
+            networks: _,
+            goal: _,
+            performers: _,
+            instances: _,
+            needs: _,
+        } = self;
+    }
 }
 
 impl Tables {

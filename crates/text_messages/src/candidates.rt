@@ -201,10 +201,18 @@ fn has_room(open: usize, word: &[u8]) -> bool {
 }
 
 /// The words that may stand at a place: other words than keywords, and keywords.
-#[derive(Drop)]
 pub(crate) struct Candidates {
     pub(crate) words: Vec<&'static [u8]>,
     pub(crate) keywords: Vec<&'static [u8]>,
+}
+
+impl Drop for Candidates {
+    fn drop(self) {
+        let Candidates {
+            words: _,
+            keywords: _,
+        } = self;
+    }
 }
 
 impl Candidates {

@@ -13,7 +13,6 @@ use std::alloc::{AllocError, Global};
 const SHOWN: usize = 8;
 
 /// A place that the grammar refuses, and what it would have there.
-#[derive(Drop)]
 struct RefusedPlace<'a> {
     source: &'a Source<'a>,
     /// The bytes of the word at the place; none at the end of the text.
@@ -24,6 +23,18 @@ struct RefusedPlace<'a> {
     open: usize,
     /// What may stand there: a word of each class, and keywords.
     expected: Candidates,
+}
+
+impl Drop for RefusedPlace<'_> {
+    fn drop(self) {
+        let RefusedPlace {
+            source: _,
+            word: _,
+            before: _,
+            open: _,
+            expected: _,
+        } = self;
+    }
 }
 
 /// Looks at a place that is refused.

@@ -16,11 +16,16 @@ use task_graph::TaskGraph;
 /// A measure on nodes: 1 of a precondition step and of an action, of a compound task at most the nodes of its least
 /// decomposition tree; past the greatest bound for a task that no tree ends, and for an action that is never carried
 /// out.
-#[derive(Drop)]
 pub struct TreeSizes {
     graph: TaskGraph,
     /// By node.
     sizes: Vec<u32>,
+}
+
+impl Drop for TreeSizes {
+    fn drop(self) {
+        let TreeSizes { graph: _, sizes: _ } = self;
+    }
 }
 
 impl TreeSizes {

@@ -77,10 +77,18 @@ impl Link {
 }
 
 /// Configurations for which there is room, each with where it came from.
-#[derive(Drop)]
 pub struct Fitting<C> {
     pub links: Vec<Link>,
     pub configurations: Vec<C>,
+}
+
+impl<C: Drop> Drop for Fitting<C> {
+    fn drop(self) {
+        let Fitting {
+            links: _,
+            configurations: _,
+        } = self;
+    }
 }
 
 impl<C: Drop> Fitting<C> {
@@ -138,7 +146,6 @@ fn push_links(links: &mut Vec<Link>, more: &[Link], is_new: &[bool])
 }
 
 /// The configurations in the order in which they were found, none of them twice. The position of one is its rank.
-#[derive(Drop)]
 pub struct Closed<C: Eq + Hash> {
     configurations: ShardedSet<C>,
     links: Vec<Link>,
@@ -149,6 +156,19 @@ pub struct Closed<C: Eq + Hash> {
     // some of them.
     overshoots: Overshoots,
     edge: Edge,
+}
+
+impl<C: Eq + Hash + Drop> Drop for Closed<C> {
+    fn drop(self) {
+        let Closed {
+            configurations: _,
+            links: _,
+            was_cut: _,
+            least_past: _,
+            overshoots: _,
+            edge: _,
+        } = self;
+    }
 }
 
 impl<C: Eq + Hash> Model for Closed<C> {

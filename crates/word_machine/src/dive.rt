@@ -25,11 +25,16 @@ const LEAST_KEPT: usize = 1_000;
 const TURNS: usize = 256;
 
 // The configurations that a dive reached, none of them twice, and those that are not expanded yet.
-#[derive(Drop)]
 struct Frontier<C: Eq + Hash> {
     kept: IndexSet<C>,
     // The open list: each configuration by its place among those reached, with its extent.
     open: BinaryHeap<(u64, usize)>,
+}
+
+impl<C: Eq + Hash + Drop> Drop for Frontier<C> {
+    fn drop(self) {
+        let Frontier { kept: _, open: _ } = self;
+    }
 }
 
 impl<C: Eq + Hash + Copy> Frontier<C> {

@@ -13,10 +13,18 @@ use std::marker::Model;
 use std::thread::Threads;
 
 /// Values in the order in which they were added, none of them twice.
-#[derive(Drop)]
 pub struct ShardedSet<T: Eq + Hash> {
     values: Vec<T>,
     shards: Vec<Shard<T>>,
+}
+
+impl<T: Eq + Hash + Drop> Drop for ShardedSet<T> {
+    fn drop(self) {
+        let ShardedSet {
+            values: _,
+            shards: _,
+        } = self;
+    }
 }
 
 impl<T: Eq + Hash> Model for ShardedSet<T> {

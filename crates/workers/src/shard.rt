@@ -23,7 +23,6 @@ pub fn shard_of<T: Hash>(value: &T, count: usize) -> usize
 }
 
 /// The values of one shard, and which of the last batch it added.
-#[derive(Drop)]
 pub(crate) struct Shard<T: Eq + Hash> {
     pub(crate) values: IndexSet<T>,
     /// The number of its values before the last batch.
@@ -31,6 +30,17 @@ pub(crate) struct Shard<T: Eq + Hash> {
     /// By the place in the last batch, whether it was its own and new.
     is_new: Vec<bool>,
     is_refused: bool,
+}
+
+impl<T: Eq + Hash + Drop> Drop for Shard<T> {
+    fn drop(self) {
+        let Shard {
+            values: _,
+            known: _,
+            is_new: _,
+            is_refused: _,
+        } = self;
+    }
 }
 
 impl<T: Eq + Hash + Copy> Shard<T> {
