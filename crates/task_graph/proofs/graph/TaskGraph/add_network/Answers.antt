@@ -33,6 +33,6 @@ returns c =
     let order : d.order ≡ n.order = c.in_ok-clone-2.ensures.cases ∙ c.order.ensures in
     let ids : AreIds (nodes_of b) d.nodes.items d.children =
     subst (AreIds (nodes_of b) d.nodes.items) (c.as_slice-2.ensures ∙ sym c.in_ok-clone.ensures.cases) c.in_ok-nodes.ensures.ids in
-    network_added t c.args.id.index n c.args.self.now b (record b { decompositions = c.push-2.new.self }) d
+    network_added t c.args.id.index n c.args.self.now b (record b { decompositions = c.push.new.self }) d
     (nodes_then t c.args.self.now c.has_barred.new.self b did.nodes c.in_ok-nodes.ensures.nodes) free refl refl c.in_ok-push.ensures.items refl refl
     (ap₂ (λ (xs : List Child) (o : Order). (c.args.id.index, record { children = xs; order = o })) children order) ids
