@@ -46,6 +46,7 @@ fn pieces_of(len: u64, size: u64) -> u64
 
 /// Expands a level by `workers` workers, who draw pieces of `piece` ranks. The answer is that of one worker who expands
 /// the level in order. A gate sees each piece that is drawn by its number in the whole level.
+#[tactic(auto, using(std::proofs::lemmas::Grind::common_steps))]
 pub fn expand_level<W: Expand, G: Gate, R: Threads + Wait + Sync>(
     rt: &R,
     alloc: Global,

@@ -87,6 +87,7 @@ fn fill<S: Drop>(slots: &mut Vec<Option<Vec<S>>>, number: u64, successors: Vec<S
 }
 
 // Lays each piece into the slot of its number.
+#[tactic(auto, using(std::proofs::lemmas::Grind::common_steps))]
 fn lay<W: Expand>(
     level: Level<W>,
     slots: &mut Vec<Option<Vec<W::Successor>>>,
@@ -138,6 +139,7 @@ fn empty_slots<S: Drop>(alloc: Global, count: u64) -> Result<Vec<Option<Vec<S>>>
 }
 
 /// The successors of all configurations, in order, where each piece was expanded to its end.
+#[tactic(auto, using(std::proofs::lemmas::Grind::common_steps))]
 pub fn put_together<W: Expand>(
     alloc: Global,
     level: Level<W>,

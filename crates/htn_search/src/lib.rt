@@ -1,5 +1,5 @@
 //! The search for a task's least solution, and the solution of a word.
-#![tactic(auto)]
+#![tactic(auto, using(std::proofs::lemmas::Grind::common_steps))]
 
 mod answer;
 mod chosen;

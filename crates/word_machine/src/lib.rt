@@ -1,5 +1,5 @@
 //! The least finishing word of a word machine, by a search in levels.
-#![tactic(auto)]
+#![tactic(auto, using(std::proofs::lemmas::Grind::common_steps))]
 
 mod advance;
 mod bounds;
