@@ -13,19 +13,11 @@ mod command_lines;
 #[cfg(test)]
 mod first_faults;
 #[cfg(test)]
-mod forests;
-#[cfg(test)]
-mod layouts;
-#[cfg(test)]
 mod messages;
 #[cfg(test)]
 mod names;
 #[cfg(test)]
-mod pages;
-#[cfg(test)]
 mod pairs;
-#[cfg(test)]
-mod pictures;
 #[cfg(test)]
 mod places;
 #[cfg(test)]
