@@ -13,11 +13,9 @@ mod command_lines;
 #[cfg(test)]
 mod first_faults;
 #[cfg(test)]
-mod messages;
-#[cfg(test)]
 mod names;
 #[cfg(test)]
-mod pairs;
+mod nearest;
 #[cfg(test)]
 mod places;
 #[cfg(test)]
@@ -30,7 +28,5 @@ mod sources;
 mod tables;
 #[cfg(test)]
 mod texts;
-#[cfg(test)]
-mod warnings;
 #[cfg(test)]
 mod words;

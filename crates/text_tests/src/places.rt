@@ -1,8 +1,8 @@
-//! Tests of places and of shown lines.
+//! Tests of places.
 
-use std::alloc::{AllocError, Global};
+use std::alloc::AllocError;
 use std::process::Abort;
-use text_places::{Excerpt, Lines, Position};
+use text_places::{Lines, Position};
 
 /// Whether a place has this line and column, and they lead back to it.
 fn stands_at(lines: &Lines<'_>, place: usize, line: usize, column: usize) -> bool {
@@ -35,51 +35,5 @@ fn expect_positions<R: Abort>(rt: &R, lines: &Lines<'_>) {
 fn positions_and_back(rt: HostRuntime) -> Result<(), AllocError> {
     let lines = Lines::new(rt.alloc(), b"ab\r\n\ncd")?;
     expect_positions(&rt, &lines);
-    Ok(())
-}
-
-fn is_row(alloc: Global, excerpt: &Excerpt<'_>, expected: &[u8]) -> Result<bool, AllocError> {
-    Ok(excerpt.row(alloc)?.as_slice() == expected)
-}
-
-fn is_padding(alloc: Global, excerpt: &Excerpt<'_>, expected: &[u8]) -> Result<bool, AllocError> {
-    Ok(excerpt.padding(alloc)?.as_slice() == expected)
-}
-
-#[test]
-fn rows_and_carets(rt: HostRuntime) -> Result<(), AllocError> {
-    let lines = Lines::new(rt.alloc(), b"one\n\ta \x1bb\r\nlast")?;
-    let excerpt = lines.excerpt(8);
-    assert!(rt; is_row(rt.alloc(), &excerpt, b"\ta ?b")?, "a row");
-    assert!(rt; is_padding(rt.alloc(), &excerpt, b"\t   ")?, "a padding");
-    assert!(rt; excerpt.carets(1) == 1, "a caret");
-    assert!(rt; excerpt.carets(9) == 1, "no more carets than bytes");
-    assert!(rt; lines.excerpt(15).carets(0) == 1, "one caret at the end");
-    Ok(())
-}
-
-/// Whether a row and what stands before its carets have these lengths.
-fn is_cut(
-    alloc: Global,
-    lines: &Lines<'_>,
-    place: usize,
-    row: usize,
-    padding: usize,
-) -> Result<bool, AllocError> {
-    if place > lines.text().len() {
-        return Ok(false);
-    }
-    let excerpt = lines.excerpt(place);
-    Ok(excerpt.row(alloc)?.len() == row && excerpt.padding(alloc)?.len() == padding)
-}
-
-#[test]
-fn long_lines_are_cut(rt: HostRuntime) -> Result<(), AllocError> {
-    let text = [b'x'; 300];
-    let lines = Lines::new(rt.alloc(), &text)?;
-    assert!(rt; is_cut(rt.alloc(), &lines, 0, 123, 0)?);
-    assert!(rt; is_cut(rt.alloc(), &lines, 80, 123, 80)?);
-    assert!(rt; is_cut(rt.alloc(), &lines, 81, 126, 83)?);
-    assert!(rt; is_cut(rt.alloc(), &lines, 299, 123, 122)?);
     Ok(())
 }
