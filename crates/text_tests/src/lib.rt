@@ -3,15 +3,9 @@
 #![tactic(auto)]
 
 #[cfg(test)]
-mod all_faults;
-#[cfg(test)]
 mod answers;
 #[cfg(test)]
-mod checks;
-#[cfg(test)]
 mod command_lines;
-#[cfg(test)]
-mod first_faults;
 #[cfg(test)]
 mod names;
 #[cfg(test)]
