@@ -1,5 +1,4 @@
-//! Tests of words, texts, places, names, checks, pairs, warnings, plan texts, forests, pictures, reports and command
-//! lines.
+//! Tests of words, texts, names, places, plan texts, reports and command lines, of what no row of `acceptance` shows.
 #![tactic(auto)]
 
 #[cfg(test)]
@@ -18,8 +17,6 @@ mod plan_texts;
 mod reports;
 #[cfg(test)]
 mod sources;
-#[cfg(test)]
-mod tables;
 #[cfg(test)]
 mod texts;
 #[cfg(test)]

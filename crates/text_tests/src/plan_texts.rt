@@ -1,7 +1,6 @@
 //! Plan texts: what is read of one, the faults of long ones, and outputs that fail.
 
-use crate::answers::Reader;
-use crate::tables::expect_run;
+use crate::answers::{Reader, expect_run};
 use plan_text::{
     ActionLine, DecompositionLine, LinePlaces, MAX_BYTES, PlanFault, PlanFile, Sink, line_places,
     read_plan, write_plan,

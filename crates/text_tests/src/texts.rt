@@ -1,78 +1,14 @@
-//! Texts of domains and problems: which are read, the faults of the others, and what the trees have.
+//! Texts of domains and problems: what the trees have, and the faults of long texts and of beginnings.
 
-use crate::answers::Reader;
-use crate::tables::{Ask, expect, expect_run};
+use crate::answers::{Reader, expect_run};
 use hddl_text::{Condition, DomainText, ProblemText, Term, TextFault, read_domain, read_problem};
 use hddl_tree::{LiteralText, MethodText, NetworkText};
 use std::alloc::{AllocError, Global};
 use std::process::Abort;
 
-/// The faults of texts of domains.
-const DOMAINS: &str = "
-Unclosed at 0     | (define (domain d)
-ExtraClose at 19  | (define (domain d)))
-Unsupported at 20 | (define (domain d) (:functions))
-Expected at 9     | (define (problem x))
-ok                | (DEFINE (Domain d))
-Expected at 16    | (define (domain and))
-Unsupported at 16 | (define (domain or))
-Expected at 1     | (forall (domain d))
-Expected at 20    | (define (domain d)) x
-Expected at 20    | (define (domain d) (or))
-Unsupported at 20 | (define (domain d) (:domain d))
-# A section that stands twice.
-Expected at 34    | (define (domain d) (:predicates) (:predicates))
-Expected at 34    | (define (domain d) (:requirements a))
-# Typed lists.
-ok                | (define (domain d) (:types a b - c d))
-Expected at 27    | (define (domain d) (:types - a))
-Unsupported at 27 | (define (domain d) (:types (either a b)))
-Unsupported at 31 | (define (domain d) (:types a - (either b)))
-Expected at 31    | (define (domain d) (:constants (a)))
-Unsupported at 35 | (define (domain d) (:constants a - (a)))
-Unsupported at 31 | (define (domain d) (:constants either))
-Unsupported at 40 | (define (domain d) (:predicates (p ?x - when)))
-Expected at 35    | (define (domain d) (:predicates (p x)))
-# Compound tasks.
-ok                | (define (domain d) (:task t :effect () :parameters (?x) :precondition ( )))
-Expected at 37    | (define (domain d) (:task t :effect (and)))
-Expected at 39    | (define (domain d) (:task t :effect () :effect ()))
-Expected at 26    | (define (domain d) (:task :parameters ()))
-# A method without its task: its closing bracket.
-Expected at 29    | (define (domain d) (:method m))
-Expected at 40    | (define (domain d) (:method m :task (t) :task (t)))
-Unsupported at 30 | (define (domain d) (:method m :effect ()))
-# Conditions and effects.
-ok                | (define (domain d) (:action a \
-    :precondition (forall (?x) (and (= ?x ?x) (forall () (not (= a ?x)))))))
-Unsupported at 50 | (define (domain d) (:action a :precondition (not (forall () ()))))
-Expected at 50    | (define (domain d) (:action a :precondition (not (not (p)))))
-Expected at 45    | (define (domain d) (:action a :precondition (< a b)))
-BadWord at 45     | (define (domain d) (:action a :precondition (<= a b)))
-Unsupported at 47 | (define (domain d) (:action a :precondition (p (f))))
-Unsupported at 39 | (define (domain d) (:action a :effect (forall (?x) (p))))
-Expected at 39    | (define (domain d) (:action a :effect (= a b)))
-Unsupported at 39 | (define (domain d) (:action a :effect (when (p) (q))))
-# A clash of types is no fault of the text.
-ok                | (define (domain d) (:types p q) (:predicates (at ?x - p)) (:action a :parameters (?y - q) \
-    :precondition (at ?y)))
-";
-
-/// Texts of domains with line feeds and bytes that are not ASCII.
-const BYTES: &str = r"
-Expected at 4  |  ;)\n
-NotAscii at 18 | (define (domain d)\x80
-ok             | (define (domain d) ; \x80\n)
-";
-
 #[test]
-fn domains(rt: HostRuntime) -> Result<(), AllocError> {
+fn longest_domain(rt: HostRuntime) -> Result<(), AllocError> {
     let alloc = rt.alloc();
-    expect(&rt, alloc, Ask::Read(Reader::Domain), DOMAINS)?;
-    expect(&rt, alloc, Ask::Read(Reader::Domain), BYTES)?;
-    expect_run(&rt, alloc, Reader::Domain, (b' ', 0), "Expected at 0")?;
-    expect_run(&rt, alloc, Reader::Domain, (b'(', 64), "Unclosed at 63")?;
-    expect_run(&rt, alloc, Reader::Domain, (b'(', 65), "TooDeep at 64")?;
     expect_run(
         &rt,
         alloc,
@@ -82,47 +18,8 @@ fn domains(rt: HostRuntime) -> Result<(), AllocError> {
     )
 }
 
-/// The faults of texts of problems.
-const PROBLEMS: &str = "
-ok                | (define (problem x) (:domain d) (:htn))
-ok                | (define (problem x) (:domain d) (:htn :subtasks ()))
-Expected at 9     | (define (domain d))
-# A required section is missing: the closing bracket.
-Expected at 26    | (define (problem x) (:htn))
-Expected at 31    | (define (problem x) (:domain d))
-# A seventh section stands twice.
-Expected at 86    | (define (problem x) (:htn) (:goal ()) (:init) (:objects) (:requirements) (:domain d) (:init))
-Unsupported at 33 | (define (problem x) (:domain d) (:metric))
-Expected at 31    | (define (problem x) (:domain d e))
-Unsupported at 28 | (define (problem x) (:init (= a b)))
-Unsupported at 28 | (define (problem x) (:init (not (p))))
-Expected at 28    | (define (problem x) (:init (and (p))))
-Expected at 27    | (define (problem x) (:init p))
-ok                | (define (problem x) (:goal (forall (?x - t) (p ?x))) (:htn) (:domain d))
-Unsupported at 28 | (define (problem x) (:goal (exists (?x) (p ?x))))
-Expected at 30    | (define (problem x) (:goal () ()))
-# Networks.
-ok                | (define (problem x) (:domain d) (:htn :ordered-subtasks (and (s1 (x)) (s2 (y))) \
-    :ordering (< s2 s1)))
-ok                | (define (problem x) (:domain d) (:htn :tasks (t ?x a) :order (and (a < b) (< b c))))
-Expected at 36    | (define (problem x) (:htn :tasks () :ordered-tasks ()))
-Expected at 39    | (define (problem x) (:htn :ordering () :order ()))
-Unsupported at 26 | (define (problem x) (:htn :precondition ()))
-Expected at 41    | (define (problem x) (:htn :subtasks (and t)))
-Expected at 43    | (define (problem x) (:htn :subtasks (s (t) u)))
-Unsupported at 41 | (define (problem x) (:htn :subtasks (t u (v))))
-Unsupported at 37 | (define (problem x) (:htn :subtasks (or (t) (u))))
-Expected at 39    | (define (problem x) (:htn :ordering (a > b)))
-Expected at 37    | (define (problem x) (:htn :ordering (= a b)))
-ok                | (define (problem x) (:htn :constraints (and () (= ?x a) (not (= ?x b))))(:domain d))
-Expected at 40    | (define (problem x) (:htn :constraints (p)))
-Unsupported at 40 | (define (problem x) (:htn :constraints (forall () ())))
-Unsupported at 45 | (define (problem x) (:htn :constraints (= ?x (f))))
-";
-
 #[test]
-fn problems(rt: HostRuntime) -> Result<(), AllocError> {
-    expect(&rt, rt.alloc(), Ask::Read(Reader::Problem), PROBLEMS)?;
+fn too_long_problem(rt: HostRuntime) -> Result<(), AllocError> {
     expect_run(
         &rt,
         rt.alloc(),

@@ -1,55 +1,9 @@
-//! Words with their kinds and classes, their faults, and what grammars are read with.
+//! Words with their kinds and classes, and what grammars are read with.
 
-use crate::answers::Reader;
-use crate::tables::{Ask, expect, expect_run};
 use hddl_text::lex;
 use hddl_words::{Class, Cursor, Items, Name, Stop, TextFault, Token, Variable, class_of, is_same};
 use std::alloc::{AllocError, Global};
 use std::process::Abort;
-
-/// The first fault of the words of a text or, if there is none, of its brackets.
-const FAULTS: &str = r"
-ok               | ; no words
-ok               | (define (domain d))
-Unclosed at 0    | (define (domain d)
-ExtraClose at 19 | (define (domain d)))
-NotAscii at 18   | (define (domain d)\x80
-Unclosed at 0    | (define (domain d);\x80
-ok               | (define (domain d) ; \x80\n)
-Unclosed at 8    | (define (dom
-BadWord at 8     | (:types ?
-BadWord at 8     | (define :
-BadWord at 0     | ->
-BadWord at 0     | -1
-BadWord at 0     | <=
-BadWord at 1     | )<and=
-ok               | > >= a-b a? x=y
-NotAscii at 0    | \x0b
-NotAscii at 1    | a\x7f
-# Words before brackets, and the leftmost of two faults.
-BadWord at 2     | ) ?
-BadWord at 2     | a ? \x80
-NotAscii at 2    | a \x80 ?
-BadWord at 6     | ; ? \n ? ; ?
-ExtraClose at 3  | (a))(
-";
-
-#[test]
-fn faults(rt: HostRuntime) -> Result<(), AllocError> {
-    let alloc = rt.alloc();
-    expect(&rt, alloc, Ask::Read(Reader::Words), FAULTS)?;
-    expect_run(&rt, alloc, Reader::Words, (b' ', 0), "ok")?;
-    expect_run(&rt, alloc, Reader::Words, (b'(', 64), "Unclosed at 63")?;
-    expect_run(&rt, alloc, Reader::Words, (b'(', 65), "TooDeep at 64")?;
-    expect_run(&rt, alloc, Reader::Words, (b' ', 16_777_216), "ok")?;
-    expect_run(
-        &rt,
-        alloc,
-        Reader::Words,
-        (b' ', 16_777_217),
-        "TooLong at 16777216",
-    )
-}
 
 /// Expects the words of a text: the place, the kind, the class and the text of each.
 fn expect_words<R: Abort>(
