@@ -61,6 +61,18 @@ pub(crate) fn expect_run<R: Abort>(
     Ok(())
 }
 
+/// `request`, or the status of a command line that asks for none.
+pub(crate) fn status_of(alloc: Global, line: &str) -> Result<String, AllocError> {
+    let words = words_of(alloc, line)?;
+    let status = match parse(alloc, words.as_slice()) {
+        Ok(_) => "request",
+        Err(Refusal::Help(_) | Refusal::Version(_)) => "0",
+        Err(Refusal::Words(_)) => "2",
+        Err(Refusal::OutOfMemory) => "OutOfMemory",
+    };
+    String::from_str(alloc, status)
+}
+
 /// The request of a command line, or the text that is shown for it.
 pub(crate) fn shown(alloc: Global, line: &str) -> Result<String, AllocError> {
     let words = words_of(alloc, line)?;

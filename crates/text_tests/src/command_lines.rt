@@ -1,8 +1,16 @@
-//! Command lines: what is asked for.
+//! Command lines: what is asked for, and the one that no row of `acceptance` can have.
 
-use crate::answers::shown;
+use crate::answers::{shown, status_of};
 use std::alloc::{AllocError, Global};
 use std::process::Abort;
+
+/// The program's name alone is refused.
+#[test]
+fn statuses(rt: HostRuntime) -> Result<(), AllocError> {
+    let found = status_of(rt.alloc(), "htnplan")?;
+    assert!(rt; found.as_str() == "2", "{found}");
+    Ok(())
+}
 
 /// Expects the request of a command line, or the text that is shown for it.
 fn expect_shown<R: Abort>(
