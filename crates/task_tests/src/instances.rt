@@ -3,11 +3,11 @@
 use crate::pairs::{DEAD, EQUALITIES, NEED, Pair, ROAD, SPARE, TOUCH, TOUCH_NONE};
 use crate::questions::{Question, answer_of};
 use htn_ground::{
-    Child, GroundTask, Instance, ObjectList, action_of, distinct_initials,
-    distinct_live_methods_of, initials, live_methods_of, methods_of,
+    Child, GroundTask, Instance, ObjectList, distinct_initials, distinct_live_methods_of, initials,
+    live_methods_of, methods_of,
 };
 use htn_order::Order;
-use htn_state::{Action, Literal, State};
+use htn_state::{Literal, State};
 use htn_task::Task;
 use std::alloc::Global;
 use std::test::Fail;
@@ -189,43 +189,6 @@ pub fn atoms_text(alloc: Global, state: &State) -> Result<String, Fail> {
         text.push_str(&atom)?;
     }
     Ok(text)
-}
-
-fn action_text(alloc: Global, action: &Action) -> Result<String, Fail> {
-    let literals = literals_text(alloc, action.precondition.as_slice())?;
-    let deletes = atoms_text(alloc, &action.deletes)?;
-    let adds = atoms_text(alloc, &action.adds)?;
-    Ok(format!(in alloc; "needs{literals} deletes{deletes} adds{adds}")?)
-}
-
-/// The literals, deletes and adds of a ground task, if it is an action instance.
-pub fn ground_action_text(
-    alloc: Global,
-    task: &Task,
-    name: u32,
-    objects: &[u16],
-) -> Result<String, Fail> {
-    let goal = GroundTask::new(name, ObjectList::of(alloc, objects)?);
-    match action_of(alloc, task, &goal)? {
-        Some(action) => action_text(alloc, &action),
-        None => Ok(String::from_str(alloc, "none")?),
-    }
-}
-
-// The truck drives from a to b. A place can't drive, and a compound task is no action.
-#[test]
-fn actions_have_instances(rt: HostRuntime) -> Result<(), Fail> {
-    let driven = "needs 1[3, 0] 0[0, 1] deletes 1[3, 0] adds 1[3, 1]";
-    let rows: [(u32, &[u16], &str); 3] = [
-        (1, &[3, 0, 1], driven),
-        (1, &[0, 3, 1], "none"),
-        (0, &[3, 2], "none"),
-    ];
-    for (name, objects, text) in rows {
-        let action = answer_of(&rt, rt.alloc(), ROAD, Question::Action(name, objects))?;
-        assert_eq!(rt; action.as_str(), text);
-    }
-    Ok(())
 }
 
 const SPARE_LINES: &str = "0: Some(0)[0, 1]

@@ -1,10 +1,7 @@
-//! Tests of names, instances, steps, searches and plans over tasks that are read from texts.
+//! Tests of what no command line shows: orders, names, states, instances, reach, steps and words, over tasks that are
+//! read from texts.
 #![tactic(auto)]
 
-#[cfg(test)]
-mod action_lines;
-#[cfg(test)]
-mod causes;
 #[cfg(test)]
 mod configurations;
 #[cfg(test)]
@@ -13,8 +10,6 @@ mod instances;
 mod many;
 #[cfg(test)]
 mod names;
-#[cfg(test)]
-mod never;
 #[cfg(test)]
 mod orders;
 #[cfg(test)]
@@ -26,12 +21,8 @@ mod questions;
 #[cfg(test)]
 mod reach;
 #[cfg(test)]
-mod rooms;
-#[cfg(test)]
 mod searches;
 #[cfg(test)]
 mod states;
 #[cfg(test)]
 mod steps;
-#[cfg(test)]
-mod verdicts;

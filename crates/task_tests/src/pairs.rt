@@ -23,17 +23,6 @@ pub const ROAD: Pair = Pair {
   (:init (at t1 a) (road a b) (road b c)))",
 };
 
-/// The same truck, which is to be at b in the end.
-pub const ROAD_TO_B: Pair = Pair {
-    domain: ROAD_DOMAIN,
-    problem: "(define (problem p1)
-  (:domain road)
-  (:objects a b c - place t1 - truck)
-  (:htn :parameters () :subtasks (go t1 c))
-  (:init (at t1 a) (road a b) (road b c))
-  (:goal (at t1 b)))",
-};
-
 /// Nothing is to be done.
 pub const NOTHING: Pair = Pair {
     domain: "(define (domain d))",
@@ -46,19 +35,6 @@ pub const LATE: Pair = Pair {
     problem: "(define (problem x) (:domain d) (:htn :subtasks (and (a) (make-p))))",
 };
 
-/// The same two tasks, in this order.
-pub const LATE_ORDERED: Pair = Pair {
-    domain: LATE_DOMAIN,
-    problem: "(define (problem x) (:domain d)
-  (:htn :subtasks (and (s1 (a)) (s2 (make-p))) :ordering (and (s1 < s2))))",
-};
-
-/// An action that adds and deletes the goal.
-pub const ADDED_AND_DELETED: Pair = Pair {
-    domain: "(define (domain d) (:predicates (p)) (:action a :effect (and (p) (not (p)))))",
-    problem: "(define (problem x) (:domain d) (:goal (p)) (:htn :ordered-subtasks (a)))",
-};
-
 /// Three unordered tasks: what the first needs is set and cleared by the others, and its subtask needs it cleared.
 pub const SET_AND_CLEAR: Pair = Pair {
     domain: "(define (domain d) (:predicates (p)) (:task t) (:task u)
@@ -67,22 +43,6 @@ pub const SET_AND_CLEAR: Pair = Pair {
   (:action set-p :effect (p)) (:action clear-p :effect (not (p))))",
     problem: "(define (problem x) (:domain d)
   (:htn :subtasks (and (t) (set-p) (clear-p))))",
-};
-
-/// Two tasks in order, each with an action of its own.
-pub const TWO_IN_ORDER: Pair = Pair {
-    domain: "(define (domain d) (:task t) (:task u) (:method m :task (t) :subtasks (x))
-  (:method n :task (u) :subtasks (y)) (:action x) (:action y))",
-    problem: "(define (problem x) (:domain d) (:htn :ordered-tasks (and (t) (u))))",
-};
-
-/// A task whose methods need what is never so.
-pub const NEVER: Pair = Pair {
-    domain: "(define (domain d) (:predicates (p) (q)) (:task t)
-  (:method m :task (t) :precondition (and (p) (not (p))))
-  (:method n :task (t) :precondition (q))
-  (:action x :effect (p)))",
-    problem: "(define (problem x) (:domain d) (:init (p)) (:htn :tasks (and (t) (x))))",
 };
 
 /// A task with two empty methods.
@@ -118,12 +78,6 @@ pub const ENDLESS: Pair = Pair {
     problem: ONE_TASK,
 };
 
-/// The same with the task twice.
-pub const DOUBLING: Pair = Pair {
-    domain: "(define (domain d) (:task t) (:method m :task (t) :subtasks (and (t) (t))))",
-    problem: ONE_TASK,
-};
-
 /// The endless task with a second method, which has no subtask.
 pub const ENDING: Pair = Pair {
     domain: "(define (domain d) (:task t) (:method m :task (t) :subtasks (t)) (:method e :task (t)))",
@@ -140,7 +94,7 @@ pub const CIRCLE: Pair = Pair {
     problem: "(define (problem x) (:domain d) (:init (r) (s)) (:htn :subtasks (and (t) (change))))",
 };
 
-/// The doubling task, whose method needs what is never true.
+/// A task whose one method has that task twice, and needs what is never true.
 pub const DEAD: Pair = Pair {
     domain: "(define (domain d) (:predicates (q)) (:task t)
   (:method m :task (t) :precondition (q) :subtasks (and (t) (t))))",

@@ -2,14 +2,11 @@
 //! dear to prove.
 
 use crate::configurations::{choices_text, configurations_text};
-use crate::instances::{
-    distinct_initials_text, distinct_text, ground_action_text, initials_text, instances_text,
-};
-use crate::never::never_text;
+use crate::instances::{distinct_initials_text, distinct_text, initials_text, instances_text};
 use crate::pairs::{Pair, task_between};
 use crate::plans::answer_within;
 use crate::reach::reach_text;
-use crate::searches::{depth_text, finishes_text, least_word, plan_text, rebuilt_text, word_text};
+use crate::searches::{depth_text, finishes_text, least_word, rebuilt_text};
 use crate::steps::{different_text, listed_text, live_numbers_text, numbered_text, walk};
 use htn_search::Bounds;
 use htn_task::Task;
@@ -25,16 +22,12 @@ pub enum Question<'a> {
     Instances(&'a [u16]),
     /// The instances of the initial network.
     Initials,
-    /// The literals, deletes and adds of an action with these objects.
-    Action(u32, &'a [u16]),
     /// The instances of the first compound task whose network no earlier one has.
     DistinctInstances,
     /// The distinct instances of the initial network.
     DistinctInitials,
     /// Relaxed reachability, where the instances are listed up to this limit.
     Reach(u64),
-    /// What no plan uses.
-    Never,
     /// A line for each configuration along a word.
     Walk(&'a [u64]),
     /// The state, the open nodes and their order of each configuration along a word.
@@ -51,8 +44,6 @@ pub enum Question<'a> {
     LiveNumbers,
     /// Whether a word finishes.
     Finishes(&'a [u64]),
-    /// The plan of a word.
-    WordPlan(&'a [u64]),
     /// The solution of a word.
     Rebuilt(&'a [u64]),
     /// The depth of the solution of a word.
@@ -61,8 +52,6 @@ pub enum Question<'a> {
     Within(u64),
     /// The least word.
     LeastWord(Bounds),
-    /// The plan that is found, by the order of its actions and steps.
-    Plan(Bounds),
 }
 
 // The answer to a question about a task that is lent.
@@ -75,11 +64,9 @@ fn answer<R: Threads + Wait + Sync>(
     match question {
         Question::Instances(objects) => instances_text(alloc, task, 0, objects),
         Question::Initials => initials_text(alloc, task),
-        Question::Action(name, objects) => ground_action_text(alloc, task, name, objects),
         Question::DistinctInstances => distinct_text(alloc, task),
         Question::DistinctInitials => distinct_initials_text(alloc, task),
         Question::Reach(limit) => reach_text(alloc, task, limit),
-        Question::Never => never_text(alloc, task),
         Question::Walk(word) => walk(alloc, task, word),
         Question::Configurations(word) => configurations_text(alloc, task, word),
         Question::Choices(word) => choices_text(alloc, task, word),
@@ -88,12 +75,10 @@ fn answer<R: Threads + Wait + Sync>(
         Question::ChosenByNumber(number) => numbered_text(alloc, task, number),
         Question::LiveNumbers => live_numbers_text(alloc, task),
         Question::Finishes(word) => finishes_text(alloc, task, word),
-        Question::WordPlan(word) => word_text(alloc, task, word),
         Question::Rebuilt(word) => rebuilt_text(alloc, task, word),
         Question::Depth(word) => depth_text(alloc, task, word),
         Question::Within(nodes) => answer_within(rt, alloc, task, nodes),
         Question::LeastWord(bounds) => least_word(rt, alloc, task, bounds),
-        Question::Plan(bounds) => plan_text(rt, alloc, task, bounds),
     }
 }
 
