@@ -1,0 +1,19 @@
+//! The details of valid plan files: which instance of its method each decomposition line is, and how many actions come
+//! before each precondition step. The definitions are in `specs/`; each function here is a law about them, with an empty
+//! body.
+#![tactic(auto)]
+
+ghost use Rattle.htn_model.specs.PlanFile.{Naming};
+ghost use Rattle.htn_model.specs.Problem.{IsGrounded, Problem};
+ghost use Rattle.plan_details.specs.Certificate.{CertificatesAreDetails, CertificatesFit};
+
+/// Instances, positions and spans that fit together line by line, for a file whose lines are a forest
+/// and run to the goal, are those of one solution whose shadow the file is.
+pub fn certificates_are_details()
+    ensures details { (naming : Naming) (problem : Problem) → IsGrounded problem → CertificatesAreDetails naming problem }
+{}
+
+/// And its lines have room.
+pub fn certificates_fit()
+    ensures fit { (naming : Naming) (problem : Problem) → IsGrounded problem → CertificatesFit naming problem }
+{}
