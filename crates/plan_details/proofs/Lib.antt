@@ -1,3 +1,5 @@
 pub mod Grown
 pub mod Timely
 pub mod Solved
+pub mod Detailed
+pub mod Worked

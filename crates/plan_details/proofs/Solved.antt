@@ -1,17 +1,18 @@
 -- The trees of a certificate are a solution whose shadow the file is, with the chosen details.
-use Rattle.std.proofs.Common.{◌≡◌, ℕ, ◌+◌, Bool, List, [], ◌∷◌, ◌++◌, length, map, Option, Some, None, slice_get, sym, refl, ap, ◌∙◌, subst, arith}
+use Rattle.std.proofs.Common.{◌≡◌, ℕ, ◌+◌, Bool, List, [], ◌∷◌, ◌++◌, length, map, Option, Some, None, slice_get, option_and_then, sym, refl, ap, ◌∙◌, subst, arith}
 use Rattle.std.specs.List.{AllByRecursion}
 use Rattle.htn_model.specs.State.{State}
 use Rattle.htn_model.specs.Literal.{Literal}
-use Rattle.htn_model.specs.Problem.{Problem, IsGrounded, Network}
+use Rattle.htn_model.specs.Problem.{GroundTask, Problem, IsGrounded, Network, perform_action}
 use Rattle.htn_model.specs.Tree.{Node, leaf, step, compound, Nodes, roots, Place, node_at, primitives_from, before, order_of_network, IsRearrangement, Respects, Solution, IsSolution, run}
-use Rattle.htn_model.specs.PlanFile.{DecompositionLine, PlanFile, Naming, IsRearrangementOf, IsIn, action_ids, decomposition_ids, IsForest}
+use Rattle.htn_model.specs.PlanFile.{ActionLine, DecompositionLine, PlanFile, Naming, IsRearrangementOf, IsIn, action_ids, decomposition_ids, IsForest}
 use Rattle.htn_model.specs.Shadow.{compounds_from, IsDecompositionLine, HasId, IsShadow}
+use Rattle.htn_model.specs.Verdict.{perform_line}
 use Rattle.htn_model.specs.Fits.{subtask_positions}
 use Rattle.htn_model.specs.Placement.{IsPrimitive}
 use Rattle.htn_model.specs.Decoupling.{ForestKeeps}
 use Rattle.htn_model.specs.Shown.{LinesRun}
-use Rattle.htn_model.proofs.Ascending.{all_in, all_from}
+use Rattle.htn_model.proofs.Ascending.{all_in, all_from, in_at}
 use Rattle.htn_model.proofs.Pending.{all_map}
 use Rattle.htn_model.proofs.Forests.{networks_decouple}
 use Rattle.htn_model.proofs.Numbered.{IsCompound, primitives_from_stand, compounds_from_stand, top, in_primitives, in_compounds, in_arranged}
@@ -22,9 +23,10 @@ use Rattle.htn_model.proofs.Laid.{id_below, Forest}
 use Rattle.htn_model.proofs.Marked.{compound_line, one_to_one, leaf_of, one_leaf, compound_of, at_child}
 use Rattle.htn_model.proofs.Executed.{precedes, precedes_irreflexive, precedes_transitive, respects_order, Waits, Executes, executes}
 use Rattle.htn_model.proofs.Accepted.{shown_ids, lines_of_places}
+use Rattle.htn_model.proofs.Planted.{AreNamedLines, forest_planted}
 use Rattle.htn_model.proofs.Fitted.{accepted_fits}
 use Rattle.plan_details.specs.Details.{actions_before, AreDetails}
-use Rattle.plan_details.specs.Certificate.{Choices, details_of, CertificatesAreDetails, CertificatesFit}
+use Rattle.plan_details.specs.Certificate.{Choices, details_of, IsCertificate, CertificatesAreDetails, CertificatesFit}
 use Rattle.plan_details.proofs.Grown.{AllChosen, grown_roots}
 use Rattle.plan_details.proofs.Timely.{step_in_turn}
 
@@ -179,9 +181,30 @@ module _ (naming : Naming) (problem : Problem) (grounded : IsGrounded problem) (
     });
   }
 
+module _ (naming : Naming) (problem : Problem) (file : PlanFile) (states : ℕ → State) (choices : Choices) (runs : LinesRun naming problem file states)
+    (certificate : IsCertificate naming problem file states choices) where
+  -- a line that is carried out names an action
+  named_action : (i : ℕ) (line : ActionLine) → slice_get file.actions i ≡ Some line → (g : GroundTask) × (naming.named line.name line.arguments ≡ Some g)
+  named_action i line there = by (naming.named line.name line.arguments) refl
+    where
+      by : (o : Option GroundTask) → naming.named line.name line.arguments ≡ o → (g : GroundTask) × (naming.named line.name line.arguments ≡ Some g)
+      by None e =
+          let does = runs.performs i line there in
+          let none : perform_line naming problem (states i) line ≡ None = ap (λ n. perform_action (states i) (option_and_then problem.action_of n)) e in
+          absurd cc
+      by (Some g) e = (g, e)
+
+  -- so each line names its task
+  named_lines : AreNamedLines naming file
+  named_lines = record {
+    actions = λ line i. (let (k, stands) = in_at line file.actions i in named_action k line stands);
+    decompositions = λ line i. (let l = certificate.lines line i in (l.t, l.named));
+  }
+
 -- what is chosen in a certificate is the details of a solution whose shadow the file is
 pub certificates_are_details : (naming : Naming) (problem : Problem) → IsGrounded problem → CertificatesAreDetails naming problem
-certificates_are_details naming problem grounded file states plans choices is_forest runs shows certificate =
+certificates_are_details naming problem grounded file states choices is_forest runs certificate =
+    let (plans, shows) = forest_planted file is_forest naming (named_lines naming problem file states choices runs certificate) in
     let grown = grown_roots naming problem file states choices is_forest runs certificate plans shows in
     let f = grown.forest in
     let network = certificate.network in
@@ -204,6 +227,6 @@ certificates_are_details naming problem grounded file states plans choices is_fo
 -- so its lines have room
 pub certificates_fit : (naming : Naming) (problem : Problem) → IsGrounded problem → CertificatesFit naming problem
 certificates_fit naming problem grounded file states plans choices is_forest runs shows certificate =
-    let details = certificates_are_details naming problem grounded file states plans choices is_forest runs shows certificate in
+    let details = certificates_are_details naming problem grounded file states choices is_forest runs certificate in
     accepted_fits naming problem grounded file states plans is_forest runs shows
     (record { solution = details.solution; solves = details.solves; shadow = details.shadow })

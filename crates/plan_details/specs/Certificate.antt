@@ -79,7 +79,7 @@ module _ (naming : Naming) (problem : Problem) (file : PlanFile) (states : ℕ �
 -- what is chosen for a forest of lines that run is the details of one solution whose shadow the file is
 abbrev pub CertificatesAreDetails : Naming → Problem → Type 0
 CertificatesAreDetails naming problem =
-    (file : PlanFile) (states : ℕ → State) (plans : PlanTrees) (choices : Choices) → IsForest file → LinesRun naming problem file states → ShowTrees naming file file.roots plans
+    (file : PlanFile) (states : ℕ → State) (choices : Choices) → IsForest file → LinesRun naming problem file states
     → IsCertificate naming problem file states choices → AreDetails naming problem file (details_of choices)
 
 -- and the lines have room

@@ -1,11 +1,13 @@
 -- What a solution adds to the lines of its shadow: which instance of its method a line is, and when the instance's steps
 -- are tested.
-use Rattle.std.specs.Prelude.{◌≡◌, ℕ, ◌+◌, List, [], ◌∷◌, ◌++◌, Some, cond}
-use Rattle.htn_model.specs.Literal.{Literal}
-use Rattle.htn_model.specs.Problem.{GroundTask, Problem}
+use Rattle.std.specs.Prelude.{◌≡◌, ℕ, ◌+◌, ◌≤◌, List, [], ◌∷◌, ◌++◌, length, Some, cond, true, slice_get}
+use Rattle.htn_model.specs.State.{State}
+use Rattle.htn_model.specs.Literal.{Literal, holds}
+use Rattle.htn_model.specs.Problem.{GroundTask, Problem, Network, precondition}
 use Rattle.htn_model.specs.Tree.{step, compound, Nodes, child_at, Place, node_at, Solution, IsSolution}
-use Rattle.htn_model.specs.PlanFile.{PlanFile, Naming}
+use Rattle.htn_model.specs.PlanFile.{DecompositionLine, PlanFile, Naming, IsIn}
 use Rattle.htn_model.specs.Shadow.{IsShadow}
+use Rattle.htn_model.specs.Shown.{LinesRun}
 use Rattle.htn_model.specs.Placement.{duration}
 use Rattle.htn_model.specs.Numbered.{is_same_place}
 
@@ -35,3 +37,21 @@ pub record AreDetails (naming : Naming) (problem : Problem) (file : PlanFile) (d
   pub initial : details.initial ≡ solution.number
   pub each : (p : Place) (t : GroundTask) (n : ℕ) (nodes : Nodes) → node_at solution.trees p ≡ Some (compound t n nodes)
       → AreDetailsAt details solution p (shadow.id_at p) n nodes
+
+-- ## What details say of a line
+
+-- there is an instance with the number, which is one of the line's method, and its steps hold in their gaps
+pub record IsDetailed (naming : Naming) (problem : Problem) (file : PlanFile) (states : ℕ → State) (details : Details) (line : DecompositionLine) : Type 0 where
+  pub t : GroundTask
+  pub network : Network
+  pub named : naming.named line.task line.arguments ≡ Some t
+  pub is_instance : slice_get (problem.methods_of t) (details.number line.id) ≡ Some network
+  pub method : line.method ≡ naming.method_name t (details.number line.id)
+  pub steps : (a : ℕ) (literals : List Literal) → slice_get network.children a ≡ Some (precondition literals)
+      → (details.gap line.id a ≤ length file.actions) × (holds (states (details.gap line.id a)) literals ≡ true)
+
+-- the details of a file say so of each of its lines
+abbrev pub LinesAreDetailed : Naming → Problem → Type 0
+LinesAreDetailed naming problem =
+    (file : PlanFile) (states : ℕ → State) (details : Details) → LinesRun naming problem file states → AreDetails naming problem file details
+    → (line : DecompositionLine) → IsIn line file.decompositions → IsDetailed naming problem file states details line

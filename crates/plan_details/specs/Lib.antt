@@ -1,2 +1,3 @@
 pub mod Details
 pub mod Certificate
+pub mod Worked

@@ -6,6 +6,14 @@
 ghost use Rattle.htn_model.specs.PlanFile.{Naming};
 ghost use Rattle.htn_model.specs.Problem.{IsGrounded, Problem};
 ghost use Rattle.plan_details.specs.Certificate.{CertificatesAreDetails, CertificatesFit};
+ghost use Rattle.plan_details.specs.Details.{LinesAreDetailed};
+ghost use Rattle.plan_details.specs.Worked.{FilesHaveDetails};
+
+/// The details of a line name an instance of its method, whose steps hold after as many actions as
+/// they say.
+pub fn lines_are_detailed()
+    ensures detailed { (naming : Naming) (problem : Problem) → LinesAreDetailed naming problem }
+{}
 
 /// Instances, positions and spans that fit together line by line, for a file whose lines are a forest
 /// and run to the goal, are those of one solution whose shadow the file is.
@@ -16,4 +24,10 @@ pub fn certificates_are_details()
 /// And its lines have room.
 pub fn certificates_fit()
     ensures fit { (naming : Naming) (problem : Problem) → IsGrounded problem → CertificatesFit naming problem }
+{}
+
+/// Small plan files with their details, as the definitions give them: of two instances of one method
+/// the one whose step can hold, and a step that comes after an action beside its task.
+pub fn worked_details_hold()
+    ensures hold { FilesHaveDetails }
 {}
