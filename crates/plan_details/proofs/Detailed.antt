@@ -14,7 +14,7 @@ use Rattle.plan_details.specs.Details.{LinesAreDetailed}
 use Rattle.plan_details.proofs.Timely.{slot_before}
 
 -- each line is that of a compound node
-place_of_line : (naming : Naming) (trees : Nodes) (id_at : Place → ℕ) (ps : List Place) (lines : List DecompositionLine) → AreDecompositionLines naming trees id_at ps lines
+pub place_of_line : (naming : Naming) (trees : Nodes) (id_at : Place → ℕ) (ps : List Place) (lines : List DecompositionLine) → AreDecompositionLines naming trees id_at ps lines
     → (line : DecompositionLine) → IsIn line lines → (p : Place) × IsDecompositionLine naming trees id_at p line
 place_of_line naming trees id_at [] lines all line i = absurd (subst (IsIn line) all i)
 place_of_line naming trees id_at (p ∷ ps) lines (left, other, right, e, is, more) line i = elim (in_narrower line other left right (subst (IsIn line) e i)) [
@@ -23,7 +23,7 @@ place_of_line naming trees id_at (p ∷ ps) lines (left, other, right, e, is, mo
 ]
 
 -- a step among the roots is a tree of the nodes
-step_there : (nodes : Nodes) (a : ℕ) (literals : List Literal) → slice_get (roots nodes) a ≡ Some (precondition literals) → child_at nodes a ≡ Some (step literals)
+pub step_there : (nodes : Nodes) (a : ℕ) (literals : List Literal) → slice_get (roots nodes) a ≡ Some (precondition literals) → child_at nodes a ≡ Some (step literals)
 step_there no_nodes a literals h = absurd cc
 step_there (node (leaf g) ns) zero literals h = absurd cc
 step_there (node (step given) ns) zero literals h = let same : given ≡ literals = cc in ap (λ l. Some (step l)) same

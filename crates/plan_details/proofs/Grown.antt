@@ -1,4 +1,4 @@
--- Lines that have places have a tree of the chosen instances, with each step in its chosen gap.
+-- Lines that are laid out have a tree of the instances of their details, with each step in its gap.
 use Rattle.std.proofs.Common.{◌≡◌, ℕ, zero, suc, ◌+◌, ◌≤◌, ◌<◌, cond, eqb, List, [], ◌∷◌, ◌++◌, map, Option, Some, None, true, slice_get, option_and_then, inl, inr, sym, refl, ap, ap₂, ◌∙◌, subst, arith}
 use Rattle.std.proofs.lemmas.Bool.{eq-eqb, ne_eqb}
 use Rattle.htn_model.specs.State.{State}
@@ -15,7 +15,8 @@ use Rattle.htn_model.proofs.Decoupled.{nothing_below, sits_child}
 use Rattle.htn_model.proofs.Rearranged.{in_rearranged, in_arranged, map_rearranged, distinct_arranged}
 use Rattle.htn_model.proofs.Laid.{IsSubtask, subtask_at, in_subtasks, subtasks_distinct, Laid, id_below, with_id, AllMarks, slots_of, ids_from, nodes_from, IsLaid, AreLaid, Forest}
 use Rattle.htn_model.proofs.Marked.{one_line, one_index, kinds_apart, decompositions_distinct, actions_distinct, root_of_child}
-use Rattle.plan_details.specs.Certificate.{Choice, Choices, IsPlaced, ArePlaced, HasPlaces, IsCertificate}
+use Rattle.plan_details.specs.Details.{Details}
+use Rattle.plan_details.specs.Certificate.{Layout, Layouts, IsPlaced, ArePlaced, AreLaidOut, IsCertificate}
 
 -- functions that agree on the members of a list make the same of it
 map_same : {X Y : Type 0} (f g : X → Y) (xs : List X) → ((x : X) → IsIn x xs → f x ≡ g x) → map f xs ≡ map g xs
@@ -48,11 +49,11 @@ laid_child f i (c ∷ children) (suc k) m e =
 
 -- ## What is chosen
 
-module _ (choices : Choices) where
+module _ (details : Details) where
   -- a compound node is of the chosen instance, with its steps in the chosen gaps
   pub record IsChosen (slots : Slots) (ids : Place → ℕ) (q : Place) (n : ℕ) (nodes : Nodes) : Type 0 where
-    pub number : (choices.line (ids q)).number ≡ n
-    pub gap : (a : ℕ) (literals : List Literal) → child_at nodes a ≡ Some (step literals) → (choices.line (ids q)).start a ≡ slots (q ++ a ∷ [])
+    pub number : details.number (ids q) ≡ n
+    pub gap : (a : ℕ) (literals : List Literal) → child_at nodes a ≡ Some (step literals) → details.gap (ids q) a ≡ slots (q ++ a ∷ [])
 
   -- so is each one at or below a node
   abbrev BelowChosen : Slots → (Place → ℕ) → Node → Type 0
@@ -74,16 +75,16 @@ module _ (choices : Choices) where
   step_chosen slots ids literals [] t number nodes e = absurd cc
   step_chosen slots ids literals (i ∷ q) t number nodes e = let none = nothing_below q in absurd cc
 
-module _ (naming : Naming) (problem : Problem) (file : PlanFile) (states : ℕ → State) (choices : Choices) where
+module _ (naming : Naming) (problem : Problem) (file : PlanFile) (states : ℕ → State) (details : Details) (layouts : Layouts) where
   -- a tree that stands for the child, sits between the gaps, has marks, and is as chosen
   record Stands (c : Child) (g h : ℕ) (y : Laid) : Type 0 where
     laid : IsLaid naming problem file states c g h y
-    chosen : BelowChosen choices y.slots y.ids y.node
+    chosen : BelowChosen details y.slots y.ids y.node
 
   -- trees for a network, as chosen
-  pub record Grown (network : Network) (ids : List ℕ) (c : Choice) : Type 0 where
+  pub record Grown (network : Network) (ids : List ℕ) (c : Layout) : Type 0 where
     pub forest : Forest naming problem file states network.children ids c.start c.finish
-    pub chosen : AllChosen choices forest.slots forest.ids forest.nodes
+    pub chosen : AllChosen details forest.slots forest.ids forest.nodes
 
   -- trees for all children, from position i on
   laid_from : (f : ℕ → Laid) (children : List Child) (start finish : ℕ → ℕ) (i : ℕ)
@@ -105,18 +106,18 @@ module _ (naming : Naming) (problem : Problem) (file : PlanFile) (states : ℕ �
   -- ## One tree at each position
 
   -- the step at a position, in its gap
-  abbrev base : List Child → Choice → ℕ → Laid
+  abbrev base : List Child → Layout → ℕ → Laid
   base children c k = record { node = step (literals_of (slice_get children k)); slots = λ q. c.start k; ids = λ q. 0 }
 
   -- a tree at each of these positions, with the lines' ids, and elsewhere a step
-  record Filled (children : List Child) (c : Choice) (positions ids : List ℕ) : Type 0 where
+  record Filled (children : List Child) (c : Layout) (positions ids : List ℕ) : Type 0 where
     at : ℕ → Laid
     each : (k : ℕ) → IsIn k positions → (d : Child) × (slice_get children k ≡ Some d) × Stands d (c.start k) (c.finish k) (at k)
     others : (k : ℕ) → (IsIn k positions → ⊥) → at k ≡ base children c k
     ids_are : ids ≡ map (λ k. (at k).ids []) positions
 
   -- at no positions
-  fill_none : (children : List Child) (c : Choice) (positions : List ℕ) → positions ≡ [] → Filled children c positions []
+  fill_none : (children : List Child) (c : Layout) (positions : List ℕ) → positions ≡ [] → Filled children c positions []
   fill_none children c positions none = record {
     at = base children c;
     each = λ k i. absurd (subst (IsIn k) none i);
@@ -125,7 +126,7 @@ module _ (naming : Naming) (problem : Problem) (file : PlanFile) (states : ℕ �
   }
 
   -- at one position more
-  fill_more : (children : List Child) (c : Choice) (a : ℕ) (positions : List ℕ) (id : ℕ) (ids : List ℕ) → IsWithoutRepeats (a ∷ positions)
+  fill_more : (children : List Child) (c : Layout) (a : ℕ) (positions : List ℕ) (id : ℕ) (ids : List ℕ) → IsWithoutRepeats (a ∷ positions)
       → (y : Laid) → (d : Child) → slice_get children a ≡ Some d → Stands d (c.start a) (c.finish a) y → y.ids [] ≡ id
       → Filled children c positions ids → Filled children c (a ∷ positions) (id ∷ ids)
   fill_more children c a positions id ids distinct y d there stands is more =
@@ -147,7 +148,7 @@ module _ (naming : Naming) (problem : Problem) (file : PlanFile) (states : ℕ �
 
   -- ## A network's trees
 
-  module _ (network : Network) (ids : List ℕ) (c : Choice) (places : HasPlaces naming problem file states choices network ids c)
+  module _ (network : Network) (ids : List ℕ) (c : Layout) (places : AreLaidOut naming problem file states details layouts network ids c)
       (filled : Filled network.children c c.positions ids) where
     -- a subtask has a tree
     subtask_stands : (k : ℕ) (d : Child) → slice_get network.children k ≡ Some d → IsSubtask d → Stands d (c.start k) (c.finish k) (filled.at k)
@@ -182,7 +183,7 @@ module _ (naming : Naming) (problem : Problem) (file : PlanFile) (states : ℕ �
             sits = (omega arith, forward, subst (λ l. holds (states (c.start k)) l ≡ true) (sym are) (places.steps k literals e).1);
             marks = tt;
           };
-          chosen = step_chosen choices _ _ _;
+          chosen = step_chosen details _ _ _;
         })
 
     -- so each child has a tree
@@ -204,12 +205,12 @@ module _ (naming : Naming) (problem : Problem) (file : PlanFile) (states : ℕ �
     }
 
     -- which are as chosen
-    all_chosen : AllChosen choices (slots_of filled.at) (ids_from filled.at) (nodes_from filled.at 0 network.children)
+    all_chosen : AllChosen details (slots_of filled.at) (ids_from filled.at) (nodes_from filled.at 0 network.children)
     all_chosen [] t number nodes e = absurd cc
     all_chosen (i ∷ q) t number nodes e = by (child_at (nodes_from filled.at 0 network.children) i) refl e
       where
         by : (m : Option Node) → child_at (nodes_from filled.at 0 network.children) i ≡ m → node_below m q ≡ Some (compound t number nodes)
-            → IsChosen choices (slots_of filled.at) (ids_from filled.at) (i ∷ q) number nodes
+            → IsChosen details (slots_of filled.at) (ids_from filled.at) (i ∷ q) number nodes
         by None here below = let none = nothing_below q in absurd cc
         by (Some m) here below =
             let (d, there, same) = laid_child filled.at 0 network.children i m here in
@@ -223,21 +224,27 @@ module _ (naming : Naming) (problem : Problem) (file : PlanFile) (states : ℕ �
     unfolding forest_of
     grow = record { forest = forest_of; chosen = all_chosen }
 
-  -- a step among the trees of a network stands where it starts
-  step_starts : (network : Network) (ids : List ℕ) (c : Choice) → HasPlaces naming problem file states choices network ids c → (grown : Grown network ids c)
+  -- a step among the trees of a network is the network's
+  step_child : (network : Network) (ids : List ℕ) (c : Layout) (grown : Grown network ids c)
+      → (a : ℕ) (literals : List Literal) → child_at grown.forest.nodes a ≡ Some (step literals) → slice_get network.children a ≡ Some (precondition literals)
+  step_child network ids c grown a literals e =
+      let f = grown.forest in
+      subst (λ cs. slice_get cs a ≡ Some (precondition literals)) f.laid.are_roots (root_of_child f.nodes a (step literals) e)
+
+  -- and stands where it starts
+  step_starts : (network : Network) (ids : List ℕ) (c : Layout) → AreLaidOut naming problem file states details layouts network ids c → (grown : Grown network ids c)
       → (a : ℕ) (literals : List Literal) → child_at grown.forest.nodes a ≡ Some (step literals) → c.start a ≡ grown.forest.slots (a ∷ [])
   step_starts network ids c places grown a literals e =
       let f = grown.forest in
       let sits = sits_child problem states f.slots f.nodes c.start c.finish a (step literals) f.laid.sit e in
-      let there : slice_get network.children a ≡ Some (precondition literals) = subst (λ cs. slice_get cs a ≡ Some (precondition literals)) f.laid.are_roots (root_of_child f.nodes a (step literals) e) in
-      let one = (places.steps a literals there).0 in
+      let one = (places.steps a literals (step_child network ids c grown a literals e)).0 in
       let low = sits.0 in
       let high = sits.1 in
       omega arith
 
   -- ## The trees of lines
 
-  module _ (is_forest : IsForest file) (runs : LinesRun naming problem file states) (certificate : IsCertificate naming problem file states choices) where
+  module _ (is_forest : IsForest file) (runs : LinesRun naming problem file states) (certificate : IsCertificate naming problem file states details layouts) where
     -- a line that names an action has one
     is_action : (g : GroundTask) (i : ℕ) (line : ActionLine) → slice_get file.actions i ≡ Some line → naming.named line.name line.arguments ≡ Some g
         → (a : Action) × (problem.action_of g ≡ Some a)
@@ -252,7 +259,7 @@ module _ (naming : Naming) (problem : Problem) (file : PlanFile) (states : ℕ �
         by (Some a) e = (a, e)
 
     -- an action line is placed as the action that it shows
-    placed_action : (t : GroundTask) (i id g h : ℕ) (c : Child) → ShowsTree naming file id (action_at t i) → IsPlaced naming problem file states choices c id g h
+    placed_action : (t : GroundTask) (i id g h : ℕ) (c : Child) → ShowsTree naming file id (action_at t i) → IsPlaced naming problem file states details layouts c id g h
         → (c ≡ action t) × (g ≤ i) × (i < h)
     placed_action t i id g h (precondition literals) shows placed = absurd placed
     placed_action t i id g h (action u) (line, there, is, named) (j, other, stands, is_other, other_named, low, high) =
@@ -267,8 +274,8 @@ module _ (naming : Naming) (problem : Problem) (file : PlanFile) (states : ℕ �
 
     -- a decomposition line is placed as the task that it shows
     placed_decomposition : (t : GroundTask) (line : DecompositionLine) (id g h : ℕ) (c : Child) → IsIn line file.decompositions → line.id ≡ id
-        → naming.named line.task line.arguments ≡ Some t → IsPlaced naming problem file states choices c id g h
-        → (c ≡ task t) × (g ≤ (choices.line line.id).from) × ((choices.line line.id).to ≤ h)
+        → naming.named line.task line.arguments ≡ Some t → IsPlaced naming problem file states details layouts c id g h
+        → (c ≡ task t) × (g ≤ (layouts.line line.id).from) × ((layouts.line line.id).to ≤ h)
     placed_decomposition t line id g h (precondition literals) listed is named placed = absurd placed
     placed_decomposition t line id g h (action u) listed is named (j, other, stands, is_other, other_named, low, high) =
         absurd (kinds_apart file is_forest other line (at_in other file.actions j stands) listed (is_other ∙ sym is))
@@ -276,26 +283,26 @@ module _ (naming : Naming) (problem : Problem) (file : PlanFile) (states : ℕ �
         let alike : other ≡ line = one_line other line file.decompositions (decompositions_distinct file is_forest) there listed (is_other ∙ sym is) in
         let tasks : Some u ≡ Some t = sym other_named ∙ ap (λ l. naming.named l.task l.arguments) alike ∙ named in
         let same : u ≡ t = cc in
-        (ap task same, subst (λ k. g ≤ (choices.line k).from) (sym is) low, subst (λ k. (choices.line k).to ≤ h) (sym is) high)
+        (ap task same, subst (λ k. g ≤ (layouts.line k).from) (sym is) low, subst (λ k. (layouts.line k).to ≤ h) (sym is) high)
 
     -- a decomposition line's tree, from those of its children
     stand_line : (line : DecompositionLine) (id g h : ℕ) (c : Child) → IsIn line file.decompositions → line.id ≡ id
-        → IsPlaced naming problem file states choices c id g h
-        → ((network : Network) (d : Choice) → HasPlaces naming problem file states choices network line.children d → Filled network.children d d.positions line.children)
+        → IsPlaced naming problem file states details layouts c id g h
+        → ((network : Network) (d : Layout) → AreLaidOut naming problem file states details layouts network line.children d → Filled network.children d d.positions line.children)
         → (y : Laid) × (Stands c g h y × (y.ids [] ≡ id))
     stand_line line id g h c listed is placed fill =
         let l = certificate.lines line listed in
-        let d = choices.line line.id in
+        let d = layouts.line line.id in
         let (is_task, low, high) = placed_decomposition l.t line id g h c listed is l.named placed in
-        let grown = grow l.network line.children d l.places (fill l.network d l.places) in
+        let grown = grow l.network line.children d l.children (fill l.network d l.children) in
         let f = grown.forest in
         let spans : AreSpans l.network.order d.start d.finish g h = record {
-          from = λ a. (let from = l.places.spans.from a in omega arith);
-          to = λ a. (let to = l.places.spans.to a in omega arith);
-          forward = l.places.spans.forward;
-          ordered = l.places.spans.ordered;
+          from = λ a. (let from = l.children.spans.from a in omega arith);
+          to = λ a. (let to = l.children.spans.to a in omega arith);
+          forward = l.children.spans.forward;
+          ordered = l.children.spans.ordered;
         } in (
-          record { node = compound l.t d.number f.nodes; slots = f.slots; ids = with_id line.id f.ids },
+          record { node = compound l.t (details.number line.id) f.nodes; slots = f.slots; ids = with_id line.id f.ids },
           (
             record {
               laid = record {
@@ -312,24 +319,25 @@ module _ (naming : Naming) (problem : Problem) (file : PlanFile) (states : ℕ �
                   marks_with naming file f.slots f.ids line.id 0 f.nodes f.laid.marks,
                 );
               };
-              chosen = below l.t grown (step_starts l.network line.children d l.places grown);
+              chosen = below l.t grown (λ a literals e.
+                  l.gaps a literals (step_child l.network line.children d grown a literals e) ∙ step_starts l.network line.children d l.children grown a literals e);
             },
             is,
           ),
         )
       where
-        below : {network : Network} (t : GroundTask) (grown : Grown network line.children (choices.line line.id))
-            → ((a : ℕ) (literals : List Literal) → child_at grown.forest.nodes a ≡ Some (step literals) → (choices.line line.id).start a ≡ grown.forest.slots (a ∷ []))
-            → BelowChosen choices grown.forest.slots (with_id line.id grown.forest.ids) (compound t (choices.line line.id).number grown.forest.nodes)
+        below : {network : Network} (t : GroundTask) (grown : Grown network line.children (layouts.line line.id))
+            → ((a : ℕ) (literals : List Literal) → child_at grown.forest.nodes a ≡ Some (step literals) → details.gap line.id a ≡ grown.forest.slots (a ∷ []))
+            → BelowChosen details grown.forest.slots (with_id line.id grown.forest.ids) (compound t (details.number line.id) grown.forest.nodes)
         below t grown starts [] u number nodes e =
-            let same : (choices.line line.id).number ≡ number = cc in
+            let same : details.number line.id ≡ number = cc in
             let inner : grown.forest.nodes ≡ nodes = cc in
             record { number = same; gap = λ a literals there. starts a literals (ap (λ ns. child_at ns a) inner ∙ there) }
         below t grown starts (i ∷ q) u number nodes e = let x = grown.chosen (i ∷ q) u number nodes e in record { number = x.number; gap = x.gap }
 
     mutual
       -- a plan tree whose line is placed has a tree there
-      stand : (p : PlanTree) (id g h : ℕ) (c : Child) → ShowsTree naming file id p → IsPlaced naming problem file states choices c id g h
+      stand : (p : PlanTree) (id g h : ℕ) (c : Child) → ShowsTree naming file id p → IsPlaced naming problem file states details layouts c id g h
           → (y : Laid) × (Stands c g h y × (y.ids [] ≡ id))
       stand (action_at t i) id g h c shows placed =
           let (is, low, high) = placed_action t i id g h c shows placed in
@@ -338,7 +346,7 @@ module _ (naming : Naming) (problem : Problem) (file : PlanFile) (states : ℕ �
             (
               record {
                 laid = record { is_root = sym is; tree = is_action t i line there named; sits = (low, high); marks = (line, there, same, named) };
-                chosen = leaf_chosen choices _ _ t;
+                chosen = leaf_chosen details _ _ t;
               },
               refl,
             ),
@@ -349,8 +357,8 @@ module _ (naming : Naming) (problem : Problem) (file : PlanFile) (states : ℕ �
           (distinct_arranged d.positions _ places.each_once (subtasks_distinct 0 network.children)) shows places.children)
 
       -- and so have plan trees, each at its position
-      fill : (plans : PlanTrees) (positions ids : List ℕ) (children : List Child) (c : Choice) → IsWithoutRepeats positions → ShowTrees naming file ids plans
-          → ArePlaced naming problem file states choices children c positions ids → Filled children c positions ids
+      fill : (plans : PlanTrees) (positions ids : List ℕ) (children : List Child) (c : Layout) → IsWithoutRepeats positions → ShowTrees naming file ids plans
+          → ArePlaced naming problem file states details layouts children c positions ids → Filled children c positions ids
       fill no_plans positions [] children c distinct shows placed = fill_none children c positions placed
       fill no_plans positions (id ∷ ids) children c distinct shows placed = absurd cc
       fill (plan p plans) positions [] children c distinct shows placed = absurd shows
@@ -361,9 +369,9 @@ module _ (naming : Naming) (problem : Problem) (file : PlanFile) (states : ℕ �
           (fill plans positions ids children c distinct.1 shows.1 placed.1)
 
     -- the roots have trees, as chosen
-    pub grown_roots : (plans : PlanTrees) → ShowTrees naming file file.roots plans → Grown certificate.network file.roots choices.root
+    pub grown_roots : (plans : PlanTrees) → ShowTrees naming file file.roots plans → Grown certificate.network file.roots layouts.root
     grown_roots plans shows =
         let places = certificate.roots in
-        grow certificate.network file.roots choices.root places
-        (fill plans choices.root.positions file.roots certificate.network.children choices.root
-        (distinct_arranged choices.root.positions _ places.each_once (subtasks_distinct 0 certificate.network.children)) shows places.children)
+        grow certificate.network file.roots layouts.root places
+        (fill plans layouts.root.positions file.roots certificate.network.children layouts.root
+        (distinct_arranged layouts.root.positions _ places.each_once (subtasks_distinct 0 certificate.network.children)) shows places.children)

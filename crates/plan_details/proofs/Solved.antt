@@ -1,4 +1,4 @@
--- The trees of a certificate are a solution whose shadow the file is, with the chosen details.
+-- The trees of a certificate are a solution whose shadow the file is, with its details.
 use Rattle.std.proofs.Common.{◌≡◌, ℕ, ◌+◌, Bool, List, [], ◌∷◌, ◌++◌, length, map, Option, Some, None, slice_get, option_and_then, sym, refl, ap, ◌∙◌, subst, arith}
 use Rattle.std.specs.List.{AllByRecursion}
 use Rattle.htn_model.specs.State.{State}
@@ -25,15 +25,15 @@ use Rattle.htn_model.proofs.Executed.{precedes, precedes_irreflexive, precedes_t
 use Rattle.htn_model.proofs.Accepted.{shown_ids, lines_of_places}
 use Rattle.htn_model.proofs.Planted.{AreNamedLines, forest_planted}
 use Rattle.htn_model.proofs.Fitted.{accepted_fits}
-use Rattle.plan_details.specs.Details.{actions_before, AreDetails}
-use Rattle.plan_details.specs.Certificate.{Choices, details_of, IsCertificate, CertificatesAreDetails, CertificatesFit}
+use Rattle.plan_details.specs.Details.{actions_before, Details, AreDetails}
+use Rattle.plan_details.specs.Certificate.{Layouts, IsCertificate, CertificatesFit}
 use Rattle.plan_details.proofs.Grown.{AllChosen, grown_roots}
 use Rattle.plan_details.proofs.Timely.{step_in_turn}
 
 module _ (naming : Naming) (problem : Problem) (grounded : IsGrounded problem) (file : PlanFile) (is_forest : IsForest file) (states : ℕ → State)
-    (runs : LinesRun naming problem file states) (choices : Choices) (network : Network) (is_initial : slice_get problem.initials choices.root.number ≡ Some network)
+    (runs : LinesRun naming problem file states) (details : Details) (network : Network) (is_initial : slice_get problem.initials details.initial ≡ Some network)
     (start finish : ℕ → ℕ) (laid : Forest naming problem file states network.children file.roots start finish)
-    (chosen : AllChosen choices laid.slots laid.ids laid.nodes)
+    (chosen : AllChosen details laid.slots laid.ids laid.nodes)
     (keeps : ForestKeeps problem states laid.slots network.order laid.nodes (length file.actions)) where
   -- the trees
   abbrev trees : Nodes
@@ -66,7 +66,7 @@ module _ (naming : Naming) (problem : Problem) (grounded : IsGrounded problem) (
   -- and in order
   in_order : Respects earlier list
   in_order = sorted_respects earlier (λ p. IsPrimitive (node_at trees p)) (precedes_irreflexive problem network.order trees laid.slots)
-      (precedes_transitive problem network.order trees laid.slots grounded (grounded.initials choices.root.number network is_initial).closed states (length file.actions) keeps)
+      (precedes_transitive problem network.order trees laid.slots grounded (grounded.initials details.initial network is_initial).closed states (length file.actions) keeps)
       places stand
 
   -- the roots are the ids of the trees
@@ -97,7 +97,7 @@ module _ (naming : Naming) (problem : Problem) (grounded : IsGrounded problem) (
 
   -- the trees with that sequence
   abbrev solution : Solution
-  solution = record { number = choices.root.number; trees = trees; linearisation = list }
+  solution = record { number = details.initial; trees = trees; linearisation = list }
 
   -- that is a solution
   solves : IsSolution problem solution
@@ -167,8 +167,8 @@ module _ (naming : Naming) (problem : Problem) (grounded : IsGrounded problem) (
   step_comes = step_in_turn naming problem file is_forest states runs network.order trees laid.slots laid.ids laid.laid.marks keeps
       (leaf_of naming file laid.slots laid.ids trees laid.laid.marks is_forest listed) list there in_order executed.shown
 
-  -- with the chosen details
-  pub are_details : AreDetails naming problem file (details_of choices)
+  -- with these details
+  pub are_details : AreDetails naming problem file details
   unfolding shadow
   are_details = record {
     solution = solution;
@@ -181,8 +181,8 @@ module _ (naming : Naming) (problem : Problem) (grounded : IsGrounded problem) (
     });
   }
 
-module _ (naming : Naming) (problem : Problem) (file : PlanFile) (states : ℕ → State) (choices : Choices) (runs : LinesRun naming problem file states)
-    (certificate : IsCertificate naming problem file states choices) where
+module _ (naming : Naming) (problem : Problem) (file : PlanFile) (states : ℕ → State) (details : Details) (layouts : Layouts) (runs : LinesRun naming problem file states)
+    (certificate : IsCertificate naming problem file states details layouts) where
   -- a line that is carried out names an action
   named_action : (i : ℕ) (line : ActionLine) → slice_get file.actions i ≡ Some line → (g : GroundTask) × (naming.named line.name line.arguments ≡ Some g)
   named_action i line there = by (naming.named line.name line.arguments) refl
@@ -201,17 +201,18 @@ module _ (naming : Naming) (problem : Problem) (file : PlanFile) (states : ℕ �
     decompositions = λ line i. (let l = certificate.lines line i in (l.t, l.named));
   }
 
--- what is chosen in a certificate is the details of a solution whose shadow the file is
-pub certificates_are_details : (naming : Naming) (problem : Problem) → IsGrounded problem → CertificatesAreDetails naming problem
-certificates_are_details naming problem grounded file states choices is_forest runs certificate =
-    let (plans, shows) = forest_planted file is_forest naming (named_lines naming problem file states choices runs certificate) in
-    let grown = grown_roots naming problem file states choices is_forest runs certificate plans shows in
+-- what has a certificate is the details of a solution whose shadow the file is
+pub certified_details : (naming : Naming) (problem : Problem) → IsGrounded problem → (file : PlanFile) (states : ℕ → State) (details : Details) (layouts : Layouts)
+    → IsForest file → LinesRun naming problem file states → IsCertificate naming problem file states details layouts → AreDetails naming problem file details
+certified_details naming problem grounded file states details layouts is_forest runs certificate =
+    let (plans, shows) = forest_planted file is_forest naming (named_lines naming problem file states details layouts runs certificate) in
+    let grown = grown_roots naming problem file states details layouts is_forest runs certificate plans shows in
     let f = grown.forest in
     let network = certificate.network in
     let places = certificate.roots in
-    let root = choices.root in
+    let root = layouts.root in
     let whole = certificate.whole in
-    are_details naming problem grounded file is_forest states runs choices network certificate.is_initial root.start root.finish f grown.chosen
+    are_details naming problem grounded file is_forest states runs details network certificate.is_initial root.start root.finish f grown.chosen
     ((networks_decouple problem grounded).keeps states f.slots network.order f.nodes (length file.actions) (
       root.start,
       root.finish,
@@ -226,7 +227,6 @@ certificates_are_details naming problem grounded file states choices is_forest r
 
 -- so its lines have room
 pub certificates_fit : (naming : Naming) (problem : Problem) → IsGrounded problem → CertificatesFit naming problem
-certificates_fit naming problem grounded file states plans choices is_forest runs shows certificate =
-    let details = certificates_are_details naming problem grounded file states choices is_forest runs certificate in
-    accepted_fits naming problem grounded file states plans is_forest runs shows
-    (record { solution = details.solution; solves = details.solves; shadow = details.shadow })
+certificates_fit naming problem grounded file states plans details layouts is_forest runs shows certificate =
+    let all = certified_details naming problem grounded file states details layouts is_forest runs certificate in
+    accepted_fits naming problem grounded file states plans is_forest runs shows (record { solution = all.solution; solves = all.solves; shadow = all.shadow })

@@ -1,6 +1,6 @@
 -- The small plan files' details, computed.
 use Rattle.std.proofs.Common.{◌≡◌, ℕ, zero, suc, ◌≤◌, true, false, List, [], ◌∷◌, Option, Some, None, slice_get, option_map, option_and_then, inl, inr, sym, refl, ap, ◌∙◌, subst, arith}
-use Rattle.std.proofs.lemmas.Bool.{both_ways}
+use Rattle.std.proofs.lemmas.Bool.{both_ways, cases_lt}
 use Rattle.htn_model.specs.Atom.{Atom}
 use Rattle.htn_model.specs.State.{State, set_of}
 use Rattle.htn_model.specs.Literal.{Literal, atom, holds}
@@ -17,9 +17,10 @@ use Rattle.htn_model.proofs.Grounds.{grounded_from}
 use Rattle.htn_model.proofs.Sketches.{shown_holds, holds_shown, shown_action, action_shown}
 use Rattle.htn_model.proofs.WorkedFiles.{files_have_verdicts}
 use Rattle.plan_details.specs.Details.{Details, AreDetails}
-use Rattle.plan_details.specs.Certificate.{Choice, Choices, details_of, LineHasPlaces, IsCertificate}
+use Rattle.plan_details.specs.Certificate.{Layout, Layouts, IsPlaced, ArePlaced, AreLaidOut, IsLineLaidOut, IsCertificate}
 use Rattle.plan_details.specs.Worked.{once, waiting, waiting_problem, waited, HasDetail, FilesHaveDetails}
-use Rattle.plan_details.proofs.Solved.{certificates_are_details}
+use Rattle.plan_details.proofs.Certified.{certificates_decide}
+use Rattle.plan_details.proofs.Solved.{certified_details}
 use Rattle.plan_details.proofs.Detailed.{lines_are_detailed}
 
 -- two nodes have no order
@@ -33,8 +34,8 @@ none_before (suc zero) (suc (suc b)) h = cc
 none_before (suc (suc a)) b h = cc
 
 -- two children in no order that may be anywhere in the plan
-abbrev anywhere : ℕ → List ℕ → Choice
-anywhere n positions = record { from = 0; to = n; number = 0; positions = positions; start = λ a. 0; finish = λ a. n }
+abbrev anywhere : ℕ → List ℕ → Layout
+anywhere n positions = record { from = 0; to = n; positions = positions; start = λ a. 0; finish = λ a. n }
 
 -- they keep to their spans
 anywhere_spans : (n : ℕ) → AreSpans two_unordered (λ a. 0) (λ a. n) 0 n
@@ -83,11 +84,15 @@ ordered (suc (suc zero)) (suc (suc zero)) h = absurd cc
 ordered (suc (suc zero)) (suc (suc (suc b))) h = absurd cc
 ordered (suc (suc (suc a))) b h = absurd cc
 
--- the choices of the errand: the instance whose tool is at hand
-abbrev errand_choices : Choices
-errand_choices = record {
+-- the details of the errand: the instance whose tool is at hand
+abbrev errand_details : Details
+errand_details = record { initial = 0; number = λ id. 2; gap = λ id a. 0 }
+
+-- and its layout
+abbrev errand_layouts : Layouts
+errand_layouts = record {
   root = anywhere 3 (1 ∷ 0 ∷ []);
-  line = λ id. record { from = 0; to = 3; number = 2; positions = 2 ∷ 1 ∷ []; start = starts; finish = finishes };
+  line = λ id. record { from = 0; to = 3; positions = 2 ∷ 1 ∷ []; start = starts; finish = finishes };
 }
 
 -- the second tool is at hand
@@ -108,6 +113,13 @@ work_steps states first (suc zero) literals h = absurd cc
 work_steps states first (suc (suc zero)) literals h = absurd cc
 work_steps states first (suc (suc (suc a))) literals h = absurd cc
 
+-- which is the gap of its details
+work_gaps : (a : ℕ) (literals : List Literal) → slice_get (work_with 1).children a ≡ Some (precondition literals) → errand_details.gap 3 a ≡ starts a
+work_gaps zero literals h = refl
+work_gaps (suc zero) literals h = absurd cc
+work_gaps (suc (suc zero)) literals h = absurd cc
+work_gaps (suc (suc (suc a))) literals h = absurd cc
+
 -- two subtasks have no step
 no_step : (c d : Child) → ((literals : List Literal) → c ≡ precondition literals → ⊥) → ((literals : List Literal) → d ≡ precondition literals → ⊥)
     → (a : ℕ) (literals : List Literal) → slice_get (c ∷ d ∷ []) a ≡ Some (precondition literals) → ⊥
@@ -115,17 +127,17 @@ no_step c d first second zero literals h = first literals cc
 no_step c d first second (suc zero) literals h = second literals cc
 no_step c d first second (suc (suc a)) literals h = absurd cc
 
--- the only line has places
+-- the only line is laid out
 errand_line_placed : (states : States) → states 0 ≡ set_of errand.initial_atoms → (line : DecompositionLine) → IsIn line (file_of 1 2 work).decompositions
-    → LineHasPlaces names problem (file_of 1 2 work) states errand_choices line
+    → IsLineLaidOut names problem (file_of 1 2 work) states errand_details errand_layouts line
 errand_line_placed states first line (inr i) = absurd i
-errand_line_placed states first line (inl same) = subst (LineHasPlaces names problem (file_of 1 2 work) states errand_choices) (sym same) (record {
+errand_line_placed states first line (inl same) = subst (IsLineLaidOut names problem (file_of 1 2 work) states errand_details errand_layouts) (sym same) (record {
   t = named 0;
   network = work_with 1;
   named = refl;
   is_instance = refl;
   method = refl;
-  places = record {
+  children = record {
     each_once = (1 ∷ [], [], refl, ([], [], refl, refl));
     children = (
       (action (named 2), refl, (2, action_line 2 2, refl, refl, refl, omega arith, omega arith)),
@@ -134,10 +146,11 @@ errand_line_placed states first line (inl same) = subst (LineHasPlaces names pro
     spans = record { from = λ a. omega arith; to = within; forward = forward; ordered = ordered };
     steps = work_steps states first;
   };
+  gaps = work_gaps;
 })
 
--- so the choices are a certificate
-errand_certificate : (states : States) → states 0 ≡ set_of errand.initial_atoms → IsCertificate names problem (file_of 1 2 work) states errand_choices
+-- so the details have a certificate
+errand_certificate : (states : States) → states 0 ≡ set_of errand.initial_atoms → IsCertificate names problem (file_of 1 2 work) states errand_details errand_layouts
 errand_certificate states first = record {
   network = record { children = task (named 0) ∷ action (named 3) ∷ []; order = two_unordered };
   is_initial = refl;
@@ -159,8 +172,8 @@ errand_detail : HasDetail names problem (file_of 1 2 work) 3 2 0
 errand_detail =
     let verdict = files_have_verdicts.arranged in
     let run = lines_run names problem (file_of 1 2 work) verdict.2 in (
-      details_of errand_choices,
-      certificates_are_details names problem (grounded_from errand refl) (file_of 1 2 work) _ errand_choices verdict.0 run (errand_certificate _ run.starts),
+      errand_details,
+      certified_details names problem (grounded_from errand refl) (file_of 1 2 work) _ errand_details errand_layouts verdict.0 run (errand_certificate _ run.starts),
       refl,
       refl,
     )
@@ -236,11 +249,15 @@ wait_ordered (suc zero) (suc zero) h = absurd cc
 wait_ordered (suc zero) (suc (suc b)) h = absurd cc
 wait_ordered (suc (suc a)) b h = absurd cc
 
--- the choices: the instance whose fact is made, from gap 1 on
-abbrev waiting_choices : Choices
-waiting_choices = record {
+-- the instance whose fact is made, in gap 1
+abbrev waiting_details : Details
+waiting_details = record { initial = 0; number = λ id. 2; gap = λ id a. 1 }
+
+-- and its layout, from gap 1 on
+abbrev waiting_layouts : Layouts
+waiting_layouts = record {
   root = anywhere 2 (1 ∷ 0 ∷ []);
-  line = λ id. record { from = 1; to = 2; number = 2; positions = 1 ∷ []; start = λ a. 1; finish = wait_finishes };
+  line = λ id. record { from = 1; to = 2; positions = 1 ∷ []; start = λ a. 1; finish = wait_finishes };
 }
 
 -- the states around the two lines
@@ -271,26 +288,27 @@ wait_steps states known zero literals h =
 wait_steps states known (suc zero) literals h = absurd cc
 wait_steps states known (suc (suc a)) literals h = absurd cc
 
--- the only line has places
+-- the only line is laid out
 waited_line_placed : (states : States) → AreKnown states → (line : DecompositionLine) → IsIn line waited.decompositions
-    → LineHasPlaces names waiting_problem waited states waiting_choices line
+    → IsLineLaidOut names waiting_problem waited states waiting_details waiting_layouts line
 waited_line_placed states known line (inr i) = absurd i
-waited_line_placed states known line (inl same) = subst (LineHasPlaces names waiting_problem waited states waiting_choices) (sym same) (record {
+waited_line_placed states known line (inl same) = subst (IsLineLaidOut names waiting_problem waited states waiting_details waiting_layouts) (sym same) (record {
   t = named 0;
   network = once 0;
   named = refl;
   is_instance = refl;
   method = refl;
-  places = record {
+  children = record {
     each_once = ([], [], refl, refl);
     children = ((action (named 3), refl, (1, action_line 1 3, refl, refl, refl, omega arith, omega arith)), refl);
     spans = record { from = λ a. omega arith; to = wait_within; forward = wait_forward; ordered = wait_ordered };
     steps = wait_steps states known;
   };
+  gaps = λ a literals h. refl;
 })
 
--- so the choices are a certificate
-waiting_certificate : (states : States) → AreKnown states → IsCertificate names waiting_problem waited states waiting_choices
+-- so the details have a certificate
+waiting_certificate : (states : States) → AreKnown states → IsCertificate names waiting_problem waited states waiting_details waiting_layouts
 waiting_certificate states known = record {
   network = record { children = action (named 1) ∷ task (named 0) ∷ []; order = two_unordered };
   is_initial = refl;
@@ -315,8 +333,8 @@ waited_runs = (_, lines_run names waiting_problem waited waited_ends)
 waited_detail : HasDetail names waiting_problem waited 2 2 1
 waited_detail =
     let (states, run) = waited_runs in (
-      details_of waiting_choices,
-      certificates_are_details names waiting_problem (grounded_from waiting refl) waited states waiting_choices waited_forest run (waiting_certificate states (states_known states run)),
+      waiting_details,
+      certified_details names waiting_problem (grounded_from waiting refl) waited states waiting_details waiting_layouts waited_forest run (waiting_certificate states (states_known states run)),
       refl,
       refl,
     )
@@ -348,16 +366,64 @@ only_these states known (suc (suc zero)) gap network is method steps =
     (refl, λ none. fails (states 0) [] waits_at known.first refl (subst (λ k. holds (states k) waits_at ≡ true) none h))
 only_these states known (suc (suc (suc number))) gap network is method steps = absurd cc
 
+-- the action line of idling is the second one
+idle_line : (i : ℕ) (line : ActionLine) → slice_get waited.actions i ≡ Some line → line.id ≡ 1 → i ≡ 1
+idle_line zero line stands is = let same : action_line 0 1 ≡ line = cc in let id = ap (λ l. l.id) same in absurd (omega arith)
+idle_line (suc zero) line stands is = refl
+idle_line (suc (suc i)) line stands is = absurd cc
+
+-- a line with this id is no decomposition line
+no_decomposition : (line : DecompositionLine) → IsIn line waited.decompositions → line.id ≡ 1 → ⊥
+no_decomposition line (inl same) is = let id = ap (λ l. l.id) same in omega arith
+no_decomposition line (inr i) is = i
+
+-- the child of an errand that idles starts by line 1
+idle_starts : (states : States) (details : Details) (layouts : Layouts) (l : Layout)
+    → AreLaidOut names waiting_problem waited states details layouts (once 0) (1 ∷ []) l → l.start 1 ≤ 1
+idle_starts states details layouts l laid = by l.positions laid.children
+  where
+    by : (positions : List ℕ) → ArePlaced names waiting_problem waited states details layouts (once 0).children l positions (1 ∷ []) → l.start 1 ≤ 1
+    by [] placed = absurd placed
+    by (zero ∷ positions) ((child, is, placed), more) =
+        let same : precondition waits_at ≡ child = cc in
+        absurd (subst (λ c. IsPlaced names waiting_problem waited states details layouts c 1 (l.start 0) (l.finish 0)) (sym same) placed)
+    by (suc zero ∷ positions) ((child, is, placed), more) =
+        let same : action (named 3) ≡ child = cc in
+        let (i, line, stands, id, names_it, low, high) = subst (λ c. IsPlaced names waiting_problem waited states details layouts c 1 (l.start 1) (l.finish 1)) (sym same) placed in
+        let second = idle_line i line stands id in
+        omega arith
+    by (suc (suc a) ∷ positions) ((child, is, placed), more) = absurd cc
+
+-- so the step holds by then
+only_gap : (states : States) (details : Details) → (layouts : Layouts) × IsCertificate names waiting_problem waited states details layouts → details.number 2 ≡ 2 → details.gap 2 0 ≤ 1
+only_gap states details (layouts, certificate) number =
+    let line = errand_line 2 work (1 ∷ []) in
+    let l = layouts.line 2 in
+    let placed = certificate.lines line (inl refl) in
+    let tasks : Some (named 0) ≡ Some placed.t = placed.named in
+    let t : placed.t ≡ named 0 = cc in
+    let there : slice_get (waiting_problem.methods_of (named 0)) 2 ≡ Some placed.network =
+    subst (λ k. slice_get (waiting_problem.methods_of (named 0)) k ≡ Some placed.network) number
+    (subst (λ u. slice_get (waiting_problem.methods_of u) (details.number 2) ≡ Some placed.network) t placed.is_instance) in
+    let same : once 0 ≡ placed.network = cc in
+    let laid = subst (λ n. AreLaidOut names waiting_problem waited states details layouts n (1 ∷ []) l) (sym same) placed.children in
+    let idles = idle_starts states details layouts l laid in
+    let before = laid.spans.ordered 0 1 refl in
+    let step = (laid.steps 0 waits_at refl).0 in
+    let gap = placed.gaps 0 waits_at (ap (λ n. slice_get n.children 0) (sym same)) in
+    omega arith
+
 -- whatever the details are
-only_details : (details : Details) → AreDetails names waiting_problem waited details → (details.number 2 ≡ 2) × (details.gap 2 0 ≡ 0 → ⊥)
+only_details : (details : Details) → AreDetails names waiting_problem waited details → (details.number 2 ≡ 2) × (details.gap 2 0 ≡ 1)
 only_details details are =
     let (states, run) = waited_runs in
     let d = lines_are_detailed names waiting_problem waited states details run are (errand_line 2 work (1 ∷ [])) (inl refl) in
     let tasks : Some (named 0) ≡ Some d.t = d.named in
     let t : d.t ≡ named 0 = cc in
-    only_these states (states_known states run) (details.number 2) (details.gap 2 0) d.network
-    (subst (λ u. slice_get (waiting_problem.methods_of u) (details.number 2) ≡ Some d.network) t d.is_instance) d.method
-    (d.steps 0)
+    let only = only_these states (states_known states run) (details.number 2) (details.gap 2 0) d.network
+    (subst (λ u. slice_get (waiting_problem.methods_of u) (details.number 2) ≡ Some d.network) t d.is_instance) d.method (d.steps 0) in
+    let late = only_gap states details ((certificates_decide names waiting_problem (grounded_from waiting refl) waited states details waited_forest run).1 are) only.0 in
+    (only.0, elim (cases_lt (details.gap 2 0) 1) [ inl none ↦ absurd (only.1 (omega arith)) | inr some ↦ omega arith ])
 
 -- the files have these details
 pub files_have_details : FilesHaveDetails

@@ -1,6 +1,6 @@
--- A certificate that the lines have room: for each line its instance and its span of gaps, and for each node of that
--- instance's network its own span and the child that stands there. It is checked line by line.
-use Rattle.std.specs.Prelude.{◌≡◌, ℕ, ◌≤◌, ◌<◌, List, [], ◌∷◌, length, Some, true, slice_get}
+-- A certificate of details: for each line the gaps between which it is placed, and for each node of its instance's
+-- network the gaps between which that is placed and the child that stands there. It is checked line by line.
+use Rattle.std.specs.Prelude.{◌≡◌, ◌↔◌, ℕ, ◌≤◌, ◌<◌, List, [], ◌∷◌, length, Some, true, slice_get}
 use Rattle.htn_model.specs.State.{State}
 use Rattle.htn_model.specs.Literal.{Literal, holds}
 use Rattle.htn_model.specs.Problem.{GroundTask, Problem, Network, Child, precondition, action, task}
@@ -9,30 +9,21 @@ use Rattle.htn_model.specs.Fits.{PlanTrees, subtask_positions, AreSpans, ForestF
 use Rattle.htn_model.specs.Shown.{ShowTrees, LinesRun}
 use Rattle.plan_details.specs.Details.{Details, AreDetails}
 
--- what is chosen for a line: the gaps between which everything below it is placed, the number of the instance, at which
--- position of its network each child stands, as listed, and the gaps between which each position is placed
-pub record Choice : Type 0 where
+-- where the network of a line is laid out: the gaps between which everything below the line is placed, at which position
+-- each child stands, as listed, and the gaps between which each position is placed
+pub record Layout : Type 0 where
   pub from : ℕ
   pub to : ℕ
-  pub number : ℕ
   pub positions : List ℕ
   pub start : ℕ → ℕ
   pub finish : ℕ → ℕ
 
--- a choice for the root line, and one for each decomposition line, by its id
-pub record Choices : Type 0 where
-  pub root : Choice
-  pub line : ℕ → Choice
+-- the layout of the root line, and of each decomposition line, by its id
+pub record Layouts : Type 0 where
+  pub root : Layout
+  pub line : ℕ → Layout
 
--- the details that are chosen: a step stands in the gap in which it starts
-abbrev pub details_of : Choices → Details
-details_of choices = record {
-  initial = choices.root.number;
-  number = λ id. (choices.line id).number;
-  gap = λ id a. (choices.line id).start a;
-}
-
-module _ (naming : Naming) (problem : Problem) (file : PlanFile) (states : ℕ → State) (choices : Choices) where
+module _ (naming : Naming) (problem : Problem) (file : PlanFile) (states : ℕ → State) (details : Details) (layouts : Layouts) where
   -- the line with this id is of that child of a network, and is placed between the gaps
   abbrev pub IsPlaced : Child → ℕ → ℕ → ℕ → Type 0
   IsPlaced (precondition literals) id g h = ⊥
@@ -40,50 +31,51 @@ module _ (naming : Naming) (problem : Problem) (file : PlanFile) (states : ℕ �
       (i : ℕ) × (line : ActionLine) × (slice_get file.actions i ≡ Some line) × (line.id ≡ id) × (naming.named line.name line.arguments ≡ Some t) × (g ≤ i) × (i < h)
   IsPlaced (task t) id g h =
       (line : DecompositionLine) × IsIn line file.decompositions × (line.id ≡ id) × (naming.named line.task line.arguments ≡ Some t)
-      × (g ≤ (choices.line id).from) × ((choices.line id).to ≤ h)
+      × (g ≤ (layouts.line id).from) × ((layouts.line id).to ≤ h)
 
   -- each of the lines is placed at its position
-  abbrev pub ArePlaced : List Child → Choice → List ℕ → List ℕ → Type 0
-  ArePlaced children c positions [] = positions ≡ []
-  ArePlaced children c [] (id ∷ ids) = ⊥
-  ArePlaced children c (a ∷ positions) (id ∷ ids) =
-      ((child : Child) × (slice_get children a ≡ Some child) × IsPlaced child id (c.start a) (c.finish a)) × ArePlaced children c positions ids
+  abbrev pub ArePlaced : List Child → Layout → List ℕ → List ℕ → Type 0
+  ArePlaced children l positions [] = positions ≡ []
+  ArePlaced children l [] (id ∷ ids) = ⊥
+  ArePlaced children l (a ∷ positions) (id ∷ ids) =
+      ((child : Child) × (slice_get children a ≡ Some child) × IsPlaced child id (l.start a) (l.finish a)) × ArePlaced children l positions ids
 
-  -- the lines are placed as the network's subtasks, each once, in its order, and its steps where they hold
-  pub record HasPlaces (network : Network) (ids : List ℕ) (c : Choice) : Type 0 where
-    pub each_once : IsRearrangementOf c.positions (subtask_positions 0 network.children)
-    pub children : ArePlaced network.children c c.positions ids
-    pub spans : AreSpans network.order c.start c.finish c.from c.to
+  -- the lines are laid out as the network's subtasks, each once, in its order, and its steps in gaps in which they hold
+  pub record AreLaidOut (network : Network) (ids : List ℕ) (l : Layout) : Type 0 where
+    pub each_once : IsRearrangementOf l.positions (subtask_positions 0 network.children)
+    pub children : ArePlaced network.children l l.positions ids
+    pub spans : AreSpans network.order l.start l.finish l.from l.to
     pub steps : (a : ℕ) (literals : List Literal) → slice_get network.children a ≡ Some (precondition literals)
-        → (c.start a ≡ c.finish a) × (holds (states (c.start a)) literals ≡ true)
+        → (l.start a ≡ l.finish a) × (holds (states (l.start a)) literals ≡ true)
 
-  -- the children of a decomposition line are placed as an instance of its method
-  pub record LineHasPlaces (line : DecompositionLine) : Type 0 where
+  -- the children of a decomposition line are laid out as its instance, with the steps in their gaps
+  pub record IsLineLaidOut (line : DecompositionLine) : Type 0 where
     pub t : GroundTask
     pub network : Network
     pub named : naming.named line.task line.arguments ≡ Some t
-    pub is_instance : slice_get (problem.methods_of t) (choices.line line.id).number ≡ Some network
-    pub method : line.method ≡ naming.method_name t (choices.line line.id).number
-    pub places : HasPlaces network line.children (choices.line line.id)
+    pub is_instance : slice_get (problem.methods_of t) (details.number line.id) ≡ Some network
+    pub method : line.method ≡ naming.method_name t (details.number line.id)
+    pub children : AreLaidOut network line.children (layouts.line line.id)
+    pub gaps : (a : ℕ) (literals : List Literal) → slice_get network.children a ≡ Some (precondition literals) → details.gap line.id a ≡ (layouts.line line.id).start a
 
-  -- so are those of each decomposition line, and the roots as an initial network, in the whole plan
+  -- so are those of each decomposition line, and the roots in the whole plan
   pub record IsCertificate : Type 0 where
     pub network : Network
-    pub is_initial : slice_get problem.initials choices.root.number ≡ Some network
-    pub whole : choices.root.to ≤ length file.actions
-    pub roots : HasPlaces network file.roots choices.root
-    pub lines : (line : DecompositionLine) → IsIn line file.decompositions → LineHasPlaces line
+    pub is_initial : slice_get problem.initials details.initial ≡ Some network
+    pub whole : layouts.root.to ≤ length file.actions
+    pub roots : AreLaidOut network file.roots layouts.root
+    pub lines : (line : DecompositionLine) → IsIn line file.decompositions → IsLineLaidOut line
 
 -- ## Laws
 
--- what is chosen for a forest of lines that run is the details of one solution whose shadow the file is
-abbrev pub CertificatesAreDetails : Naming → Problem → Type 0
-CertificatesAreDetails naming problem =
-    (file : PlanFile) (states : ℕ → State) (choices : Choices) → IsForest file → LinesRun naming problem file states
-    → IsCertificate naming problem file states choices → AreDetails naming problem file (details_of choices)
+-- a forest of lines that run has exactly the details that have a certificate
+abbrev pub CertificatesDecide : Naming → Problem → Type 0
+CertificatesDecide naming problem =
+    (file : PlanFile) (states : ℕ → State) (details : Details) → IsForest file → LinesRun naming problem file states
+    → ((layouts : Layouts) × IsCertificate naming problem file states details layouts) ↔ AreDetails naming problem file details
 
--- and the lines have room
+-- where there is one the lines have room
 abbrev pub CertificatesFit : Naming → Problem → Type 0
 CertificatesFit naming problem =
-    (file : PlanFile) (states : ℕ → State) (plans : PlanTrees) (choices : Choices) → IsForest file → LinesRun naming problem file states → ShowTrees naming file file.roots plans
-    → IsCertificate naming problem file states choices → ForestFits naming problem states plans (length file.actions)
+    (file : PlanFile) (states : ℕ → State) (plans : PlanTrees) (details : Details) (layouts : Layouts) → IsForest file → LinesRun naming problem file states
+    → ShowTrees naming file file.roots plans → IsCertificate naming problem file states details layouts → ForestFits naming problem states plans (length file.actions)

@@ -1,6 +1,6 @@
 -- What a solution adds to the lines of its shadow: which instance of its method a line is, and when the instance's steps
 -- are tested.
-use Rattle.std.specs.Prelude.{◌≡◌, ℕ, ◌+◌, ◌≤◌, List, [], ◌∷◌, ◌++◌, length, Some, cond, true, slice_get}
+use Rattle.std.specs.Prelude.{◌≡◌, ◌↔◌, ℕ, ◌+◌, ◌≤◌, List, [], ◌∷◌, ◌++◌, length, Some, cond, true, slice_get}
 use Rattle.htn_model.specs.State.{State}
 use Rattle.htn_model.specs.Literal.{Literal, holds}
 use Rattle.htn_model.specs.Problem.{GroundTask, Problem, Network, precondition}
@@ -8,6 +8,7 @@ use Rattle.htn_model.specs.Tree.{step, compound, Nodes, child_at, Place, node_at
 use Rattle.htn_model.specs.PlanFile.{DecompositionLine, PlanFile, Naming, IsIn}
 use Rattle.htn_model.specs.Shadow.{IsShadow}
 use Rattle.htn_model.specs.Shown.{LinesRun}
+use Rattle.htn_model.specs.Verdict.{valid, IsVerdict}
 use Rattle.htn_model.specs.Placement.{duration}
 use Rattle.htn_model.specs.Numbered.{is_same_place}
 
@@ -37,6 +38,10 @@ pub record AreDetails (naming : Naming) (problem : Problem) (file : PlanFile) (d
   pub initial : details.initial ≡ solution.number
   pub each : (p : Place) (t : GroundTask) (n : ℕ) (nodes : Nodes) → node_at solution.trees p ≡ Some (compound t n nodes)
       → AreDetailsAt details solution p (shadow.id_at p) n nodes
+
+-- a file is valid exactly if it has details
+abbrev pub ValidFilesHaveDetails : Naming → Problem → Type 0
+ValidFilesHaveDetails naming problem = (file : PlanFile) → IsVerdict naming problem file valid ↔ ((details : Details) × AreDetails naming problem file details)
 
 -- ## What details say of a line
 

@@ -47,5 +47,5 @@ pub record FilesHaveDetails : Type 0 where
   pub at_hand : HasDetail names problem (file_of 1 2 work) 3 2 0
   -- it waits for the fact that line 0 makes
   pub waits : HasDetail names waiting_problem waited 2 2 1
-  -- it is no other instance, and doesn't begin before
-  pub only : (details : Details) → AreDetails names waiting_problem waited details → (details.number 2 ≡ 2) × (details.gap 2 0 ≡ 0 → ⊥)
+  -- and has no other details
+  pub only : (details : Details) → AreDetails names waiting_problem waited details → (details.number 2 ≡ 2) × (details.gap 2 0 ≡ 1)

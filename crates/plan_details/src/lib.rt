@@ -1,13 +1,17 @@
 //! The details of valid plan files: which instance of its method each decomposition line is, and how many actions come
-//! before each precondition step. The definitions are in `specs/`; each function here is a law about them, with an empty
-//! body.
+//! before each precondition step. The definitions are in `specs/`; each function here is a law, with an empty body.
 #![tactic(auto)]
 
 ghost use Rattle.htn_model.specs.PlanFile.{Naming};
 ghost use Rattle.htn_model.specs.Problem.{IsGrounded, Problem};
-ghost use Rattle.plan_details.specs.Certificate.{CertificatesAreDetails, CertificatesFit};
-ghost use Rattle.plan_details.specs.Details.{LinesAreDetailed};
+ghost use Rattle.plan_details.specs.Certificate.{CertificatesDecide, CertificatesFit};
+ghost use Rattle.plan_details.specs.Details.{LinesAreDetailed, ValidFilesHaveDetails};
 ghost use Rattle.plan_details.specs.Worked.{FilesHaveDetails};
+
+/// The valid files are those that have details.
+pub fn valid_files_have_details()
+    ensures have { (naming : Naming) (problem : Problem) → ValidFilesHaveDetails naming problem }
+{}
 
 /// The details of a line name an instance of its method, whose steps hold after as many actions as
 /// they say.
@@ -15,13 +19,13 @@ pub fn lines_are_detailed()
     ensures detailed { (naming : Naming) (problem : Problem) → LinesAreDetailed naming problem }
 {}
 
-/// Instances, positions and spans that fit together line by line, for a file whose lines are a forest
-/// and run to the goal, are those of one solution whose shadow the file is.
-pub fn certificates_are_details()
-    ensures details { (naming : Naming) (problem : Problem) → IsGrounded problem → CertificatesAreDetails naming problem }
+/// Where a file's lines are a forest and run to the goal, details have a certificate, which is checked
+/// line by line, exactly if they are those of one solution whose shadow the file is.
+pub fn certificates_decide()
+    ensures decide { (naming : Naming) (problem : Problem) → IsGrounded problem → CertificatesDecide naming problem }
 {}
 
-/// And its lines have room.
+/// Where there is a certificate the lines have room.
 pub fn certificates_fit()
     ensures fit { (naming : Naming) (problem : Problem) → IsGrounded problem → CertificatesFit naming problem }
 {}
