@@ -19,7 +19,7 @@ use Rattle.htn_model.proofs.Proper.{tree_of_place}
 use Rattle.htn_model.proofs.Rearranged.{in_rearranged, unmapped}
 use Rattle.htn_model.proofs.Timed.{slot_in, line_of_leaf, list_keeps}
 use Rattle.plan_details.specs.Details.{actions_before, Details, AreDetails}
-use Rattle.plan_details.specs.Certificate.{Layout, Layouts, IsPlaced, ArePlaced, AreLaidOut, IsLineLaidOut, IsCertificate, CertificatesDecide}
+use Rattle.plan_details.specs.Certificate.{Spans, AllSpans, IsPlaced, ArePlaced, HasRoomBy, LineHasRoomBy, IsCertificate, CertificatesDecide}
 use Rattle.plan_details.proofs.Detailed.{place_of_line, step_there}
 use Rattle.plan_details.proofs.Picked.{pick}
 use Rattle.plan_details.proofs.Solved.{certified_details}
@@ -74,9 +74,9 @@ module _ (naming : Naming) (problem : Problem) (file : PlanFile) (states : ℕ �
   abbrev child_id : Place → ℕ → ℕ
   child_id p a = id_at (p ++ a ∷ [])
 
-  -- the layout of a node with this span
-  abbrev layout_at : Span → Place → Nodes → List ℕ → Layout
-  layout_at span p nodes positions = record {
+  -- the spans of a node with this span, its steps in their gaps
+  abbrev spans_by : Span → Place → Nodes → List ℕ → Spans
+  spans_by span p nodes positions = record {
     from = span.from;
     to = span.to;
     positions = positions;
@@ -92,18 +92,18 @@ module _ (naming : Naming) (problem : Problem) (file : PlanFile) (states : ℕ �
     sit : AllSit problem states (λ r. slots (p ++ r)) 0 nodes span.start span.finish
     inner : (a : ℕ) (c : Node) → child_at nodes a ≡ Some c → IsCompound (Some c) → IsBetween problem states (span_of (p ++ a ∷ [])) (span.start a) (span.finish a)
 
-  module _ (details : Details) (layouts : Layouts)
-      (known : (q : Place) → IsCompound (node_at trees q) → ((layouts.line (id_at q)).from ≡ (span_of q).from) × ((layouts.line (id_at q)).to ≡ (span_of q).to)) where
+  module _ (details : Details) (all_spans : AllSpans)
+      (known : (q : Place) → IsCompound (node_at trees q) → ((all_spans.line (id_at q)).from ≡ (span_of q).from) × ((all_spans.line (id_at q)).to ≡ (span_of q).to)) where
     -- a line is placed as the child at a position
-    abbrev PlacedAt : List Child → Layout → ℕ → ℕ → Type 0
-    PlacedAt children l id a = (child : Child) × (slice_get children a ≡ Some child) × IsPlaced naming problem file states details layouts child id (l.start a) (l.finish a)
+    abbrev PlacedAt : List Child → Spans → ℕ → ℕ → Type 0
+    PlacedAt children l id a = (child : Child) × (slice_get children a ≡ Some child) × IsPlaced naming problem file states details all_spans child id (l.start a) (l.finish a)
 
     -- the line of a child is
     child_placed : (p : Place) (nodes : Nodes) (span : Span) (network : Network) (positions : List ℕ) → AreSpread p nodes span network → (a : ℕ) → HasId (child_at nodes a)
-        → PlacedAt network.children (layout_at span p nodes positions) (child_id p a) a
+        → PlacedAt network.children (spans_by span p nodes positions) (child_id p a) a
     child_placed p nodes span network positions s a h = by (child_at nodes a) refl h
       where
-        by : (o : Option Node) → child_at nodes a ≡ o → HasId o → PlacedAt network.children (layout_at span p nodes positions) (child_id p a) a
+        by : (o : Option Node) → child_at nodes a ≡ o → HasId o → PlacedAt network.children (spans_by span p nodes positions) (child_id p a) a
         by None e h = absurd h
         by (Some (leaf g)) e h =
             let (line, stands, is, named) = leaf_line (p ++ a ∷ []) g (s.finds a ∙ e) in
@@ -132,8 +132,8 @@ module _ (naming : Naming) (problem : Problem) (file : PlanFile) (states : ℕ �
             )
 
     -- so are lines at all positions
-    all_placed : (children : List Child) (l : Layout) (f : ℕ → ℕ) (positions ids : List ℕ) → ids ≡ map f positions → ((a : ℕ) → IsIn a positions → PlacedAt children l (f a) a)
-        → ArePlaced naming problem file states details layouts children l positions ids
+    all_placed : (children : List Child) (l : Spans) (f : ℕ → ℕ) (positions ids : List ℕ) → ids ≡ map f positions → ((a : ℕ) → IsIn a positions → PlacedAt children l (f a) a)
+        → ArePlaced naming problem file states details all_spans children l positions ids
     all_placed children l f [] [] e each = refl
     all_placed children l f [] (id ∷ ids) e each = absurd cc
     all_placed children l f (a ∷ positions) [] e each = absurd cc
@@ -142,13 +142,13 @@ module _ (naming : Naming) (problem : Problem) (file : PlanFile) (states : ℕ �
         let tails : ids ≡ map f positions = cc in
         (subst (λ k. PlacedAt children l k a) heads (each a (inl refl)), all_placed children l f positions ids tails (λ b i. each b (inr i)))
 
-    -- the children of a place are laid out in its span
-    laid_out : (p : Place) (nodes : Nodes) (span : Span) (network : Network) (positions ids : List ℕ) → AreSpread p nodes span network
+    -- the children of a place have room by these
+    has_room_by : (p : Place) (nodes : Nodes) (span : Span) (network : Network) (positions ids : List ℕ) → AreSpread p nodes span network
         → ids ≡ map (child_id p) positions → IsRearrangementOf positions (subtask_positions 0 (roots nodes))
-        → AreLaidOut naming problem file states details layouts network ids (layout_at span p nodes positions)
-    laid_out p nodes span network positions ids s listed arranged =
+        → HasRoomBy naming problem file states details all_spans network ids (spans_by span p nodes positions)
+    has_room_by p nodes span network positions ids s listed arranged =
         let fits : (a : ℕ) → IsNarrowed (child_at nodes a) (slots (p ++ a ∷ [])) (span.start a) (span.finish a) = λ a. narrow problem states (λ r. slots (p ++ r)) nodes span.start span.finish s.sit a (s.spans.forward a) in
-        let l = layout_at span p nodes positions in
+        let l = spans_by span p nodes positions in
         record {
           each_once = subst (λ cs. IsRearrangementOf positions (subtask_positions 0 cs)) s.are_roots arranged;
           children = all_placed network.children l (child_id p) positions ids listed (λ a i. child_placed p nodes span network positions s a (has_id_at nodes a (in_rearranged a positions _ arranged i)));
@@ -166,23 +166,23 @@ module _ (naming : Naming) (problem : Problem) (file : PlanFile) (states : ℕ �
               (first ∙ sym last, subst (λ k. holds (states k) literals ≡ true) (sym first) sits.2);
         }
 
-  -- ## The layouts of lines
+  -- ## The all_spans of lines
 
-  -- the layout of a line, by that of its node
-  record IsLayoutOf (line : DecompositionLine) (l : Layout) : Type 0 where
+  -- the spans of a line are those of its node
+  record AreSpansOf (line : DecompositionLine) (l : Spans) : Type 0 where
     place : Place
     is : IsDecompositionLine naming trees id_at place line
     positions : List ℕ
     ids : line.children ≡ map (child_id place) positions
     arranged : IsRearrangementOf positions (subtask_positions 0 (roots is.nodes))
-    layout : l ≡ layout_at (span_of place) place is.nodes positions
+    are : l ≡ spans_by (span_of place) place is.nodes positions
 
   -- the node of a line gives it one
-  layout_of_place : (line : DecompositionLine) (p : Place) → IsDecompositionLine naming trees id_at p line → (l : Layout) × IsLayoutOf line l
-  layout_of_place line p is =
+  spans_of_place : (line : DecompositionLine) (p : Place) → IsDecompositionLine naming trees id_at p line → (l : Spans) × AreSpansOf line l
+  spans_of_place line p is =
       let (positions, ids, arranged) = unmapped (child_id p) line.children (subtask_positions 0 (roots is.nodes))
       (subst (IsRearrangementOf line.children) (shown_ids id_at p 0 is.nodes) is.children) in
-      (layout_at (span_of p) p is.nodes positions, record { place = p; is = is; positions = positions; ids = ids; arranged = arranged; layout = refl })
+      (spans_by (span_of p) p is.nodes positions, record { place = p; is = is; positions = positions; ids = ids; arranged = arranged; are = refl })
 
 -- ## The certificate
 
@@ -219,23 +219,23 @@ module _ (naming : Naming) (problem : Problem) (file : PlanFile) (states : ℕ �
   compound_line : (p : Place) → IsCompound (node_at trees p) → (line : DecompositionLine) × IsIn line file.decompositions × IsDecompositionLine naming trees id_at p line
   compound_line p h = compound_has_line naming trees id_at (compounds_from [] 0 trees) file.decompositions of_file.shadow.decompositions p (in_compounds trees p h)
 
-  -- a layout is that of a line
-  abbrev IsOf : DecompositionLine → Layout → Type 0
-  IsOf = IsLayoutOf naming problem file states trees id_at slots leaf_line compound_line start finish all
+  -- spans are those of a line
+  abbrev IsOf : DecompositionLine → Spans → Type 0
+  IsOf = AreSpansOf naming problem file states trees id_at slots leaf_line compound_line start finish all
 
   -- the span of a place
   abbrev span_there : Place → Span
   span_there = span_at problem states trees slots start finish all
 
-  -- each line has a layout
-  each_layout : (line : DecompositionLine) → IsIn line file.decompositions → (l : Layout) × IsOf line l
-  each_layout line i =
+  -- each line has some
+  each_spans : (line : DecompositionLine) → IsIn line file.decompositions → (l : Spans) × IsOf line l
+  each_spans line i =
       let (p, is) = place_of_line naming trees id_at (compounds_from [] 0 trees) file.decompositions of_file.shadow.decompositions line i in
-      layout_of_place naming problem file states trees id_at slots leaf_line compound_line start finish all line p is
+      spans_of_place naming problem file states trees id_at slots leaf_line compound_line start finish all line p is
 
   -- by the lines' ids
-  layout_by_id : (f : ℕ → Layout) × ((line : DecompositionLine) → IsIn line file.decompositions → IsOf line (f line.id))
-  layout_by_id = pick IsOf (record { from = 0; to = 0; positions = []; start = λ a. 0; finish = λ a. 0 }) file.decompositions (decompositions_distinct file is_forest) each_layout
+  spans_by_id : (f : ℕ → Spans) × ((line : DecompositionLine) → IsIn line file.decompositions → IsOf line (f line.id))
+  spans_by_id = pick IsOf (record { from = 0; to = 0; positions = []; start = λ a. 0; finish = λ a. 0 }) file.decompositions (decompositions_distinct file is_forest) each_spans
 
   -- the span of the roots
   abbrev whole : Span
@@ -246,27 +246,27 @@ module _ (naming : Naming) (problem : Problem) (file : PlanFile) (states : ℕ �
   root_positions = unmapped (λ a. id_at ([] ++ a ∷ [])) file.roots (subtask_positions 0 (roots trees))
       (subst (IsRearrangementOf file.roots) (shown_ids id_at [] 0 trees) of_file.shadow.roots)
 
-  -- all layouts
-  abbrev layouts : Layouts
-  layouts = record {
-    root = layout_at naming problem file states trees id_at slots leaf_line compound_line start finish all whole [] trees root_positions.0;
-    line = layout_by_id.0;
+  -- all all_spans
+  abbrev all_spans : AllSpans
+  all_spans = record {
+    root = spans_by naming problem file states trees id_at slots leaf_line compound_line start finish all whole [] trees root_positions.0;
+    line = spans_by_id.0;
   }
 
-  -- a compound node's line is laid out in its span
-  known : (q : Place) → IsCompound (node_at trees q) → ((layouts.line (id_at q)).from ≡ (span_there q).from) × ((layouts.line (id_at q)).to ≡ (span_there q).to)
+  -- a compound node's line has its span
+  known : (q : Place) → IsCompound (node_at trees q) → ((all_spans.line (id_at q)).from ≡ (span_there q).from) × ((all_spans.line (id_at q)).to ≡ (span_there q).to)
   known q h =
       let (line, listed, is) = compound_line q h in
-      let g = layout_by_id.1 line listed in
+      let g = spans_by_id.1 line listed in
       let same : g.place ≡ q = of_file.shadow.one_to_one g.place q (subst HasId (sym g.is.stands) tt) (compound_id (node_at trees q) h) (sym g.is.id ∙ is.id) in (
-        ap (λ id. (layouts.line id).from) (sym is.id) ∙ ap (λ l. l.from) g.layout ∙ ap (λ r. (span_there r).from) same,
-        ap (λ id. (layouts.line id).to) (sym is.id) ∙ ap (λ l. l.to) g.layout ∙ ap (λ r. (span_there r).to) same,
+        ap (λ id. (all_spans.line id).from) (sym is.id) ∙ ap (λ l. l.from) g.are ∙ ap (λ r. (span_there r).from) same,
+        ap (λ id. (all_spans.line id).to) (sym is.id) ∙ ap (λ l. l.to) g.are ∙ ap (λ r. (span_there r).to) same,
       )
 
-  -- the roots are laid out in the whole plan
-  roots_laid_out : AreLaidOut naming problem file states details layouts of_file.solves.network file.roots layouts.root
-  roots_laid_out =
-      laid_out naming problem file states trees id_at slots leaf_line compound_line start finish all details layouts known [] trees whole of_file.solves.network root_positions.0 file.roots
+  -- the roots have room in the whole plan
+  roots_have_room : HasRoomBy naming problem file states details all_spans of_file.solves.network file.roots all_spans.root
+  roots_have_room =
+      has_room_by naming problem file states trees id_at slots leaf_line compound_line start finish all details all_spans known [] trees whole of_file.solves.network root_positions.0 file.roots
       (record {
         finds = λ a. refl;
         are_roots = of_file.solves.are_roots;
@@ -277,9 +277,9 @@ module _ (naming : Naming) (problem : Problem) (file : PlanFile) (states : ℕ �
       root_positions.1 root_positions.2
 
   -- and each line in its node's span
-  line_laid_out : (line : DecompositionLine) → IsIn line file.decompositions → IsLineLaidOut naming problem file states details layouts line
-  line_laid_out line i =
-      let g = layout_by_id.1 line i in
+  line_has_room : (line : DecompositionLine) → IsIn line file.decompositions → LineHasRoomBy naming problem file states details all_spans line
+  line_has_room line i =
+      let g = spans_by_id.1 line i in
       let p = g.place in
       let is = g.is in
       let m : Node = compound is.task is.number is.nodes in
@@ -293,8 +293,8 @@ module _ (naming : Naming) (problem : Problem) (file : PlanFile) (states : ℕ �
         named = is.named;
         is_instance = ap (slice_get (problem.methods_of is.task)) number ∙ there;
         method = is.method ∙ ap (naming.method_name is.task) (sym number);
-        children = subst (AreLaidOut naming problem file states details layouts network line.children) (sym g.layout)
-            (laid_out naming problem file states trees id_at slots leaf_line compound_line start finish all details layouts known p is.nodes (span_there p) network g.positions line.children
+        children = subst (HasRoomBy naming problem file states details all_spans network line.children) (sym g.are)
+            (has_room_by naming problem file states trees id_at slots leaf_line compound_line start finish all details all_spans known p is.nodes (span_there p) network g.positions line.children
             (record {
               finds = λ a. at_child trees p is.task is.number is.nodes a is.stands;
               are_roots = children;
@@ -307,29 +307,29 @@ module _ (naming : Naming) (problem : Problem) (file : PlanFile) (states : ℕ �
             let child = step_there is.nodes a literals (ap (λ cs. slice_get cs a) children ∙ e) in
             let gap : details.gap line.id a ≡ actions_before trees list (p ++ a ∷ []) = ap (λ id. details.gap id a) is.id ∙ here.gap a literals child in
             let counted : slots (p ++ a ∷ []) ≡ 0 + actions_before trees list (p ++ a ∷ []) = slot_before trees 0 list (p ++ a ∷ []) in
-            let starts : (layouts.line line.id).start a ≡ slots (p ++ a ∷ []) =
-            ap (λ l. l.start a) g.layout ∙ ap (λ o. narrowed o (slots (p ++ a ∷ [])) ((span_there p).start a)) child in
+            let starts : (all_spans.line line.id).start a ≡ slots (p ++ a ∷ []) =
+            ap (λ l. l.start a) g.are ∙ ap (λ o. narrowed o (slots (p ++ a ∷ [])) ((span_there p).start a)) child in
             omega arith;
       }
 
   -- so they are a certificate
-  certificate : IsCertificate naming problem file states details layouts
+  certificate : IsCertificate naming problem file states details all_spans
   certificate = record {
     network = of_file.solves.network;
     is_initial = ap (slice_get problem.initials) of_file.initial ∙ of_file.solves.is_initial;
     whole = omega arith;
-    roots = roots_laid_out;
-    lines = line_laid_out;
+    roots = roots_have_room;
+    lines = line_has_room;
   }
 
   -- there is one
-  certified : (layouts : Layouts) × IsCertificate naming problem file states details layouts
-  certified = (layouts, certificate)
+  certified : (all_spans : AllSpans) × IsCertificate naming problem file states details all_spans
+  certified = (all_spans, certificate)
 
 -- details of a solution have one
 details_certified : (naming : Naming) (problem : Problem) → IsGrounded problem → (file : PlanFile) (states : ℕ → State) (details : Details)
     → IsForest file → LinesRun naming problem file states → AreDetails naming problem file details
-    → (layouts : Layouts) × IsCertificate naming problem file states details layouts
+    → (all_spans : AllSpans) × IsCertificate naming problem file states details all_spans
 details_certified naming problem grounded file states details is_forest runs of_file =
     let s = of_file.solution in
     let solves = of_file.solves in

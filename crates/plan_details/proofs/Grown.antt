@@ -1,4 +1,4 @@
--- Lines that are laid out have a tree of the instances of their details, with each step in its gap.
+-- Lines that have room have a tree of the instances of their details, with each step in its gap.
 use Rattle.std.proofs.Common.{◌≡◌, ℕ, zero, suc, ◌+◌, ◌≤◌, ◌<◌, cond, eqb, List, [], ◌∷◌, ◌++◌, map, Option, Some, None, true, slice_get, option_and_then, inl, inr, sym, refl, ap, ap₂, ◌∙◌, subst, arith}
 use Rattle.std.proofs.lemmas.Bool.{eq-eqb, ne_eqb}
 use Rattle.htn_model.specs.State.{State}
@@ -16,7 +16,7 @@ use Rattle.htn_model.proofs.Rearranged.{in_rearranged, in_arranged, map_rearrang
 use Rattle.htn_model.proofs.Laid.{IsSubtask, subtask_at, in_subtasks, subtasks_distinct, Laid, id_below, with_id, AllMarks, slots_of, ids_from, nodes_from, IsLaid, AreLaid, Forest}
 use Rattle.htn_model.proofs.Marked.{one_line, one_index, kinds_apart, decompositions_distinct, actions_distinct, root_of_child}
 use Rattle.plan_details.specs.Details.{Details}
-use Rattle.plan_details.specs.Certificate.{Layout, Layouts, IsPlaced, ArePlaced, AreLaidOut, IsCertificate}
+use Rattle.plan_details.specs.Certificate.{Spans, AllSpans, IsPlaced, ArePlaced, HasRoomBy, IsCertificate}
 
 -- functions that agree on the members of a list make the same of it
 map_same : {X Y : Type 0} (f g : X → Y) (xs : List X) → ((x : X) → IsIn x xs → f x ≡ g x) → map f xs ≡ map g xs
@@ -75,14 +75,14 @@ module _ (details : Details) where
   step_chosen slots ids literals [] t number nodes e = absurd cc
   step_chosen slots ids literals (i ∷ q) t number nodes e = let none = nothing_below q in absurd cc
 
-module _ (naming : Naming) (problem : Problem) (file : PlanFile) (states : ℕ → State) (details : Details) (layouts : Layouts) where
+module _ (naming : Naming) (problem : Problem) (file : PlanFile) (states : ℕ → State) (details : Details) (all_spans : AllSpans) where
   -- a tree that stands for the child, sits between the gaps, has marks, and is as chosen
   record Stands (c : Child) (g h : ℕ) (y : Laid) : Type 0 where
     laid : IsLaid naming problem file states c g h y
     chosen : BelowChosen details y.slots y.ids y.node
 
   -- trees for a network, as chosen
-  pub record Grown (network : Network) (ids : List ℕ) (c : Layout) : Type 0 where
+  pub record Grown (network : Network) (ids : List ℕ) (c : Spans) : Type 0 where
     pub forest : Forest naming problem file states network.children ids c.start c.finish
     pub chosen : AllChosen details forest.slots forest.ids forest.nodes
 
@@ -106,18 +106,18 @@ module _ (naming : Naming) (problem : Problem) (file : PlanFile) (states : ℕ �
   -- ## One tree at each position
 
   -- the step at a position, in its gap
-  abbrev base : List Child → Layout → ℕ → Laid
+  abbrev base : List Child → Spans → ℕ → Laid
   base children c k = record { node = step (literals_of (slice_get children k)); slots = λ q. c.start k; ids = λ q. 0 }
 
   -- a tree at each of these positions, with the lines' ids, and elsewhere a step
-  record Filled (children : List Child) (c : Layout) (positions ids : List ℕ) : Type 0 where
+  record Filled (children : List Child) (c : Spans) (positions ids : List ℕ) : Type 0 where
     at : ℕ → Laid
     each : (k : ℕ) → IsIn k positions → (d : Child) × (slice_get children k ≡ Some d) × Stands d (c.start k) (c.finish k) (at k)
     others : (k : ℕ) → (IsIn k positions → ⊥) → at k ≡ base children c k
     ids_are : ids ≡ map (λ k. (at k).ids []) positions
 
   -- at no positions
-  fill_none : (children : List Child) (c : Layout) (positions : List ℕ) → positions ≡ [] → Filled children c positions []
+  fill_none : (children : List Child) (c : Spans) (positions : List ℕ) → positions ≡ [] → Filled children c positions []
   fill_none children c positions none = record {
     at = base children c;
     each = λ k i. absurd (subst (IsIn k) none i);
@@ -126,7 +126,7 @@ module _ (naming : Naming) (problem : Problem) (file : PlanFile) (states : ℕ �
   }
 
   -- at one position more
-  fill_more : (children : List Child) (c : Layout) (a : ℕ) (positions : List ℕ) (id : ℕ) (ids : List ℕ) → IsWithoutRepeats (a ∷ positions)
+  fill_more : (children : List Child) (c : Spans) (a : ℕ) (positions : List ℕ) (id : ℕ) (ids : List ℕ) → IsWithoutRepeats (a ∷ positions)
       → (y : Laid) → (d : Child) → slice_get children a ≡ Some d → Stands d (c.start a) (c.finish a) y → y.ids [] ≡ id
       → Filled children c positions ids → Filled children c (a ∷ positions) (id ∷ ids)
   fill_more children c a positions id ids distinct y d there stands is more =
@@ -148,7 +148,7 @@ module _ (naming : Naming) (problem : Problem) (file : PlanFile) (states : ℕ �
 
   -- ## A network's trees
 
-  module _ (network : Network) (ids : List ℕ) (c : Layout) (places : AreLaidOut naming problem file states details layouts network ids c)
+  module _ (network : Network) (ids : List ℕ) (c : Spans) (places : HasRoomBy naming problem file states details all_spans network ids c)
       (filled : Filled network.children c c.positions ids) where
     -- a subtask has a tree
     subtask_stands : (k : ℕ) (d : Child) → slice_get network.children k ≡ Some d → IsSubtask d → Stands d (c.start k) (c.finish k) (filled.at k)
@@ -225,14 +225,14 @@ module _ (naming : Naming) (problem : Problem) (file : PlanFile) (states : ℕ �
     grow = record { forest = forest_of; chosen = all_chosen }
 
   -- a step among the trees of a network is the network's
-  step_child : (network : Network) (ids : List ℕ) (c : Layout) (grown : Grown network ids c)
+  step_child : (network : Network) (ids : List ℕ) (c : Spans) (grown : Grown network ids c)
       → (a : ℕ) (literals : List Literal) → child_at grown.forest.nodes a ≡ Some (step literals) → slice_get network.children a ≡ Some (precondition literals)
   step_child network ids c grown a literals e =
       let f = grown.forest in
       subst (λ cs. slice_get cs a ≡ Some (precondition literals)) f.laid.are_roots (root_of_child f.nodes a (step literals) e)
 
   -- and stands where it starts
-  step_starts : (network : Network) (ids : List ℕ) (c : Layout) → AreLaidOut naming problem file states details layouts network ids c → (grown : Grown network ids c)
+  step_starts : (network : Network) (ids : List ℕ) (c : Spans) → HasRoomBy naming problem file states details all_spans network ids c → (grown : Grown network ids c)
       → (a : ℕ) (literals : List Literal) → child_at grown.forest.nodes a ≡ Some (step literals) → c.start a ≡ grown.forest.slots (a ∷ [])
   step_starts network ids c places grown a literals e =
       let f = grown.forest in
@@ -244,7 +244,7 @@ module _ (naming : Naming) (problem : Problem) (file : PlanFile) (states : ℕ �
 
   -- ## The trees of lines
 
-  module _ (is_forest : IsForest file) (runs : LinesRun naming problem file states) (certificate : IsCertificate naming problem file states details layouts) where
+  module _ (is_forest : IsForest file) (runs : LinesRun naming problem file states) (certificate : IsCertificate naming problem file states details all_spans) where
     -- a line that names an action has one
     is_action : (g : GroundTask) (i : ℕ) (line : ActionLine) → slice_get file.actions i ≡ Some line → naming.named line.name line.arguments ≡ Some g
         → (a : Action) × (problem.action_of g ≡ Some a)
@@ -259,7 +259,7 @@ module _ (naming : Naming) (problem : Problem) (file : PlanFile) (states : ℕ �
         by (Some a) e = (a, e)
 
     -- an action line is placed as the action that it shows
-    placed_action : (t : GroundTask) (i id g h : ℕ) (c : Child) → ShowsTree naming file id (action_at t i) → IsPlaced naming problem file states details layouts c id g h
+    placed_action : (t : GroundTask) (i id g h : ℕ) (c : Child) → ShowsTree naming file id (action_at t i) → IsPlaced naming problem file states details all_spans c id g h
         → (c ≡ action t) × (g ≤ i) × (i < h)
     placed_action t i id g h (precondition literals) shows placed = absurd placed
     placed_action t i id g h (action u) (line, there, is, named) (j, other, stands, is_other, other_named, low, high) =
@@ -274,8 +274,8 @@ module _ (naming : Naming) (problem : Problem) (file : PlanFile) (states : ℕ �
 
     -- a decomposition line is placed as the task that it shows
     placed_decomposition : (t : GroundTask) (line : DecompositionLine) (id g h : ℕ) (c : Child) → IsIn line file.decompositions → line.id ≡ id
-        → naming.named line.task line.arguments ≡ Some t → IsPlaced naming problem file states details layouts c id g h
-        → (c ≡ task t) × (g ≤ (layouts.line line.id).from) × ((layouts.line line.id).to ≤ h)
+        → naming.named line.task line.arguments ≡ Some t → IsPlaced naming problem file states details all_spans c id g h
+        → (c ≡ task t) × (g ≤ (all_spans.line line.id).from) × ((all_spans.line line.id).to ≤ h)
     placed_decomposition t line id g h (precondition literals) listed is named placed = absurd placed
     placed_decomposition t line id g h (action u) listed is named (j, other, stands, is_other, other_named, low, high) =
         absurd (kinds_apart file is_forest other line (at_in other file.actions j stands) listed (is_other ∙ sym is))
@@ -283,16 +283,16 @@ module _ (naming : Naming) (problem : Problem) (file : PlanFile) (states : ℕ �
         let alike : other ≡ line = one_line other line file.decompositions (decompositions_distinct file is_forest) there listed (is_other ∙ sym is) in
         let tasks : Some u ≡ Some t = sym other_named ∙ ap (λ l. naming.named l.task l.arguments) alike ∙ named in
         let same : u ≡ t = cc in
-        (ap task same, subst (λ k. g ≤ (layouts.line k).from) (sym is) low, subst (λ k. (layouts.line k).to ≤ h) (sym is) high)
+        (ap task same, subst (λ k. g ≤ (all_spans.line k).from) (sym is) low, subst (λ k. (all_spans.line k).to ≤ h) (sym is) high)
 
     -- a decomposition line's tree, from those of its children
     stand_line : (line : DecompositionLine) (id g h : ℕ) (c : Child) → IsIn line file.decompositions → line.id ≡ id
-        → IsPlaced naming problem file states details layouts c id g h
-        → ((network : Network) (d : Layout) → AreLaidOut naming problem file states details layouts network line.children d → Filled network.children d d.positions line.children)
+        → IsPlaced naming problem file states details all_spans c id g h
+        → ((network : Network) (d : Spans) → HasRoomBy naming problem file states details all_spans network line.children d → Filled network.children d d.positions line.children)
         → (y : Laid) × (Stands c g h y × (y.ids [] ≡ id))
     stand_line line id g h c listed is placed fill =
         let l = certificate.lines line listed in
-        let d = layouts.line line.id in
+        let d = all_spans.line line.id in
         let (is_task, low, high) = placed_decomposition l.t line id g h c listed is l.named placed in
         let grown = grow l.network line.children d l.children (fill l.network d l.children) in
         let f = grown.forest in
@@ -326,7 +326,7 @@ module _ (naming : Naming) (problem : Problem) (file : PlanFile) (states : ℕ �
           ),
         )
       where
-        below : {network : Network} (t : GroundTask) (grown : Grown network line.children (layouts.line line.id))
+        below : {network : Network} (t : GroundTask) (grown : Grown network line.children (all_spans.line line.id))
             → ((a : ℕ) (literals : List Literal) → child_at grown.forest.nodes a ≡ Some (step literals) → details.gap line.id a ≡ grown.forest.slots (a ∷ []))
             → BelowChosen details grown.forest.slots (with_id line.id grown.forest.ids) (compound t (details.number line.id) grown.forest.nodes)
         below t grown starts [] u number nodes e =
@@ -337,7 +337,7 @@ module _ (naming : Naming) (problem : Problem) (file : PlanFile) (states : ℕ �
 
     mutual
       -- a plan tree whose line is placed has a tree there
-      stand : (p : PlanTree) (id g h : ℕ) (c : Child) → ShowsTree naming file id p → IsPlaced naming problem file states details layouts c id g h
+      stand : (p : PlanTree) (id g h : ℕ) (c : Child) → ShowsTree naming file id p → IsPlaced naming problem file states details all_spans c id g h
           → (y : Laid) × (Stands c g h y × (y.ids [] ≡ id))
       stand (action_at t i) id g h c shows placed =
           let (is, low, high) = placed_action t i id g h c shows placed in
@@ -357,8 +357,8 @@ module _ (naming : Naming) (problem : Problem) (file : PlanFile) (states : ℕ �
           (distinct_arranged d.positions _ places.each_once (subtasks_distinct 0 network.children)) shows places.children)
 
       -- and so have plan trees, each at its position
-      fill : (plans : PlanTrees) (positions ids : List ℕ) (children : List Child) (c : Layout) → IsWithoutRepeats positions → ShowTrees naming file ids plans
-          → ArePlaced naming problem file states details layouts children c positions ids → Filled children c positions ids
+      fill : (plans : PlanTrees) (positions ids : List ℕ) (children : List Child) (c : Spans) → IsWithoutRepeats positions → ShowTrees naming file ids plans
+          → ArePlaced naming problem file states details all_spans children c positions ids → Filled children c positions ids
       fill no_plans positions [] children c distinct shows placed = fill_none children c positions placed
       fill no_plans positions (id ∷ ids) children c distinct shows placed = absurd cc
       fill (plan p plans) positions [] children c distinct shows placed = absurd shows
@@ -369,9 +369,9 @@ module _ (naming : Naming) (problem : Problem) (file : PlanFile) (states : ℕ �
           (fill plans positions ids children c distinct.1 shows.1 placed.1)
 
     -- the roots have trees, as chosen
-    pub grown_roots : (plans : PlanTrees) → ShowTrees naming file file.roots plans → Grown certificate.network file.roots layouts.root
+    pub grown_roots : (plans : PlanTrees) → ShowTrees naming file file.roots plans → Grown certificate.network file.roots all_spans.root
     grown_roots plans shows =
         let places = certificate.roots in
-        grow certificate.network file.roots layouts.root places
-        (fill plans layouts.root.positions file.roots certificate.network.children layouts.root
-        (distinct_arranged layouts.root.positions _ places.each_once (subtasks_distinct 0 certificate.network.children)) shows places.children)
+        grow certificate.network file.roots all_spans.root places
+        (fill plans all_spans.root.positions file.roots certificate.network.children all_spans.root
+        (distinct_arranged all_spans.root.positions _ places.each_once (subtasks_distinct 0 certificate.network.children)) shows places.children)

@@ -26,7 +26,7 @@ use Rattle.htn_model.proofs.Accepted.{shown_ids, lines_of_places}
 use Rattle.htn_model.proofs.Planted.{AreNamedLines, forest_planted}
 use Rattle.htn_model.proofs.Fitted.{accepted_fits}
 use Rattle.plan_details.specs.Details.{actions_before, Details, AreDetails}
-use Rattle.plan_details.specs.Certificate.{Layouts, IsCertificate, CertificatesFit}
+use Rattle.plan_details.specs.Certificate.{AllSpans, IsCertificate, CertificatesFit}
 use Rattle.plan_details.proofs.Grown.{AllChosen, grown_roots}
 use Rattle.plan_details.proofs.Timely.{step_in_turn}
 
@@ -181,8 +181,8 @@ module _ (naming : Naming) (problem : Problem) (grounded : IsGrounded problem) (
     });
   }
 
-module _ (naming : Naming) (problem : Problem) (file : PlanFile) (states : ℕ → State) (details : Details) (layouts : Layouts) (runs : LinesRun naming problem file states)
-    (certificate : IsCertificate naming problem file states details layouts) where
+module _ (naming : Naming) (problem : Problem) (file : PlanFile) (states : ℕ → State) (details : Details) (all_spans : AllSpans) (runs : LinesRun naming problem file states)
+    (certificate : IsCertificate naming problem file states details all_spans) where
   -- a line that is carried out names an action
   named_action : (i : ℕ) (line : ActionLine) → slice_get file.actions i ≡ Some line → (g : GroundTask) × (naming.named line.name line.arguments ≡ Some g)
   named_action i line there = by (naming.named line.name line.arguments) refl
@@ -202,15 +202,15 @@ module _ (naming : Naming) (problem : Problem) (file : PlanFile) (states : ℕ �
   }
 
 -- what has a certificate is the details of a solution whose shadow the file is
-pub certified_details : (naming : Naming) (problem : Problem) → IsGrounded problem → (file : PlanFile) (states : ℕ → State) (details : Details) (layouts : Layouts)
-    → IsForest file → LinesRun naming problem file states → IsCertificate naming problem file states details layouts → AreDetails naming problem file details
-certified_details naming problem grounded file states details layouts is_forest runs certificate =
-    let (plans, shows) = forest_planted file is_forest naming (named_lines naming problem file states details layouts runs certificate) in
-    let grown = grown_roots naming problem file states details layouts is_forest runs certificate plans shows in
+pub certified_details : (naming : Naming) (problem : Problem) → IsGrounded problem → (file : PlanFile) (states : ℕ → State) (details : Details) (all_spans : AllSpans)
+    → IsForest file → LinesRun naming problem file states → IsCertificate naming problem file states details all_spans → AreDetails naming problem file details
+certified_details naming problem grounded file states details all_spans is_forest runs certificate =
+    let (plans, shows) = forest_planted file is_forest naming (named_lines naming problem file states details all_spans runs certificate) in
+    let grown = grown_roots naming problem file states details all_spans is_forest runs certificate plans shows in
     let f = grown.forest in
     let network = certificate.network in
     let places = certificate.roots in
-    let root = layouts.root in
+    let root = all_spans.root in
     let whole = certificate.whole in
     are_details naming problem grounded file is_forest states runs details network certificate.is_initial root.start root.finish f grown.chosen
     ((networks_decouple problem grounded).keeps states f.slots network.order f.nodes (length file.actions) (
@@ -227,6 +227,6 @@ certified_details naming problem grounded file states details layouts is_forest 
 
 -- so its lines have room
 pub certificates_fit : (naming : Naming) (problem : Problem) → IsGrounded problem → CertificatesFit naming problem
-certificates_fit naming problem grounded file states plans details layouts is_forest runs shows certificate =
-    let all = certified_details naming problem grounded file states details layouts is_forest runs certificate in
+certificates_fit naming problem grounded file states plans details all_spans is_forest runs shows certificate =
+    let all = certified_details naming problem grounded file states details all_spans is_forest runs certificate in
     accepted_fits naming problem grounded file states plans is_forest runs shows (record { solution = all.solution; solves = all.solves; shadow = all.shadow })

@@ -17,7 +17,7 @@ use Rattle.htn_model.proofs.Grounds.{grounded_from}
 use Rattle.htn_model.proofs.Sketches.{shown_holds, holds_shown, shown_action, action_shown}
 use Rattle.htn_model.proofs.WorkedFiles.{files_have_verdicts}
 use Rattle.plan_details.specs.Details.{Details, AreDetails}
-use Rattle.plan_details.specs.Certificate.{Layout, Layouts, IsPlaced, ArePlaced, AreLaidOut, IsLineLaidOut, IsCertificate}
+use Rattle.plan_details.specs.Certificate.{Spans, AllSpans, IsPlaced, ArePlaced, HasRoomBy, LineHasRoomBy, IsCertificate}
 use Rattle.plan_details.specs.Worked.{once, waiting, waiting_problem, waited, HasDetail, FilesHaveDetails}
 use Rattle.plan_details.proofs.Certified.{certificates_decide}
 use Rattle.plan_details.proofs.Solved.{certified_details}
@@ -34,7 +34,7 @@ none_before (suc zero) (suc (suc b)) h = cc
 none_before (suc (suc a)) b h = cc
 
 -- two children in no order that may be anywhere in the plan
-abbrev anywhere : ℕ → List ℕ → Layout
+abbrev anywhere : ℕ → List ℕ → Spans
 anywhere n positions = record { from = 0; to = n; positions = positions; start = λ a. 0; finish = λ a. n }
 
 -- they keep to their spans
@@ -88,9 +88,9 @@ ordered (suc (suc (suc a))) b h = absurd cc
 abbrev errand_details : Details
 errand_details = record { initial = 0; number = λ id. 2; gap = λ id a. 0 }
 
--- and its layout
-abbrev errand_layouts : Layouts
-errand_layouts = record {
+-- and its spans
+abbrev errand_spans : AllSpans
+errand_spans = record {
   root = anywhere 3 (1 ∷ 0 ∷ []);
   line = λ id. record { from = 0; to = 3; positions = 2 ∷ 1 ∷ []; start = starts; finish = finishes };
 }
@@ -127,11 +127,11 @@ no_step c d first second zero literals h = first literals cc
 no_step c d first second (suc zero) literals h = second literals cc
 no_step c d first second (suc (suc a)) literals h = absurd cc
 
--- the only line is laid out
+-- the only line has room
 errand_line_placed : (states : States) → states 0 ≡ set_of errand.initial_atoms → (line : DecompositionLine) → IsIn line (file_of 1 2 work).decompositions
-    → IsLineLaidOut names problem (file_of 1 2 work) states errand_details errand_layouts line
+    → LineHasRoomBy names problem (file_of 1 2 work) states errand_details errand_spans line
 errand_line_placed states first line (inr i) = absurd i
-errand_line_placed states first line (inl same) = subst (IsLineLaidOut names problem (file_of 1 2 work) states errand_details errand_layouts) (sym same) (record {
+errand_line_placed states first line (inl same) = subst (LineHasRoomBy names problem (file_of 1 2 work) states errand_details errand_spans) (sym same) (record {
   t = named 0;
   network = work_with 1;
   named = refl;
@@ -150,7 +150,7 @@ errand_line_placed states first line (inl same) = subst (IsLineLaidOut names pro
 })
 
 -- so the details have a certificate
-errand_certificate : (states : States) → states 0 ≡ set_of errand.initial_atoms → IsCertificate names problem (file_of 1 2 work) states errand_details errand_layouts
+errand_certificate : (states : States) → states 0 ≡ set_of errand.initial_atoms → IsCertificate names problem (file_of 1 2 work) states errand_details errand_spans
 errand_certificate states first = record {
   network = record { children = task (named 0) ∷ action (named 3) ∷ []; order = two_unordered };
   is_initial = refl;
@@ -173,7 +173,7 @@ errand_detail =
     let verdict = files_have_verdicts.arranged in
     let run = lines_run names problem (file_of 1 2 work) verdict.2 in (
       errand_details,
-      certified_details names problem (grounded_from errand refl) (file_of 1 2 work) _ errand_details errand_layouts verdict.0 run (errand_certificate _ run.starts),
+      certified_details names problem (grounded_from errand refl) (file_of 1 2 work) _ errand_details errand_spans verdict.0 run (errand_certificate _ run.starts),
       refl,
       refl,
     )
@@ -253,9 +253,9 @@ wait_ordered (suc (suc a)) b h = absurd cc
 abbrev waiting_details : Details
 waiting_details = record { initial = 0; number = λ id. 2; gap = λ id a. 1 }
 
--- and its layout, from gap 1 on
-abbrev waiting_layouts : Layouts
-waiting_layouts = record {
+-- and its spans, from gap 1 on
+abbrev waiting_spans : AllSpans
+waiting_spans = record {
   root = anywhere 2 (1 ∷ 0 ∷ []);
   line = λ id. record { from = 1; to = 2; positions = 1 ∷ []; start = λ a. 1; finish = wait_finishes };
 }
@@ -288,11 +288,11 @@ wait_steps states known zero literals h =
 wait_steps states known (suc zero) literals h = absurd cc
 wait_steps states known (suc (suc a)) literals h = absurd cc
 
--- the only line is laid out
+-- the only line has room
 waited_line_placed : (states : States) → AreKnown states → (line : DecompositionLine) → IsIn line waited.decompositions
-    → IsLineLaidOut names waiting_problem waited states waiting_details waiting_layouts line
+    → LineHasRoomBy names waiting_problem waited states waiting_details waiting_spans line
 waited_line_placed states known line (inr i) = absurd i
-waited_line_placed states known line (inl same) = subst (IsLineLaidOut names waiting_problem waited states waiting_details waiting_layouts) (sym same) (record {
+waited_line_placed states known line (inl same) = subst (LineHasRoomBy names waiting_problem waited states waiting_details waiting_spans) (sym same) (record {
   t = named 0;
   network = once 0;
   named = refl;
@@ -308,7 +308,7 @@ waited_line_placed states known line (inl same) = subst (IsLineLaidOut names wai
 })
 
 -- so the details have a certificate
-waiting_certificate : (states : States) → AreKnown states → IsCertificate names waiting_problem waited states waiting_details waiting_layouts
+waiting_certificate : (states : States) → AreKnown states → IsCertificate names waiting_problem waited states waiting_details waiting_spans
 waiting_certificate states known = record {
   network = record { children = action (named 1) ∷ task (named 0) ∷ []; order = two_unordered };
   is_initial = refl;
@@ -334,7 +334,7 @@ waited_detail : HasDetail names waiting_problem waited 2 2 1
 waited_detail =
     let (states, run) = waited_runs in (
       waiting_details,
-      certified_details names waiting_problem (grounded_from waiting refl) waited states waiting_details waiting_layouts waited_forest run (waiting_certificate states (states_known states run)),
+      certified_details names waiting_problem (grounded_from waiting refl) waited states waiting_details waiting_spans waited_forest run (waiting_certificate states (states_known states run)),
       refl,
       refl,
     )
@@ -378,27 +378,27 @@ no_decomposition line (inl same) is = let id = ap (λ l. l.id) same in omega ari
 no_decomposition line (inr i) is = i
 
 -- the child of an errand that idles starts by line 1
-idle_starts : (states : States) (details : Details) (layouts : Layouts) (l : Layout)
-    → AreLaidOut names waiting_problem waited states details layouts (once 0) (1 ∷ []) l → l.start 1 ≤ 1
-idle_starts states details layouts l laid = by l.positions laid.children
+idle_starts : (states : States) (details : Details) (all_spans : AllSpans) (l : Spans)
+    → HasRoomBy names waiting_problem waited states details all_spans (once 0) (1 ∷ []) l → l.start 1 ≤ 1
+idle_starts states details all_spans l laid = by l.positions laid.children
   where
-    by : (positions : List ℕ) → ArePlaced names waiting_problem waited states details layouts (once 0).children l positions (1 ∷ []) → l.start 1 ≤ 1
+    by : (positions : List ℕ) → ArePlaced names waiting_problem waited states details all_spans (once 0).children l positions (1 ∷ []) → l.start 1 ≤ 1
     by [] placed = absurd placed
     by (zero ∷ positions) ((child, is, placed), more) =
         let same : precondition waits_at ≡ child = cc in
-        absurd (subst (λ c. IsPlaced names waiting_problem waited states details layouts c 1 (l.start 0) (l.finish 0)) (sym same) placed)
+        absurd (subst (λ c. IsPlaced names waiting_problem waited states details all_spans c 1 (l.start 0) (l.finish 0)) (sym same) placed)
     by (suc zero ∷ positions) ((child, is, placed), more) =
         let same : action (named 3) ≡ child = cc in
-        let (i, line, stands, id, names_it, low, high) = subst (λ c. IsPlaced names waiting_problem waited states details layouts c 1 (l.start 1) (l.finish 1)) (sym same) placed in
+        let (i, line, stands, id, names_it, low, high) = subst (λ c. IsPlaced names waiting_problem waited states details all_spans c 1 (l.start 1) (l.finish 1)) (sym same) placed in
         let second = idle_line i line stands id in
         omega arith
     by (suc (suc a) ∷ positions) ((child, is, placed), more) = absurd cc
 
 -- so the step holds by then
-only_gap : (states : States) (details : Details) → (layouts : Layouts) × IsCertificate names waiting_problem waited states details layouts → details.number 2 ≡ 2 → details.gap 2 0 ≤ 1
-only_gap states details (layouts, certificate) number =
+only_gap : (states : States) (details : Details) → (all_spans : AllSpans) × IsCertificate names waiting_problem waited states details all_spans → details.number 2 ≡ 2 → details.gap 2 0 ≤ 1
+only_gap states details (all_spans, certificate) number =
     let line = errand_line 2 work (1 ∷ []) in
-    let l = layouts.line 2 in
+    let l = all_spans.line 2 in
     let placed = certificate.lines line (inl refl) in
     let tasks : Some (named 0) ≡ Some placed.t = placed.named in
     let t : placed.t ≡ named 0 = cc in
@@ -406,8 +406,8 @@ only_gap states details (layouts, certificate) number =
     subst (λ k. slice_get (waiting_problem.methods_of (named 0)) k ≡ Some placed.network) number
     (subst (λ u. slice_get (waiting_problem.methods_of u) (details.number 2) ≡ Some placed.network) t placed.is_instance) in
     let same : once 0 ≡ placed.network = cc in
-    let laid = subst (λ n. AreLaidOut names waiting_problem waited states details layouts n (1 ∷ []) l) (sym same) placed.children in
-    let idles = idle_starts states details layouts l laid in
+    let laid = subst (λ n. HasRoomBy names waiting_problem waited states details all_spans n (1 ∷ []) l) (sym same) placed.children in
+    let idles = idle_starts states details all_spans l laid in
     let before = laid.spans.ordered 0 1 refl in
     let step = (laid.steps 0 waits_at refl).0 in
     let gap = placed.gaps 0 waits_at (ap (λ n. slice_get n.children 0) (sym same)) in

@@ -1,5 +1,5 @@
--- What a solution adds to the lines of its shadow: which instance of its method a line is, and when the instance's steps
--- are tested.
+-- What a solution adds to the lines of its shadow: which instance of its method a line is, and when the instance's
+-- steps are tested.
 use Rattle.std.specs.Prelude.{◌≡◌, ◌↔◌, ℕ, ◌+◌, ◌≤◌, List, [], ◌∷◌, ◌++◌, length, Some, cond, true, slice_get}
 use Rattle.htn_model.specs.State.{State}
 use Rattle.htn_model.specs.Literal.{Literal, holds}

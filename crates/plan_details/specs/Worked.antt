@@ -35,8 +35,8 @@ waited = record { actions = action_line 0 1 ∷ action_line 1 3 ∷ []; roots = 
 
 -- ## What the details are
 
--- there are details in which the line with this id is the instance with this number, with its first child, a step, after
--- this many actions
+-- there are details in which the line with this id is the instance with this number, with its first child, a step,
+-- after this many actions
 abbrev pub HasDetail : Naming → Problem → PlanFile → ℕ → ℕ → ℕ → Type 0
 HasDetail naming problem file id number gap =
     (details : Details) × AreDetails naming problem file details × (details.number id ≡ number) × (details.gap id 0 ≡ gap)
