@@ -47,44 +47,44 @@ laid_child f i (c ∷ children) (suc k) m e =
     let (d, there, same) = laid_child f (suc i) children k m e in let w : suc i + k ≡ i + suc k = omega arith in
     (d, there, same ∙ ap (λ j. (f j).node) w)
 
--- ## What is chosen
+-- ## Trees that agree with details
 
 module _ (details : Details) where
-  -- a compound node is of the chosen instance, with its steps in the chosen gaps
-  pub record IsChosen (slots : Slots) (ids : Place → ℕ) (q : Place) (n : ℕ) (nodes : Nodes) : Type 0 where
+  -- a compound node's number and the slots of its steps agree with the details of its line
+  pub record AgreesAt (slots : Slots) (ids : Place → ℕ) (q : Place) (n : ℕ) (nodes : Nodes) : Type 0 where
     pub number : details.number (ids q) ≡ n
     pub gap : (a : ℕ) (literals : List Literal) → child_at nodes a ≡ Some (step literals) → details.gap (ids q) a ≡ slots (q ++ a ∷ [])
 
   -- so is each one at or below a node
-  abbrev BelowChosen : Slots → (Place → ℕ) → Node → Type 0
-  BelowChosen slots ids n =
-      (q : Place) (t : GroundTask) (number : ℕ) (nodes : Nodes) → node_below (Some n) q ≡ Some (compound t number nodes) → IsChosen slots ids q number nodes
+  abbrev AgreeBelow : Slots → (Place → ℕ) → Node → Type 0
+  AgreeBelow slots ids n =
+      (q : Place) (t : GroundTask) (number : ℕ) (nodes : Nodes) → node_below (Some n) q ≡ Some (compound t number nodes) → AgreesAt slots ids q number nodes
 
   -- so is each one of these trees
-  abbrev pub AllChosen : Slots → (Place → ℕ) → Nodes → Type 0
-  AllChosen slots ids trees =
-      (q : Place) (t : GroundTask) (number : ℕ) (nodes : Nodes) → node_at trees q ≡ Some (compound t number nodes) → IsChosen slots ids q number nodes
+  abbrev pub Agree : Slots → (Place → ℕ) → Nodes → Type 0
+  Agree slots ids trees =
+      (q : Place) (t : GroundTask) (number : ℕ) (nodes : Nodes) → node_at trees q ≡ Some (compound t number nodes) → AgreesAt slots ids q number nodes
 
   -- nothing is compound at or below a leaf
-  leaf_chosen : (slots : Slots) (ids : Place → ℕ) (g : GroundTask) → BelowChosen slots ids (leaf g)
-  leaf_chosen slots ids g [] t number nodes e = absurd cc
-  leaf_chosen slots ids g (i ∷ q) t number nodes e = let none = nothing_below q in absurd cc
+  leaf_agrees : (slots : Slots) (ids : Place → ℕ) (g : GroundTask) → AgreeBelow slots ids (leaf g)
+  leaf_agrees slots ids g [] t number nodes e = absurd cc
+  leaf_agrees slots ids g (i ∷ q) t number nodes e = let none = nothing_below q in absurd cc
 
   -- nor at or below a step
-  step_chosen : (slots : Slots) (ids : Place → ℕ) (literals : List Literal) → BelowChosen slots ids (step literals)
-  step_chosen slots ids literals [] t number nodes e = absurd cc
-  step_chosen slots ids literals (i ∷ q) t number nodes e = let none = nothing_below q in absurd cc
+  step_agrees : (slots : Slots) (ids : Place → ℕ) (literals : List Literal) → AgreeBelow slots ids (step literals)
+  step_agrees slots ids literals [] t number nodes e = absurd cc
+  step_agrees slots ids literals (i ∷ q) t number nodes e = let none = nothing_below q in absurd cc
 
 module _ (naming : Naming) (problem : Problem) (file : PlanFile) (states : ℕ → State) (details : Details) (all_spans : AllSpans) where
-  -- a tree that stands for the child, sits between the gaps, has marks, and is as chosen
+  -- a tree that stands for the child, sits between the gaps, has marks, and agrees with the details
   record Stands (c : Child) (g h : ℕ) (y : Laid) : Type 0 where
     laid : IsLaid naming problem file states c g h y
-    chosen : BelowChosen details y.slots y.ids y.node
+    agree : AgreeBelow details y.slots y.ids y.node
 
-  -- trees for a network, as chosen
+  -- trees for a network, which agree with the details
   pub record Grown (network : Network) (ids : List ℕ) (c : Spans) : Type 0 where
     pub forest : Forest naming problem file states network.children ids c.start c.finish
-    pub chosen : AllChosen details forest.slots forest.ids forest.nodes
+    pub agree : Agree details forest.slots forest.ids forest.nodes
 
   -- trees for all children, from position i on
   laid_from : (f : ℕ → Laid) (children : List Child) (start finish : ℕ → ℕ) (i : ℕ)
@@ -183,7 +183,7 @@ module _ (naming : Naming) (problem : Problem) (file : PlanFile) (states : ℕ �
             sits = (omega arith, forward, subst (λ l. holds (states (c.start k)) l ≡ true) (sym are) (places.steps k literals e).1);
             marks = tt;
           };
-          chosen = step_chosen details _ _ _;
+          agree = step_agrees details _ _ _;
         })
 
     -- so each child has a tree
@@ -204,25 +204,25 @@ module _ (naming : Naming) (problem : Problem) (file : PlanFile) (states : ℕ �
           (map_rearranged (id_below (ids_from filled.at)) c.positions (subtask_positions 0 network.children) places.each_once);
     }
 
-    -- which are as chosen
-    all_chosen : AllChosen details (slots_of filled.at) (ids_from filled.at) (nodes_from filled.at 0 network.children)
-    all_chosen [] t number nodes e = absurd cc
-    all_chosen (i ∷ q) t number nodes e = by (child_at (nodes_from filled.at 0 network.children) i) refl e
+    -- which agree with the details
+    all_agree : Agree details (slots_of filled.at) (ids_from filled.at) (nodes_from filled.at 0 network.children)
+    all_agree [] t number nodes e = absurd cc
+    all_agree (i ∷ q) t number nodes e = by (child_at (nodes_from filled.at 0 network.children) i) refl e
       where
         by : (m : Option Node) → child_at (nodes_from filled.at 0 network.children) i ≡ m → node_below m q ≡ Some (compound t number nodes)
-            → IsChosen details (slots_of filled.at) (ids_from filled.at) (i ∷ q) number nodes
+            → AgreesAt details (slots_of filled.at) (ids_from filled.at) (i ∷ q) number nodes
         by None here below = let none = nothing_below q in absurd cc
         by (Some m) here below =
             let (d, there, same) = laid_child filled.at 0 network.children i m here in
             let w : 0 + i ≡ i = omega arith in
-            let x = (child_stands i d there).chosen q t number nodes
+            let x = (child_stands i d there).agree q t number nodes
             (subst (λ n. node_below (Some n) q ≡ Some (compound t number nodes)) (same ∙ ap (λ j. (filled.at j).node) w) below) in
             record { number = x.number; gap = x.gap }
 
     -- trees for the network
     grow : Grown network ids c
     unfolding forest_of
-    grow = record { forest = forest_of; chosen = all_chosen }
+    grow = record { forest = forest_of; agree = all_agree }
 
   -- a step among the trees of a network is the network's
   step_child : (network : Network) (ids : List ℕ) (c : Spans) (grown : Grown network ids c)
@@ -319,7 +319,7 @@ module _ (naming : Naming) (problem : Problem) (file : PlanFile) (states : ℕ �
                   marks_with naming file f.slots f.ids line.id 0 f.nodes f.laid.marks,
                 );
               };
-              chosen = below l.t grown (λ a literals e.
+              agree = below l.t grown (λ a literals e.
                   l.gaps a literals (step_child l.network line.children d grown a literals e) ∙ step_starts l.network line.children d l.children grown a literals e);
             },
             is,
@@ -328,12 +328,12 @@ module _ (naming : Naming) (problem : Problem) (file : PlanFile) (states : ℕ �
       where
         below : {network : Network} (t : GroundTask) (grown : Grown network line.children (all_spans.line line.id))
             → ((a : ℕ) (literals : List Literal) → child_at grown.forest.nodes a ≡ Some (step literals) → details.gap line.id a ≡ grown.forest.slots (a ∷ []))
-            → BelowChosen details grown.forest.slots (with_id line.id grown.forest.ids) (compound t (details.number line.id) grown.forest.nodes)
+            → AgreeBelow details grown.forest.slots (with_id line.id grown.forest.ids) (compound t (details.number line.id) grown.forest.nodes)
         below t grown starts [] u number nodes e =
             let same : details.number line.id ≡ number = cc in
             let inner : grown.forest.nodes ≡ nodes = cc in
             record { number = same; gap = λ a literals there. starts a literals (ap (λ ns. child_at ns a) inner ∙ there) }
-        below t grown starts (i ∷ q) u number nodes e = let x = grown.chosen (i ∷ q) u number nodes e in record { number = x.number; gap = x.gap }
+        below t grown starts (i ∷ q) u number nodes e = let x = grown.agree (i ∷ q) u number nodes e in record { number = x.number; gap = x.gap }
 
     mutual
       -- a plan tree whose line is placed has a tree there
@@ -346,7 +346,7 @@ module _ (naming : Naming) (problem : Problem) (file : PlanFile) (states : ℕ �
             (
               record {
                 laid = record { is_root = sym is; tree = is_action t i line there named; sits = (low, high); marks = (line, there, same, named) };
-                chosen = leaf_chosen details _ _ t;
+                agree = leaf_agrees details _ _ t;
               },
               refl,
             ),
@@ -368,7 +368,7 @@ module _ (naming : Naming) (problem : Problem) (file : PlanFile) (states : ℕ �
           fill_more children c a positions id ids distinct y.0 placed.0.0 placed.0.1 y.1.0 y.1.1
           (fill plans positions ids children c distinct.1 shows.1 placed.1)
 
-    -- the roots have trees, as chosen
+    -- the roots have trees that agree with the details
     pub grown_roots : (plans : PlanTrees) → ShowTrees naming file file.roots plans → Grown certificate.network file.roots all_spans.root
     grown_roots plans shows =
         let places = certificate.roots in

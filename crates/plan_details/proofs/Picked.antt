@@ -4,7 +4,7 @@ use Rattle.std.proofs.lemmas.Bool.{eq-eqb, ne_eqb}
 use Rattle.htn_model.specs.PlanFile.{DecompositionLine, IsIn, IsWithoutRepeats, decomposition_ids}
 use Rattle.htn_model.proofs.Marked.{id_listed}
 
--- for each line something was chosen, by the lines' ids
+-- what there is for each line is a function of the lines' ids
 pub pick : {Y : Type 0} (P : DecompositionLine → Y → Type 0) (other : Y) (lines : List DecompositionLine) → IsWithoutRepeats (decomposition_ids lines)
     → ((line : DecompositionLine) → IsIn line lines → (y : Y) × P line y)
     → (f : ℕ → Y) × ((line : DecompositionLine) → IsIn line lines → P line (f line.id))

@@ -27,13 +27,13 @@ use Rattle.htn_model.proofs.Planted.{AreNamedLines, forest_planted}
 use Rattle.htn_model.proofs.Fitted.{accepted_fits}
 use Rattle.plan_details.specs.Details.{actions_before, Details, AreDetails}
 use Rattle.plan_details.specs.Certificate.{AllSpans, IsCertificate, CertificatesFit}
-use Rattle.plan_details.proofs.Grown.{AllChosen, grown_roots}
+use Rattle.plan_details.proofs.Grown.{Agree, grown_roots}
 use Rattle.plan_details.proofs.Timely.{step_in_turn}
 
 module _ (naming : Naming) (problem : Problem) (grounded : IsGrounded problem) (file : PlanFile) (is_forest : IsForest file) (states : ℕ → State)
     (runs : LinesRun naming problem file states) (details : Details) (network : Network) (is_initial : slice_get problem.initials details.initial ≡ Some network)
     (start finish : ℕ → ℕ) (laid : Forest naming problem file states network.children file.roots start finish)
-    (chosen : AllChosen details laid.slots laid.ids laid.nodes)
+    (agree : Agree details laid.slots laid.ids laid.nodes)
     (keeps : ForestKeeps problem states laid.slots network.order laid.nodes (length file.actions)) where
   -- the trees
   abbrev trees : Nodes
@@ -175,7 +175,7 @@ module _ (naming : Naming) (problem : Problem) (grounded : IsGrounded problem) (
     solves = solves;
     shadow = shadow;
     initial = refl;
-    each = λ p t n nodes e. (let x = chosen p t n nodes e in record {
+    each = λ p t n nodes e. (let x = agree p t n nodes e in record {
       number = x.number;
       gap = λ a literals is. x.gap a literals is ∙ sym (step_comes (p ++ a ∷ []) literals (at_child trees p t n nodes a e ∙ is));
     });
@@ -212,7 +212,7 @@ certified_details naming problem grounded file states details all_spans is_fores
     let places = certificate.roots in
     let root = all_spans.root in
     let whole = certificate.whole in
-    are_details naming problem grounded file is_forest states runs details network certificate.is_initial root.start root.finish f grown.chosen
+    are_details naming problem grounded file is_forest states runs details network certificate.is_initial root.start root.finish f grown.agree
     ((networks_decouple problem grounded).keeps states f.slots network.order f.nodes (length file.actions) (
       root.start,
       root.finish,
