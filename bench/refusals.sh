@@ -1,6 +1,7 @@
 #!/bin/sh
 # Refuses allocations in the tests: for each number N the Nth of each test, among them those for the start of a thread.
-# A test that meets its refusal must end in want of memory or of a thread, and no other answer may change.
+# A test that meets its refusal must end in want of memory or of a thread, and no other answer may change. What only the
+# program calls is refused memory by .ci/refusals, and by hand in the rows `again` and `verdict` of crates/acceptance.
 #
 # sh bench/refusals.sh [CRATE..] takes the crates with such tests, or those named, and N from 1 to 50 and then twice as
 # much each time, until all tests of a crate pass, since none allocates so often, or N passes 65,536. NUMBERS="1 8 64"
