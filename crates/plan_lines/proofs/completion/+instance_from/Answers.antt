@@ -5,7 +5,7 @@ use Rattle.plan_lines.specs.Allowed.{HasInstanceWith, IsFilled, IsInstanceWith, 
 use Rattle.plan_lines.proofs.Exchanged.{fails_so_far, none_at_all, none_found, none_given, none_more, opened_at, returned}
 use Rattle.plan_lines.proofs.completion.+instance_from.Goals as goal
 use Rattle.plan_lines.proofs.completion.+instance_from.Goals.{then-is_some-2-via-then-is_some-2, then-is_some-2-via-else-is_some-2+then-not-is_tied}
-use Rattle.plan_lines.proofs.completion.+instance_from.Goals.{then-meets_so_far+in_ok-found+else-is_some-2+else-not-is_tied+in-Some+in-Heap-1, then-meets_so_far+in_ok-found+else-is_some-2+else-not-is_tied+in-Some+in-Inline-1, then-meets_so_far+in_ok-found+else-is_some-2+else-not-is_tied+in-None-1, else-meets_so_far}
+use Rattle.plan_lines.proofs.completion.+instance_from.Goals.{then-meets_so_far+in_ok-found+else-is_some-2+else-not-is_tied+in-Some-1, then-meets_so_far+in_ok-found+else-is_some-2+else-not-is_tied+in-None-1, else-meets_so_far}
 
 both_ways : (b : Bool) → true ≡ b → b ≡ false → ⊥
 both_ways b e h = let clash : true ≡ false = e ∙ h in absurd cc
@@ -56,11 +56,7 @@ loop-object-preserved t c =
     let at : c.deref.result.now ≡ more = c.deref.ensures.value ∙ ap (λ (l : List (Option ℕ)). set l p (Some (get_or objects n 0))) c.in_ok-more.ensures.items in
     let none : HasInstanceWith task s more → ⊥ =
     elim c.if-meets_so_far.branch [
-      | then-meets_so_far+in_ok-found+else-is_some-2+else-not-is_tied+in-Some+in-Heap-1 w ↦
-          let here : w.deref-then-meets_so_far.result.now ≡ more = w.deref-then-meets_so_far.ensures.value ∙ ap (λ (l : List (Option ℕ)). set l p (Some (get_or objects n 0))) c.in_ok-more.ensures.items in
-          none_found (HasInstanceWith task s more → ⊥) (IsInstanceWith task s more) w.in_ok-found.found
-          (subst (λ (m : List (Option ℕ)). MatchOption w.in_ok-found.found (HasInstanceWith task s m → ⊥) (IsInstanceWith task s m)) here w.in_ok-found.ensures) (sym w.if-is_some-2.ensures)
-      | then-meets_so_far+in_ok-found+else-is_some-2+else-not-is_tied+in-Some+in-Inline-1 w ↦
+      | then-meets_so_far+in_ok-found+else-is_some-2+else-not-is_tied+in-Some-1 w ↦
           let here : w.deref-then-meets_so_far.result.now ≡ more = w.deref-then-meets_so_far.ensures.value ∙ ap (λ (l : List (Option ℕ)). set l p (Some (get_or objects n 0))) c.in_ok-more.ensures.items in
           none_found (HasInstanceWith task s more → ⊥) (IsInstanceWith task s more) w.in_ok-found.found
           (subst (λ (m : List (Option ℕ)). MatchOption w.in_ok-found.found (HasInstanceWith task s m → ⊥) (IsInstanceWith task s m)) here w.in_ok-found.ensures) (sym w.if-is_some-2.ensures)

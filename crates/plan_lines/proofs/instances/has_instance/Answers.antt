@@ -36,7 +36,6 @@ loop-schema-preserved c =
     let task = c.task-task.result.now in
     let g = c.args.goal.now in
     let tasks = c.in_ok-tasks.tasks in
-    let keys = c.tasks.inside.tasks.keys in
     let left = c.in_ok-tasks.counts.items in
     let methods = c.methods-methods.result.now in
     let i = c.loop-schema.schema-index in
@@ -44,13 +43,13 @@ loop-schema-preserved c =
     let bytes : m.name ≡ c.as_bytes.result.now = sym (c.as_bytes.ensures.value ∙ c.name.ensures) in
     let word : c.as_bytes-in-loop-schema.result.now ≡ c.args.method.now = c.as_bytes-in-loop-schema.ensures in
     let P : MethodSchema → Type 0 =
-    λ n. n.name ≡ c.args.method.now → length n.network.subtasks ≡ length c.args.children.now → MethodShows task g n keys left → ⊥ in
+    λ n. n.name ≡ c.args.method.now → length n.network.subtasks ≡ length c.args.children.now → MethodShows task g n tasks left → ⊥ in
     let here : P m =
     elim c.else-eq.branch [
       | else-eq-via-then-eq+then-subtasks-children+in_ok-method_shows+else-branch w ↦
           (λ named long shown.
           turned_off w.in_ok-method_shows.field-0 w.if-branch.false w.in_ok-method_shows.ensures
-          (method_same task task g m keys tasks left w.deref.result.now refl c.tasks.view_is (sym w.deref.ensures.value) shown))
+          (method_same task task g m tasks tasks left w.deref.result.now refl refl (sym w.deref.ensures.value) shown))
       | else-eq-via-then-eq+else-subtasks-children w ↦
           (λ named long shown.
           let e = ap (λ (l : List TaskSchema). length l) (w.subtasks.ensures ∙ ap (λ (n : NetworkSchema). n.subtasks) w.network.ensures) in
@@ -69,7 +68,6 @@ returns c =
     let t = c.args.names.now in
     let g = c.args.goal.now in
     let tasks = c.in_ok-tasks.tasks in
-    let keys = c.tasks.inside.tasks.keys in
     let left = c.in_ok-tasks.counts.items in
     let methods = c.methods-methods.result.now in
     let children = map (λ (r : Bor declared.GroundTask). r.now) c.args.children.now in
@@ -81,4 +79,4 @@ returns c =
     let at : slice_get methods b.number ≡ Some b.schema = ap (λ (ms : List MethodSchema). slice_get ms b.number) methods_are ∙ b.at in
     let below : b.number < length methods = got_below methods b.number b.schema at in
     c.loop-schema.invariant b.number b.schema (omega (arith, below, c.loop-schema-test.false)) at b.named (b.long ∙ many)
-    (method_same t c.task-task.result.now g b.schema tasks keys left left (sym c.task-task.ensures) (sym c.tasks.view_is) refl b.shows))
+    (method_same t c.task-task.result.now g b.schema tasks tasks left left (sym c.task-task.ensures) refl refl b.shows))

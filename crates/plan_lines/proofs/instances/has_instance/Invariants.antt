@@ -7,4 +7,4 @@ use Rattle.plan_lines.proofs.instances.has_instance.Given as goal
 abbrev pub invariant-loop-schema : goal.invariant-loop-schema
 invariant-loop-schema l =
     (k : ℕ) (m : MethodSchema) → k < l.schema-index → slice_get l.methods k ≡ Some m → m.name ≡ l.method → length m.network.subtasks ≡ length l.children
-    → MethodShows l.task l.goal m l.tasks-inside.tasks.keys l.counts.items → ⊥
+    → MethodShows l.task l.goal m l.tasks l.counts.items → ⊥

@@ -8,7 +8,7 @@ use Rattle.plan_lines.specs.Given.{Extends}
 use Rattle.plan_lines.proofs.Left.{length_push}
 use Rattle.plan_lines.proofs.Searched.{Taken, if_some, kept_more, missing, taken_more}
 use Rattle.plan_lines.proofs.search.settle.Goals as goal
-use Rattle.plan_lines.proofs.search.settle.Goals.{in-Some+else-not-take+in-Heap-1, in-Some+else-not-take+in-Inline-1, in-None+in_ok-push-in-None}
+use Rattle.plan_lines.proofs.search.settle.Goals.{in-Some+else-not-take, in-None+in_ok-push-in-None}
 
 abbrev at : Bor declared.TaskSchema → TaskSchema
 at r = r.now
@@ -32,19 +32,7 @@ loop-schema-preserved c =
     let fits : (x : GroundTask) (values : List ℕ) → c.in_ok-task.field-0 ≡ Some x → Extends values c.args.given.now → ground_task values s.now ≡ x =
     λ x values is h. if_some (λ (g : GroundTask). (v : List ℕ) → Extends v c.args.given.now → ground_task v s.now ≡ g) c.in_ok-task.field-0 x is c.in_ok-task.ensures values h in
     elim c.match-branch-2.branch [
-      | in-Some+else-not-take+in-Heap-1 w ↦
-          let l : c.match-branch-2.left.items ≡ w.take.new.left.items = ap (λ (v : Vec ℕ Global). v.items) w.left-is in
-          let k : c.match-branch-2.kept.items ≡ kept = ap (λ (v : Vec (Bor declared.TaskSchema) Global). v.items) w.kept-is in
-          record {
-            long = ap (λ (xs : List ℕ). length xs) l ∙ w.if-not-take.ensures.long;
-            fewer = (let e = ap (λ (xs : List (Bor declared.TaskSchema)). length xs) k in let f = inv.fewer in omega (arith, e, f));
-            taken = λ values h.
-                subst (λ (xs : List ℕ). Taken at values schemas tasks old xs (map at c.match-branch-2.kept.items) (i + 1)) (sym l)
-                (subst (λ (ks : List (Bor declared.TaskSchema)). Taken at values schemas tasks old w.take.new.left.items (map at ks) (i + 1)) (sym k)
-                (taken_more at values schemas tasks old c.loop-schema.left.items w.take.new.left.items (map at kept) i s w.in-Some.task c.loop-schema-test.true c.schema-item.is
-                (fits w.in-Some.task values w.in-Some.is h) (inv.taken values h) w.if-not-take.ensures.taken));
-          }
-      | in-Some+else-not-take+in-Inline-1 w ↦
+      | in-Some+else-not-take w ↦
           let l : c.match-branch-2.left.items ≡ w.take.new.left.items = ap (λ (v : Vec ℕ Global). v.items) w.left-is in
           let k : c.match-branch-2.kept.items ≡ kept = ap (λ (v : Vec (Bor declared.TaskSchema) Global). v.items) w.kept-is in
           record {
