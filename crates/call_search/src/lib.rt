@@ -1,5 +1,5 @@
 //! The least finishing word of a totally ordered task, where a table of its calls shows it.
-#![tactic(auto, using(std::proofs::lemmas::Grind::common_steps))]
+#![tactic(auto)]
 
 mod calls;
 mod ordered;

@@ -1,5 +1,5 @@
 //! The search for a task's least solution, and the solution of a word.
-#![tactic(auto, using(std::proofs::lemmas::Grind::common_steps))]
+#![tactic(auto)]
 
 mod answer;
 mod chosen;

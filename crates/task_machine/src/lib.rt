@@ -1,5 +1,5 @@
 //! The word machine of a planning task over numbered states and networks.
-#![tactic(auto, using(std::proofs::lemmas::Grind::common_steps))]
+#![tactic(auto)]
 
 mod configuration;
 mod expand;
