@@ -2,6 +2,7 @@
 use Rattle.std.proofs.Common.{◌≡◌, ℕ, zero, suc, ◌+◌, ◌≤◌, ◌<◌, Bool, true, false, List, [], ◌∷◌, length, get_or, take, set, Option, Some, slice_get, inl, inr, sym, refl, ap, ◌∙◌, subst, arith}
 use Rattle.std.proofs.lemmas.Bool.{cases_lt, true_from_ne_false}
 use Rattle.std.proofs.lemmas.List.{get_or_read, take_more}
+use Rattle.std.proofs.lemmas.Option.{slice_get_read}
 use Rattle.htn_ground.specs.Views.{child_view, children_of}
 use Rattle.htn_ground.specs.declared.child.Child.{Child as Read}
 use Rattle.htn_model.specs.Fits.{subtask_positions}
@@ -32,6 +33,16 @@ node_more P xs n v low is here before a node less at = elim (cases_lt a n) [
       let there = node_at xs (children_of xs) n v refl low is in
       let node_is : child_view v ≡ node = one_value (slice_get (children_of xs) n) (child_view v) node there (ap (slice_get (children_of xs)) (sym same) ∙ at) in
       subst (λ k. P k node) (sym same) (subst (P n) node_is here))
+]
+
+-- what holds of each item before a place, and of the one at it
+pub item_more : {X : Type 0} (P : ℕ → X → Type 0) (xs : List X) (n : ℕ) (x : X) → n < length xs → x ≡ get_or xs n x → P n x
+    → ((j : ℕ) (y : X) → j < n → slice_get xs j ≡ Some y → P j y) → (j : ℕ) (y : X) → j < n + 1 → slice_get xs j ≡ Some y → P j y
+item_more P xs n x low is here before j y less at = elim (cases_lt j n) [
+  | inl l ↦ before j y l at
+  | inr h ↦ (let same : j ≡ n = omega arith in
+      let item_is : x ≡ y = one_value (slice_get xs n) x y (slice_get_read xs (length xs) n x refl low is) (ap (slice_get xs) (sym same) ∙ at) in
+      subst (λ k. P k y) (sym same) (subst (P n) item_is here))
 ]
 
 -- a row of an order stands where it says anything

@@ -1,9 +1,9 @@
 -- What is found of the lines of a plan file: how each is placed, and when that is right.
-use Rattle.std.specs.Prelude.{◌≡◌, ℕ, ◌-◌, ◌≤◌, ◌<◌, Bool, true, false, List, [], length, map, get_or, Some, slice_get, ⊤}
+use Rattle.std.specs.Prelude.{◌≡◌, ℕ, ◌+◌, ◌-◌, ◌≤◌, ◌<◌, Bool, true, false, List, [], length, map, get_or, Some, slice_get, ⊤}
 use Rattle.htn_model.specs.Fits.{subtask_positions, child_of, AreSpans}
 use Rattle.htn_model.specs.Literal.{Literal, holds}
 use Rattle.htn_model.specs.PlanFile.{IsRearrangementOf}
-use Rattle.htn_model.specs.Problem.{Network, Child, precondition, action, task}
+use Rattle.htn_model.specs.Problem.{Child, precondition, action, task}
 use Rattle.plan_details.specs.Certificate.{Spans}
 use Rattle.plan_room.specs.Lines.{Lines}
 use Rattle.plan_room.specs.Seats.{is_step_at}
@@ -62,8 +62,19 @@ abbrev pub AreHeld : Lines → List Child → Spans → Type 0
 AreHeld l nodes s = (a : ℕ) (node : Child) → slice_get nodes a ≡ Some node → IsHeld l node (s.start a) (s.finish a)
 
 -- the children are placed as the network's subtasks, each once, in its order, and its steps in gaps in which they hold
-pub record HasRoomIn (l : Lines) (entries : List Entry) (network : Network) (listed : List ℕ) (s : Spans) : Type 0 where
-  pub each_once : IsRearrangementOf s.positions (subtask_positions 0 network.children)
-  pub children : AreSeated l entries network.children s listed
-  pub spans : AreSpans network.order s.start s.finish s.from s.to
-  pub steps : AreHeld l network.children s
+pub record HasRoomIn (l : Lines) (entries : List Entry) (e : Entry) (listed : List ℕ) : Type 0 where
+  pub each_once : IsRearrangementOf e.positions.items (subtask_positions 0 e.instance.network.children)
+  pub children : AreSeated l entries e.instance.network.children (spans_of e) listed
+  pub spans : AreSpans e.instance.network.order (spans_of e).start (spans_of e).finish e.from e.to
+  pub steps : AreHeld l e.instance.network.children (spans_of e)
+
+-- so are those of each decomposition line, by its entry
+abbrev pub LinesHaveRoom : Lines → List Entry → Type 0
+LinesHaveRoom l entries = (j : ℕ) (e : Entry) → slice_get entries j ≡ Some e → HasRoomIn l entries e (l.children (l.actions + j))
+
+-- there is an entry for each decomposition line, and the roots are placed in the whole plan
+pub record AllHaveRoom (l : Lines) (root : Entry) (entries : List Entry) : Type 0 where
+  pub many : l.actions + length entries ≡ l.count
+  pub whole : root.to ≤ l.actions
+  pub roots : HasRoomIn l entries root l.roots
+  pub lines : LinesHaveRoom l entries

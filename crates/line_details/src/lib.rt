@@ -6,4 +6,3 @@ mod placing;
 mod room;
 
 pub use entry::Entry;
-pub use room::has_room_by;
