@@ -1,15 +1,15 @@
 -- Entries by which all lines have room, each with an instance of its line's method, are those of details of the file.
-use Rattle.std.proofs.Common.{◌≡◌, ℕ, zero, suc, ◌+◌, ◌-◌, ◌≤◌, ◌<◌, ◌⊎◌, inl, inr, cond, List, [], ◌∷◌, length, map, get_or, Option, Some, slice_get, option_map, refl, sym, ap, ◌∙◌, subst, arith}
+use Rattle.std.proofs.Common.{◌≡◌, ℕ, zero, suc, ◌+◌, ◌-◌, ◌≤◌, ◌<◌, inl, inr, cond, List, [], ◌∷◌, length, map, get_or, Some, slice_get, option_map, refl, sym, ap, ◌∙◌, subst, arith}
 use Rattle.std.proofs.lemmas.Bool.{cases_lt, le-ltb}
 use Rattle.std.proofs.lemmas.List.{get_or-map, nil_from_length}
 use Rattle.std.proofs.lemmas.Option.{slice_get-get_or, slice_get-map, slice_get_within}
 use Rattle.htn_ground.specs.Naming.{naming_of}
-use Rattle.htn_model.specs.Fits.{PlanTree, action_at, child_of, decomposition}
+use Rattle.htn_model.specs.Fits.{child_of}
 use Rattle.htn_model.specs.Grounding.{problem_of}
 use Rattle.htn_model.specs.Instance.{Instance}
 use Rattle.htn_model.specs.Instances.{initials, methods_of}
-use Rattle.htn_model.specs.PlanFile.{ActionLine, DecompositionLine, IsIn, Naming, PlanFile, decomposition_ids, defined_ids}
-use Rattle.htn_model.specs.Problem.{Child, GroundTask, IsGrounded, Problem, action, precondition, task}
+use Rattle.htn_model.specs.PlanFile.{DecompositionLine, IsIn, PlanFile, decomposition_ids, defined_ids}
+use Rattle.htn_model.specs.Problem.{Child, GroundTask, IsGrounded, precondition}
 use Rattle.htn_model.specs.Shown.{LinesRun}
 use Rattle.htn_model.specs.State.{State}
 use Rattle.htn_model.specs.Task.{Task}
@@ -21,14 +21,14 @@ use Rattle.plan_details.proofs.Certified.{certificates_decide}
 use Rattle.plan_details.proofs.Picked.{pick}
 use Rattle.plan_forest.specs.Forest.{Forest, IsForestOf}
 use Rattle.plan_forest.specs.Numbers.{AreNumbersOf}
-use Rattle.plan_forest.specs.Plans.{AreTasks, AreTrees, method_at, tree_at, trees_of}
+use Rattle.plan_forest.specs.Plans.{AreTasks, AreTrees}
 use Rattle.plan_forest.specs.Reached.{children_at}
 use Rattle.plan_forest.proofs.Listed.{action_id_at, children_numbers, decomposition_id_at, line_there, one_number, past_actions}
 use Rattle.plan_forest.proofs.Bridged.{line_count}
 use Rattle.plan_forest.proofs.Planting.{forests_are_trees}
-use Rattle.plan_room.specs.Lines.{Lines}
-use Rattle.line_details.specs.Entries.{AllHaveRoom, AreSeated, HasRoomIn, IsPlacedIn, IsSeatedAt, no_spans, spans_at, spans_of}
-use Rattle.line_details.specs.Found.{AreFound, IsFoundFor, IsNumbered, forest_lines}
+use Rattle.plan_room.specs.Lines.{AreLines, Lines, task_of}
+use Rattle.line_details.specs.Entries.{AllHaveRoom, HasRoomIn, IsPlacedIn, IsSeatedAt, no_spans, spans_of}
+use Rattle.line_details.specs.Found.{AreFound, AreLinesOf, HaveInstances, IsNumbered, forest_lines}
 use Rattle.line_details.specs.declared.entry.Entry.{Entry}
 use Rattle.line_details.proofs.Seen.{one_value}
 
@@ -94,9 +94,14 @@ module _ (t : Task) (file : PlanFile) (forest : Forest) (task_at : ℕ → Groun
         let listed = at_in line file.decompositions (c - actions) there in
         let s = spans_there entries (c - actions) (f line.id).0 (of line listed (c - actions) there).0 ∙ ap (λ k. spans_of (f k).0) id_is in
         let within = placed.1 high in
-        subst (λ p. Placed (child_of p) id g h) (sym (trees.decomposition c high low))
-        (line, listed, id_is, subst (λ k. (naming_of t).named line.task line.arguments ≡ Some (task_at k)) whole (named.decompositions (c - actions) line there),
-          subst (λ x. g ≤ x.from) s within.0, subst (λ x. x.to ≤ h) s within.1)
+        subst (λ p. Placed (child_of p) id g h) (sym (trees.decomposition c high low)) (
+          line,
+          listed,
+          id_is,
+          subst (λ k. (naming_of t).named line.task line.arguments ≡ Some (task_at k)) whole (named.decompositions (c - actions) line there),
+          subst (λ x. g ≤ x.from) s within.0,
+          subst (λ x. x.to ≤ h) s within.1,
+        )
 
     -- either is
     line_placed : (c id g h : ℕ) → slice_get (defined_ids file) c ≡ Some id → IsPlacedIn l entries c g h → Placed (child_of (l.plan_of c)) id g h
@@ -207,10 +212,26 @@ module _ (t : Task) (file : PlanFile) (forest : Forest) (task_at : ℕ → Groun
             subst (λ m. (slice_get entries m ≡ Some e) × IsNumbered t (task_at (actions + m)) line.method n e.instance) same (there, numbered),
       )
 
+  -- where they are so by the lines' trees they are so by their tasks
+  by_tasks : HaveInstances t l file.decompositions entries → AreInstances
+  by_tasks have j line e at there =
+      let (n, numbered) = have j line e at there in
+      let low = slice_get_within file.decompositions j line at in
+      let tree = trees.decomposition (actions + j) (omega arith) (omega arith) in
+      (n, subst (λ g. IsNumbered t g line.method n e.instance) (ap task_of tree) numbered)
+
   -- so entries by which all lines have room are found
   pub entries_are_found : IsGrounded (problem_of t) → LinesRun (naming_of t) (problem_of t) file states → (initial : ℕ) → slice_get (initials t) initial ≡ Some root.instance
-      → AreInstances → AllHaveRoom l root entries → AreFound t file root entries
+      → HaveInstances t l file.decompositions entries → AllHaveRoom l root entries → AreFound t file root entries
   entries_are_found grounded runs initial first instances all =
       let many : length entries ≡ length file.decompositions = let m = all.many in omega arith in
-      let (f, of) = pick AreOf (root, 0) file.decompositions (decompositions_distinct file is.is_forest) (line_entry many instances) in
+      let (f, of) = pick AreOf (root, 0) file.decompositions (decompositions_distinct file is.is_forest) (line_entry many (by_tasks instances)) in
       found initial f of grounded runs first all
+
+-- so they are where the lines are those of the file
+pub certified : (t : Task) (file : PlanFile) (l : Lines) (root : Entry) (entries : List Entry) → AreLines l → AreLinesOf t file l
+    → (initial : ℕ) × (slice_get (initials t) initial ≡ Some root.instance) → HaveInstances t l file.decompositions entries → AllHaveRoom l root entries
+    → AreFound t file root entries
+certified t file l root entries lines of (initial, first) instances all =
+    entries_are_found t file of.forest of.task_at l.states of.is_forest of.named root entries (subst (λ x. IsGrounded x.problem) of.are lines.grounded) of.runs initial first
+    (subst (λ x. HaveInstances t x file.decompositions entries) of.are instances) (subst (λ x. AllHaveRoom x root entries) of.are all)

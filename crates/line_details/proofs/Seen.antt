@@ -1,5 +1,5 @@
 -- What loops over the nodes and the positions of a network have seen.
-use Rattle.std.proofs.Common.{◌≡◌, ℕ, zero, suc, ◌+◌, ◌≤◌, ◌<◌, Bool, true, false, List, [], ◌∷◌, length, get_or, take, set, Option, Some, slice_get, inl, inr, sym, refl, ap, ◌∙◌, subst, arith}
+use Rattle.std.proofs.Common.{◌≡◌, ℕ, zero, suc, ◌+◌, ◌<◌, Bool, true, false, List, [], ◌∷◌, length, get_or, take, set, Option, Some, slice_get, inl, inr, sym, refl, ap, ◌∙◌, subst, arith}
 use Rattle.std.proofs.lemmas.Bool.{cases_lt, true_from_ne_false}
 use Rattle.std.proofs.lemmas.List.{get_or_read, take_more}
 use Rattle.std.proofs.lemmas.Option.{slice_get_read}

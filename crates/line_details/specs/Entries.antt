@@ -1,7 +1,7 @@
 -- What is found of the lines of a plan file: how each is placed, and when that is right.
 use Rattle.std.specs.Prelude.{◌≡◌, ℕ, ◌+◌, ◌-◌, ◌≤◌, ◌<◌, Bool, true, false, List, [], length, map, get_or, Some, slice_get, ⊤}
 use Rattle.htn_model.specs.Fits.{subtask_positions, child_of, AreSpans}
-use Rattle.htn_model.specs.Literal.{Literal, holds}
+use Rattle.htn_model.specs.Literal.{holds}
 use Rattle.htn_model.specs.PlanFile.{IsRearrangementOf}
 use Rattle.htn_model.specs.Problem.{Child, precondition, action, task}
 use Rattle.plan_details.specs.Certificate.{Spans}

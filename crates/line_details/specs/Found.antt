@@ -15,13 +15,18 @@ use Rattle.plan_details.specs.Details.{AreDetails, Details}
 use Rattle.plan_forest.specs.Forest.{Forest, IsForestOf}
 use Rattle.plan_forest.specs.Plans.{AreTasks, tree_at}
 use Rattle.plan_forest.specs.Reached.{children_at}
-use Rattle.plan_room.specs.Lines.{Lines}
+use Rattle.plan_room.specs.Lines.{Lines, task_of}
 use Rattle.line_details.specs.Entries.{spans_of}
 use Rattle.line_details.specs.declared.entry.Entry.{Entry}
 
 -- the instance with this number of a task's methods, and of the method with this name
 abbrev pub IsNumbered : Task → GroundTask → Word → ℕ → Instance → Type 0
 IsNumbered t g method number instance = (slice_get (methods_of t g) number ≡ Some instance) × (method ≡ method_name t g number)
+
+-- each entry has an instance of its line's method
+abbrev pub HaveInstances : Task → Lines → List DecompositionLine → List Entry → Type 0
+HaveInstances t l lines entries = (j : ℕ) (line : DecompositionLine) (e : Entry) → slice_get lines j ≡ Some line → slice_get entries j ≡ Some e
+    → (n : ℕ) × IsNumbered t (task_of (l.plan_of (l.actions + j))) line.method n e.instance
 
 -- the entry is the instance that the details number, and its steps stand in the gaps of the details
 pub record IsFoundFor (t : Task) (details : Details) (line : DecompositionLine) (e : Entry) : Type 0 where

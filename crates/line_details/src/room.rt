@@ -43,10 +43,12 @@ fn has_room_by<L: PlanLines>(
         return Ok(false);
     }
     let nodes = entry.instance.children().as_slice();
-    Ok(are_seated(lines, entries, nodes, entry, children)
-        && are_within(entry)
-        && keeps_order(entry.instance.order(), entry)
-        && are_held(lines, nodes, entry))
+    Ok(
+        are_seated(lines, entries, nodes, entry, children)
+            && are_within(entry)
+            && keeps_order(entry.instance.order(), entry)
+            && are_held(lines, nodes, entry),
+    )
 }
 
 /// Whether the children of each decomposition line have room by its entry.

@@ -1,4 +1,4 @@
-use Rattle.std.proofs.Common.{◌≡◌, length, get_or, Some, false}
+use Rattle.std.proofs.Common.{◌≡◌, get_or, Some, false}
 use Rattle.htn_ground.specs.Views.{children_of}
 use Rattle.plan_room.specs.Seats.{is_step_at}
 use Rattle.line_details.proofs.Seen.{NodesBefore}

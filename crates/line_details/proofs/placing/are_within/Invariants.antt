@@ -1,4 +1,4 @@
-use Rattle.std.proofs.Common.{◌≤◌, ℕ}
+use Rattle.std.proofs.Common.{◌≤◌}
 use Rattle.line_details.specs.Entries.{spans_of}
 use Rattle.line_details.proofs.Seen.{PositionsBefore}
 use Rattle.line_details.proofs.placing.are_within.Given as goal

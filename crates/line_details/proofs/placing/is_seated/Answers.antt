@@ -1,4 +1,4 @@
-use Rattle.std.proofs.Common.{◌≡◌, ◌∙◌, sym, ap, subst, refl, true, Some}
+use Rattle.std.proofs.Common.{◌∙◌, sym, ap, subst, refl, Some}
 use Rattle.htn_ground.specs.Views.{child_view, children_of}
 use Rattle.htn_model.specs.Equality.{child_eq-decides}
 use Rattle.htn_model.specs.Fits.{child_of}

@@ -1,4 +1,4 @@
-use Rattle.std.proofs.Common.{get_or, ◌<◌, length, ◌∙◌, set, true, arith}
+use Rattle.std.proofs.Common.{get_or, ◌<◌, length, ◌∙◌, true, arith}
 use Rattle.std.proofs.lemmas.List.{length-set}
 use Rattle.line_details.proofs.Seen.{one_marked}
 use Rattle.line_details.proofs.placing.marks_of.Goals as goal

@@ -1,4 +1,4 @@
-use Rattle.std.proofs.Common.{◌≡◌, ◌≤◌, ◌+◌, ◌∙◌, ap, length, refl, subst, arith}
+use Rattle.std.proofs.Common.{subst, arith}
 use Rattle.line_details.specs.Entries.{HasRoomIn}
 use Rattle.line_details.proofs.room.all_have_room.Goals as goal
 

@@ -1,4 +1,4 @@
-use Rattle.std.proofs.Common.{◌≡◌, ◌≤◌, ◌+◌, ◌∙◌, ap, length, refl, subst, arith}
+use Rattle.std.proofs.Common.{◌+◌, ◌∙◌, ap, subst, arith}
 use Rattle.std.proofs.lemmas.Option.{slice_get_within}
 use Rattle.line_details.specs.Entries.{HasRoomIn}
 use Rattle.line_details.proofs.Seen.{item_more}
