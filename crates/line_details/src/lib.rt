@@ -2,10 +2,12 @@
 #![tactic(auto)]
 
 mod certificate;
+mod details;
 mod entry;
 mod instances;
 mod placing;
 mod room;
 
 pub use certificate::is_certificate;
+pub use details::{Entries, checked};
 pub use entry::Entry;

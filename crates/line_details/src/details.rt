@@ -1,0 +1,44 @@
+//! The instances of a valid file's lines and the gaps of their steps, as far as they are shown.
+ghost use Rattle.std.specs.Prelude.{IfOk, IfSome};
+ghost use Rattle.line_details.specs.Found.{AreFound, AreLinesOf};
+ghost use Rattle.plan_room.specs.Lines.{AreLines};
+
+use crate::certificate::is_certificate;
+use crate::entry::Entry;
+use htn_task::Task;
+use plan_room::PlanLines;
+use plan_text::PlanFile;
+use std::alloc::{AllocError, Global};
+
+/// An entry for the root line, and one for each decomposition line, in the file's order.
+pub struct Entries {
+    pub root: Entry,
+    pub lines: Vec<Entry>,
+}
+
+// `Drop` is written by hand: a derived one is expanded, and proved, at each way out of each owner.
+impl Drop for Entries {
+    fn drop(self) {
+        let Entries { root: _, lines: _ } = self;
+    }
+}
+
+/// Entries, wherever they come from, if they show details of the file.
+pub fn checked<L: PlanLines>(
+    alloc: Global,
+    task: &Task,
+    file: &PlanFile,
+    lines: &L,
+    entries: Entries,
+) -> Result<Option<Entries>, AllocError>
+    requires lines { AreLines (L.lines lines.now) }
+    requires file { AreLinesOf task.now file.now (L.lines lines.now) }
+    ensures { IfOk result (λ r. IfSome r (λ found. AreFound task.now file.now found.root found.lines.items)) }
+{
+    let is_shown = is_certificate(alloc, task, file, lines, &entries.root, &entries.lines)?;
+    if is_shown {
+        Ok(Some(entries))
+    } else {
+        Ok(None)
+    }
+}
