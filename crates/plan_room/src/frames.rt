@@ -28,13 +28,13 @@ use std::borrow::CowSlice;
 #[derive(Drop)]
 pub(crate) struct Work {
     /// The children in the order in which they are tried.
-    children: Vec<usize>,
-    sequence: Vec<usize>,
-    links: Links,
-    trial: Trial,
-    bound: Bound,
+    pub(crate) children: Vec<usize>,
+    pub(crate) sequence: Vec<usize>,
+    pub(crate) links: Links,
+    pub(crate) trial: Trial,
+    pub(crate) bound: Bound,
     /// Whether each position can do with the first free choice, or the children's order was guessed.
-    is_settled: bool,
+    pub(crate) is_settled: bool,
 }
 
 /// Work on at most this number of children is begun again rather than stored while a question is open: there may be as
@@ -112,7 +112,7 @@ pub(crate) fn frame_of<'a, L: PlanLines>(
 }
 
 /// The search among the matchings of a network before its first step, with the children in some order.
-fn work_of<L: PlanLines>(
+pub(crate) fn work_of<L: PlanLines>(
     alloc: Global,
     lines: &L,
     memo: &Memo,
@@ -159,7 +159,7 @@ fn work_of<L: PlanLines>(
 }
 
 /// The search among the matchings from its start, with the children in an order that is guessed.
-fn guessed_work<L: PlanLines>(
+pub(crate) fn guessed_work<L: PlanLines>(
     alloc: Global,
     lines: &L,
     memo: &Memo,

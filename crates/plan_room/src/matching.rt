@@ -91,9 +91,9 @@ pub trait Choices {
 /// How far the matchings are tried.
 pub struct Trial {
     /// The choices of the first positions of the sequence, `depth` many.
-    chosen: Vec<usize>,
+    pub(crate) chosen: Vec<usize>,
     /// The finishes of these positions, by position.
-    finishes: Vec<usize>,
+    pub(crate) finishes: Vec<usize>,
     /// For each number of first positions up to `depth`, the gap by which they have finished.
     highs: Vec<usize>,
     /// Which choices are among the chosen ones.
@@ -325,4 +325,22 @@ pub fn best_matching<C: Choices>(trial: &mut Trial, choices: &C) -> Finish
         Some(end) => Finish::At(end),
         None => Finish::Never,
     }
+}
+
+/// Continues the search among the matchings until one has finished by a gap, which is then still chosen. It stops where
+/// the finish of a line is not known.
+pub(crate) fn finishes_by<C: Choices>(trial: &mut Trial, choices: &C, end: usize) -> bool
+    requires sound { C.is_sound choices.now }
+    requires seating { IsSeating (C.seating choices.now) }
+    requires tried { IsTried (C.seating choices.now) trial.old }
+    ensures { IsTried (C.seating choices.now) trial.new }
+{
+    'steps: while !is_beaten(trial.best, end) {
+        match advance(trial, choices) {
+            Step::Onward => {}
+            Step::Unknown(_) => return false,
+            Step::Over => return is_beaten(trial.best, end),
+        }
+    }
+    true
 }
