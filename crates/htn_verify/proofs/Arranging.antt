@@ -27,6 +27,7 @@ use Rattle.plan_forest.proofs.Planting.{forests_are_trees}
 use Rattle.plan_room.specs.Lines.{AreLines, FileFits, plans_of}
 use Rattle.plan_run.specs.Run.{IsHistoryOf}
 use Rattle.plan_run.specs.Turns.{History}
+use Rattle.line_details.specs.Found.{AreLinesOf}
 use Rattle.htn_verify.specs.Placed.{ArePlaced, placed_lines, state_after}
 use Rattle.htn_verify.specs.Runs.{AreTasksOf}
 use Rattle.htn_verify.specs.Tasks.{task_at}
@@ -131,6 +132,26 @@ module _ (t : Task) (file : PlanFile) (forest : Forest) (tasks : List GroundTask
           states = (runs_are_of_lines (naming_of t) (problem_of t)).states file (take (length file.actions) tasks) h (state_after (naming_of t) (problem_of t) file.actions)
               (tasks_of_actions (naming_of t) file.actions tasks low named.actions) history (states_run (naming_of t) (problem_of t) file ends);
         }
+
+    -- they are those of the file
+    pub are_lines_of : AreLinesOf t file (placed_lines t file forest tasks)
+    are_lines_of = record {
+      forest = forest;
+      task_at = task_at tasks;
+      is_forest = is;
+      named = named;
+      runs = states_run (naming_of t) (problem_of t) file ends;
+      are = ap (λ n. record {
+        naming = naming_of t;
+        problem = problem_of t;
+        states = state_after (naming_of t) (problem_of t) file.actions;
+        actions = length file.actions;
+        count = n;
+        plan_of = tree_at (task_at tasks) file forest;
+        children = children_at (length file.actions) forest.children;
+        roots = forest.roots;
+      }) many;
+    }
 
     -- they have room exactly where the file is accepted
     pub room_is_acceptance : IsGrounded (problem_of t) → FileFits (placed_lines t file forest tasks) ↔ IsAccepted (naming_of t) (problem_of t) file

@@ -2,6 +2,7 @@
 #![tactic(auto)]
 
 mod arrangement;
+mod details;
 mod faults;
 mod laws;
 mod named;
@@ -10,6 +11,7 @@ mod room;
 mod verdict;
 mod verifier;
 
+pub use details::file_details;
 pub use laws::{instances_by_tasks, runs_are_of_lines};
 pub use room::room_cause;
 pub use verdict::Verdict;

@@ -9,5 +9,5 @@ mod placing;
 mod room;
 
 pub use certificate::is_certificate;
-pub use details::{Entries, checked};
+pub use details::{Entries, checked, find_details};
 pub use entry::Entry;
