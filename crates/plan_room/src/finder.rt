@@ -9,6 +9,7 @@ use crate::ends::line_end;
 use crate::frames::children_of;
 use crate::lines::PlanLines;
 use crate::memo::Memo;
+use crate::rooms::{Finish, Question};
 use crate::standing::{Standing, find_standing};
 use crate::window::Window;
 use htn_ground::{Child, Instance, ObjectList};
@@ -19,14 +20,44 @@ use std::borrow::CowSlice;
 /// An instance for a line, or an initial network for the root line, and how its nodes are placed: the gaps between which
 /// everything below the line is, for each child the position of the network at which it stands, and for each position the
 /// gaps between which that is placed.
-#[derive(Drop)]
 pub struct PlacedLine {
-    pub instance: Instance,
-    pub from: usize,
-    pub to: usize,
-    pub positions: Vec<usize>,
-    pub start: Vec<usize>,
-    pub finish: Vec<usize>,
+    instance: Instance,
+    window: Window,
+    positions: Vec<usize>,
+    start: Vec<usize>,
+    finish: Vec<usize>,
+}
+
+// `Drop` is written by hand: a derived one is expanded, and proved, at each way out of each owner.
+impl Drop for PlacedLine {
+    fn drop(self) {
+        let PlacedLine {
+            instance: _,
+            window: _,
+            positions: _,
+            start: _,
+            finish: _,
+        } = self;
+    }
+}
+
+impl PlacedLine {
+    /// The first and the last of the gaps between which everything below the line is.
+    pub fn gaps(&self) -> (usize, usize) {
+        (self.window.first, self.window.last)
+    }
+
+    /// The instance, the position of each child, and for each position where it starts and finishes.
+    pub fn into_parts(self) -> (Instance, Vec<usize>, Vec<usize>, Vec<usize>) {
+        let PlacedLine {
+            instance,
+            window: _,
+            positions,
+            start,
+            finish,
+        } = self;
+        (instance, positions, start, finish)
+    }
 }
 
 /// An instance once more.
@@ -38,7 +69,7 @@ fn copy_of(alloc: Global, instance: &Instance) -> Result<Instance, AllocError> {
 }
 
 /// The gap by which all before a position have finished.
-fn start_of(order: &Order, finishes: &[usize], position: usize, gap: usize) -> usize {
+fn latest_before(order: &Order, finishes: &[usize], position: usize, gap: usize) -> usize {
     let mut start = gap;
     for (place, finish) in finishes.iter().enumerate() {
         if order.is_before(place, position) {
@@ -48,21 +79,41 @@ fn start_of(order: &Order, finishes: &[usize], position: usize, gap: usize) -> u
     start
 }
 
-/// The gap at which a position starts: a step does where it holds.
-fn node_start(
+/// For each position the gap by which all before it have finished.
+fn starts_apart(
+    alloc: Global,
     order: &Order,
-    node: &Child,
     finishes: &[usize],
-    position: usize,
     gap: usize,
-) -> usize {
-    match node {
-        Child::Precondition(_) => match finishes.get(position) {
-            Some(finish) => *finish,
-            None => gap,
-        },
-        Child::Action(_) => start_of(order, finishes, position, gap),
-        Child::Task(_) => start_of(order, finishes, position, gap),
+) -> Result<Vec<usize>, AllocError> {
+    let mut starts = Vec::with_capacity(alloc, finishes.len())?;
+    for position in 0..finishes.len() {
+        starts.push(latest_before(order, finishes, position, gap))?;
+    }
+    Ok(starts)
+}
+
+/// The same where each position is before all later ones, in one pass.
+fn starts_in_turn(alloc: Global, finishes: &[usize], gap: usize) -> Result<Vec<usize>, AllocError> {
+    let mut starts = Vec::with_capacity(alloc, finishes.len())?;
+    let mut latest = gap;
+    for finish in finishes {
+        starts.push(latest)?;
+        latest = latest.max(*finish);
+    }
+    Ok(starts)
+}
+
+/// Lets each step start where it holds, in the gap by which it has finished.
+fn start_steps(nodes: &[Child], finishes: &[usize], starts: &mut [usize]) {
+    for (position, node) in nodes.iter().enumerate() {
+        if let Child::Precondition(_) = node {
+            if let Some(start) = starts.get_mut(position) {
+                if let Some(finish) = finishes.get(position) {
+                    *start = *finish;
+                }
+            }
+        }
     }
 }
 
@@ -74,11 +125,12 @@ fn starts_of(
     gap: usize,
 ) -> Result<Vec<usize>, AllocError> {
     let order = instance.order();
-    let nodes = instance.children().as_slice();
-    let mut starts = Vec::with_capacity(alloc, nodes.len())?;
-    for position in 0..nodes.len() {
-        starts.push(node_start(order, &nodes[position], finishes, position, gap))?;
-    }
+    let mut starts = if order == &Order::chain(order.size()) {
+        starts_in_turn(alloc, finishes, gap)?
+    } else {
+        starts_apart(alloc, order, finishes, gap)?
+    };
+    start_steps(instance.children().as_slice(), finishes, &mut starts);
     Ok(starts)
 }
 
@@ -89,16 +141,15 @@ fn placed_of(
     window: Window,
     standing: Standing,
 ) -> Result<PlacedLine, AllocError> {
-    let copy = copy_of(alloc, instance)?;
     let start = starts_of(alloc, instance, &standing.finishes, window.first)?;
+    let copy = copy_of(alloc, instance)?;
     let Standing {
         positions,
         finishes,
     } = standing;
     Ok(PlacedLine {
         instance: copy,
-        from: window.first,
-        to: window.last,
+        window,
         positions,
         start,
         finish: finishes,
@@ -117,7 +168,8 @@ fn networks_for<L: PlanLines>(lines: &L, line: usize) -> Result<CowSlice<'_, Ins
     Ok(CowSlice::Owned(initials))
 }
 
-/// How the children of a line stand in an instance.
+/// How the children of a line stand in an instance; none where they don't, or where the finish of a line has to be known
+/// first.
 fn place_in<L: PlanLines>(
     alloc: Global,
     lines: &L,
@@ -125,7 +177,7 @@ fn place_in<L: PlanLines>(
     line: usize,
     instance: &Instance,
     window: Window,
-) -> Result<Option<PlacedLine>, AllocError>
+) -> Result<(Finish, Option<PlacedLine>), AllocError>
     requires lines { AreLines (L.lines lines.now) }
     requires memo { IsMemo (L.lines lines.now) memo.now }
     requires line { IsLine (L.lines lines.now) line }
@@ -133,35 +185,83 @@ fn place_in<L: PlanLines>(
     requires last { window.last ≤ (L.lines lines.now).actions }
 {
     if instance.order().size() != instance.children().len() {
-        return Ok(None);
+        return Ok((Finish::Never, None));
     }
     let children = children_of(lines, line);
-    let Some(standing) = find_standing(alloc, lines, memo, children, instance, window)? else {
-        return Ok(None);
+    let (finish, found) = find_standing(alloc, lines, memo, children, instance, window)?;
+    let Some(standing) = found else {
+        return Ok((finish, None));
     };
     let placed = placed_of(alloc, instance, window, standing)?;
-    Ok(Some(placed))
+    Ok((finish, Some(placed)))
 }
 
-/// How the children of a line stand in the first instance by which they start and finish in a window.
-fn place_between<L: PlanLines>(
+/// How the children of a line stand in the first of some instances by which they start and finish in a window.
+fn place_among<L: PlanLines>(
     alloc: Global,
     lines: &L,
     memo: &Memo,
     line: usize,
+    instances: &[Instance],
     window: Window,
-) -> Result<Option<PlacedLine>, AllocError>
+) -> Result<(Finish, Option<PlacedLine>), AllocError>
     requires lines { AreLines (L.lines lines.now) }
     requires memo { IsMemo (L.lines lines.now) memo.now }
     requires line { IsLine (L.lines lines.now) line }
     requires first { window.first ≤ (L.lines lines.now).actions }
     requires last { window.last ≤ (L.lines lines.now).actions }
 {
+    for instance in instances {
+        let (finish, placed) = place_in(alloc, lines, memo, line, instance, window)?;
+        match finish {
+            Finish::Never => {}
+            _ => return Ok((finish, placed)),
+        }
+    }
+    Ok((Finish::Never, None))
+}
+
+/// Looks for the finish of a line that has to be known.
+fn look_up<L: PlanLines>(
+    alloc: Global,
+    lines: &L,
+    memo: &mut Memo,
+    question: Question,
+) -> Result<(), AllocError>
+    requires lines { AreLines (L.lines lines.now) }
+    requires memo { IsMemo (L.lines lines.now) memo.old }
+    ensures { OnOk result (IsMemo (L.lines lines.now) memo.new) }
+{
+    let Question { line, gap } = question;
+    if line < lines.actions() || lines.count() < line || lines.actions() < gap {
+        return Ok(());
+    }
+    let end = line_end(alloc, lines, memo, line, gap)?;
+    memo.note(question, end)?;
+    Ok(())
+}
+
+/// How the children of a line stand that start and finish in a window. What has to be known of them is looked for.
+fn place_between<L: PlanLines>(
+    alloc: Global,
+    lines: &L,
+    memo: &mut Memo,
+    line: usize,
+    window: Window,
+) -> Result<Option<PlacedLine>, AllocError>
+    requires lines { AreLines (L.lines lines.now) }
+    requires memo { IsMemo (L.lines lines.now) memo.old }
+    requires line { IsLine (L.lines lines.now) line }
+    requires first { window.first ≤ (L.lines lines.now).actions }
+    requires last { window.last ≤ (L.lines lines.now).actions }
+    ensures { OnOk result (IsMemo (L.lines lines.now) memo.new) }
+{
     let networks = networks_for(lines, line)?;
-    let list = networks.as_slice();
-    for instance in list {
-        if let Some(placed) = place_in(alloc, lines, memo, line, instance, window)? {
-            return Ok(Some(placed));
+    'tries: for _ in 0..u64::MAX {
+        let (finish, placed) = place_among(alloc, lines, memo, line, networks.as_slice(), window)?;
+        match finish {
+            Finish::Unknown(question) => look_up(alloc, lines, memo, question)?,
+            _ => return Ok(placed),
         }
     }
     Ok(None)
@@ -184,6 +284,9 @@ fn place_line<L: PlanLines>(
     let Some(end) = line_end(alloc, lines, memo, line, gap)? else {
         return Ok(None);
     };
+    if lines.actions() < end {
+        return Ok(None);
+    }
     let window = Window {
         first: gap,
         last: end,

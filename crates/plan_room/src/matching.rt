@@ -328,8 +328,8 @@ pub fn best_matching<C: Choices>(trial: &mut Trial, choices: &C) -> Finish
 }
 
 /// Continues the search among the matchings until one has finished by a gap, which is then still chosen. It stops where
-/// the finish of a line is not known.
-pub(crate) fn finishes_by<C: Choices>(trial: &mut Trial, choices: &C, end: usize) -> bool
+/// the finish of a line has to be known first.
+pub(crate) fn finish_by<C: Choices>(trial: &mut Trial, choices: &C, end: usize) -> Finish
     requires sound { C.is_sound choices.now }
     requires seating { IsSeating (C.seating choices.now) }
     requires tried { IsTried (C.seating choices.now) trial.old }
@@ -338,9 +338,12 @@ pub(crate) fn finishes_by<C: Choices>(trial: &mut Trial, choices: &C, end: usize
     'steps: while !is_beaten(trial.best, end) {
         match advance(trial, choices) {
             Step::Onward => {}
-            Step::Unknown(_) => return false,
-            Step::Over => return is_beaten(trial.best, end),
+            Step::Unknown(question) => return Finish::Unknown(question),
+            Step::Over => break 'steps,
         }
     }
-    true
+    match trial.best {
+        Some(gap) if gap <= end => Finish::At(gap),
+        _ => Finish::Never,
+    }
 }

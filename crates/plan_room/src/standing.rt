@@ -10,7 +10,7 @@ use crate::below::Below;
 use crate::bound::{Bound, raise_bound};
 use crate::frames::{Work, guessed_work, work_of};
 use crate::lines::PlanLines;
-use crate::matching::finishes_by;
+use crate::matching::finish_by;
 use crate::memo::Memo;
 use crate::rooms::Finish;
 use crate::window::{Window, may_fit};
@@ -66,7 +66,8 @@ fn standing_of(alloc: Global, listed: &[usize], work: &Work) -> Result<Standing,
     })
 }
 
-/// The work on an instance before its first matching, with the children in the order in which they are to be tried.
+/// The work on an instance before its first matching, with the children in the order in which they are to be tried; none
+/// where they can't finish, or where the finish of a line has to be known first.
 fn first_work<L: PlanLines>(
     alloc: Global,
     lines: &L,
@@ -74,7 +75,7 @@ fn first_work<L: PlanLines>(
     children: &[usize],
     instance: &Instance,
     gap: usize,
-) -> Result<Option<Work>, AllocError>
+) -> Result<(Finish, Option<Work>), AllocError>
     requires lines { AreLines (L.lines lines.now) }
     requires memo { IsMemo (L.lines lines.now) memo.now }
     requires low { (i : ℕ) → i < length children.now → get_or children.now i 0 < (L.lines lines.now).count }
@@ -82,7 +83,7 @@ fn first_work<L: PlanLines>(
     requires square { IsSquare (length instance.now.network.children) instance.now.network.order }
     requires many { AreAsMany (L.lines lines.now) children.now instance.now.network }
     requires within { gap ≤ (L.lines lines.now).actions }
-    ensures { IfOk result (IsWork (L.lines lines.now) children.now instance.now.network gap) }
+    ensures { IfOk result (λ r. IsWork (L.lines lines.now) children.now instance.now.network gap r.1) }
 {
     let bound = Bound { end: gap, seen: 0 };
     let list = children.to_vec(alloc)?;
@@ -90,13 +91,14 @@ fn first_work<L: PlanLines>(
         alloc, lines, memo, children, list, instance, gap, bound, false,
     )?;
     if work.is_settled {
-        return Ok(Some(work));
+        return Ok((Finish::At(gap), Some(work)));
     }
-    let Finish::At(_) = raise_bound(lines, memo, children, gap, &mut work.bound) else {
-        return Ok(None);
+    let finish = raise_bound(lines, memo, children, gap, &mut work.bound);
+    let Finish::At(_) = finish else {
+        return Ok((finish, None));
     };
     let guessed = guessed_work(alloc, lines, memo, children, instance, gap, work)?;
-    Ok(Some(guessed))
+    Ok((finish, Some(guessed)))
 }
 
 /// Goes on with the matchings until one has finished by the end of a window.
@@ -107,7 +109,7 @@ fn find_matching<L: PlanLines>(
     instance: &Instance,
     window: Window,
     current: Work,
-) -> Option<Work>
+) -> (Finish, Work)
     requires lines { AreLines (L.lines lines.now) }
     requires memo { IsMemo (L.lines lines.now) memo.now }
     requires low { (i : ℕ) → i < length listed.now → get_or listed.now i 0 < (L.lines lines.now).count }
@@ -134,7 +136,7 @@ fn find_matching<L: PlanLines>(
         gap: window.first,
         bound: bound.end,
     };
-    let is_found = finishes_by(&mut trial, &below, window.last);
+    let finish = finish_by(&mut trial, &below, window.last);
     let work = Work {
         children,
         sequence,
@@ -143,11 +145,11 @@ fn find_matching<L: PlanLines>(
         bound,
         is_settled,
     };
-    if is_found { Some(work) } else { None }
+    (finish, work)
 }
 
 /// How children stand in an instance that starts and finishes in a window, by what is known of their lines; none where
-/// they don't, or where more would have to be known.
+/// they don't, or where the finish of a line has to be known first.
 pub(crate) fn find_standing<L: PlanLines>(
     alloc: Global,
     lines: &L,
@@ -155,7 +157,7 @@ pub(crate) fn find_standing<L: PlanLines>(
     children: &[usize],
     instance: &Instance,
     window: Window,
-) -> Result<Option<Standing>, AllocError>
+) -> Result<(Finish, Option<Standing>), AllocError>
     requires lines { AreLines (L.lines lines.now) }
     requires memo { IsMemo (L.lines lines.now) memo.now }
     requires low { (i : ℕ) → i < length children.now → get_or children.now i 0 < (L.lines lines.now).count }
@@ -167,14 +169,16 @@ pub(crate) fn find_standing<L: PlanLines>(
         return Err(AllocError);
     };
     if !may_fit(lines, children, instance, window) {
-        return Ok(None);
+        return Ok((Finish::Never, None));
     }
-    let Some(work) = first_work(alloc, lines, memo, children, instance, window.first)? else {
-        return Ok(None);
+    let (possible, first) = first_work(alloc, lines, memo, children, instance, window.first)?;
+    let Some(work) = first else {
+        return Ok((possible, None));
     };
-    let Some(matched) = find_matching(lines, memo, children, instance, window, work) else {
-        return Ok(None);
+    let (finish, tried) = find_matching(lines, memo, children, instance, window, work);
+    let Finish::At(_) = finish else {
+        return Ok((finish, None));
     };
-    let found = standing_of(alloc, children, &matched)?;
-    Ok(Some(found))
+    let standing = standing_of(alloc, children, &tried)?;
+    Ok((finish, Some(standing)))
 }

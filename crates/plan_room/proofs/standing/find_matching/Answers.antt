@@ -9,8 +9,8 @@ use Rattle.plan_room.proofs.Reordered.{IsSound, asked_so, bounded, each_kept, ma
 use Rattle.plan_room.proofs.Suited.{finish_so}
 use Rattle.plan_room.proofs.standing.find_matching.Goals as goal
 
-pub finishes_by-is_found-requires-clause-seating : goal.finishes_by-is_found-requires-clause-seating
-finishes_by-is_found-requires-clause-seating g c =
+pub finish_by-finish-requires-clause-seating : goal.finish_by-finish-requires-clause-seating
+finish_by-finish-requires-clause-seating g c =
     let l = g.L.PlanLines.lines c.args.lines.now in
     let network = c.args.instance.now.network in
     let gap = c.args.window.first in
@@ -19,8 +19,8 @@ finishes_by-is_found-requires-clause-seating g c =
     (subst (λ s. IsSeating (seating_of l current.children.items network s gap)) (sym c.deref-2.ensures.value)
     (is_seating l current.children.items network current.sequence.items gap c.requires.square c.requires.work.2 c.requires.work.3 c.requires.within))
 
-pub finishes_by-is_found-requires-clause-sound : goal.finishes_by-is_found-requires-clause-sound
-finishes_by-is_found-requires-clause-sound g c =
+pub finish_by-finish-requires-clause-sound : goal.finish_by-finish-requires-clause-sound
+finish_by-finish-requires-clause-sound g c =
     let l = g.L.PlanLines.lines c.args.lines.now in
     let network = c.args.instance.now.network in
     let gap = c.args.window.first in

@@ -1,5 +1,5 @@
 use Rattle.plan_room.specs.Trials.{IsTried, left_of}
-use Rattle.plan_room.proofs.matching.finishes_by.Given as goal
+use Rattle.plan_room.proofs.matching.finish_by.Given as goal
 
 abbrev pub invariant-steps : goal.invariant-steps
 invariant-steps g l = IsTried (g.C.Choices.seating l.choices) l.trial
