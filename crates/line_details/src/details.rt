@@ -45,14 +45,8 @@ pub fn checked<L: PlanLines>(
 
 /// What was found of a line as an entry.
 fn entry_of(placed: PlacedLine) -> Entry {
-    let PlacedLine {
-        instance,
-        from,
-        to,
-        positions,
-        start,
-        finish,
-    } = placed;
+    let (from, to) = placed.gaps();
+    let (instance, positions, start, finish) = placed.into_parts();
     Entry {
         instance,
         from,

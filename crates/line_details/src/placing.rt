@@ -166,8 +166,22 @@ fn is_ahead(order: &Order, entry: &Entry, position: usize) -> bool
     true
 }
 
-/// Whether each position has finished where one behind it starts.
-pub(crate) fn keeps_order(order: &Order, entry: &Entry) -> bool
+/// Whether each of the first positions starts once those with lower numbers have finished.
+fn stand_in_turn(entry: &Entry, size: usize) -> bool
+    ensures { IsTrue result → (a b : ℕ) → a < b → b < size → (spans_of entry.now).finish a ≤ (spans_of entry.now).start b }
+{
+    let mut latest = 0;
+    for position in 0..size {
+        if entry.start_at(position) < latest {
+            return false;
+        }
+        latest = latest.max(entry.finish_at(position));
+    }
+    true
+}
+
+/// Whether all positions behind one start once it has finished, for each position.
+fn are_ahead(order: &Order, entry: &Entry) -> bool
     ensures { IsTrue result → (a b : ℕ) → is_before order.now a b ≡ true → (spans_of entry.now).finish a ≤ (spans_of entry.now).start b }
 {
     for position in 0..order.size() {
@@ -176,6 +190,19 @@ pub(crate) fn keeps_order(order: &Order, entry: &Entry) -> bool
         }
     }
     true
+}
+
+/// Whether each position has finished where one behind it starts. It takes one pass where each position is before all
+/// later ones, and otherwise one over the table of the order.
+pub(crate) fn keeps_order(order: &Order, entry: &Entry) -> bool
+    ensures { IsTrue result → (a b : ℕ) → is_before order.now a b ≡ true → (spans_of entry.now).finish a ≤ (spans_of entry.now).start b }
+{
+    let size = order.size();
+    if *order == Order::chain(size) {
+        stand_in_turn(entry, size)
+    } else {
+        are_ahead(order, entry)
+    }
 }
 
 /// Whether literals hold in a gap.
