@@ -1,5 +1,5 @@
 -- The JSON of a picture has no float, and nests little; words are ASCII.
-use Rattle.std.proofs.Common.{◌≡◌, ℕ, zero, suc, ◌<◌, ◌≤◌, ◌||◌, ◌&&◌, Bool, true, false, nat_eq, nat_le, codes, List, [], ◌∷◌, ◌++◌, length, map, Option, Some, None, refl, sym, ap, ◌∙◌, ⊎_elim, Ordering, Less, Equal, Greater, arith, append-nil}
+use Rattle.std.proofs.Common.{◌≡◌, ℕ, zero, suc, ◌<◌, ◌≤◌, ◌||◌, ◌&&◌, Bool, true, false, nat_eq, nat_le, codes, List, [], ◌∷◌, ◌++◌, length, get_or, map, Option, Some, None, refl, sym, ap, ◌∙◌, ⊎_elim, Ordering, Less, Equal, Greater, arith, append-nil}
 use Rattle.std.specs.List.{flat_map}
 use Rattle.std.proofs.lemmas.Bool.{cases_Bool}
 use Rattle.std.proofs.lemmas.Bool.Decides.{nat_tests}
@@ -19,9 +19,13 @@ use Rattle.picture_text.specs.declared.caption.Caption.{Caption}
 use Rattle.plan_picture.specs.declared.picture.Picture.{Picture}
 use Rattle.plan_picture.specs.declared.row.Row.{Row as DeclaredRow}
 use Rattle.plan_picture.specs.Rows.{Row}
+use Rattle.picture_text.specs.declared.detail.Setting.{Setting}
+use Rattle.picture_text.specs.declared.detail.Condition.{Condition}
+use Rattle.picture_text.specs.declared.detail.Detail.{Detail}
+use Rattle.picture_text.specs.Details.{detail_at}
 use Rattle.picture_text.specs.Lines.{Line, action, task, id_of, line_at, id_at}
 use Rattle.plan_picture.specs.Seen.{seen}
-use Rattle.picture_text.specs.Json.{word_json, task_json, ids_json, parent_json, line_members, node_json, nodes_json, caption_members, picture_json}
+use Rattle.picture_text.specs.Json.{word_json, task_json, ids_json, parent_json, line_members, setting_member, condition_json, condition_members, detail_members, node_json, nodes_json, row_json, caption_members, picture_json}
 
 -- ---- words
 
@@ -116,46 +120,82 @@ line_plain : (file : PlanFile) (children : List ℕ) (number : ℕ) (line : Line
 line_plain file children number (action line) = (leaf 1, (task_plain line.name line.arguments, (leaf 1, tt)))
 line_plain file children number (task line) = (leaf 1, (task_plain line.task line.arguments, (leaf 1, (ids_plain file children, tt))))
 
-node_plain : (file : PlanFile) (children : List (List ℕ)) (row : Row) (line : Line) → IsPlain 2 (node_json file children row line)
-node_plain file children row line =
-    let below = children_at (length file.actions) children row.line in
-    object_plain 1 ((codes "id", count (id_of line)) ∷ (codes "parent", parent_json file row.parent) ∷ line_members file below row.line line)
-    (leaf 1, (parent_plain file row.parent, line_plain file below row.line line))
-
-nodes_plain : (file : PlanFile) (children : List (List ℕ)) (row : Row) (line : Option Line) (ds : List Data) → AreItems 2 ds → AreItems 2 (nodes_json file children row line ++ ds)
-nodes_plain file children row None ds rest = rest
-nodes_plain file children row (Some line) ds rest =
-    let here = node_plain file children row line in
-    (neither (has_float (node_json file children row line)) _ here.0 rest.0, omega (arith, here.1, rest.1))
-
-all_plain : (file : PlanFile) (children : List (List ℕ)) (rows : List DeclaredRow) → AreItems 2 (flat_map (λ (r : DeclaredRow). nodes_json file children (seen r) (line_at file r.line)) rows)
-all_plain file children [] = (refl, omega arith)
-all_plain file children (r ∷ rows) =
-    nodes_plain file children (seen r) (line_at file r.line) (flat_map (λ (x : DeclaredRow). nodes_json file children (seen x) (line_at file x.line)) rows) (all_plain file children rows)
-
 deeper : (m n : ℕ) (d : Data) → m ≤ n → IsPlain m d → IsPlain n d
 deeper m n d h p = (p.0, omega (arith, p.1))
 
-pub picture_plain : (caption : Caption) (picture : Picture) → IsPlain 4 (picture_json caption picture)
-picture_plain caption picture =
+settings_plain : (settings : List Setting) → ArePlain 0 (map setting_member settings)
+settings_plain [] = tt
+settings_plain (setting ∷ settings) = (leaf 0, settings_plain settings)
+
+condition_plain : (condition : Condition) → IsPlain 2 (condition_json condition)
+condition_plain condition =
+    let literals = array_plain 0 word_json (λ (w : Word). leaf 0) (lists_of condition.literals.items) in
+    object_plain 1 ((codes "literals", array_of (map word_json (lists_of condition.literals.items))) ∷ (codes "gap", count condition.gap) ∷ []) (literals, (leaf 1, tt))
+
+-- members at their depth, and more of them
+more_plain : (n : ℕ) (ms more : List Named) → ArePlain n ms → ArePlain n more → ArePlain n (ms ++ more)
+more_plain n [] more p q = q
+more_plain n (m ∷ ms) more p q = (p.0, more_plain n ms more p.1 q)
+
+deeper_members : (m n : ℕ) (ms : List Named) → m ≤ n → ArePlain m ms → ArePlain n ms
+deeper_members m n [] h p = tt
+deeper_members m n (x ∷ ms) h p = (deeper m n x.1 h p.0, deeper_members m n ms h p.1)
+
+condition_members_plain : (condition : Option Condition) → ArePlain 2 (condition_members condition)
+condition_members_plain None = tt
+condition_members_plain (Some condition) = (condition_plain condition, tt)
+
+detail_plain : (detail : Option Detail) → ArePlain 2 (detail_members detail)
+detail_plain None = tt
+detail_plain (Some detail) =
+    let settings = object_plain 0 (map setting_member detail.settings.items) (settings_plain detail.settings.items) in
+    (deeper 1 2 (object_of (map setting_member detail.settings.items)) (omega arith) settings, condition_members_plain detail.condition)
+
+node_plain : (file : PlanFile) (children : List (List ℕ)) (row : Row) (place : ℕ) (detail : Option Detail) (line : Line) → IsPlain 3 (node_json file children row place detail line)
+node_plain file children row place detail line =
+    let below = line_members file (children_at (length file.actions) children row.line) row.line line in
+    let own = line_plain file (children_at (length file.actions) children row.line) row.line line in
+    object_plain 2 ((codes "id", count (id_of line)) ∷ (codes "line", count place) ∷ (codes "parent", parent_json file row.parent) ∷ below ++ detail_members detail)
+    (leaf 2, (leaf 2, (deeper 1 2 (parent_json file row.parent) (omega arith) (parent_plain file row.parent), more_plain 2 below (detail_members detail) (deeper_members 1 2 below (omega arith) own) (detail_plain detail))))
+
+nodes_plain : (file : PlanFile) (children : List (List ℕ)) (row : Row) (place : ℕ) (detail : Option Detail) (line : Option Line) (ds : List Data) → AreItems 3 ds
+    → AreItems 3 (nodes_json file children row place detail line ++ ds)
+nodes_plain file children row place detail None ds rest = rest
+nodes_plain file children row place detail (Some line) ds rest =
+    let here = node_plain file children row place detail line in
+    (neither (has_float (node_json file children row place detail line)) _ here.0 rest.0, omega (arith, here.1, rest.1))
+
+module _ (lines : List ℕ) (details : Option (List Detail)) (file : PlanFile) (children : List (List ℕ)) where
+  -- the values of a row
+  abbrev values : DeclaredRow → List Data
+  values r = row_json lines details file children (seen r)
+
+  all_plain : (rows : List DeclaredRow) → AreItems 3 (flat_map values rows)
+  all_plain [] = (refl, omega arith)
+  all_plain (r ∷ rows) =
+      nodes_plain file children (seen r) (get_or lines r.line 0) (detail_at details (length file.actions) r.line) (line_at file r.line) (flat_map values rows) (all_plain rows)
+
+pub picture_plain : (caption : Caption) (lines : List ℕ) (details : Option (List Detail)) (picture : Picture) → IsPlain 5 (picture_json caption lines details picture)
+picture_plain caption lines details picture =
     let file = picture.file.now in
-    let nodes = flat_map (λ (r : DeclaredRow). nodes_json file (lists_of picture.children.items) (seen r) (line_at file r.line)) picture.rows.items in
+    let kids = lists_of picture.children.items in
+    let nodes = flat_map (values lines details file kids) picture.rows.items in
     let last : List Named = (codes "actions", array_of (map (λ (line : ActionLine). count line.id) file.actions)) ∷ (codes "roots", ids_json file picture.roots.items) ∷ (codes "nodes", array_of nodes) ∷ [] in
-    let are = all_plain file (lists_of picture.children.items) picture.rows.items in
+    let are = all_plain lines details file kids picture.rows.items in
     let actions = array_plain 0 (λ (line : ActionLine). count line.id) (λ (line : ActionLine). leaf 0) file.actions in
-    object_plain 3 (caption_members caption ++ last) (
-      leaf 3,
+    object_plain 4 (caption_members caption ++ last) (
+      leaf 4,
       (
-        leaf 3,
+        leaf 4,
         (
-          leaf 3,
+          leaf 4,
           (
-            leaf 3,
+            leaf 4,
             (
-              leaf 3,
+              leaf 4,
               (
-                deeper 1 3 (array_of (map (λ (line : ActionLine). count line.id) file.actions)) (omega arith) actions,
-                (deeper 1 3 (ids_json file picture.roots.items) (omega arith) (ids_plain file picture.roots.items), ((are.0, omega (arith, are.1)), tt)),
+                deeper 1 4 (array_of (map (λ (line : ActionLine). count line.id) file.actions)) (omega arith) actions,
+                (deeper 1 4 (ids_json file picture.roots.items) (omega arith) (ids_plain file picture.roots.items), ((are.0, omega (arith, are.1)), tt)),
               ),
             ),
           ),

@@ -16,6 +16,11 @@ use Rattle.plan_picture.specs.declared.row.Row.{Row as DeclaredRow}
 use Rattle.picture_text.specs.declared.as_text.Glyphs.{Glyphs}
 use Rattle.picture_text.specs.declared.as_text.Glyphs.TheVariants.{Unicode, Ascii}
 use Rattle.plan_picture.specs.Rows.{Row}
+use Rattle.plan_forest.specs.Forest.{lists_of}
+use Rattle.picture_text.specs.declared.detail.Setting.{Setting}
+use Rattle.picture_text.specs.declared.detail.Condition.{Condition}
+use Rattle.picture_text.specs.declared.detail.Detail.{Detail}
+use Rattle.picture_text.specs.Details.{detail_at, settings_of, condition_of, setting_words, joined, moment, condition_words}
 use Rattle.picture_text.specs.Lines.{Line, action, task, id_of, line_at}
 use Rattle.plan_picture.specs.Seen.{seen}
 use Rattle.picture_text.specs.Words.{spaced, task_words, mark_of}
@@ -89,10 +94,31 @@ module _ (test : ℕ → Bool) (wider : (b : ℕ) → is_tame b ≡ true → tes
   blanks zero = refl
   blanks (suc n) = both (test 32) (list_all test (replicate n 32)) (wider 32 refl) (blanks n)
 
+  -- a word after a blank
+  of_spaced : (word : Word) → Pass (spaced word)
+  of_spaced word = both (test 32) (list_all test (map shown word)) (wider 32 refl) (words word)
+
   pub of_task : (name : Word) (arguments : List Word) → Pass (task_words name arguments)
   of_task name arguments =
       two (map shown name) (flat_map spaced arguments) (words name)
-      (each spaced (λ w. both (test 32) (list_all test (map shown w)) (wider 32 refl) (words w)) arguments)
+      (each spaced of_spaced arguments)
+
+  pub of_setting : (sign : List ℕ) (setting : Setting) → AreTame is_tame sign → Pass (setting_words sign setting)
+  of_setting sign setting is =
+      let object = map shown setting.object.items in
+      two (map shown setting.name.items) (sign ++ object) (words setting.name.items) (two sign object (tame sign is) (words setting.object.items))
+
+  of_joined : (list : List Word) → Pass (joined list)
+  of_joined [] = refl
+  of_joined (word ∷ list) = two (map shown word) (flat_map spaced list) (words word) (each spaced of_spaced list)
+
+  pub of_moment : (gap : ℕ) → Pass (moment gap)
+  of_moment zero = tame (codes " at the start") refl
+  of_moment (suc last) = two (codes " after ") (decimal last) (tame (codes " after ") refl) (number last)
+
+  pub of_condition : (condition : Condition) → Pass (condition_words condition)
+  of_condition condition =
+      two (joined (lists_of condition.literals.items)) (moment condition.gap) (of_joined (lists_of condition.literals.items)) (of_moment condition.gap)
 
 -- ## Text
 
@@ -154,22 +180,58 @@ module _ (glyphs : Glyphs) where
   own_id true id = refl
   own_id false id = id_tame id
 
-  label_tame : (position : ℕ) (line : Line) → AreTame test (text.label position line)
-  label_tame position (action line) =
+  spaced_tame : (setting : Setting) → AreTame test (text.spaced_setting setting)
+  spaced_tame setting = both (test 32) (list_all test (setting_words (codes "=") setting)) (wider 32 refl) (of_setting test wider (codes "=") setting refl)
+
+  settings_tame : (settings : List Setting) → AreTame test (text.settings_text settings)
+  settings_tame [] = refl
+  settings_tame (setting ∷ settings) =
+      let more = flat_map text.spaced_setting settings in
+      two test wider (codes " (") (setting_words (codes "=") setting ++ (more ++ codes ")")) (tame test wider (codes " (") refl)
+      (two test wider (setting_words (codes "=") setting) (more ++ codes ")") (of_setting test wider (codes "=") setting refl)
+      (two test wider more (codes ")") (each test wider text.spaced_setting spaced_tame settings) (tame test wider (codes ")") refl)))
+
+  label_tame : (position : ℕ) (settings : List Setting) (line : Line) → AreTame test (text.label position settings line)
+  label_tame position settings (action line) =
       two test wider (task_words line.name line.arguments) (cond (nat_eq line.id position) [] (text.id_text line.id)) (of_task test wider line.name line.arguments)
       (own_id (nat_eq line.id position) line.id)
-  label_tame position (task line) =
-      two test wider (task_words line.task line.arguments) (codes " -> " ++ (map shown line.method ++ text.id_text line.id)) (of_task test wider line.task line.arguments)
-      (two test wider (codes " -> ") (map shown line.method ++ text.id_text line.id) (tame test wider (codes " -> ") refl)
-      (two test wider (map shown line.method) (text.id_text line.id) (words test wider line.method) (id_tame line.id)))
+  label_tame position settings (task line) =
+      let end = text.settings_text settings ++ text.id_text line.id in
+      two test wider (task_words line.task line.arguments) (codes " -> " ++ (map shown line.method ++ end)) (of_task test wider line.task line.arguments)
+      (two test wider (codes " -> ") (map shown line.method ++ end) (tame test wider (codes " -> ") refl)
+      (two test wider (map shown line.method) end (words test wider line.method)
+      (two test wider (text.settings_text settings) (text.id_text line.id) (settings_tame settings) (id_tame line.id))))
 
-  line_tame : (width : ℕ) (mark : Option Mark) (row : Row) (line : Option Line) → AreTame test (text.line_text glyphs width mark row line)
-  line_tame width mark row None = refl
-  line_tame width mark row (Some line) =
+  own_tame : (width : ℕ) (mark : Option Mark) (row : Row) (settings : List Setting) (line : Line) → AreTame test (text.own_text glyphs width mark row settings line)
+  own_tame width mark row settings line =
       let end = text.mark_text (mark_of mark (id_of line)) ++ 10 ∷ [] in
-      two test wider (text.margin_of width row.line line) (text.front glyphs row ++ (text.label row.line line ++ end)) (margin_tame width row.line line)
-      (two test wider (text.front glyphs row) (text.label row.line line ++ end) (front_tame row)
-      (two test wider (text.label row.line line) end (label_tame row.line line) (end_tame (mark_of mark (id_of line)))))
+      let label = text.label row.line settings line in
+      two test wider (text.margin_of width row.line line) (text.front glyphs row ++ (label ++ end)) (margin_tame width row.line line)
+      (two test wider (text.front glyphs row) (label ++ end) (front_tame row)
+      (two test wider label end (label_tame row.line settings line) (end_tame (mark_of mark (id_of line)))))
+
+  below_tame : (width : ℕ) (is_leaf : Bool) (row : Row) → AreTame test (text.front_below glyphs width is_leaf row)
+  below_tame width is_leaf row =
+      let bars = text.bar glyphs row.is_last ++ text.bar glyphs is_leaf in
+      let cut = text.cut (row.depth - length row.above) in
+      let above = flat_map (text.bar glyphs) row.above in
+      two test wider (replicate width 32) (replicate 2 32 ++ (above ++ (cut ++ bars))) (blanks test wider width)
+      (two test wider (replicate 2 32) (above ++ (cut ++ bars)) (blanks test wider 2)
+      (two test wider above (cut ++ bars) (each test wider (text.bar glyphs) bar_tame row.above)
+      (two test wider cut bars (cut_tame (row.depth - length row.above))
+      (two test wider (text.bar glyphs row.is_last) (text.bar glyphs is_leaf) (bar_tame row.is_last) (bar_tame is_leaf)))))
+
+  condition_tame : (width : ℕ) (is_leaf : Bool) (row : Row) (condition : Option Condition) → AreTame test (text.condition_text glyphs width is_leaf row condition)
+  condition_tame width is_leaf row None = refl
+  condition_tame width is_leaf row (Some condition) =
+      two test wider (text.front_below glyphs width is_leaf row) (condition_words condition ++ 10 ∷ []) (below_tame width is_leaf row)
+      (two test wider (condition_words condition) (10 ∷ []) (of_condition test wider condition) (tame test wider (10 ∷ []) refl))
+
+  line_tame : (width : ℕ) (mark : Option Mark) (is_leaf : Bool) (row : Row) (detail : Option Detail) (line : Option Line) → AreTame test (text.line_text glyphs width mark is_leaf row detail line)
+  line_tame width mark is_leaf row detail None = refl
+  line_tame width mark is_leaf row detail (Some line) =
+      two test wider (text.own_text glyphs width mark row (settings_of detail) line) (text.condition_text glyphs width is_leaf row (condition_of detail))
+      (own_tame width mark row (settings_of detail) line) (condition_tame width is_leaf row (condition_of detail))
 
   title_tame : (width : ℕ) (caption : Caption) → AreTame test (text.title width caption)
   title_tame width caption =
@@ -181,11 +243,14 @@ module _ (glyphs : Glyphs) where
       (two test wider (codes ": ") verdict (tame test wider (codes ": ") refl)
       (two test wider (map shown caption.verdict.now) (10 ∷ []) (words test wider caption.verdict.now) (tame test wider (10 ∷ []) refl)))))
 
-  pub text_tame : (caption : Caption) (picture : Picture) → AreTame test (text.text_bytes glyphs caption picture)
-  text_tame caption picture =
+  row_tame : (width : ℕ) (mark : Option Mark) (details : Option (List Detail)) (picture : Picture) (row : Row) → AreTame test (text.row_text glyphs width mark details picture row)
+  row_tame width mark details picture row =
       let file = picture.file.now in
-      two test wider (text.title (text.width_of file) caption)
-      (flat_map (λ (r : DeclaredRow). text.line_text glyphs (text.width_of file) caption.mark (seen r) (line_at file r.line)) picture.rows.items)
-      (title_tame (text.width_of file) caption)
-      (each test wider (λ (r : DeclaredRow). text.line_text glyphs (text.width_of file) caption.mark (seen r) (line_at file r.line))
-      (λ (r : DeclaredRow). line_tame (text.width_of file) caption.mark (seen r) (line_at file r.line)) picture.rows.items)
+      line_tame width mark (text.is_leaf picture row.line) row (detail_at details (length file.actions) row.line) (line_at file row.line)
+
+  pub text_tame : (caption : Caption) (details : Option (List Detail)) (picture : Picture) → AreTame test (text.text_bytes glyphs caption details picture)
+  text_tame caption details picture =
+      let width = text.width_of picture.file.now in
+      let of_row = λ (r : DeclaredRow). text.row_text glyphs width caption.mark details picture (seen r) in
+      two test wider (text.title width caption) (flat_map of_row picture.rows.items) (title_tame width caption)
+      (each test wider of_row (λ (r : DeclaredRow). row_tame width caption.mark details picture (seen r)) picture.rows.items)

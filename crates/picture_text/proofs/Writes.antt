@@ -13,6 +13,11 @@ pub last : {T E : Type 0} (r : Result T E) (o n m xs ys : List ℕ) → n ≡ o 
 last (Ok x) o n m xs ys first next = adds o n m xs ys first next
 last (Err e) o n m xs ys first next = tt
 
+-- the last one says itself what it wrote
+pub after : {T E : Type 0} (r : Result T E) (o n m xs ys : List ℕ) → n ≡ o ++ xs → OnOk r (m ≡ n ++ ys) → OnOk r (m ≡ o ++ (xs ++ ys))
+after (Ok x) o n m xs ys first next = adds o n m xs ys first next
+after (Err e) o n m xs ys first next = tt
+
 -- what is written of one number more
 pub each_more : (f : ℕ → List ℕ) (o n m : List ℕ) (xs : List ℕ) (i : ℕ) → i < length xs → n ≡ o ++ flat_map f (take i xs) → m ≡ n ++ f (get_or xs i 0) → m ≡ o ++ flat_map f (take (i + 1) xs)
 each_more f o n m xs i low first next =

@@ -1,6 +1,7 @@
 pub mod Lines
 pub mod SeenLine
 pub mod Words
+pub mod Details
 pub mod Text
 pub mod Dot
 pub mod Tame

@@ -9,7 +9,13 @@ use Rattle.picture_text.specs.declared.caption.Mark.{Mark}
 use Rattle.plan_picture.specs.declared.picture.Picture.{Picture}
 use Rattle.picture_text.specs.declared.as_text.Glyphs.{Glyphs}
 use Rattle.picture_text.specs.declared.as_text.Glyphs.TheVariants.{Unicode, Ascii}
-use Rattle.plan_picture.specs.Rows.{Row}
+use Rattle.plan_forest.specs.Forest.{lists_of}
+use Rattle.plan_forest.specs.Reached.{children_at}
+use Rattle.plan_picture.specs.Rows.{Row, is_end}
+use Rattle.picture_text.specs.declared.detail.Setting.{Setting}
+use Rattle.picture_text.specs.declared.detail.Condition.{Condition}
+use Rattle.picture_text.specs.declared.detail.Detail.{Detail}
+use Rattle.picture_text.specs.Details.{detail_at, settings_of, condition_of, setting_words, condition_words}
 use Rattle.picture_text.specs.Lines.{Line, action, task, id_of, line_at}
 use Rattle.picture_text.specs.Words.{task_words, mark_of}
 use Rattle.plan_picture.specs.Seen.{seen}
@@ -54,20 +60,44 @@ margin_of width position (task line) = replicate width 32 ++ replicate 2 32
 abbrev pub action_label : ℕ → ActionLine → List ℕ
 action_label position line = task_words line.name line.arguments ++ (if nat_eq line.id position then [] else id_text line.id)
 
--- the words of a task, its method and its id
-abbrev pub task_label : DecompositionLine → List ℕ
-task_label line = task_words line.task line.arguments ++ (codes " -> " ++ (map shown line.method ++ id_text line.id))
+-- a parameter after a blank, with its value
+abbrev pub spaced_setting : Setting → List ℕ
+spaced_setting setting = 32 ∷ setting_words (codes "=") setting
+
+-- parameters with their values, ` (?satellite=watcher ?instrument=lens)`, if there are some
+abbrev pub settings_text : List Setting → List ℕ
+settings_text [] = []
+settings_text (setting ∷ settings) = codes " (" ++ (setting_words (codes "=") setting ++ (flat_map spaced_setting settings ++ codes ")"))
+
+-- the words of a task, its method with the values of some of its parameters, and its id
+abbrev pub task_label : List Setting → DecompositionLine → List ℕ
+task_label settings line = task_words line.task line.arguments ++ (codes " -> " ++ (map shown line.method ++ (settings_text settings ++ id_text line.id)))
 
 -- the words of a line
-abbrev pub label : ℕ → Line → List ℕ
-label position (action line) = action_label position line
-label position (task line) = task_label line
+abbrev pub label : ℕ → List Setting → Line → List ℕ
+label position settings (action line) = action_label position line
+label position settings (task line) = task_label settings line
 
 -- the line of a row
-abbrev pub line_text : Glyphs → ℕ → Option Mark → Row → Option Line → List ℕ
-line_text glyphs width mark row None = []
-line_text glyphs width mark row (Some line) =
-    margin_of width row.line line ++ (front glyphs row ++ (label row.line line ++ (mark_text (mark_of mark (id_of line)) ++ 10 ∷ [])))
+abbrev pub own_text : Glyphs → ℕ → Option Mark → Row → List Setting → Line → List ℕ
+own_text glyphs width mark row settings line =
+    margin_of width row.line line ++ (front glyphs row ++ (label row.line settings line ++ (mark_text (mark_of mark (id_of line)) ++ 10 ∷ [])))
+
+-- the signs below a row, before what is below its line, if there is something
+abbrev pub front_below : Glyphs → ℕ → Bool → Row → List ℕ
+front_below glyphs width leaf row =
+    replicate width 32 ++ (replicate 2 32 ++ (flat_map (bar glyphs) row.above ++ (cut (row.depth - length row.above) ++ (bar glyphs row.is_last ++ bar glyphs leaf))))
+
+-- below the line of a row the precondition of its method, if that has one, and when it is tested
+abbrev pub condition_text : Glyphs → ℕ → Bool → Row → Option Condition → List ℕ
+condition_text glyphs width leaf row None = []
+condition_text glyphs width leaf row (Some condition) = front_below glyphs width leaf row ++ (condition_words condition ++ 10 ∷ [])
+
+-- the line of a row, if there is such a line, and what a solution says of it
+abbrev pub line_text : Glyphs → ℕ → Option Mark → Bool → Row → Option Detail → Option Line → List ℕ
+line_text glyphs width mark leaf row detail None = []
+line_text glyphs width mark leaf row detail (Some line) =
+    own_text glyphs width mark row (settings_of detail) line ++ condition_text glyphs width leaf row (condition_of detail)
 
 -- how wide the positions are
 abbrev pub width_of : PlanFile → ℕ
@@ -77,8 +107,18 @@ width_of file = length (decimal (length file.actions - 1))
 abbrev pub title : ℕ → Caption → List ℕ
 title width caption = replicate width 32 ++ (replicate 2 32 ++ (map shown caption.problem.now ++ (codes ": " ++ (map shown caption.verdict.now ++ 10 ∷ []))))
 
--- the title, and a line for each row
-abbrev pub text_bytes : Glyphs → Caption → Picture → List ℕ
-text_bytes glyphs caption picture =
+-- whether the line with a number has no children
+abbrev pub is_leaf : Picture → ℕ → Bool
+is_leaf picture number = is_end (children_at (length picture.file.now.actions) (lists_of picture.children.items) number)
+
+-- a row of a picture
+abbrev pub row_text : Glyphs → ℕ → Option Mark → Option (List Detail) → Picture → Row → List ℕ
+row_text glyphs width mark details picture row =
     let file = picture.file.now in
-    title (width_of file) caption ++ flat_map (λ r. line_text glyphs (width_of file) caption.mark (seen r) (line_at file r.line)) picture.rows.items
+    line_text glyphs width mark (is_leaf picture row.line) row (detail_at details (length file.actions) row.line) (line_at file row.line)
+
+-- the title, and the text of each row
+abbrev pub text_bytes : Glyphs → Caption → Option (List Detail) → Picture → List ℕ
+text_bytes glyphs caption details picture =
+    let width = width_of picture.file.now in
+    title width caption ++ flat_map (λ r. row_text glyphs width caption.mark details picture (seen r)) picture.rows.items

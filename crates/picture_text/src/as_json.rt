@@ -1,18 +1,19 @@
 //! Pictures as JSON.
 
-ghost use Rattle.std.specs.Prelude.{◌≡◌, ◌∷◌, ◌++◌, [], IsUtf8, Some, codes, map, IfOk, OnOk};
+ghost use Rattle.std.specs.Prelude.{◌≡◌, ◌∷◌, ◌++◌, [], IsUtf8, Some, codes, get_or, map, option_map, string_bytes, IfOk, OnOk};
 ghost use Rattle.std.specs.List.{flat_map};
-ghost use Rattle.diagnostics.specs.Json.{with_members, array_of, count, IsReadAs};
+ghost use Rattle.diagnostics.specs.Json.{with_members, array_of, count, object_of, IsReadAs};
 ghost use Rattle.plan_forest.specs.Forest.{lists_of};
 ghost use Rattle.plan_forest.specs.Reached as reached;
 ghost use Rattle.picture_text.specs.Json as spec;
-ghost use Rattle.picture_text.specs.Lines as lines;
 ghost use Rattle.plan_picture.specs.Seen.{seen};
 ghost use Rattle.picture_text.specs.SeenLine.{seen_line};
 ghost use Rattle.serde_json.specs.Data.{string};
 ghost use Rattle.serde_json.specs.View.{view, members_view};
+ghost use Rattle.text_places.specs.Shown as shown_spec;
 
 use crate::caption::Caption;
+use crate::detail::{Condition, Detail, Setting, detail_at};
 use crate::line::{Line, id_at, line_at};
 use crate::words::say;
 use plan_picture::{Picture, Row, children_at};
@@ -20,13 +21,20 @@ use plan_text::{ActionLine, DecompositionLine, PlanFile, Word};
 use serde_json::{Map, Value, put};
 use std::alloc::{AllocError, Global};
 
-/// A word, as it is shown.
-fn word_value(alloc: Global, word: &Word) -> Result<Value, AllocError>
-    ensures { IfOk result (λ v. view v ≡ spec.word_json word.now) }
+/// Bytes as they are shown.
+fn shown_text(alloc: Global, words: &[u8]) -> Result<String, AllocError>
+    ensures { IfOk result (λ text. string_bytes text ≡ map shown_spec.shown words.now) }
 {
     let mut bytes = Vec::new(alloc);
-    say(&mut bytes, word.as_bytes())?;
-    Ok(Value::String(String::from_utf8_lossy(alloc, bytes.as_slice())?))
+    say(&mut bytes, words)?;
+    String::from_utf8_lossy(alloc, bytes.as_slice())
+}
+
+/// A word, as it is shown.
+fn word_value(alloc: Global, word: &[u8]) -> Result<Value, AllocError>
+    ensures { IfOk result (λ v. view v ≡ spec.word_json word.now) }
+{
+    Ok(Value::String(shown_text(alloc, word)?))
 }
 
 /// A name with its arguments.
@@ -34,9 +42,9 @@ fn task_value(alloc: Global, name: &Word, arguments: &[Word]) -> Result<Value, A
     ensures { IfOk result (λ v. view v ≡ spec.task_json name.now arguments.now) }
 {
     let mut list = Vec::new(alloc);
-    list.push(word_value(alloc, name)?)?;
+    list.push(word_value(alloc, name.as_bytes())?)?;
     for argument in arguments {
-        list.push(word_value(alloc, argument)?)?;
+        list.push(word_value(alloc, argument.as_bytes())?)?;
     }
     Ok(Value::Array(list))
 }
@@ -110,7 +118,12 @@ fn put_task(
         "task",
         task_value(alloc, line.task(), line.arguments())?,
     )?;
-    put(map, alloc, "method", word_value(alloc, line.method())?)?;
+    put(
+        map,
+        alloc,
+        "method",
+        word_value(alloc, line.method().as_bytes())?,
+    )?;
     put(map, alloc, "children", ids_value(alloc, file, children)?)?;
     Ok(())
 }
@@ -132,37 +145,131 @@ fn put_line(
     }
 }
 
-/// A line in its place.
+/// The parameters of a line's method that its task does not show, with their values.
+fn settings_value(alloc: Global, settings: &[Setting]) -> Result<Value, AllocError>
+    ensures { IfOk result (λ v. view v ≡ object_of (map spec.setting_member settings.now)) }
+{
+    let mut members = Map::new(alloc);
+    for setting in settings {
+        let name = shown_text(alloc, setting.name.as_slice())?;
+        let object = word_value(alloc, setting.object.as_slice())?;
+        put(&mut members, alloc, name.as_str(), object)?;
+    }
+    Ok(Value::Object(members))
+}
+
+/// The literals of a precondition.
+fn literals_value(alloc: Global, literals: &[Vec<u8>]) -> Result<Value, AllocError>
+    ensures { IfOk result (λ v. view v ≡ array_of (map spec.word_json (lists_of literals.now))) }
+{
+    let mut list = Vec::new(alloc);
+    for literal in literals {
+        list.push(word_value(alloc, literal.as_slice())?)?;
+    }
+    Ok(Value::Array(list))
+}
+
+/// A precondition: its literals, and how many actions are carried out before it is tested.
+fn condition_value(alloc: Global, condition: &Condition) -> Result<Value, AllocError>
+    ensures { IfOk result (λ v. view v ≡ spec.condition_json condition.now) }
+{
+    let mut map = Map::new(alloc);
+    put(
+        &mut map,
+        alloc,
+        "literals",
+        literals_value(alloc, condition.literals.as_slice())?,
+    )?;
+    put(&mut map, alloc, "gap", Value::from(condition.gap))?;
+    Ok(Value::Object(map))
+}
+
+/// Adds the precondition of a line's method, if that has one.
+fn put_condition(
+    map: &mut Map<String, Value>,
+    alloc: Global,
+    condition: Option<&Condition>,
+) -> Result<(), AllocError>
+    ensures { OnOk result (members_view map.new.entries ≡ with_members (members_view map.old.entries) (spec.condition_members (option_map (λ c. c.now) condition.entry))) }
+{
+    match condition {
+        Some(condition) => put(
+            map,
+            alloc,
+            "precondition",
+            condition_value(alloc, condition)?,
+        ),
+        None => Ok(()),
+    }
+}
+
+/// Adds what a solution says of a line, if anything is known of it.
+fn put_detail(
+    map: &mut Map<String, Value>,
+    alloc: Global,
+    detail: Option<&Detail>,
+) -> Result<(), AllocError>
+    ensures { OnOk result (members_view map.new.entries ≡ with_members (members_view map.old.entries) (spec.detail_members (option_map (λ d. d.now) detail.entry))) }
+{
+    match detail {
+        Some(detail) => {
+            let settings = settings_value(alloc, detail.settings.as_slice())?;
+            put(map, alloc, "parameters", settings)?;
+            put_condition(map, alloc, detail.condition.as_ref())
+        }
+        None => Ok(()),
+    }
+}
+
+/// A line in its place, which stands on some line of the plan's text.
 fn node_value(
     alloc: Global,
     file: &PlanFile,
     children: &[Vec<usize>],
     row: &Row,
+    place: usize,
+    detail: Option<&Detail>,
     line: Line<'_>,
 ) -> Result<Value, AllocError>
-    ensures { IfOk result (λ v. view v ≡ spec.node_json file.now (lists_of children.now) (seen row.now) (seen_line line.entry)) }
+    ensures { IfOk result (λ v. view v ≡ spec.node_json file.now (lists_of children.now) (seen row.now) place (option_map (λ d. d.now) detail.entry) (seen_line line.entry)) }
 {
     let below = children_at(children, file.actions().len(), row.line);
     let mut map = Map::new(alloc);
     put(&mut map, alloc, "id", Value::from(line.id()))?;
+    put(&mut map, alloc, "line", Value::from(place))?;
     put(&mut map, alloc, "parent", parent_value(file, row.parent))?;
     put_line(&mut map, alloc, file, below, row.line, line)?;
+    put_detail(&mut map, alloc, detail)?;
     Ok(Value::Object(map))
+}
+
+/// The number at a place; 0 past the end.
+fn number_at(numbers: &[usize], place: usize) -> usize
+    ensures { result ≡ get_or numbers.now place 0 }
+{
+    match numbers.get(place) {
+        Some(number) => *number,
+        None => 0,
+    }
 }
 
 /// Adds the line of a row, if there is such a line.
 fn push_node(
     list: &mut Vec<Value>,
     alloc: Global,
+    lines: &[usize],
+    details: Option<&[Detail]>,
     file: &PlanFile,
     children: &[Vec<usize>],
     row: &Row,
 ) -> Result<(), AllocError>
-    ensures { OnOk result (map view list.new.items ≡ map view list.old.items ++ spec.nodes_json file.now (lists_of children.now) (seen row.now) (lines.line_at file.now row.now.line)) }
+    ensures { OnOk result (map view list.new.items ≡ map view list.old.items ++ spec.row_json lines.now (option_map (λ d. d.now) details.entry) file.now (lists_of children.now) (seen row.now)) }
 {
     match line_at(file, row.line) {
         Some(line) => {
-            list.push(node_value(alloc, file, children, row, line)?)?;
+            let place = number_at(lines, row.line);
+            let detail = detail_at(details, file.actions().len(), row.line);
+            list.push(node_value(alloc, file, children, row, place, detail, line)?)?;
             Ok(())
         }
         None => Ok(()),
@@ -170,18 +277,19 @@ fn push_node(
 }
 
 /// The lines from the top down.
-fn nodes_value(alloc: Global, picture: &Picture<'_>) -> Result<Value, AllocError>
-    ensures { IfOk result (λ v. view v ≡ array_of (flat_map (λ r. spec.nodes_json picture.now.file.now (lists_of picture.now.children.items) (seen r) (lines.line_at picture.now.file.now r.line)) picture.now.rows.items)) }
+fn nodes_value(
+    alloc: Global,
+    lines: &[usize],
+    details: Option<&[Detail]>,
+    picture: &Picture<'_>,
+) -> Result<Value, AllocError>
+    ensures { IfOk result (λ v. view v ≡ array_of (flat_map (λ r. spec.row_json lines.now (option_map (λ d. d.now) details.entry) picture.now.file.now (lists_of picture.now.children.items) (seen r)) picture.now.rows.items)) }
 {
+    let file = picture.file;
+    let children = picture.children.as_slice();
     let mut list = Vec::new(alloc);
     for row in picture.rows.as_slice() {
-        push_node(
-            &mut list,
-            alloc,
-            picture.file,
-            picture.children.as_slice(),
-            row,
-        )?;
+        push_node(&mut list, alloc, lines, details, file, children, row)?;
     }
     Ok(Value::Array(list))
 }
@@ -226,9 +334,11 @@ fn put_caption(
 fn put_lines(
     map: &mut Map<String, Value>,
     alloc: Global,
+    lines: &[usize],
+    details: Option<&[Detail]>,
     picture: &Picture<'_>,
 ) -> Result<(), AllocError>
-    ensures { OnOk result (members_view map.new.entries ≡ with_members (members_view map.old.entries) (spec.lines_members picture.now)) }
+    ensures { OnOk result (members_view map.new.entries ≡ with_members (members_view map.old.entries) (spec.lines_members lines.now (option_map (λ d. d.now) details.entry) picture.now)) }
 {
     put(
         map,
@@ -242,7 +352,12 @@ fn put_lines(
         "roots",
         ids_value(alloc, picture.file, picture.roots.as_slice())?,
     )?;
-    put(map, alloc, "nodes", nodes_value(alloc, picture)?)?;
+    put(
+        map,
+        alloc,
+        "nodes",
+        nodes_value(alloc, lines, details, picture)?,
+    )?;
     Ok(())
 }
 
@@ -250,28 +365,34 @@ fn put_lines(
 fn picture_value(
     alloc: Global,
     caption: &Caption<'_>,
+    lines: &[usize],
+    details: Option<&[Detail]>,
     picture: &Picture<'_>,
 ) -> Result<Value, AllocError>
-    ensures { IfOk result (λ v. view v ≡ spec.picture_json caption.now picture.now) }
+    ensures { IfOk result (λ v. view v ≡ spec.picture_json caption.now lines.now (option_map (λ d. d.now) details.entry) picture.now) }
 {
     let mut map = Map::new(alloc);
     put_caption(&mut map, alloc, caption)?;
-    put_lines(&mut map, alloc, picture)?;
+    put_lines(&mut map, alloc, lines, details, picture)?;
     Ok(Value::Object(map))
 }
 
 /// The picture for tools: one object of JSON on one line, whose members are in the order of their names. Its lines are
-/// a flat list, so nothing nests as deep as the plan.
+/// a flat list, so nothing nests as deep as the plan. `lines` are the lines of the plan's text on which its lines stand,
+/// by their numbers. With the details of a solution a task has the values of parameters, and the precondition of its
+/// method, if that has one.
 pub fn json(
     alloc: Global,
     caption: &Caption<'_>,
+    lines: &[usize],
+    details: Option<&[Detail]>,
     picture: &Picture<'_>,
 ) -> Result<Vec<u8>, AllocError>
-    ensures bytes { IfOk result (λ text. text.items ≡ spec.json_bytes caption.now picture.now) }
+    ensures bytes { IfOk result (λ text. text.items ≡ spec.json_bytes caption.now lines.now (option_map (λ d. d.now) details.entry) picture.now) }
     ensures utf8 { IfOk result (λ text. IsUtf8 text.items) }
-    ensures reads_back { IfOk result (λ text. IsReadAs (spec.picture_json caption.now picture.now) text.items) }
+    ensures reads_back { IfOk result (λ text. IsReadAs (spec.picture_json caption.now lines.now (option_map (λ d. d.now) details.entry) picture.now) text.items) }
 {
-    let mut text = picture_value(alloc, caption, picture)?.to_vec(alloc)?;
+    let mut text = picture_value(alloc, caption, lines, details, picture)?.to_vec(alloc)?;
     text.push(b'\n')?;
     Ok(text)
 }

@@ -1,9 +1,10 @@
 //! Laws of written pictures.
 
-ghost use Rattle.std.specs.Prelude.{◌≡◌, ℕ, false, List, ◌++◌};
+ghost use Rattle.std.specs.Prelude.{◌≡◌, ℕ, false, List, ◌++◌, Option};
 ghost use Rattle.diagnostics.specs.Json.{IsOneLine};
 ghost use Rattle.diagnostics.specs.Tame.{is_tame};
 ghost use Rattle.picture_text.specs.declared.caption.Caption.{Caption};
+ghost use Rattle.picture_text.specs.declared.detail.Detail.{Detail};
 ghost use Rattle.plan_picture.specs.declared.picture.Picture.{Picture};
 ghost use Rattle.picture_text.specs.declared.as_text.Glyphs.{Glyphs};
 ghost use Rattle.picture_text.specs.Dot.{dot_bytes, label_rest, quoted_rest};
@@ -16,7 +17,7 @@ ghost use Rattle.picture_text.specs.Text.{text_bytes};
 /// A picture as text has no control byte but tabs and line feeds, and but for bytes of the tree's signs it is ASCII,
 /// whatever the names are.
 pub fn text_is_tame()
-    ensures { (glyphs : Glyphs) (caption : Caption) (picture : Picture) → AreTame (is_tame_in glyphs) (text_bytes glyphs caption picture) }
+    ensures { (glyphs : Glyphs) (caption : Caption) (details : Option (List Detail)) (picture : Picture) → AreTame (is_tame_in glyphs) (text_bytes glyphs caption details picture) }
 {}
 
 /// A picture in the language of graphviz has no control byte but tabs and line feeds, and is ASCII, whatever the names
@@ -34,12 +35,12 @@ pub fn labels_end_at_quotes()
 
 /// A picture as JSON has no byte below 32 but the line feed at its end, whatever the names are.
 pub fn json_is_one_line()
-    ensures { (caption : Caption) (picture : Picture) → IsOneLine (json_bytes caption picture) }
+    ensures { (caption : Caption) (lines : List ℕ) (details : Option (List Detail)) (picture : Picture) → IsOneLine (json_bytes caption lines details picture) }
 {}
 
 /// Two pictures with one value as JSON, which its text reads back as, have the same roots, the same lines in their rows
 /// and the same children of each, all by their ids. So two files with one picture as JSON have one forest, up to the
-/// order of siblings.
+/// order of siblings, whatever details are shown.
 pub fn json_shows_forests()
     ensures { JsonShowsForests }
 {}

@@ -5,6 +5,7 @@ mod as_dot;
 mod as_json;
 mod as_text;
 mod caption;
+mod detail;
 mod laws;
 mod line;
 mod words;
@@ -13,6 +14,10 @@ pub use as_dot::{dot, words_of};
 pub use as_json::json;
 pub use as_text::{Glyphs, say_label, text, width_of};
 pub use caption::{Caption, Mark};
+pub use detail::{
+    Condition, Detail, Setting, condition_of, detail_at, say_condition, say_moment, say_setting,
+    settings_of,
+};
 pub use laws::{
     graph_is_tame, json_is_one_line, json_shows_forests, labels_end_at_quotes, text_is_tame,
 };

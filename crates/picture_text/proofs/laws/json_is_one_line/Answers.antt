@@ -5,4 +5,6 @@ use Rattle.picture_text.specs.Json.{picture_json}
 use Rattle.picture_text.proofs.laws.json_is_one_line.Goals as goal
 
 pub returns : goal.returns
-returns c caption picture = (compact_text (picture_json caption picture), refl, seen_text (picture_json caption picture))
+returns c caption lines details picture =
+    let value = picture_json caption lines details picture in
+    (compact_text value, refl, seen_text value)
