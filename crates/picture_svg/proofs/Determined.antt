@@ -1,5 +1,5 @@
 -- A picture has one layout.
-use Rattle.std.proofs.Common.{◌≡◌, ℕ, zero, suc, ◌+◌, ◌-◌, ◌≤◌, cond, max, codes, List, [], ◌∷◌, ◌++◌, map, None, inl, inr, refl, sym, ap, ap₂, ◌∙◌, subst, arith}
+use Rattle.std.proofs.Common.{◌≡◌, ℕ, zero, suc, ◌+◌, ◌-◌, ◌≤◌, cond, max, codes, List, [], ◌∷◌, ◌++◌, map, None, inl, inr, refl, sym, ap, ap₂, ◌∙◌, subst, arith, Option}
 use Rattle.std.specs.List.{flat_map}
 use Rattle.std.proofs.lemmas.Bool.{cases_lt, lt-ltb, le-ltb}
 use Rattle.htn_model.specs.PlanFile.{IsIn}
@@ -10,6 +10,7 @@ use Rattle.plan_picture.specs.Rows.{Row, root_rows}
 use Rattle.plan_picture.proofs.Ahead.{sibling_lines, are_among}
 use Rattle.htn_model.proofs.Ascending.{in_mapped}
 use Rattle.picture_text.specs.declared.caption.Caption.{Caption}
+use Rattle.picture_text.specs.declared.detail.Detail.{Detail}
 use Rattle.picture_svg.specs.declared.layout.Area.{Area}
 use Rattle.picture_svg.specs.declared.layout.Edge.{Edge}
 use Rattle.picture_svg.specs.declared.layout.Layout.{Layout}
@@ -181,16 +182,16 @@ head_of caption width height =
     opening width height ++ (codes "<title>" ++ (escaped (title caption) ++ (codes "</title>\n" ++ (style ++ codes "<rect class=\"bg\" width=\"100%\" height=\"100%\"/>\n"))))
 
 -- the picture itself
-abbrev rest : Caption → Picture → List Edge → Area → List Area → List ℕ
-rest caption picture edges top areas =
-    flat_map path edges ++ (problem caption top ++ (nodes caption.mark picture.file.now (rows_of picture) areas ++ codes "</svg>\n"))
+abbrev rest : Caption → Option (List Detail) → Picture → List Edge → Area → List Area → List ℕ
+rest caption details picture edges top areas =
+    flat_map path edges ++ (problem caption top ++ (nodes caption.mark details picture.file.now (rows_of picture) areas ++ codes "</svg>\n"))
 
-same_bytes : (caption : Caption) (picture : Picture) (a b : Layout) → AreSame a b → svg_bytes caption picture a ≡ svg_bytes caption picture b
-same_bytes caption picture a b same =
-    ap₂ (λ w h. head_of caption w h ++ rest caption picture a.edges.items a.problem a.boxes.items) same.width same.height
-    ∙ ap (λ es. head_of caption b.width b.height ++ rest caption picture es a.problem a.boxes.items) same.edges
-    ∙ ap₂ (λ (z : Area) (zs : List Area). head_of caption b.width b.height ++ rest caption picture b.edges.items z zs) same.problem same.boxes
+same_bytes : (caption : Caption) (details : Option (List Detail)) (picture : Picture) (a b : Layout) → AreSame a b → svg_bytes caption details picture a ≡ svg_bytes caption details picture b
+same_bytes caption details picture a b same =
+    ap₂ (λ w h. head_of caption w h ++ rest caption details picture a.edges.items a.problem a.boxes.items) same.width same.height
+    ∙ ap (λ es. head_of caption b.width b.height ++ rest caption details picture es a.problem a.boxes.items) same.edges
+    ∙ ap₂ (λ (z : Area) (zs : List Area). head_of caption b.width b.height ++ rest caption details picture b.edges.items z zs) same.problem same.boxes
 
 pub layouts_are_one : LayoutsAreOne
-layouts_are_one caption picture a b pic is are =
-    let same = same_whole caption picture pic a b is are in (same, same_bytes caption picture a b same)
+layouts_are_one caption details picture a b pic is are =
+    let same = same_whole caption picture pic a b is are in (same, same_bytes caption details picture a b same)

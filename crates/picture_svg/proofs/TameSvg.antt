@@ -9,12 +9,16 @@ use Rattle.plan_picture.specs.declared.picture.Picture.{Picture}
 use Rattle.plan_picture.specs.Rows.{Row}
 use Rattle.picture_text.specs.declared.caption.Caption.{Caption}
 use Rattle.picture_text.specs.declared.caption.Mark.{Mark}
+use Rattle.picture_text.specs.declared.detail.Setting.{Setting}
+use Rattle.picture_text.specs.declared.detail.Condition.{Condition}
+use Rattle.picture_text.specs.declared.detail.Detail.{Detail}
+use Rattle.picture_text.specs.Details.{detail_at, settings_of, condition_of, setting_words, condition_words}
 use Rattle.picture_text.specs.Dot.{words_of, position}
 use Rattle.picture_text.specs.Lines.{Line, action, task, id_of, line_at}
 use Rattle.picture_text.specs.Tame.{AreTame}
 use Rattle.picture_text.specs.Text.{label, id_text, mark_text, width_of}
 use Rattle.picture_text.specs.Words.{task_words, mark_of, is_marked}
-use Rattle.picture_text.proofs.Tamed.{both, decimal_tame, two, each, left, right, words, of_task}
+use Rattle.picture_text.proofs.Tamed.{both, decimal_tame, two, each, left, right, words, of_task, of_setting, of_condition}
 use Rattle.picture_svg.specs.declared.layout.Area.{Area}
 use Rattle.picture_svg.specs.declared.layout.Edge.{Edge}
 use Rattle.picture_svg.specs.declared.layout.Layout.{Layout}
@@ -22,7 +26,7 @@ use Rattle.picture_svg.specs.Escape.{less, greater, ampersand, quote, entity, es
 use Rattle.picture_svg.specs.Grid.{rows_of}
 use Rattle.picture_svg.specs.Shapes.{attribute, place, size, rectangle, words_rest, words_at, point, bend, path, two_lines, number_at, numbered}
 use Rattle.picture_svg.specs.Style.{style}
-use Rattle.picture_svg.specs.Svg.{class_of, known, node_title, shape_in, node, node_in, nodes, title, opening, head, problem, svg_bytes}
+use Rattle.picture_svg.specs.Svg.{class_of, setting_line, condition_line, detail_lines, known, node_title, shape_in, node_box, node, node_in, nodes, title, opening, head, problem, svg_bytes}
 
 -- tame bytes
 abbrev pub Ok : List ℕ → Type 0
@@ -144,7 +148,7 @@ own_id : (b : Bool) (id : ℕ) → Ok (cond b [] (id_text id))
 own_id true id = refl
 own_id false id = id_tame id
 
-label_tame : (number : ℕ) (line : Line) → Ok (label number line)
+label_tame : (number : ℕ) (line : Line) → Ok (label number [] line)
 label_tame number (action line) =
     join (task_words line.name line.arguments) (cond (nat_eq line.id number) [] (id_text line.id)) (of_task is_tame itself line.name line.arguments) (own_id (nat_eq line.id number) line.id)
 label_tame number (task line) =
@@ -160,33 +164,49 @@ mark_tame : (mark : Option Mark) → Ok (mark_text mark)
 mark_tame None = refl
 mark_tame (Some m) = join (codes "  <- ") (map shown m.cause.now) refl (shown_tame m.cause.now)
 
-known_tame : (mark : Option Mark) (number : ℕ) (line : Line) → Ok (known mark number line)
-known_tame mark number line =
-    let end = mark_text (mark_of mark (id_of line)) in
-    join (position number line) (label number line ++ end) (position_tame number line) (join (label number line) end (label_tame number line) (mark_tame (mark_of mark (id_of line))))
+setting_tame : (setting : Setting) → Ok (setting_line setting)
+setting_tame setting = join (codes "\n") (setting_words (codes " = ") setting) refl (of_setting is_tame itself (codes " = ") setting refl)
 
-title_tame : (mark : Option Mark) (number : ℕ) (line : Line) → Ok (node_title mark number line)
-title_tame mark number line =
-    let bytes = known mark number line in
-    join (codes "<g><title>") (escaped bytes ++ codes "</title>\n") refl (join (escaped bytes) (codes "</title>\n") (escaped_tame bytes (known_tame mark number line)) refl)
+condition_tame : (condition : Option Condition) → Ok (condition_line condition)
+condition_tame None = refl
+condition_tame (Some condition) = join (codes "\nprecondition: ") (condition_words condition) refl (of_condition is_tame itself condition)
+
+detail_tame : (detail : Option Detail) → Ok (detail_lines detail)
+detail_tame detail =
+    join (flat_map setting_line (settings_of detail)) (condition_line (condition_of detail)) (each is_tame itself setting_line setting_tame (settings_of detail)) (condition_tame (condition_of detail))
+
+known_tame : (mark : Option Mark) (number : ℕ) (detail : Option Detail) (line : Line) → Ok (known mark number detail line)
+known_tame mark number detail line =
+    let flag = mark_text (mark_of mark (id_of line)) in
+    let end = flag ++ detail_lines detail in
+    join (position number line) (label number [] line ++ end) (position_tame number line)
+    (join (label number [] line) end (label_tame number line) (join flag (detail_lines detail) (mark_tame (mark_of mark (id_of line))) (detail_tame detail)))
+
+title_tame : (mark : Option Mark) (number : ℕ) (detail : Option Detail) (line : Line) → Ok (node_title mark number detail line)
+title_tame mark number detail line =
+    let bytes = known mark number detail line in
+    join (codes "<g><title>") (escaped bytes ++ codes "</title>\n") refl (join (escaped bytes) (codes "</title>\n") (escaped_tame bytes (known_tame mark number detail line)) refl)
 
 shape_tame : (class : List ℕ) (digits number : ℕ) (a : Area) (line : Line) → Ok class → Ok (shape_in class digits number a line)
 shape_tame class digits number a (action line) c = numbered_tame class a digits number (words_of (action line)) c (line_words_tame (action line))
 shape_tame class digits number a (task line) c = lines_tame class a (words_of (task line)) (map shown line.method) c (line_words_tame (task line)) (shown_tame line.method)
 
-node_tame : (mark : Option Mark) (digits number : ℕ) (a : Area) (line : Option Line) → Ok (node mark digits number a line)
-node_tame mark digits number a None = refl
-node_tame mark digits number a (Some line) =
+box_tame : (mark : Option Mark) (digits number : ℕ) (a : Area) (line : Line) → Ok (node_box mark digits number a line)
+box_tame mark digits number a line =
     let class = class_of (is_marked mark (id_of line)) line in
-    let shape = shape_in class digits number a line in
-    join (node_title mark number line) (shape ++ codes "</g>\n") (title_tame mark number line)
-    (join shape (codes "</g>\n") (shape_tame class digits number a line (class_tame (is_marked mark (id_of line)) line)) refl)
+    join (shape_in class digits number a line) (codes "</g>\n") (shape_tame class digits number a line (class_tame (is_marked mark (id_of line)) line)) refl
 
-nodes_tame : (mark : Option Mark) (file : PlanFile) (rows : List Row) (areas : List Area) → Ok (nodes mark file rows areas)
-nodes_tame mark file [] areas = refl
-nodes_tame mark file (row ∷ rows) [] = refl
-nodes_tame mark file (row ∷ rows) (a ∷ areas) =
-    join (node_in mark file row.line (Some a)) (nodes mark file rows areas) (node_tame mark (width_of file) row.line a (line_at file row.line)) (nodes_tame mark file rows areas)
+node_tame : (mark : Option Mark) (digits number : ℕ) (a : Area) (detail : Option Detail) (line : Option Line) → Ok (node mark digits number a detail line)
+node_tame mark digits number a detail None = refl
+node_tame mark digits number a detail (Some line) =
+    join (node_title mark number detail line) (node_box mark digits number a line) (title_tame mark number detail line) (box_tame mark digits number a line)
+
+nodes_tame : (mark : Option Mark) (details : Option (List Detail)) (file : PlanFile) (rows : List Row) (areas : List Area) → Ok (nodes mark details file rows areas)
+nodes_tame mark details file [] areas = refl
+nodes_tame mark details file (row ∷ rows) [] = refl
+nodes_tame mark details file (row ∷ rows) (a ∷ areas) =
+    join (node_in mark details file row.line (Some a)) (nodes mark details file rows areas)
+    (node_tame mark (width_of file) row.line a (detail_at details (length file.actions) row.line) (line_at file row.line)) (nodes_tame mark details file rows areas)
 
 -- ## All of it
 
@@ -216,12 +236,12 @@ problem_tame : (caption : Caption) (a : Area) → Ok (problem caption a)
 problem_tame caption a =
     lines_tame (codes "root") a (map shown caption.problem.now) (map shown caption.verdict.now) refl (shown_tame caption.problem.now) (shown_tame caption.verdict.now)
 
-pub svg_tame : (caption : Caption) (picture : Picture) (layout : Layout) → Ok (svg_bytes caption picture layout)
-svg_tame caption picture layout =
+pub svg_tame : (caption : Caption) (details : Option (List Detail)) (picture : Picture) (layout : Layout) → Ok (svg_bytes caption details picture layout)
+svg_tame caption details picture layout =
     let edges = flat_map path layout.edges.items in
-    let all = nodes caption.mark picture.file.now (rows_of picture) layout.boxes.items in
+    let all = nodes caption.mark details picture.file.now (rows_of picture) layout.boxes.items in
     let end = codes "</svg>\n" in
     join (head caption layout) (edges ++ (problem caption layout.problem ++ (all ++ end))) (head_tame caption layout)
     (join edges (problem caption layout.problem ++ (all ++ end)) (each is_tame itself path path_tame layout.edges.items)
     (join (problem caption layout.problem) (all ++ end) (problem_tame caption layout.problem)
-    (join all end (nodes_tame caption.mark picture.file.now (rows_of picture) layout.boxes.items) refl)))
+    (join all end (nodes_tame caption.mark details picture.file.now (rows_of picture) layout.boxes.items) refl)))

@@ -1,8 +1,9 @@
 -- A picture has one layout.
-use Rattle.std.specs.Prelude.{◌≡◌}
+use Rattle.std.specs.Prelude.{◌≡◌, List, Option}
 use Rattle.plan_picture.specs.declared.picture.Picture.{Picture}
 use Rattle.plan_picture.specs.Picture.{IsPictureOf}
 use Rattle.picture_text.specs.declared.caption.Caption.{Caption}
+use Rattle.picture_text.specs.declared.detail.Detail.{Detail}
 use Rattle.picture_svg.specs.declared.layout.Layout.{Layout}
 use Rattle.picture_svg.specs.Layout.{IsLayoutOf}
 use Rattle.picture_svg.specs.Svg.{svg_bytes}
@@ -18,5 +19,5 @@ pub record AreSame (a b : Layout) : Type 0 where
 -- So it is with all layouts of a picture, and so are their bytes.
 abbrev pub LayoutsAreOne : Type 0
 LayoutsAreOne =
-    (caption : Caption) (picture : Picture) (a b : Layout) → IsPictureOf picture.file.now picture → IsLayoutOf caption picture a → IsLayoutOf caption picture b
-    → AreSame a b × (svg_bytes caption picture a ≡ svg_bytes caption picture b)
+    (caption : Caption) (details : Option (List Detail)) (picture : Picture) (a b : Layout) → IsPictureOf picture.file.now picture → IsLayoutOf caption picture a → IsLayoutOf caption picture b
+    → AreSame a b × (svg_bytes caption details picture a ≡ svg_bytes caption details picture b)

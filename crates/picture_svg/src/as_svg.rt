@@ -1,11 +1,10 @@
 //! Pictures as SVG.
 
-ghost use Rattle.std.specs.Prelude.{◌≡◌, ◌++◌, Some, map, slice_get, IfOk, OnOk};
+ghost use Rattle.std.specs.Prelude.{◌≡◌, ◌++◌, Some, map, option_map, slice_get, IfOk, OnOk};
 ghost use Rattle.std.specs.List.{flat_map};
 ghost use Rattle.plan_picture.specs.Picture.{IsPictureOf};
 ghost use Rattle.plan_picture.specs.Seen.{seen_all};
 ghost use Rattle.picture_text.specs.Dot as dot_spec;
-ghost use Rattle.picture_text.specs.Lines as lines;
 ghost use Rattle.picture_text.specs.SeenLine.{seen_line};
 ghost use Rattle.picture_text.specs.Text as text_spec;
 ghost use Rattle.picture_svg.specs.Svg as spec;
@@ -17,7 +16,8 @@ use crate::layout::{Area, Edge, Layout, layout_of};
 use crate::shapes::{say_numbered, say_path, say_size, say_two_lines};
 use crate::style::say_style;
 use picture_text::{
-    Caption, Line, Mark, is_marked, line_at, mark_of, say, say_label, say_number, width_of,
+    Caption, Condition, Detail, Line, Mark, Setting, condition_of, detail_at, is_marked, line_at,
+    mark_of, say, say_condition, say_label, say_number, say_setting, settings_of, width_of,
     words_of,
 };
 use plan_picture::{Picture, Row};
@@ -62,19 +62,46 @@ fn say_mark(out: &mut Vec<u8>, mark: Option<Mark<'_>>) -> Result<(), AllocError>
     }
 }
 
+/// Parameters and their values, each on a line of its own.
+fn say_settings(out: &mut Vec<u8>, settings: &[Setting]) -> Result<(), AllocError>
+    ensures { OnOk result (out.new.items ≡ out.old.items ++ flat_map spec.setting_line settings.now) }
+{
+    for setting in settings {
+        out.push(b'\n')?;
+        say_setting(out, b" = ", setting)?;
+    }
+    Ok(())
+}
+
+/// What a solution says of a line, on lines of their own.
+fn say_detail(out: &mut Vec<u8>, detail: Option<&Detail>) -> Result<(), AllocError>
+    ensures { OnOk result (out.new.items ≡ out.old.items ++ spec.detail_lines (option_map (λ d. d.now) detail.entry)) }
+{
+    say_settings(out, settings_of(detail))?;
+    match condition_of(detail) {
+        Some(condition) => {
+            out.extend_from_slice(b"\nprecondition: ")?;
+            say_condition(out, condition)
+        }
+        None => Ok(()),
+    }
+}
+
 /// What is known of a line.
 fn known(
     alloc: Global,
     caption: &Caption<'_>,
     number: usize,
+    detail: Option<&Detail>,
     line: Line<'_>,
 ) -> Result<Vec<u8>, AllocError>
-    ensures { IfOk result (λ known. known.items ≡ spec.known caption.now.mark number (seen_line line.entry)) }
+    ensures { IfOk result (λ known. known.items ≡ spec.known caption.now.mark number (option_map (λ d. d.now) detail.entry) (seen_line line.entry)) }
 {
     let mut known = Vec::new(alloc);
     say_position(&mut known, number, line)?;
-    say_label(&mut known, number, line)?;
+    say_label(&mut known, number, &[], line)?;
     say_mark(&mut known, mark_of(caption, line.id()))?;
+    say_detail(&mut known, detail)?;
     Ok(known)
 }
 
@@ -115,18 +142,19 @@ fn say_title(
     alloc: Global,
     caption: &Caption<'_>,
     number: usize,
+    detail: Option<&Detail>,
     line: Line<'_>,
 ) -> Result<(), AllocError>
-    ensures { OnOk result (out.new.items ≡ out.old.items ++ spec.node_title caption.now.mark number (seen_line line.entry)) }
+    ensures { OnOk result (out.new.items ≡ out.old.items ++ spec.node_title caption.now.mark number (option_map (λ d. d.now) detail.entry) (seen_line line.entry)) }
 {
-    let known = known(alloc, caption, number, line)?;
+    let known = known(alloc, caption, number, detail, line)?;
     out.extend_from_slice(b"<g><title>")?;
     say_escaped(out, known.as_slice())?;
     out.extend_from_slice(b"</title>\n")
 }
 
-/// The node of a line.
-fn say_line(
+/// The box of a line, and the end of its node.
+fn say_box(
     out: &mut Vec<u8>,
     alloc: Global,
     caption: &Caption<'_>,
@@ -135,10 +163,9 @@ fn say_line(
     area: Area,
     line: Line<'_>,
 ) -> Result<(), AllocError>
-    ensures { OnOk result (out.new.items ≡ out.old.items ++ spec.node caption.now.mark digits number area (Some (seen_line line.entry))) }
+    ensures { OnOk result (out.new.items ≡ out.old.items ++ spec.node_box caption.now.mark digits number area (seen_line line.entry)) }
 {
     let class = class_of(is_marked(caption, line.id()), line);
-    say_title(out, alloc, caption, number, line)?;
     say_words(out, alloc, class, digits, number, area, line)?;
     out.extend_from_slice(b"</g>\n")
 }
@@ -148,32 +175,47 @@ fn say_node(
     out: &mut Vec<u8>,
     alloc: Global,
     caption: &Caption<'_>,
+    details: Option<&[Detail]>,
     file: &PlanFile,
     number: usize,
     area: Area,
 ) -> Result<(), AllocError>
-    ensures { OnOk result (out.new.items ≡ out.old.items ++ spec.node caption.now.mark (text_spec.width_of file.now) number area (lines.line_at file.now number)) }
+    ensures { OnOk result (out.new.items ≡ out.old.items ++ spec.node_in caption.now.mark (option_map (λ d. d.now) details.entry) file.now number (Some area)) }
 {
     match line_at(file, number) {
-        Some(line) => say_line(out, alloc, caption, width_of(file), number, area, line),
+        Some(line) => {
+            let detail = detail_at(details, file.actions().len(), number);
+            say_title(out, alloc, caption, number, detail, line)?;
+            say_box(out, alloc, caption, width_of(file), number, area, line)
+        }
         None => Ok(()),
     }
 }
 
-/// The node of a row in the box at a place, if there is one.
-fn say_row(
+/// The box at a place.
+fn box_at(boxes: &[Area], place: usize) -> Option<Area>
+    ensures { result ≡ slice_get boxes.now place }
+{
+    match boxes.get(place) {
+        Some(area) => Some(*area),
+        None => None,
+    }
+}
+
+/// The node of the line with a number in its box, if it has one.
+fn say_node_in(
     out: &mut Vec<u8>,
     alloc: Global,
     caption: &Caption<'_>,
+    details: Option<&[Detail]>,
     file: &PlanFile,
-    row: &Row,
-    boxes: &[Area],
-    place: usize,
+    number: usize,
+    area: Option<Area>,
 ) -> Result<(), AllocError>
-    ensures { OnOk result (out.new.items ≡ out.old.items ++ spec.node_in caption.now.mark file.now row.now.line (slice_get boxes.now place)) }
+    ensures { OnOk result (out.new.items ≡ out.old.items ++ spec.node_in caption.now.mark (option_map (λ d. d.now) details.entry) file.now number area) }
 {
-    match boxes.get(place) {
-        Some(area) => say_node(out, alloc, caption, file, row.line, *area),
+    match area {
+        Some(area) => say_node(out, alloc, caption, details, file, number, area),
         None => Ok(()),
     }
 }
@@ -183,14 +225,17 @@ fn say_nodes(
     out: &mut Vec<u8>,
     alloc: Global,
     caption: &Caption<'_>,
+    details: Option<&[Detail]>,
     file: &PlanFile,
     rows: &[Row],
     boxes: &[Area],
 ) -> Result<(), AllocError>
-    ensures { OnOk result (out.new.items ≡ out.old.items ++ spec.nodes caption.now.mark file.now (seen_all rows.now) boxes.now) }
+    ensures { OnOk result (out.new.items ≡ out.old.items ++ spec.nodes caption.now.mark (option_map (λ d. d.now) details.entry) file.now (seen_all rows.now) boxes.now) }
 {
     for place in 0..rows.len() {
-        say_row(out, alloc, caption, file, &rows[place], boxes, place)?;
+        let line = rows[place].line;
+        let area = box_at(boxes, place);
+        say_node_in(out, alloc, caption, details, file, line, area)?;
     }
     Ok(())
 }
@@ -265,10 +310,11 @@ fn say_problem(
 fn laid_out(
     alloc: Global,
     caption: &Caption<'_>,
+    details: Option<&[Detail]>,
     picture: &Picture<'_>,
     layout: &Layout,
 ) -> Result<Vec<u8>, AllocError>
-    ensures { IfOk result (λ text. text.items ≡ spec.svg_bytes caption.now picture.now layout.now) }
+    ensures { IfOk result (λ text. text.items ≡ spec.svg_bytes caption.now (option_map (λ d. d.now) details.entry) picture.now layout.now) }
 {
     let mut out = Vec::new(alloc);
     let rows = picture.rows.as_slice();
@@ -276,21 +322,23 @@ fn laid_out(
     say_head(&mut out, alloc, caption, layout)?;
     say_edges(&mut out, layout.edges.as_slice())?;
     say_problem(&mut out, alloc, caption, layout.problem)?;
-    say_nodes(&mut out, alloc, caption, picture.file, rows, boxes)?;
+    say_nodes(&mut out, alloc, caption, details, picture.file, rows, boxes)?;
     out.extend_from_slice(b"</svg>\n")?;
     Ok(out)
 }
 
 /// The picture as SVG, which needs nothing from outside: a box for the problem and one for each line, and an edge to each
-/// line from its parent. An error is also that a number doesn't fit, as in `layout_of`.
+/// line from its parent. With the details of a solution the title of a task's node has the values of parameters and the
+/// method's precondition. An error is also that a number doesn't fit, as in `layout_of`.
 pub fn svg(
     alloc: Global,
     caption: &Caption<'_>,
+    details: Option<&[Detail]>,
     picture: &Picture<'_>,
 ) -> Result<Vec<u8>, AllocError>
     requires { IsPictureOf picture.now.file.now picture.now }
-    ensures { IfOk result (λ text. spec.IsSvgOf caption.now picture.now text.items) }
+    ensures { IfOk result (λ text. spec.IsSvgOf caption.now (option_map (λ d. d.now) details.entry) picture.now text.items) }
 {
     let layout = layout_of(alloc, caption, picture)?;
-    laid_out(alloc, caption, picture, &layout)
+    laid_out(alloc, caption, details, picture, &layout)
 }

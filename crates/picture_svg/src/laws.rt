@@ -1,9 +1,10 @@
 //! Laws of SVG pictures.
 
-ghost use Rattle.std.specs.Prelude.{ℕ, List};
+ghost use Rattle.std.specs.Prelude.{ℕ, List, Option};
 ghost use Rattle.diagnostics.specs.Tame.{is_tame};
 ghost use Rattle.plan_picture.specs.declared.picture.Picture.{Picture};
 ghost use Rattle.picture_text.specs.declared.caption.Caption.{Caption};
+ghost use Rattle.picture_text.specs.declared.detail.Detail.{Detail};
 ghost use Rattle.picture_text.specs.Tame.{AreTame};
 ghost use Rattle.picture_svg.specs.declared.layout.Layout.{Layout};
 ghost use Rattle.picture_svg.specs.Apart.{LayoutsAreClear};
@@ -30,5 +31,5 @@ pub fn words_are_text()
 
 /// A picture as SVG has no control byte but tabs and line feeds, and is ASCII, whatever the names are.
 pub fn svg_is_tame()
-    ensures { (caption : Caption) (picture : Picture) (layout : Layout) → AreTame is_tame (svg_bytes caption picture layout) }
+    ensures { (caption : Caption) (details : Option (List Detail)) (picture : Picture) (layout : Layout) → AreTame is_tame (svg_bytes caption details picture layout) }
 {}
