@@ -39,8 +39,8 @@ examples_hold = record {
   explained_as = refl;
   explained_once = refl;
   unexplained = refl;
-  drawn_by_default = record { domain = refl; problem = refl; plan = refl; format = refl; colour = refl; sound = refl };
-  drawn_by_options = record { domain = refl; problem = refl; plan = refl; format = refl; colour = refl; sound = refl };
+  drawn_by_default = record { domain = refl; problem = refl; plan = refl; format = refl; details = refl; colour = refl; sound = refl };
+  drawn_by_options = record { domain = refl; problem = refl; plan = refl; format = refl; details = refl; colour = refl; sound = refl };
   no_drawing = refl;
   no_time = refl;
   input_twice = refl;

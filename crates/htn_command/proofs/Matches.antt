@@ -271,7 +271,7 @@ module _ (f : Found) where
   plan_of (Verify domain problem plan) is use_it = other_command _ _ is.1 plan_is_not_verify
   plan_of (Check domain problem format limit is_strict colour) is use_it = other_command _ _ is.1 (λ same. check_is_not_plan (sym same))
   plan_of (Explain domain problem plan format has_states colour) is use_it = other_command _ _ is.1 (λ same. explain_is_not_plan (sym same))
-  plan_of (Tree domain problem plan drawing colour) is use_it = other_command _ _ is.1 plan_is_not_tree
+  plan_of (Tree domain problem plan drawing has_details colour) is use_it = other_command _ _ is.1 plan_is_not_tree
 
   -- where the bound isn't read, no plan is asked for
   pub lacks_nodes : (r : Request) → IsUnread f (codes "nodes") → Planned r → ⊥
@@ -323,7 +323,7 @@ module _ (f : Found) where
   lacks_a_file (Plan domain problem bounds seconds has_progress) id none which is = other_command _ _ is.1 (λ same. plan_is_not_verify (sym same))
   lacks_a_file (Check domain problem format limit is_strict colour) id none which is = other_command _ _ is.1 (λ same. check_is_not_verify (sym same))
   lacks_a_file (Explain domain problem plan format has_states colour) id none which is = other_command _ _ is.1 (λ same. explain_is_not_verify (sym same))
-  lacks_a_file (Tree domain problem plan drawing colour) id none which is = other_command _ _ is.1 verify_is_not_tree
+  lacks_a_file (Tree domain problem plan drawing has_details colour) id none which is = other_command _ _ is.1 verify_is_not_tree
   lacks_a_file (Verify domain problem plan) id none which is =
       let h = given_rows _ _ (Verify domain problem plan) is refl in
       elim which [
@@ -345,7 +345,7 @@ module _ (f : Found) where
   check_of (Plan domain problem bounds seconds has_progress) is use_it = other_command _ _ is.1 (λ same. check_is_not_plan same)
   check_of (Verify domain problem plan) is use_it = other_command _ _ is.1 (λ same. check_is_not_verify same)
   check_of (Explain domain problem plan format has_states colour) is use_it = other_command _ _ is.1 (λ same. explain_is_not_check (sym same))
-  check_of (Tree domain problem plan drawing colour) is use_it = other_command _ _ is.1 (λ same. check_is_not_tree same)
+  check_of (Tree domain problem plan drawing has_details colour) is use_it = other_command _ _ is.1 (λ same. check_is_not_tree same)
   check_of (Check domain problem format limit is_strict colour) is use_it =
       use_it domain problem format limit is_strict colour (given_rows _ _ (Check domain problem format limit is_strict colour) is refl)
 
@@ -378,7 +378,7 @@ module _ (f : Found) where
   explain_of (Plan domain problem bounds seconds has_progress) is use_it = other_command _ _ is.1 explain_is_not_plan
   explain_of (Verify domain problem plan) is use_it = other_command _ _ is.1 explain_is_not_verify
   explain_of (Check domain problem format limit is_strict colour) is use_it = other_command _ _ is.1 explain_is_not_check
-  explain_of (Tree domain problem plan drawing colour) is use_it = other_command _ _ is.1 explain_is_not_tree
+  explain_of (Tree domain problem plan drawing has_details colour) is use_it = other_command _ _ is.1 explain_is_not_tree
   explain_of (Explain domain problem plan format has_states colour) is use_it =
       use_it domain problem plan format has_states colour (given_rows _ _ (Explain domain problem plan format has_states colour) is refl)
 
@@ -408,30 +408,33 @@ module _ (f : Found) where
 
   -- a request for a tree, whose rows these are
   pub tree_of : {Z : Type 0} → (r : Request) → Drawn r
-      → ((domain problem plan : Bor Text) (drawing : Drawing) (colour : Colour) → IsGiven (rows_of f) (Tree domain problem plan drawing colour) → Z) → Z
+      → ((domain problem plan : Bor Text) (drawing : Drawing) (has_details : Bool) (colour : Colour) → IsGiven (rows_of f) (Tree domain problem plan drawing has_details colour) → Z) → Z
   tree_of (Plan domain problem bounds seconds has_progress) is use_it = other_command _ _ is.1 (λ same. plan_is_not_tree (sym same))
   tree_of (Verify domain problem plan) is use_it = other_command _ _ is.1 (λ same. verify_is_not_tree (sym same))
   tree_of (Check domain problem format limit is_strict colour) is use_it = other_command _ _ is.1 (λ same. check_is_not_tree (sym same))
   tree_of (Explain domain problem plan format has_states colour) is use_it = other_command _ _ is.1 (λ same. explain_is_not_tree (sym same))
-  tree_of (Tree domain problem plan drawing colour) is use_it =
-      use_it domain problem plan drawing colour (given_rows _ _ (Tree domain problem plan drawing colour) is refl)
+  tree_of (Tree domain problem plan drawing has_details colour) is use_it =
+      use_it domain problem plan drawing has_details colour (given_rows _ _ (Tree domain problem plan drawing has_details colour) is refl)
 
   -- where a file isn't given, no tree is asked for
   pub lacks_drawn_domain : (r : Request) → None ≡ first_value f (codes "DOMAIN") → Drawn r → ⊥
-  lacks_drawn_domain r none is = tree_of r is (λ domain problem plan drawing colour h. no_text f (codes "DOMAIN") domain.now none h.0)
+  lacks_drawn_domain r none is = tree_of r is (λ domain problem plan drawing has_details colour h. no_text f (codes "DOMAIN") domain.now none h.0)
 
   pub lacks_drawn_problem : (r : Request) → None ≡ first_value f (codes "PROBLEM") → Drawn r → ⊥
-  lacks_drawn_problem r none is = tree_of r is (λ domain problem plan drawing colour h. no_text f (codes "PROBLEM") problem.now none h.1)
+  lacks_drawn_problem r none is = tree_of r is (λ domain problem plan drawing has_details colour h. no_text f (codes "PROBLEM") problem.now none h.1)
 
   pub lacks_drawn_plan : (r : Request) → None ≡ first_value f (codes "PLAN") → Drawn r → ⊥
-  lacks_drawn_plan r none is = tree_of r is (λ domain problem plan drawing colour h. no_text f (codes "PLAN") plan.now none h.2)
+  lacks_drawn_plan r none is = tree_of r is (λ domain problem plan drawing has_details colour h. no_text f (codes "PLAN") plan.now none h.2)
 
-  -- where a word that isn't there or names nothing is to name a drawing or a time, no tree is asked for
+  -- where a word that isn't there or names nothing is to name a drawing, a flag or a time, no tree is asked for
   pub lacks_drawing : (r : Request) → option_and_then drawing_named (first_value f (codes "format")) ≡ None → Drawn r → ⊥
-  lacks_drawing r none is = tree_of r is (λ domain problem plan drawing colour h. no_named f (codes "format") drawing_named drawing none h.3)
+  lacks_drawing r none is = tree_of r is (λ domain problem plan drawing has_details colour h. no_named f (codes "format") drawing_named drawing none h.3)
+
+  pub lacks_details : (r : Request) → option_and_then flag_named (first_value f (codes "details")) ≡ None → Drawn r → ⊥
+  lacks_details r none is = tree_of r is (λ domain problem plan drawing has_details colour h. no_named f (codes "details") flag_named has_details none h.4)
 
   pub lacks_time : (r : Request) → option_and_then colour_named (first_value f (codes "color")) ≡ None → Drawn r → ⊥
-  lacks_time r none is = tree_of r is (λ domain problem plan drawing colour h. no_named f (codes "color") colour_named colour none h.4)
+  lacks_time r none is = tree_of r is (λ domain problem plan drawing has_details colour h. no_named f (codes "color") colour_named colour none h.5)
 
 -- words with a fault ask for nothing
 pub faulty_ask_nothing : (app : App) (words : List Text) (e : Error) → app ≡ htnplan

@@ -35,14 +35,14 @@ rows_give_one rows (Verify domain problem plan) (Verify other second third) same
     (one_value _ _ _ h.0 k.0, one_value _ _ _ h.1 k.1, one_value _ _ _ h.2 k.2)
 rows_give_one rows (Check domain problem format limit is_strict colour) (Check other second form most strict when) same h k =
     (one_value _ _ _ h.0 k.0, sym h.1 ∙ k.1, one_named _ _ _ h.2 k.2, one_number _ _ _ h.3 k.3, one_named _ _ _ h.5 k.5, one_named _ _ _ h.6 k.6)
-rows_give_one rows (Tree domain problem plan drawing colour) (Tree other second third drawn when) same h k =
-    (one_value _ _ _ h.0 k.0, one_value _ _ _ h.1 k.1, one_value _ _ _ h.2 k.2, one_named _ _ _ h.3 k.3, one_named _ _ _ h.4 k.4)
-rows_give_one rows (Plan domain problem bounds seconds has_progress) (Tree other second third drawn when) same h k = plan_is_not_tree same
-rows_give_one rows (Verify domain problem plan) (Tree other second third drawn when) same h k = verify_is_not_tree same
-rows_give_one rows (Check domain problem format limit is_strict colour) (Tree other second third drawn when) same h k = check_is_not_tree same
-rows_give_one rows (Tree domain problem plan drawing colour) (Plan other second limits time is_shown) same h k = plan_is_not_tree (sym same)
-rows_give_one rows (Tree domain problem plan drawing colour) (Verify other second third) same h k = verify_is_not_tree (sym same)
-rows_give_one rows (Tree domain problem plan drawing colour) (Check other second form most strict when) same h k = check_is_not_tree (sym same)
+rows_give_one rows (Tree domain problem plan drawing has_details colour) (Tree other second third drawn are_shown when) same h k =
+    (one_value _ _ _ h.0 k.0, one_value _ _ _ h.1 k.1, one_value _ _ _ h.2 k.2, one_named _ _ _ h.3 k.3, one_named _ _ _ h.4 k.4, one_named _ _ _ h.5 k.5)
+rows_give_one rows (Plan domain problem bounds seconds has_progress) (Tree other second third drawn are_shown when) same h k = plan_is_not_tree same
+rows_give_one rows (Verify domain problem plan) (Tree other second third drawn are_shown when) same h k = verify_is_not_tree same
+rows_give_one rows (Check domain problem format limit is_strict colour) (Tree other second third drawn are_shown when) same h k = check_is_not_tree same
+rows_give_one rows (Tree domain problem plan drawing has_details colour) (Plan other second limits time is_shown) same h k = plan_is_not_tree (sym same)
+rows_give_one rows (Tree domain problem plan drawing has_details colour) (Verify other second third) same h k = verify_is_not_tree (sym same)
+rows_give_one rows (Tree domain problem plan drawing has_details colour) (Check other second form most strict when) same h k = check_is_not_tree (sym same)
 rows_give_one rows (Plan domain problem bounds seconds has_progress) (Verify other second third) same h k = plan_is_not_verify same
 rows_give_one rows (Plan domain problem bounds seconds has_progress) (Check other second form most strict when) same h k = check_is_not_plan (sym same)
 rows_give_one rows (Verify domain problem plan) (Plan other second limits time is_shown) same h k = plan_is_not_verify (sym same)
@@ -57,8 +57,8 @@ rows_give_one rows (Explain domain problem plan format has_states colour) (Verif
 rows_give_one rows (Verify domain problem plan) (Explain other second third form are_shown when) same h k = explain_is_not_verify (sym same)
 rows_give_one rows (Explain domain problem plan format has_states colour) (Check other second form most strict when) same h k = explain_is_not_check same
 rows_give_one rows (Check domain problem format limit is_strict colour) (Explain other second third form are_shown when) same h k = explain_is_not_check (sym same)
-rows_give_one rows (Explain domain problem plan format has_states colour) (Tree other second third drawn when) same h k = explain_is_not_tree same
-rows_give_one rows (Tree domain problem plan drawing colour) (Explain other second third form are_shown when) same h k = explain_is_not_tree (sym same)
+rows_give_one rows (Explain domain problem plan format has_states colour) (Tree other second third drawn are_shown when) same h k = explain_is_not_tree same
+rows_give_one rows (Tree domain problem plan drawing has_details colour) (Explain other second third form are_shown when) same h k = explain_is_not_tree (sym same)
 
 -- words ask for one request at most
 pub requests_are_unique : RequestsAreUnique

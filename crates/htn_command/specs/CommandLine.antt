@@ -86,13 +86,15 @@ explain =
     (flag (codes "states")))
     (choice (codes "color") (codes "auto"))
 
--- `tree DOMAIN PROBLEM PLAN [--format FORMAT] [--color WHEN]`
+-- `tree DOMAIN PROBLEM PLAN [--format FORMAT] [--details] [--color WHEN]`
 abbrev pub tree : App
 tree =
     with_rule
     (with_rule
+    (with_rule
     (with_rule (with_rule (with_rule (new_app (codes "tree")) (file (codes "DOMAIN"))) (file (codes "PROBLEM"))) (file (codes "PLAN")))
     (choice (codes "format") (codes "text")))
+    (flag (codes "details")))
     (choice (codes "color") (codes "auto"))
 
 -- the program's name, and then one of its commands, or a word that asks for the version

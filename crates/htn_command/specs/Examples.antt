@@ -47,14 +47,15 @@ drawing = codes "htnplan" ∷ codes "tree" ∷ codes "d" ∷ codes "p" ∷ codes
 
 -- a line that draws the plan of the standard input, with all options
 abbrev pub drawing_dots : List Text
-drawing_dots = codes "htnplan" ∷ codes "tree" ∷ codes "--color=always" ∷ codes "d" ∷ codes "p" ∷ codes "--format" ∷ codes "dot" ∷ codes "-" ∷ []
+drawing_dots = codes "htnplan" ∷ codes "tree" ∷ codes "--color=always" ∷ codes "d" ∷ codes "p" ∷ codes "--format" ∷ codes "dot" ∷ codes "--details" ∷ codes "-" ∷ []
 
 -- what it gives the names of `tree`
-pub record DrawsAsGiven (words : List Text) (d p f form when : Option Text) : Type 0 where
+pub record DrawsAsGiven (words : List Text) (d p f form shown when : Option Text) : Type 0 where
   pub domain : given words (codes "DOMAIN") ≡ d
   pub problem : given words (codes "PROBLEM") ≡ p
   pub plan : given words (codes "PLAN") ≡ f
   pub format : given words (codes "format") ≡ form
+  pub details : given words (codes "details") ≡ shown
   pub colour : given words (codes "color") ≡ when
   pub sound : faults words ≡ []
 
@@ -111,8 +112,8 @@ pub record ExamplesHold : Type 0 where
   pub explained_as : faults (codes "htnplan" ∷ codes "explain" ∷ codes "d" ∷ codes "p" ∷ codes "f" ∷ codes "--format" ∷ codes "svg" ∷ []) ≡ InvalidValue ∷ []
   pub explained_once : faults (codes "htnplan" ∷ codes "explain" ∷ codes "-" ∷ codes "p" ∷ codes "-" ∷ []) ≡ ArgumentConflict ∷ []
   pub unexplained : faults (codes "htnplan" ∷ codes "explain" ∷ codes "d" ∷ codes "p" ∷ []) ≡ MissingRequiredArgument ∷ []
-  pub drawn_by_default : DrawsAsGiven drawing (Some (codes "d")) (Some (codes "p")) (Some (codes "f")) (Some (codes "text")) (Some (codes "auto"))
-  pub drawn_by_options : DrawsAsGiven drawing_dots (Some (codes "d")) (Some (codes "p")) (Some (codes "-")) (Some (codes "dot")) (Some (codes "always"))
+  pub drawn_by_default : DrawsAsGiven drawing (Some (codes "d")) (Some (codes "p")) (Some (codes "f")) (Some (codes "text")) (Some (codes "false")) (Some (codes "auto"))
+  pub drawn_by_options : DrawsAsGiven drawing_dots (Some (codes "d")) (Some (codes "p")) (Some (codes "-")) (Some (codes "dot")) (Some (codes "true")) (Some (codes "always"))
   pub no_drawing : faults (codes "htnplan" ∷ codes "tree" ∷ codes "d" ∷ codes "p" ∷ codes "f" ∷ codes "--format" ∷ codes "short" ∷ []) ≡ InvalidValue ∷ []
   pub no_time : faults (codes "htnplan" ∷ codes "tree" ∷ codes "d" ∷ codes "p" ∷ codes "f" ∷ codes "--color" ∷ codes "red" ∷ []) ≡ InvalidValue ∷ []
   pub input_twice : faults (codes "htnplan" ∷ codes "tree" ∷ codes "d" ∷ codes "-" ∷ codes "-" ∷ []) ≡ ArgumentConflict ∷ []

@@ -12,7 +12,7 @@ command_of (Plan domain problem bounds seconds has_progress) = codes "plan"
 command_of (Verify domain problem plan) = codes "verify"
 command_of (Check domain problem format limit is_strict colour) = codes "check"
 command_of (Explain domain problem plan format has_states colour) = codes "explain"
-command_of (Tree domain problem plan drawing colour) = codes "tree"
+command_of (Tree domain problem plan drawing has_details colour) = codes "tree"
 
 -- the values of the command's names are those of the request
 abbrev pub IsGiven : List Row → Request → Type 0
@@ -44,11 +44,12 @@ IsGiven rows (Explain domain problem plan format has_states colour) =
     × (option_and_then format_named (first_of (codes "format") rows) ≡ Some format)
     × (option_and_then flag_named (first_of (codes "states") rows) ≡ Some has_states)
     × (option_and_then colour_named (first_of (codes "color") rows) ≡ Some colour)
-IsGiven rows (Tree domain problem plan drawing colour) =
+IsGiven rows (Tree domain problem plan drawing has_details colour) =
     (first_of (codes "DOMAIN") rows ≡ Some domain.now)
     × (first_of (codes "PROBLEM") rows ≡ Some problem.now)
     × (first_of (codes "PLAN") rows ≡ Some plan.now)
     × (option_and_then drawing_named (first_of (codes "format") rows) ≡ Some drawing)
+    × (option_and_then flag_named (first_of (codes "details") rows) ≡ Some has_details)
     × (option_and_then colour_named (first_of (codes "color") rows) ≡ Some colour)
 
 -- a command with its values is this request
@@ -81,8 +82,9 @@ AreAlike (Check domain problem format limit is_strict colour) (Check other secon
 AreAlike (Explain domain problem plan format has_states colour) (Explain other second third form are_shown when) =
     (domain.now ≡ other.now) × (problem.now ≡ second.now) × (plan.now ≡ third.now)
     × (format ≡ form) × (has_states ≡ are_shown) × (colour ≡ when)
-AreAlike (Tree domain problem plan drawing colour) (Tree other second third drawn when) =
-    (domain.now ≡ other.now) × (problem.now ≡ second.now) × (plan.now ≡ third.now) × (drawing ≡ drawn) × (colour ≡ when)
+AreAlike (Tree domain problem plan drawing has_details colour) (Tree other second third drawn are_shown when) =
+    (domain.now ≡ other.now) × (problem.now ≡ second.now) × (plan.now ≡ third.now)
+    × (drawing ≡ drawn) × (has_details ≡ are_shown) × (colour ≡ when)
 AreAlike _ _ = ⊥
 
 -- words ask for one request at most

@@ -64,6 +64,8 @@ pub enum Request<'a> {
         problem: &'a str,
         plan: &'a str,
         drawing: Drawing,
+        /// Whether text shows what a valid plan does not say of its lines.
+        has_details: bool,
         colour: Colour,
     },
 }
@@ -131,13 +133,15 @@ Status: 0 valid, 1 invalid, 2 command line, 3 a text is refused, 4 memory, 5 fil
 const TREE_CALL: &str = "Examples:
   htnplan tree domain.hddl problem.hddl plan.txt
   htnplan plan domain.hddl problem.hddl | htnplan tree domain.hddl problem.hddl -
+  htnplan tree domain.hddl problem.hddl plan.txt --details
   htnplan tree domain.hddl problem.hddl plan.txt --format html > plan.html
   htnplan tree domain.hddl problem.hddl plan.txt --format svg > plan.svg
   htnplan tree domain.hddl problem.hddl plan.txt --format dot | dot -Tpng > plan.png
 
 The first line has the verdict of `verify`, and the line of the plan that it names is marked. The numbers left of the
-tree are the places of the actions in the plan. Lines that are no forest (`invalid: Structure`) have no picture. One of
-the files may be `-`, the standard input.
+tree are the places of the actions in the plan. Lines that are no forest (`invalid: Structure`) have no picture. Of a
+valid plan `--details` shows in text what the plan does not say: the values of the methods' parameters, and after how
+many actions each precondition is tested. One of the files may be `-`, the standard input.
 
 Status: 0 valid, 1 invalid, 2 command line, 3 a text is refused, 4 memory, 5 files or output.";
 
@@ -289,6 +293,9 @@ fn tree<'a>(alloc: Global) -> Result<Command<'a>, AllocError>
         .arg(file(alloc, "PLAN", "The file of the plan, as `plan` prints it"))?
         .arg(choice(alloc, "format", "FORMAT", "text").help(
             "How it is drawn: text, ascii, json, dot, svg, html",
+        ))?
+        .arg(flag(alloc, "details").help(
+            "Values of the methods' parameters, and where preconditions are tested",
         ))?
         .arg(choice(alloc, "color", "WHEN", "auto").help(
             "Colours of what is wrong with a text: auto, always, never",
@@ -473,12 +480,14 @@ fn read_tree_words<'a>(tree: &ArgMatches<'a>) -> Option<Request<'a>>
     let problem = tree.get_str("PROBLEM")?;
     let plan = tree.get_str("PLAN")?;
     let drawing = drawing_named(tree.get_str("format")?)?;
+    let has_details = flag_named(tree.get_str("details")?)?;
     let colour = colour_named(tree.get_str("color")?)?;
     Some(Request::Tree {
         domain,
         problem,
         plan,
         drawing,
+        has_details,
         colour,
     })
 }

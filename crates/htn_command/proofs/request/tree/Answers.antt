@@ -20,5 +20,6 @@ returns c =
     let two = with_one _ _ _ _ _ one c.in_ok-arg-2.ensures c.file-2.ensures.rule c.file-2.ensures.local in
     let three = with_one _ _ _ _ _ two c.in_ok-arg-3.ensures c.file-3.ensures.rule c.file-3.ensures.local in
     let four = with_one _ _ _ _ _ three c.in_ok-arg-4.ensures (ap rule c.help.ensures ∙ c.choice.ensures.rule) (ap global c.help.ensures ∙ c.choice.ensures.local) in
-    IfOk-weaker c.arg-5.result _ _
-    (λ r adds. with_one _ _ _ _ _ four adds (ap rule c.help-2.ensures ∙ c.choice-2.ensures.rule) (ap global c.help-2.ensures ∙ c.choice-2.ensures.local)) c.arg-5.ensures
+    let five = with_one _ _ _ _ _ four c.in_ok-arg-5.ensures (ap rule c.help-2.ensures ∙ c.flag.ensures.rule) (ap global c.help-2.ensures ∙ c.flag.ensures.local) in
+    IfOk-weaker c.arg-6.result _ _
+    (λ r adds. with_one _ _ _ _ _ five adds (ap rule c.help-3.ensures ∙ c.choice-2.ensures.rule) (ap global c.help-3.ensures ∙ c.choice-2.ensures.local)) c.arg-6.ensures
