@@ -1,5 +1,5 @@
 -- Pages command no terminal.
-use Rattle.std.proofs.Common.{◌≡◌, ℕ, zero, suc, ◌-◌, ◌==◌, ◌%◌, ◌<◌, ◌≤◌, Bool, true, false, nat_eq, max, cond, codes, List, [], ◌∷◌, ◌++◌, length, get_or, map, option_map, Option, Some, None, ◌⊎◌, inl, inr, refl, sym, subst}
+use Rattle.std.proofs.Common.{◌≡◌, ℕ, zero, suc, ◌-◌, ◌==◌, ◌%◌, ◌<◌, ◌≤◌, Bool, true, false, nat_eq, max, cond, codes, List, [], ◌∷◌, ◌++◌, length, get_or, option_map, Option, Some, None, ◌⊎◌, inl, inr, refl, sym, subst}
 use Rattle.std.specs.List.{flat_map, range_with_len}
 use Rattle.std.specs.Fmt.{decimal}
 use Rattle.std.specs.Str.{bytes_eq}
@@ -15,10 +15,15 @@ use Rattle.plan_picture.specs.declared.picture.Picture.{Picture}
 use Rattle.plan_picture.specs.Rows.{Row}
 use Rattle.picture_text.specs.declared.caption.Caption.{Caption}
 use Rattle.picture_text.specs.declared.caption.Mark.{Mark}
+use Rattle.plan_forest.specs.Forest.{lists_of}
+use Rattle.picture_text.specs.declared.detail.Setting.{Setting}
+use Rattle.picture_text.specs.declared.detail.Condition.{Condition}
+use Rattle.picture_text.specs.declared.detail.Detail.{Detail}
+use Rattle.picture_text.specs.Details.{detail_at, condition_of, moment}
 use Rattle.picture_text.specs.Lines.{Line, action, task, id_of, line_at}
 use Rattle.picture_text.specs.Tame.{AreTame}
 use Rattle.picture_text.specs.Words.{mark_of, is_marked}
-use Rattle.picture_text.proofs.Tamed.{both, decimal_tame, two, each, left, words as shown_words}
+use Rattle.picture_text.proofs.Tamed.{both, decimal_tame, two, each, left, of_moment, words as shown_words}
 use Rattle.picture_svg.specs.Escape.{less, greater, ampersand, quote, entity, escape}
 use Rattle.picture_svg.specs.Grid.{rows_of, actions_of}
 use Rattle.picture_svg.specs.declared.layout.Layout.{Layout}
@@ -31,13 +36,14 @@ use Rattle.picture_html.specs.Why.{line_byte, clean_lines, why}
 use Rattle.picture_html.specs.Bars.{max_levels}
 use Rattle.picture_html.specs.Label.{clean, words_between, between, spaced, name_text, words, id_text, id, flag, sign, cut, text, front, label}
 use Rattle.picture_html.specs.Outline.{next_depth, folds, ends, outline, line_row}
-use Rattle.picture_html.specs.Page.{title, begin, head, verdict, counts, header, columns, ruler, key, chart, tree, above, below, html_bytes, max_drawn, IsHtmlOf}
+use Rattle.picture_html.specs.Page.{title, begin, head, verdict, counts, header, columns, ruler, test_key, key, chart, tree, above, below, details_of, html_bytes, max_drawn, IsHtmlOf}
 use Rattle.picture_html.specs.Row as row_spec
 use Rattle.picture_html.specs.Row.{level, row_class, row_text}
 use Rattle.picture_html.specs.Ruler.{step_of, tick, tick_at, ticks}
 use Rattle.picture_html.specs.Style as look
-use Rattle.picture_html.specs.Style.{style}
-use Rattle.picture_html.specs.Time.{extent, bar_text, link, time}
+use Rattle.picture_html.specs.Style.{style, more_style}
+use Rattle.picture_html.specs.Time.{extent, bar_text, link, test, time}
+use Rattle.picture_html.specs.Tip.{setting_line, literal_line, condition_lines, tip, are_tested}
 
 -- tame bytes
 abbrev pub Ok : List ℕ → Type 0
@@ -137,8 +143,36 @@ link_ok (bar ∷ []) = refl
 link_ok (bar ∷ next ∷ bars) =
     let last = (get_or (next ∷ bars) (length bars) bar).last in join (codes "<i class=\"link\"") (extent bar.first last) refl (extent_ok bar.first last)
 
-time_ok : (bars : List Bar) → Ok (time bars)
-time_ok bars = four (codes "<span class=\"time\">") (link bars) (flat_map bar_text bars) (codes "</span>") refl (link_ok bars) (each is_tame itself bar_text bar_ok bars) refl
+test_ok : (condition : Option Condition) → Ok (test condition)
+test_ok None = refl
+test_ok (Some condition) = number_ok (codes "<i class=\"p\" style=\"--a:") condition.gap (codes "\"></i>") refl refl
+
+time_ok : (bars : List Bar) (condition : Option Condition) → Ok (time bars condition)
+time_ok bars condition =
+    let end = codes "</span>" in
+    four (codes "<span class=\"time\">") (link bars) (flat_map bar_text bars) (test condition ++ end) refl (link_ok bars) (each is_tame itself bar_text bar_ok bars)
+    (join (test condition) end (test_ok condition) refl)
+
+-- ## What a solution says
+
+setting_ok : (setting : Setting) → Ok (setting_line setting)
+setting_ok setting =
+    four (clean setting.name.items) (codes " = ") (clean setting.object.items) (codes "\n") (clean_tame setting.name.items) refl (clean_tame setting.object.items) refl
+
+literal_ok : (literal : Word) → Ok (literal_line literal)
+literal_ok literal = join (clean literal) (codes "\n") (clean_tame literal) refl
+
+condition_ok : (condition : Option Condition) → Ok (condition_lines condition)
+condition_ok None = refl
+condition_ok (Some condition) =
+    let literals = lists_of condition.literals.items in
+    four (codes "precondition") (moment condition.gap) (codes ":\n") (flat_map literal_line literals) refl (of_moment is_tame itself condition.gap) refl (each is_tame itself literal_line literal_ok literals)
+
+tip_ok : (detail : Option Detail) → Ok (tip detail)
+tip_ok None = refl
+tip_ok (Some detail) =
+    four (codes "<span class=\"tip\">") (flat_map setting_line detail.settings.items) (condition_lines detail.condition) (codes "</span>") refl
+    (each is_tame itself setting_line setting_ok detail.settings.items) (condition_ok detail.condition) refl
 
 -- ## Rows
 
@@ -156,25 +190,28 @@ end_ok : (f : Bool) → Ok (row_spec.end f)
 end_ok true = refl
 end_ok false = refl
 
-row_ok : (mark : Option Mark) (f : Bool) (row : Row) (line : Option Line) (bars : List Bar) → Ok (row_text mark f row line bars)
-row_ok mark f row None bars = refl
-row_ok mark f row (Some line) bars =
+row_ok : (mark : Option Mark) (f : Bool) (row : Row) (line : Option Line) (bars : List Bar) (detail : Option Detail) → Ok (row_text mark f row line bars detail)
+row_ok mark f row None bars detail = refl
+row_ok mark f row (Some line) bars detail =
     let words = label (mark_of mark (id_of line)) (row.depth - max_levels) row.line line in
-    let rest = words ++ (time bars ++ row_spec.end f) in
+    let now = time bars (condition_of detail) in
+    let rest = words ++ (now ++ (tip detail ++ row_spec.end f)) in
     three (row_spec.begin f row.depth) (row_class (is_marked mark (id_of line)) line) rest (begin_ok f row.depth) (class_ok (is_marked mark (id_of line)) line)
-    (three words (time bars) (row_spec.end f) (label_ok (mark_of mark (id_of line)) (row.depth - max_levels) row.line line) (time_ok bars) (end_ok f))
+    (four words now (tip detail) (row_spec.end f) (label_ok (mark_of mark (id_of line)) (row.depth - max_levels) row.line line) (time_ok bars (condition_of detail))
+    (tip_ok detail) (end_ok f))
 
 ends_ok : (n : ℕ) → Ok (ends n)
 ends_ok zero = refl
 ends_ok (suc n) = join (codes "</details>\n") (ends n) refl (ends_ok n)
 
-outline_ok : (mark : Option Mark) (file : PlanFile) (bars : ℕ → List Bar) (rows : List Row) → Ok (outline (line_row mark file bars) rows)
-outline_ok mark file bars [] = refl
-outline_ok mark file bars (row ∷ rows) =
+outline_ok : (mark : Option Mark) (file : PlanFile) (details : Option (List Detail)) (bars : ℕ → List Bar) (rows : List Row) → Ok (outline (line_row mark file details bars) rows)
+outline_ok mark file details bars [] = refl
+outline_ok mark file details bars (row ∷ rows) =
     let f = folds row.depth (next_depth rows) in
     let n = level row.depth - level (next_depth rows) in
-    let here = row_text mark f row (line_at file row.line) (bars row.line) in
-    join (here ++ ends n) (outline (line_row mark file bars) rows) (join here (ends n) (row_ok mark f row (line_at file row.line) (bars row.line)) (ends_ok n)) (outline_ok mark file bars rows)
+    let detail = detail_at details (length file.actions) row.line in
+    let here = row_text mark f row (line_at file row.line) (bars row.line) detail in
+    join (here ++ ends n) (outline (line_row mark file details bars) rows) (join here (ends n) (row_ok mark f row (line_at file row.line) (bars row.line) detail) (ends_ok n)) (outline_ok mark file details bars rows)
 
 -- ## How it looks
 
@@ -193,6 +230,10 @@ line_ok = join look.time look.bars refl refl
 
 style_ok : Ok style
 style_ok = four look.colours look.around look.outline look.line colours_ok around_ok rows_ok line_ok
+
+more_ok : (details : Option (List Detail)) → Ok (more_style details)
+more_ok None = refl
+more_ok (Some details) = refl
 
 -- ## All of it
 
@@ -242,11 +283,24 @@ ruler_ok : (n : ℕ) → Ok (ruler n)
 ruler_ok n =
     four (codes "<div class=\"row head\"><span class=\"label\">task and method</span>") (codes "<span class=\"time\">") (ticks n) (codes "</span></div>\n") refl refl (ticks_ok n) refl
 
-chart_ok : (caption : Caption) (picture : Picture) (bars : ℕ → List Bar) → Ok (chart caption picture bars)
-chart_ok caption picture bars =
-    let rows = outline (line_row caption.mark picture.file.now bars) (rows_of picture) in
-    four (columns (actions_of picture)) (ruler (actions_of picture)) rows key (columns_ok (actions_of picture)) (ruler_ok (actions_of picture))
-    (outline_ok caption.mark picture.file.now bars (rows_of picture)) refl
+test_key_ok : (tested : Bool) → Ok (test_key tested)
+test_key_ok true = refl
+test_key_ok false = refl
+
+key_ok : (tested : Bool) → Ok (key tested)
+key_ok tested =
+    four (codes "</div>\n<p class=\"key\"><span><i class=\"a\"></i>action</span>") (codes "<span><i></i>all actions of a task</span>") (test_key tested) (codes "</p>\n") refl refl (test_key_ok tested) refl
+
+chart_ok : (caption : Caption) (details : Option (List Detail)) (picture : Picture) (bars : ℕ → List Bar) → Ok (chart caption details picture bars)
+chart_ok caption details picture bars =
+    let rows = outline (line_row caption.mark picture.file.now details bars) (rows_of picture) in
+    four (columns (actions_of picture)) (ruler (actions_of picture)) rows (key (are_tested details)) (columns_ok (actions_of picture)) (ruler_ok (actions_of picture))
+    (outline_ok caption.mark picture.file.now details bars (rows_of picture)) (key_ok (are_tested details))
+
+head_ok : (caption : Caption) (details : Option (List Detail)) → Ok (head caption details)
+head_ok caption details =
+    let end = codes "</head>\n<body>\n<main>\n" in
+    four begin (title caption) style (more_style details ++ end) refl (title_ok caption) style_ok (join (more_style details) end (more_ok details) refl)
 
 tree_ok : (svg : List ℕ) → Ok svg → Ok (tree svg)
 tree_ok [] h = refl
@@ -320,13 +374,14 @@ below_ok remarks file svg h =
 pub html_ok : (caption : Caption) (remarks : Remarks) (picture : Picture) (bars : ℕ → List Bar) (svg : List ℕ) → Ok svg → Ok (html_bytes caption remarks picture bars svg)
 html_ok caption remarks picture bars svg h =
     let file = picture.file.now in
-    four (head caption) (above caption remarks file) (chart caption picture bars) (below remarks file svg)
-    (four begin (title caption) style (codes "</head>\n<body>\n<main>\n") refl (title_ok caption) style_ok refl) (above_ok caption remarks file) (chart_ok caption picture bars) (below_ok remarks file svg h)
+    let details = details_of remarks in
+    four (head caption details) (above caption remarks file) (chart caption details picture bars) (below remarks file svg) (head_ok caption details) (above_ok caption remarks file)
+    (chart_ok caption details picture bars) (below_ok remarks file svg h)
 
-pub page_ok : ((caption : Caption) (picture : Picture) (layout : Layout) → Ok (svg_bytes caption picture layout))
+pub page_ok : ((caption : Caption) (details : Option (List Detail)) (picture : Picture) (layout : Layout) → Ok (svg_bytes caption details picture layout))
     → (caption : Caption) (remarks : Remarks) (picture : Picture) (bytes : List ℕ) → IsHtmlOf caption remarks picture bytes → Ok bytes
 page_ok svg_ok caption remarks picture bytes is = subst Ok (sym is.bytes_are) (html_ok caption remarks picture is.bars is.svg (by (cases_lt max_drawn (length picture.rows.items))))
   where
     by : (max_drawn < length picture.rows.items) ⊎ (length picture.rows.items ≤ max_drawn) → Ok is.svg
     by (inl many) = subst Ok (sym (is.is_tree.left_out many)) refl
-    by (inr few) = let drawn = is.is_tree.drawn few in subst Ok (sym drawn.bytes_are) (svg_ok caption picture drawn.layout)
+    by (inr few) = let drawn = is.is_tree.drawn few in subst Ok (sym drawn.bytes_are) (svg_ok caption (details_of remarks) picture drawn.layout)

@@ -2,6 +2,7 @@ pub mod Bars
 pub mod Runs
 pub mod Label
 pub mod Time
+pub mod Tip
 pub mod Row
 pub mod Outline
 pub mod Ruler

@@ -1,8 +1,10 @@
 -- The outline: a row for each line, from the top down, and what folds under it.
-use Rattle.std.specs.Prelude.{ℕ, zero, suc, ◌-◌, ◌&&◌, Bool, nat_lt, List, [], ◌∷◌, ◌++◌, get_or, map, codes, Option, Vec}
+use Rattle.std.specs.Prelude.{ℕ, zero, suc, ◌-◌, ◌&&◌, Bool, nat_lt, List, [], ◌∷◌, ◌++◌, length, get_or, map, codes, Option, Vec}
 use Rattle.htn_model.specs.PlanFile.{PlanFile}
 use Rattle.picture_text.specs.declared.caption.Mark.{Mark}
 use Rattle.plan_picture.specs.Rows.{Row}
+use Rattle.picture_text.specs.declared.detail.Detail.{Detail}
+use Rattle.picture_text.specs.Details.{detail_at}
 use Rattle.picture_text.specs.Lines.{line_at}
 use Rattle.picture_html.specs.declared.bars.Bar.{Bar}
 use Rattle.picture_html.specs.Bars.{max_levels}
@@ -12,9 +14,9 @@ use Rattle.picture_html.specs.Row.{level, row_text}
 abbrev pub bars_at : {A : Type 0} → List (Vec Bar A) → ℕ → List Bar
 bars_at bars line = get_or (map (λ v. v.items) bars) line []
 
--- the row of a line, with its bars
-abbrev pub line_row : Option Mark → PlanFile → (ℕ → List Bar) → Bool → Row → List ℕ
-line_row mark file bars folds row = row_text mark folds row (line_at file row.line) (bars row.line)
+-- the row of a line, with its bars and with what a solution says of it
+abbrev pub line_row : Option Mark → PlanFile → Option (List Detail) → (ℕ → List Bar) → Bool → Row → List ℕ
+line_row mark file details bars folds row = row_text mark folds row (line_at file row.line) (bars row.line) (detail_at details (length file.actions) row.line)
 
 -- how many lines the first row is below; 0 where there is none
 abbrev pub next_depth : List Row → ℕ

@@ -1,9 +1,10 @@
 -- The page.
-use Rattle.std.specs.Prelude.{◌≡◌, ℕ, ◌≤◌, ◌<◌, max, if◌then◌else◌, List, [], ◌∷◌, ◌++◌, length, codes, Option, Some, None, option_map}
+use Rattle.std.specs.Prelude.{◌≡◌, ℕ, ◌≤◌, ◌<◌, Bool, true, false, max, if◌then◌else◌, List, [], ◌∷◌, ◌++◌, length, codes, Option, Some, None, option_map}
 use Rattle.std.specs.Str.{bytes_eq}
 use Rattle.htn_model.specs.PlanFile.{PlanFile}
 use Rattle.picture_text.specs.declared.caption.Caption.{Caption}
 use Rattle.picture_text.specs.declared.caption.Mark.{Mark}
+use Rattle.picture_text.specs.declared.detail.Detail.{Detail}
 use Rattle.plan_picture.specs.declared.picture.Picture.{Picture}
 use Rattle.picture_svg.specs.Grid.{rows_of, actions_of}
 use Rattle.picture_svg.specs.Svg.{IsSvgOf}
@@ -14,7 +15,8 @@ use Rattle.picture_html.specs.Changes.{run}
 use Rattle.picture_html.specs.Label.{between, words_between}
 use Rattle.picture_html.specs.Outline.{line_row, outline}
 use Rattle.picture_html.specs.Ruler.{step_of, ticks}
-use Rattle.picture_html.specs.Style.{style}
+use Rattle.picture_html.specs.Style.{style, more_style}
+use Rattle.picture_html.specs.Tip.{are_tested}
 use Rattle.picture_html.specs.Why.{why}
 
 -- the title: the problem and the verdict
@@ -28,8 +30,8 @@ begin =
     ++ codes "<meta name=\"viewport\" content=\"width=device-width,initial-scale=1\">\n"
 
 -- all that stands before what is seen
-abbrev pub head : Caption → List ℕ
-head caption = begin ++ (title caption ++ (style ++ codes "</head>\n<body>\n<main>\n"))
+abbrev pub head : Caption → Option (List Detail) → List ℕ
+head caption details = begin ++ (title caption ++ (style ++ (more_style details ++ codes "</head>\n<body>\n<main>\n")))
 
 -- a verdict that names no line
 abbrev pub unmarked : List ℕ → List ℕ
@@ -63,14 +65,22 @@ ruler actions =
     codes "<div class=\"row head\"><span class=\"label\">task and method</span>"
     ++ (codes "<span class=\"time\">" ++ (ticks actions ++ codes "</span></div>\n"))
 
+-- what the sign of a test means, if there is one
+abbrev pub test_key : Bool → List ℕ
+test_key true = codes "<span><i class=\"p\"></i>where a method's precondition is tested</span>"
+test_key false = []
+
 -- what stands below the chart
-abbrev pub key : List ℕ
-key = codes "</div>\n<p class=\"key\"><span><i class=\"a\"></i>action</span>" ++ codes "<span><i></i>all actions of a task</span></p>\n"
+abbrev pub key : Bool → List ℕ
+key tested =
+    codes "</div>\n<p class=\"key\"><span><i class=\"a\"></i>action</span>"
+    ++ (codes "<span><i></i>all actions of a task</span>" ++ (test_key tested ++ codes "</p>\n"))
 
 -- the outline and the time line, with the bars of each line
-abbrev pub chart : Caption → Picture → (ℕ → List Bar) → List ℕ
-chart caption picture bars =
-    columns (actions_of picture) ++ (ruler (actions_of picture) ++ (outline (line_row caption.mark picture.file.now bars) (rows_of picture) ++ key))
+abbrev pub chart : Caption → Option (List Detail) → Picture → (ℕ → List Bar) → List ℕ
+chart caption details picture bars =
+    columns (actions_of picture) ++ (ruler (actions_of picture)
+    ++ (outline (line_row caption.mark picture.file.now details bars) (rows_of picture) ++ key (are_tested details)))
 
 -- the tree, where it is drawn
 abbrev pub tree : List ℕ → List ℕ
@@ -85,10 +95,15 @@ above caption remarks file = header caption file ++ why caption.verdict.now rema
 abbrev pub below : Remarks → PlanFile → List ℕ → List ℕ
 below remarks file svg = tree svg ++ (run file (option_map (λ r. r.now) remarks.run) ++ codes "</main>\n</body>\n</html>\n")
 
+-- what a solution says of the lines, if anything is said
+abbrev pub details_of : Remarks → Option (List Detail)
+details_of remarks = option_map (λ d. d.now) remarks.details
+
 -- the whole page, with the bars of each line and the tree
 abbrev pub html_bytes : Caption → Remarks → Picture → (ℕ → List Bar) → List ℕ → List ℕ
 html_bytes caption remarks picture bars svg =
-    head caption ++ (above caption remarks picture.file.now ++ (chart caption picture bars ++ below remarks picture.file.now svg))
+    let details = details_of remarks in
+    head caption details ++ (above caption remarks picture.file.now ++ (chart caption details picture bars ++ below remarks picture.file.now svg))
 
 -- the most lines of a plan whose tree is drawn too
 abbrev pub max_drawn : ℕ
@@ -99,8 +114,8 @@ abbrev pub max_run : ℕ
 max_run = 2000
 
 -- the tree of a picture as SVG, unless the picture has more than 400 lines
-pub record IsTreeOf (caption : Caption) (picture : Picture) (svg : List ℕ) : Type 0 where
-  pub drawn : length picture.rows.items ≤ max_drawn → IsSvgOf caption picture svg
+pub record IsTreeOf (caption : Caption) (details : Option (List Detail)) (picture : Picture) (svg : List ℕ) : Type 0 where
+  pub drawn : length picture.rows.items ≤ max_drawn → IsSvgOf caption details picture svg
   pub left_out : max_drawn < length picture.rows.items → svg ≡ []
 
 -- the page of a picture, with the bars of each line, with its tree and with what is said beside it
@@ -108,5 +123,5 @@ pub record IsHtmlOf (caption : Caption) (remarks : Remarks) (picture : Picture) 
   pub bars : ℕ → List Bar
   pub are_bars : AreAllBars picture bars
   pub svg : List ℕ
-  pub is_tree : IsTreeOf caption picture svg
+  pub is_tree : IsTreeOf caption (details_of remarks) picture svg
   pub bytes_are : bytes ≡ html_bytes caption remarks picture bars svg

@@ -1,5 +1,6 @@
 -- How a page looks: colours by day and by night, and which element has which.
-use Rattle.std.specs.Prelude.{ℕ, List, ◌++◌, codes}
+use Rattle.std.specs.Prelude.{ℕ, List, [], ◌++◌, codes, Option, Some, None}
+use Rattle.picture_text.specs.declared.detail.Detail.{Detail}
 
 -- colours by day
 abbrev pub day : List ℕ
@@ -125,3 +126,19 @@ line = time ++ bars
 -- all of it
 abbrev pub style : List ℕ
 style = colours ++ (around ++ (outline ++ line))
+
+-- what a solution says of lines, and the signs of tests
+abbrev pub details_style : List ℕ
+details_style =
+    codes "<style>\n.row:not(.head){position:relative}.tip{display:none;position:absolute;z-index:3;margin-left:12px}\n"
+    ++ (codes ".tip{left:min(460px,75%);top:calc(100% - 2px);padding:8px 12px;border-radius:8px;pointer-events:none}\n"
+    ++ (codes ".tip{background:var(--ink);color:var(--bg);font:12px/1.5 var(--mono);white-space:pre}\n"
+    ++ (codes ".row:hover>.tip:not(:empty),.row:focus-visible>.tip:not(:empty){display:block}\n"
+    ++ (codes ".time .p,.key .p{width:9px;height:9px;min-width:0;border:2px solid var(--method);border-radius:0}\n"
+    ++ (codes ".time .p,.key .p{background:var(--bg);transform:rotate(45deg)}\n"
+    ++ codes ".time .p{top:50%;bottom:auto;margin:-5px 0 0 -5px}@media print{.tip{display:none!important}}\n</style>\n")))))
+
+-- the same, if anything is said of lines
+abbrev pub more_style : Option (List Detail) → List ℕ
+more_style None = []
+more_style (Some details) = details_style

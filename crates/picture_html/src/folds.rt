@@ -1,13 +1,13 @@
 //! The outline: rows, and what folds under each.
 
-ghost use Rattle.std.specs.Prelude.{◌≡◌, ◌++◌, ◌-◌, drop, OnOk};
+ghost use Rattle.std.specs.Prelude.{◌≡◌, ◌++◌, ◌-◌, drop, option_map, OnOk};
 ghost use Rattle.plan_picture.specs.Seen.{seen, seen_all};
 ghost use Rattle.picture_html.specs.Outline as spec;
 ghost use Rattle.picture_html.specs.Row.{level};
 
 use crate::bars::{Bar, MAX_LEVELS};
 use crate::row::{level_of, say_row};
-use picture_text::Caption;
+use picture_text::{Caption, Detail, detail_at};
 use plan_picture::Row;
 use plan_text::PlanFile;
 use std::alloc::AllocError;
@@ -63,14 +63,17 @@ fn say_step(
     out: &mut Vec<u8>,
     caption: &Caption<'_>,
     file: &PlanFile,
+    details: Option<&[Detail]>,
     bars: &[Vec<Bar>],
     row: &Row,
     next: usize,
 ) -> Result<(), AllocError>
-    ensures { OnOk result (out.new.items ≡ out.old.items ++ spec.step (spec.line_row caption.now.mark file.now (spec.bars_at bars.now)) (seen row.now) next) }
+    ensures { OnOk result (out.new.items ≡ out.old.items ++ spec.step (spec.line_row caption.now.mark file.now (option_map (λ d. d.now) details.entry) (spec.bars_at bars.now)) (seen row.now) next) }
 {
     let folds = folds(row.depth, next);
-    say_row(out, caption, file, folds, row, bars_at(bars, row.line))?;
+    let bars = bars_at(bars, row.line);
+    let detail = detail_at(details, file.actions().len(), row.line);
+    say_row(out, caption, file, folds, row, bars, detail)?;
     say_ends(out, ends_between(row.depth, next))
 }
 
@@ -79,14 +82,15 @@ pub(crate) fn say_outline(
     out: &mut Vec<u8>,
     caption: &Caption<'_>,
     file: &PlanFile,
+    details: Option<&[Detail]>,
     bars: &[Vec<Bar>],
     rows: &[Row],
 ) -> Result<(), AllocError>
-    ensures { OnOk result (out.new.items ≡ out.old.items ++ spec.outline (spec.line_row caption.now.mark file.now (spec.bars_at bars.now)) (seen_all rows.now)) }
+    ensures { OnOk result (out.new.items ≡ out.old.items ++ spec.outline (spec.line_row caption.now.mark file.now (option_map (λ d. d.now) details.entry) (spec.bars_at bars.now)) (seen_all rows.now)) }
 {
     for place in 0..rows.len() {
         let next = depth_at(rows, place + 1);
-        say_step(out, caption, file, bars, &rows[place], next)?;
+        say_step(out, caption, file, details, bars, &rows[place], next)?;
     }
     Ok(())
 }

@@ -8,7 +8,8 @@
 //! that is below more than 4, so that a page is not many times as long as its plan. The tree is drawn for plans of at
 //! most 400 lines.
 //!
-//! Left out is what a plan file does not say: the values of a method's parameters, and where its precondition was tested.
+//! What a plan file does not say is handed in too, or left out: the values of a method's parameters that its task does not
+//! show, and where its precondition is tested. A row shows them where one points at it.
 #![tactic(auto)]
 
 mod bars;
@@ -23,6 +24,7 @@ mod row;
 mod ruler;
 mod style;
 mod time;
+mod tip;
 mod why;
 
 pub use bars::{Bar, FEW_LEVELS, MAX_BARRED, MAX_LEVELS};

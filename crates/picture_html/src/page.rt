@@ -1,6 +1,6 @@
 //! The page.
 
-ghost use Rattle.std.specs.Prelude.{◌≡◌, ◌++◌, max, IfOk, OnOk};
+ghost use Rattle.std.specs.Prelude.{◌≡◌, ◌++◌, max, option_map, IfOk, OnOk};
 ghost use Rattle.plan_picture.specs.Picture.{IsPictureOf};
 ghost use Rattle.picture_html.specs.Outline.{bars_at};
 ghost use Rattle.picture_html.specs.Page as spec;
@@ -12,10 +12,11 @@ use crate::folds::say_outline;
 use crate::label::{say_between, say_words_between};
 use crate::remarks::Remarks;
 use crate::ruler::{say_ticks, step_of};
-use crate::style::say_style;
+use crate::style::{say_more_style, say_style};
+use crate::tip::are_tested;
 use crate::why::say_why;
 use picture_svg::svg;
-use picture_text::Caption;
+use picture_text::{Caption, Detail};
 use plan_picture::Picture;
 use plan_text::PlanFile;
 use std::alloc::{AllocError, Global};
@@ -47,12 +48,17 @@ fn say_begin(out: &mut Vec<u8>) -> Result<(), AllocError>
 }
 
 /// All that stands before what is seen.
-fn say_head(out: &mut Vec<u8>, caption: &Caption<'_>) -> Result<(), AllocError>
-    ensures { OnOk result (out.new.items ≡ out.old.items ++ spec.head caption.now) }
+fn say_head(
+    out: &mut Vec<u8>,
+    caption: &Caption<'_>,
+    details: Option<&[Detail]>,
+) -> Result<(), AllocError>
+    ensures { OnOk result (out.new.items ≡ out.old.items ++ spec.head caption.now (option_map (λ d. d.now) details.entry)) }
 {
     say_begin(out)?;
     say_title(out, caption)?;
     say_style(out)?;
+    say_more_style(out, details)?;
     out.extend_from_slice(b"</head>\n<body>\n<main>\n")
 }
 
@@ -150,29 +156,43 @@ fn say_ruler(out: &mut Vec<u8>, actions: usize) -> Result<(), AllocError>
     out.extend_from_slice(b"</span></div>\n")
 }
 
+/// What the sign of a test means, if there is one.
+fn test_key(is_tested: bool) -> &'static [u8]
+    ensures { result.now ≡ spec.test_key is_tested }
+{
+    if is_tested {
+        b"<span><i class=\"p\"></i>where a method's precondition is tested</span>"
+    } else {
+        b""
+    }
+}
+
 /// What stands below the chart.
-fn say_key(out: &mut Vec<u8>) -> Result<(), AllocError>
-    ensures { OnOk result (out.new.items ≡ out.old.items ++ spec.key) }
+fn say_key(out: &mut Vec<u8>, is_tested: bool) -> Result<(), AllocError>
+    ensures { OnOk result (out.new.items ≡ out.old.items ++ spec.key is_tested) }
 {
     out.extend_from_slice(b"</div>\n<p class=\"key\"><span><i class=\"a\"></i>action</span>")?;
-    out.extend_from_slice(b"<span><i></i>all actions of a task</span></p>\n")
+    out.extend_from_slice(b"<span><i></i>all actions of a task</span>")?;
+    out.extend_from_slice(test_key(is_tested))?;
+    out.extend_from_slice(b"</p>\n")
 }
 
 /// The outline and the time line.
 fn say_chart(
     out: &mut Vec<u8>,
     caption: &Caption<'_>,
+    details: Option<&[Detail]>,
     picture: &Picture<'_>,
     bars: &[Vec<Bar>],
 ) -> Result<(), AllocError>
-    ensures { OnOk result (out.new.items ≡ out.old.items ++ spec.chart caption.now picture.now (bars_at bars.now)) }
+    ensures { OnOk result (out.new.items ≡ out.old.items ++ spec.chart caption.now (option_map (λ d. d.now) details.entry) picture.now (bars_at bars.now)) }
 {
     let actions = picture.file.actions().len();
     let rows = picture.rows.as_slice();
     say_columns(out, actions)?;
     say_ruler(out, actions)?;
-    say_outline(out, caption, picture.file, bars, rows)?;
-    say_key(out)
+    say_outline(out, caption, picture.file, details, bars, rows)?;
+    say_key(out, are_tested(details))
 }
 
 /// The tree, where it is drawn.
@@ -191,16 +211,17 @@ fn say_tree(out: &mut Vec<u8>, tree: &[u8]) -> Result<(), AllocError>
 fn tree_of(
     alloc: Global,
     caption: &Caption<'_>,
+    details: Option<&[Detail]>,
     picture: &Picture<'_>,
 ) -> Result<Vec<u8>, AllocError>
     requires { IsPictureOf picture.now.file.now picture.now }
-    ensures { IfOk result (λ tree. spec.IsTreeOf caption.now picture.now tree.items) }
+    ensures { IfOk result (λ tree. spec.IsTreeOf caption.now (option_map (λ d. d.now) details.entry) picture.now tree.items) }
 {
     let lines = picture.rows.as_slice().len();
     if lines > MAX_DRAWN {
         return Ok(Vec::new(alloc));
     }
-    let tree = svg(alloc, caption, picture)?;
+    let tree = svg(alloc, caption, details, picture)?;
     Ok(tree)
 }
 
@@ -244,9 +265,9 @@ fn say_page(
 ) -> Result<(), AllocError>
     ensures { OnOk result (out.new.items ≡ out.old.items ++ spec.html_bytes caption.now remarks.now picture.now (bars_at bars.now) tree.now) }
 {
-    say_head(out, caption)?;
+    say_head(out, caption, remarks.details)?;
     say_above(out, caption, remarks, picture.file)?;
-    say_chart(out, caption, picture, bars)?;
+    say_chart(out, caption, remarks.details, picture, bars)?;
     say_below(out, remarks, picture.file, tree)?;
     Ok(())
 }
@@ -268,8 +289,9 @@ fn written(
 }
 
 /// The picture as a page of HTML, which needs nothing from outside and has no script: the verdict and why it is so, a row
-/// for each line with its bars beside it, the tree, and the run. An error is also that a number of the tree doesn't fit,
-/// as in `picture_svg::svg`.
+/// for each line with its bars beside it, the tree, and the run. With the details of a solution the row of a task has the
+/// values of parameters and the method's precondition, and a sign where that is tested. An error is also that a number of
+/// the tree doesn't fit, as in `picture_svg::svg`.
 pub fn html(
     alloc: Global,
     caption: &Caption<'_>,
@@ -282,7 +304,7 @@ pub fn html(
     let actions = picture.file.actions().len();
     let decompositions = picture.file.decompositions().len();
     let bars = bars_of(alloc, actions, decompositions, picture.rows.as_slice())?;
-    let tree = tree_of(alloc, caption, picture)?;
+    let tree = tree_of(alloc, caption, remarks.details, picture)?;
     let page = written(
         alloc,
         caption,

@@ -1,5 +1,6 @@
 //! What is said of a plan beside its forest.
 
+use picture_text::Detail;
 use plan_reasons::Run;
 
 /// What is said of a plan beside its forest.
@@ -9,4 +10,6 @@ pub struct Remarks<'a> {
     pub why: &'a [u8],
     /// The run of the plan's actions, if it is shown.
     pub run: Option<&'a Run<'a>>,
+    /// What a solution says of the decomposition lines, in their order, if it is shown.
+    pub details: Option<&'a [Detail]>,
 }

@@ -1,6 +1,6 @@
 //! Rows of the outline.
 
-ghost use Rattle.std.specs.Prelude.{◌≡◌, ◌++◌, Some, OnOk};
+ghost use Rattle.std.specs.Prelude.{◌≡◌, ◌++◌, Some, option_map, OnOk};
 ghost use Rattle.picture_text.specs.Lines as lines;
 ghost use Rattle.picture_text.specs.SeenLine.{seen_line};
 ghost use Rattle.plan_picture.specs.Seen.{seen};
@@ -10,7 +10,8 @@ ghost use Rattle.picture_html.specs.Row as spec;
 use crate::bars::{Bar, MAX_LEVELS};
 use crate::label::{say_between, say_label};
 use crate::time::say_time;
-use picture_text::{Caption, Line, is_marked, line_at, mark_of};
+use crate::tip::say_tip;
+use picture_text::{Caption, Detail, Line, condition_of, is_marked, line_at, mark_of};
 use plan_picture::Row;
 use plan_text::PlanFile;
 use std::alloc::AllocError;
@@ -78,19 +79,21 @@ fn say_line(
     row: &Row,
     line: Line<'_>,
     bars: &[Bar],
+    detail: Option<&Detail>,
 ) -> Result<(), AllocError>
-    ensures { OnOk result (out.new.items ≡ out.old.items ++ spec.row_text caption.now.mark folds (seen row.now) (Some (seen_line line.entry)) bars.now) }
+    ensures { OnOk result (out.new.items ≡ out.old.items ++ spec.row_text caption.now.mark folds (seen row.now) (Some (seen_line line.entry)) bars.now (option_map (λ d. d.now) detail.entry)) }
 {
     let id = line.id();
     let more = row.depth.saturating_sub(MAX_LEVELS);
     say_begin(out, folds, row.depth)?;
     say_class(out, is_marked(caption, id), line)?;
     say_label(out, mark_of(caption, id), more, row.line, line)?;
-    say_time(out, bars)?;
+    say_time(out, bars, condition_of(detail))?;
+    say_tip(out, detail)?;
     out.extend_from_slice(end_of(folds))
 }
 
-/// The row of a line, if there is such a line.
+/// The row of a line, if there is such a line, with its bars and with what a solution says of it.
 pub(crate) fn say_row(
     out: &mut Vec<u8>,
     caption: &Caption<'_>,
@@ -98,11 +101,12 @@ pub(crate) fn say_row(
     folds: bool,
     row: &Row,
     bars: &[Bar],
+    detail: Option<&Detail>,
 ) -> Result<(), AllocError>
-    ensures { OnOk result (out.new.items ≡ out.old.items ++ spec.row_text caption.now.mark folds (seen row.now) (lines.line_at file.now row.now.line) bars.now) }
+    ensures { OnOk result (out.new.items ≡ out.old.items ++ spec.row_text caption.now.mark folds (seen row.now) (lines.line_at file.now row.now.line) bars.now (option_map (λ d. d.now) detail.entry)) }
 {
     match line_at(file, row.line) {
-        Some(line) => say_line(out, caption, folds, row, line, bars),
+        Some(line) => say_line(out, caption, folds, row, line, bars, detail),
         None => Ok(()),
     }
 }

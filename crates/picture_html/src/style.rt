@@ -1,8 +1,9 @@
 //! How a page looks, by day and by night.
 
-ghost use Rattle.std.specs.Prelude.{◌≡◌, ◌++◌, OnOk};
+ghost use Rattle.std.specs.Prelude.{◌≡◌, ◌++◌, option_map, OnOk};
 ghost use Rattle.picture_html.specs.Style as spec;
 
+use picture_text::Detail;
 use std::alloc::AllocError;
 
 /// The style sheet: colours by day and by night, and which element has which.
@@ -63,10 +64,35 @@ background-size:calc(100%*var(--s)/var(--n)) 100%}.time u{text-decoration:none;f
 </style>
 ";
 
+/// What a solution says of lines, and the signs of tests.
+const DETAILS_STYLE: &[u8] = b"<style>
+.row:not(.head){position:relative}.tip{display:none;position:absolute;z-index:3;margin-left:12px}
+.tip{left:min(460px,75%);top:calc(100% - 2px);padding:8px 12px;border-radius:8px;pointer-events:none}
+.tip{background:var(--ink);color:var(--bg);font:12px/1.5 var(--mono);white-space:pre}
+.row:hover>.tip:not(:empty),.row:focus-visible>.tip:not(:empty){display:block}
+.time .p,.key .p{width:9px;height:9px;min-width:0;border:2px solid var(--method);border-radius:0}
+.time .p,.key .p{background:var(--bg);transform:rotate(45deg)}
+.time .p{top:50%;bottom:auto;margin:-5px 0 0 -5px}@media print{.tip{display:none!important}}
+</style>
+";
+
 /// How the page looks.
 pub(crate) fn say_style(out: &mut Vec<u8>) -> Result<(), AllocError>
     ensures { OnOk result (out.new.items ≡ out.old.items ++ spec.style) }
 {
     out.extend_from_slice(STYLE)?;
     Ok(())
+}
+
+/// How what a solution says of lines looks, if anything is said.
+pub(crate) fn say_more_style(
+    out: &mut Vec<u8>,
+    details: Option<&[Detail]>,
+) -> Result<(), AllocError>
+    ensures { OnOk result (out.new.items ≡ out.old.items ++ spec.more_style (option_map (λ d. d.now) details.entry)) }
+{
+    match details {
+        Some(_) => out.extend_from_slice(DETAILS_STYLE),
+        None => Ok(()),
+    }
 }

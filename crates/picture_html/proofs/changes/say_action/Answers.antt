@@ -1,4 +1,4 @@
-use Rattle.std.proofs.Common.{◌++◌, ◌∙◌, ap, ap₂, codes}
+use Rattle.std.proofs.Common.{◌++◌, ◌∙◌, ap₂, codes}
 use Rattle.picture_text.proofs.Writes.{adds}
 use Rattle.picture_html.specs.Changes.{change}
 use Rattle.picture_html.specs.Label.{between, name_text}

@@ -1,4 +1,5 @@
-use Rattle.std.proofs.Common.{◌++◌, ◌-◌, ap, ap₂, ◌∙◌}
+use Rattle.std.proofs.Common.{◌++◌, ◌-◌, length, option_map, ap, ap₂, ◌∙◌}
+use Rattle.picture_text.specs.Details.{detail_at}
 use Rattle.picture_text.specs.Lines.{line_at}
 use Rattle.picture_html.specs.Outline.{bars_at, folds, ends}
 use Rattle.picture_html.specs.Row.{level, row_text}
@@ -18,6 +19,10 @@ returns c =
     let count = level row.depth - level c.args.next in
     let now = folds row.depth c.args.next in
     let all = bars_at c.args.bars.now row.line in
-    follows r o n m (row_text mark now (seen row) line all) (ends count)
-    (c.in_ok-say_row.ensures ∙ ap₂ (λ f bars. o ++ row_text mark f (seen row) line bars) c.folds-folds.ensures c.bars_at.ensures)
+    let given = option_map (λ d. d.now) c.args.details in
+    let detail = detail_at given (length c.args.file.now.actions) row.line in
+    let said = c.detail_at-detail.ensures ∙ ap (λ xs. detail_at given (length xs) row.line) c.actions.ensures.value in
+    follows r o n m (row_text mark now (seen row) line all detail) (ends count)
+    (c.in_ok-say_row.ensures ∙ ap₂ (λ f d. o ++ row_text mark f (seen row) line c.bars_at-bars.result.now d) c.folds-folds.ensures said
+    ∙ ap (λ bars. o ++ row_text mark now (seen row) line bars detail) c.bars_at-bars.ensures)
     (reads r n m (ends c.ends_between.result) (ends count) (ap ends c.ends_between.ensures) c.say_ends.ensures)

@@ -1,0 +1,9 @@
+use Rattle.std.proofs.Common.{◌≡◌, ◌++◌, take}
+use Rattle.std.specs.List.{flat_map}
+use Rattle.plan_forest.specs.Forest.{lists_of}
+use Rattle.picture_html.specs.Tip.{literal_line}
+use Rattle.picture_html.proofs.tip.say_literals.Given as goal
+
+-- the literals so far
+abbrev pub invariant-loop-literal : goal.invariant-loop-literal
+invariant-loop-literal l = l.out.items ≡ l.initial.out.items ++ flat_map literal_line (lists_of (take l.literal-index l.literals))
