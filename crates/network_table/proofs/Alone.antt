@@ -2,7 +2,7 @@
 use Rattle.std.proofs.Common.{◌≡◌, ℕ, suc, ◌<◌, true≢false, List, [], ◌∷◌, ◌++◌, map, length, get_or, refl, sym, ap, ap₂, subst, ◌∙◌, arith, All, Contains, length-append, append-nil, append_assoc}
 use Rattle.std.proofs.lemmas.List.{get_or_append_left, get_or_at, get_or_default, get_or-map, length-map, same_lists}
 use Rattle.std.proofs.lemmas.List.Elements.{All-map}
-use Rattle.interner.specs.Interning as interning
+use Rattle.network_table.specs.Interning as interning
 use Rattle.htn_model.specs.PlanFile.{IsWithoutRepeats}
 use Rattle.network_table.specs.Numbered.{Numbered, nothing}
 use Rattle.network_table.specs.Entries.{AreLinked, ArePlacesOf, Fits, IsAlone, IsKeptWhole, entry_eq, entry_eq-decides, network_by, networks_alone, networks_of}

@@ -248,8 +248,8 @@ made_more s t jobs known more (Ok m) are =
     let same : (d : Draft) → draft_network t jobs d ≡ draft_network s jobs d = λ d. drafted_same s t jobs d (all_more (λ (j : Job). Knows s j.network) (λ (j : Job). numbered_at t j.network ≡ numbered_at s j.network) (λ j own. (keeps_more s t more j.network own).1) jobs known) in (
       record {
         alone = are.0.alone;
-        within = subst (λ (l : List Child). All (IsWithin l) (networks_alone m.networks)) (ap numbered_children (sym more.children)) are.0.within;
-        placed = all_more (IsPlaced s jobs (networks_alone m.networks)) (IsPlaced t jobs (networks_alone m.networks)) (λ p own. (own.0, own.1 ∙ sym (same p.draft))) m.places.items are.0.placed;
+        within = subst (λ (l : List Child). All (IsWithin l) (networks_alone m.networks.items)) (ap numbered_children (sym more.children)) are.0.within;
+        placed = all_more (IsPlaced s jobs (networks_alone m.networks.items)) (IsPlaced t jobs (networks_alone m.networks.items)) (λ p own. (own.0, own.1 ∙ sym (same p.draft))) m.places.items are.0.placed;
       },
       all_more (λ (n : Noted). IsKnown s jobs n.known) (λ (n : Noted). IsKnown t jobs n.known)
           (λ n own. (let after = keeps_more s t more n.known.number own.0 in (after.0, after.1 ∙ own.1 ∙ sym (same n.known.draft))))

@@ -60,7 +60,7 @@ Stands t networks x (HasNumber number) = IsNumberOf t number x
 
 -- what a worker made is right, unless memory was refused
 abbrev pub HoldsMade : NetworkTable → List Job → Result Made AllocError → Type 0
-HoldsMade t jobs r = IfOk r (λ m. AreMade t jobs m.networks m.places.items × AreNoted t jobs m.noted.items)
+HoldsMade t jobs r = IfOk r (λ m. AreMade t jobs m.networks.items m.places.items × AreNoted t jobs m.noted.items)
 
 -- the numbers that are noted are right
 abbrev pub AreKnown : NetworkTable → List Job → List (Option Known) → Type 0

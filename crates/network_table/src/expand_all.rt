@@ -51,7 +51,7 @@ impl NetworkTable {
         requires whole { IsWhole self.old }
         requires known { All (λ j. Knows self.old j.network) jobs.now }
         requires workers { 0 < workers }
-        requires made { AreMade self.old jobs.now made.networks made.places.items }
+        requires made { AreMade self.old jobs.now made.networks.items made.places.items }
         requires noted { AreKnown self.old jobs.now noted.old.items }
         ensures whole { OnOk result (IsWhole self.new) }
         ensures more { OnOk result (IsMore self.old self.new) }

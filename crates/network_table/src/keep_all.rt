@@ -9,7 +9,6 @@ ghost use Rattle.network_table.specs.Drafts.{AreNumbersOf};
 
 use crate::network_set::Entry;
 use crate::table::{NetworkTable, sum_bounds};
-use interner::Batch;
 use std::alloc::{AllocError, Global};
 use std::thread::Threads;
 use workers::{for_each_mut, workers_for};
@@ -150,20 +149,20 @@ impl NetworkTable {
         &mut self,
         rt: &R,
         alloc: Global,
-        networks: Batch<Entry>,
+        networks: Vec<Entry>,
         workers: usize,
     ) -> Result<Vec<u32>, AllocError>
         requires workers { 0 < workers }
         requires whole { IsWhole self.old }
-        requires alone { All IsAlone networks }
-        requires within { All (IsWithin (children self.old)) (networks_alone networks) }
+        requires alone { All IsAlone networks.items }
+        requires within { All (IsWithin (children self.old)) (networks_alone networks.items) }
         ensures whole { OnOk result (IsWhole self.new) }
         ensures more { OnOk result (IsMore self.old self.new) }
-        ensures each { IfOk result (λ v. AreNumbersOf self.new v.items (networks_alone networks)) }
+        ensures each { IfOk result (λ v. AreNumbersOf self.new v.items (networks_alone networks.items)) }
     {
         let workers = workers_for(networks.len(), NETWORKS_A_WORKER, workers);
         let first = self.networks.len();
-        let places = self.networks.insert_all(rt, alloc, networks, workers)?;
+        let places = self.networks.insert_all(alloc, networks)?;
         let measures = self.measures(rt, alloc, workers, first)?;
         self.put_measures(measures.as_slice())?;
         let numbers = numbers_of(alloc, places.as_slice())?;

@@ -13,6 +13,7 @@ mod draft;
 mod expand;
 mod expand_all;
 mod expansion;
+mod interner;
 mod keep_all;
 mod laws;
 mod made;

@@ -12,7 +12,6 @@ use crate::network_set::Entry;
 use crate::notes::Known;
 use crate::table::NetworkTable;
 use indexmap::IndexMap;
-use interner::Batch;
 use std::alloc::{AllocError, Global};
 
 /// The place of a draft's network among those that were made, and the place of the draft.
@@ -34,7 +33,7 @@ pub(crate) struct Noted {
 /// already. None is a chain: the networks are numbered side by side, and a chain is stored as a cell on another.
 #[derive(Drop)]
 pub(crate) struct Made {
-    pub(crate) networks: Batch<Entry>,
+    pub(crate) networks: Vec<Entry>,
     pub(crate) places: Vec<Place>,
     pub(crate) noted: Vec<Noted>,
 }
@@ -67,14 +66,14 @@ fn inner_of<'a>(
 }
 
 /// Whether the network at a place is this one.
-fn is_at(networks: &Batch<Entry>, place: usize, network: &Network) -> bool
+fn is_at(networks: &[Entry], place: usize, network: &Network) -> bool
     ensures { let all = networks_alone networks.now in
         result ≡ true → (place < length all) × (get_or all place nothing ≡ network.now) }
 {
     if place >= networks.len() {
         return false;
     }
-    match networks.get(place) {
+    match &networks[place] {
         Entry::Whole(kept) => kept == network,
         Entry::Chain(_) => false,
     }
@@ -129,7 +128,7 @@ impl NetworkTable {
     /// table unless the hint has its place.
     fn standing_of(
         &self,
-        networks: &Batch<Entry>,
+        networks: &[Entry],
         hint: Standing,
         network: Network,
     ) -> (Standing, Network)
@@ -158,13 +157,13 @@ impl NetworkTable {
         draft: Draft,
         network: Network,
     ) -> Result<Standing, AllocError>
-        requires made { AreMade self.now jobs.now made.old.networks made.old.places.items }
+        requires made { AreMade self.now jobs.now made.old.networks.items made.old.places.items }
         requires noted { AreNoted self.now jobs.now made.old.noted.items }
-        requires stands { Stands self.now (networks_alone made.old.networks) network standing }
+        requires stands { Stands self.now (networks_alone made.old.networks.items) network standing }
         requires draft { network ≡ draft_network self.now jobs.now draft }
         requires whole { IsKeptWhole network }
         requires within { IsWithin (children self.now) network }
-        ensures made { OnOk result (AreMade self.now jobs.now made.new.networks made.new.places.items) }
+        ensures made { OnOk result (AreMade self.now jobs.now made.new.networks.items made.new.places.items) }
         ensures noted { OnOk result (AreNoted self.now jobs.now made.new.noted.items) }
     {
         match standing {
@@ -203,15 +202,15 @@ impl NetworkTable {
         requires whole { IsWhole self.now }
         requires known { All (λ j. Knows self.now j.network) jobs.now }
         requires within { All (λ j. All (IsWithin (children self.now)) j.instances.now) jobs.now }
-        requires made { AreMade self.now jobs.now made.old.networks made.old.places.items }
+        requires made { AreMade self.now jobs.now made.old.networks.items made.old.places.items }
         requires noted { AreNoted self.now jobs.now made.old.noted.items }
-        ensures made { OnOk result (AreMade self.now jobs.now made.new.networks made.new.places.items) }
+        ensures made { OnOk result (AreMade self.now jobs.now made.new.networks.items made.new.places.items) }
         ensures noted { OnOk result (AreNoted self.now jobs.now made.new.noted.items) }
     {
         let Some(next) = self.make(alloc, jobs, draft)? else {
             return Ok(hint);
         };
-        let (standing, next) = self.standing_of(&made.networks, hint, next);
+        let (standing, next) = self.standing_of(made.networks.as_slice(), hint, next);
         self.put(jobs, made, standing, at, draft, next)
     }
 
@@ -228,11 +227,11 @@ impl NetworkTable {
         requires known { All (λ j. Knows self.now j.network) jobs.now }
         requires within { All (λ j. All (IsWithin (children self.now)) j.instances.now) jobs.now }
         requires count { 0 < count }
-        ensures { IfOk result (λ m. AreMade self.now jobs.now m.networks m.places.items
+        ensures { IfOk result (λ m. AreMade self.now jobs.now m.networks.items m.places.items
             × AreNoted self.now jobs.now m.noted.items) }
     {
         let mut made = Made {
-            networks: Batch::new(alloc)?,
+            networks: Vec::new(alloc),
             places: Vec::new(alloc),
             noted: Vec::new(alloc),
         };

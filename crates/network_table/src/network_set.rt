@@ -4,12 +4,11 @@ ghost use Rattle.htn_model.specs.PlanFile.{IsWithoutRepeats};
 ghost use Rattle.network_table.specs.Numbered.{Numbered, nothing};
 ghost use Rattle.network_table.specs.Entries.{ArePlacesOf, Fits, IsAlone, IsChain, IsEntryAt, network_by, networks_alone};
 
+use crate::interner::Interner;
 use crate::network::Network;
-use interner::{Batch, Interner};
 use std::alloc::{AllocError, Global};
 use std::hash::{Hash, Hasher};
 use std::marker::Model;
-use std::thread::Threads;
 
 /// The first node of a totally ordered network, and the network of the others, both by number.
 #[derive(Clone, Copy, Drop)]
@@ -90,11 +89,12 @@ impl Model for NetworkSet {
 
 impl NetworkSet {
     /// No networks.
-    pub(crate) fn new(alloc: Global) -> Result<NetworkSet, AllocError>
-        ensures { IfOk result (λ s. s ≡ []) }
+    pub(crate) fn new(alloc: Global) -> NetworkSet
+        ensures { result ≡ [] }
     {
-        let entries = Interner::new(alloc)?;
-        Ok(NetworkSet { entries })
+        NetworkSet {
+            entries: Interner::new(alloc),
+        }
     }
 
     /// The number of networks.
@@ -135,23 +135,19 @@ impl NetworkSet {
         Ok(placed)
     }
 
-    /// The places of networks that are stored whole, new ones for those that the set has not, by at most `workers`
-    /// workers.
-    pub(crate) fn insert_all<R: Threads + Sync>(
+    /// The places of networks that are stored whole, new ones for those that the set does not have.
+    pub(crate) fn insert_all(
         &mut self,
-        rt: &R,
         alloc: Global,
-        networks: Batch<Entry>,
-        workers: usize,
+        networks: Vec<Entry>,
     ) -> Result<Vec<usize>, AllocError>
-        requires workers { 0 < workers }
-        requires alone { All IsAlone networks }
+        requires { All IsAlone networks.items }
         ensures grown { OnOk result ((more : List Numbered) × (self.new ≡ self.old ++ more)
-            × All (Contains (networks_alone networks)) more) }
-        ensures places { IfOk result (λ v. ArePlacesOf self.new v.items (networks_alone networks)) }
+            × All (Contains (networks_alone networks.items)) more) }
+        ensures places { IfOk result (λ v. ArePlacesOf self.new v.items (networks_alone networks.items)) }
         ensures distinct { OnOk result (IsWithoutRepeats self.old → IsWithoutRepeats self.new) }
     {
-        let places = self.entries.intern_all(rt, alloc, networks, workers)?;
+        let places = self.entries.intern_all(alloc, networks)?;
         Ok(places)
     }
 }

@@ -73,7 +73,7 @@ impl NetworkTable {
         ensures none { IfOk result (λ t. (n : ℕ) → expansion_at t n ≡ None) }
         ensures empty { IfOk result (λ t. t.networks ≡ []) }
     {
-        let networks = NetworkSet::new(alloc)?;
+        let networks = NetworkSet::new(alloc);
         Ok(NetworkTable {
             children: ChildTable::new(alloc),
             networks,

@@ -1,4 +1,4 @@
-use Rattle.std.proofs.Common.{◌<◌, ◌∙◌, [], sym, length, arith}
+use Rattle.std.proofs.Common.{◌∙◌, [], sym, arith}
 use Rattle.network_table.specs.Numbered.{numbered_eq-decides}
 use Rattle.network_table.specs.Entries.{network_by}
 use Rattle.std.proofs.lemmas.List.{length-map}
@@ -9,7 +9,7 @@ pub returns-in-Whole : goal.returns-in-Whole
 returns-in-Whole c = λ told.
     let networks = c.args.networks.now in
     let kept = c.in-Whole.kept in
-    let inside : c.args.place < length networks = omega (arith, c.if-place-len.false, c.len.ensures) in (
+    let inside = c.if-place-networks.false in (
       omega (arith, inside, length-map networks (network_by [])),
-      whole_there networks c.args.place kept c.get.result.now inside c.get.ensures c.in-Whole.is ∙ (numbered_eq-decides kept c.args.network.now).0 (sym c.eq.ensures ∙ told),
+      whole_there networks c.args.place kept c.index-networks-place.result inside c.index-networks-place.is c.in-Whole.is ∙ (numbered_eq-decides kept c.args.network.now).0 (sym c.eq.ensures ∙ told),
     )

@@ -4,8 +4,8 @@ use Rattle.network_table.specs.Entries.{IsChain, IsEntryAt, networks_of}
 use Rattle.network_table.proofs.Linking.{chain_short, networks_len}
 use Rattle.network_table.proofs.network_set.NetworkSet.entry.Goals as goal
 
-pub get-requires-after_bounds : goal.get-requires-after_bounds
-get-requires-after_bounds c κs = omega (arith, c.requires, ap length c.self.view_is, networks_len c.self.inside.entries)
+pub get-requires : goal.get-requires
+get-requires c = omega (arith, c.requires, ap length c.self.view_is, networks_len c.self.inside.entries)
 
 pub returns-clause-entry : goal.returns-clause-entry
 returns-clause-entry c =

@@ -3,7 +3,7 @@ use Rattle.std.specs.List.{list_any}
 use Rattle.std.proofs.lemmas.List.{get_or_append_left}
 use Rattle.std.proofs.lemmas.List.Folds.{list_any_at}
 use Rattle.indexmap.specs.IndexSet.{insert_key}
-use Rattle.interner.specs.Interning.{IsNumberOf}
+use Rattle.network_table.specs.Interning.{IsNumberOf}
 use Rattle.htn_model.specs.PlanFile.{IsWithoutRepeats}
 use Rattle.network_table.specs.Numbered.{Numbered, nothing}
 use Rattle.network_table.specs.Entries.{AreLinked, Fits, chained, entry_eq, entry_eq-decides, network_by, networks_of}

@@ -1,6 +1,6 @@
 use Rattle.std.proofs.Common.{◌≡◌, ◌∙◌, ◌++◌, [], List, All, Contains, ap, subst, sym}
 use Rattle.htn_model.specs.PlanFile.{IsWithoutRepeats}
-use Rattle.interner.specs.Interning.{AreApart}
+use Rattle.network_table.specs.Interning.{AreApart}
 use Rattle.network_table.specs.Entries.{AreLinked, IsAlone, entry_eq, network_by, networks_alone, networks_of}
 use Rattle.network_table.specs.declared.network_set.Entry.{Entry}
 use Rattle.network_table.proofs.Alone.{contained_all, contains_map, distinct_append, linked_append, networks_append, places_are}
@@ -26,28 +26,33 @@ module _ (old new batch more : List Entry) (linked : AreLinked old) (alone : All
       subst (λ es. IsWithoutRepeats (networks_of es)) (sym are) (distinct_append old more linked more_alone (subst (AreApart entry_eq) are apart) distinct)
 
 pub invariant_of-self-2 : goal.invariant_of-self-2
-invariant_of-self-2 g c =
-    let grown = c.in_ok-places.ensures.grown in
-    linked_after c.self.inside.entries c.intern_all.new.self c.args.networks grown.0 c.self.invariant c.requires.alone grown.1 grown.2
+invariant_of-self-2 c =
+    let grown = c.in_ok-places.ensures.interned.grown in
+    linked_after c.self.inside.entries c.intern_all.new.self c.args.networks.items grown.0 c.self.invariant c.requires grown.1 grown.2
 
 pub returns-clause-grown : goal.returns-clause-grown
-returns-clause-grown g c =
-    let batch = c.args.networks in
-    let grown = c.in_ok-places.ensures.grown in (
+returns-clause-grown c =
+    let batch = c.args.networks.items in
+    let grown = c.in_ok-places.ensures.interned.grown in (
       networks_alone grown.0,
-      networks_after c.self.inside.entries c.intern_all.new.self batch grown.0 c.self.invariant c.requires.alone grown.1 grown.2 ∙ ap (λ ns. ns ++ networks_alone grown.0) c.self.view_is,
+      networks_after c.self.inside.entries c.intern_all.new.self batch grown.0 c.self.invariant c.requires grown.1 grown.2 ∙ ap (λ ns. ns ++ networks_alone grown.0) c.self.view_is,
       contains_map (network_by []) batch grown.0 grown.2,
     )
 
 pub returns-clause-places : goal.returns-clause-places
-returns-clause-places g c =
-    let batch = c.args.networks in
-    let grown = c.in_ok-places.ensures.grown in
-    let linked = linked_after c.self.inside.entries c.intern_all.new.self batch grown.0 c.self.invariant c.requires.alone grown.1 grown.2 in
-    places_are c.intern_all.new.self batch c.in_ok-places.places.items linked c.requires.alone c.in_ok-places.ensures.numbers
+returns-clause-places c =
+    let batch = c.args.networks.items in
+    let grown = c.in_ok-places.ensures.interned.grown in
+    let linked = linked_after c.self.inside.entries c.intern_all.new.self batch grown.0 c.self.invariant c.requires grown.1 grown.2 in
+    places_are c.intern_all.new.self batch c.in_ok-places.places.items linked c.requires c.in_ok-places.ensures.interned.numbers_are
 
 pub returns-clause-distinct : goal.returns-clause-distinct
-returns-clause-distinct g c =
-    let grown = c.in_ok-places.ensures.grown in
-    λ distinct. distinct_after c.self.inside.entries c.intern_all.new.self c.args.networks grown.0 c.self.invariant c.requires.alone grown.1 grown.2 c.in_ok-places.ensures.apart
+returns-clause-distinct c =
+    let grown = c.in_ok-places.ensures.interned.grown in
+    λ distinct. distinct_after c.self.inside.entries c.intern_all.new.self c.args.networks.items grown.0 c.self.invariant c.requires grown.1 grown.2 c.in_ok-places.ensures.apart
     (subst IsWithoutRepeats (sym c.self.view_is) distinct)
+
+pub invariant_of-self : goal.invariant_of-self
+invariant_of-self c =
+    let grown = c.intern_all.ensures.grown in
+    linked_after c.self.inside.entries c.intern_all.new.self c.args.networks.items grown.0 c.self.invariant c.requires grown.1 grown.2

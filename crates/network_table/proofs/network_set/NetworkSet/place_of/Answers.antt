@@ -1,7 +1,7 @@
 use Rattle.std.proofs.Common.{◌≡◌, ◌<◌, ◌∙◌, ℕ, false, true≢false, List, length, get_or, ap, subst, sym, arith, Option, None, Some, IfSome, IfNone}
 use Rattle.std.specs.List.{list_any}
 use Rattle.std.proofs.lemmas.List.Folds.{list_any_at}
-use Rattle.interner.specs.Interning.{IsNumberOf}
+use Rattle.network_table.specs.Interning.{IsNumberOf}
 use Rattle.htn_model.specs.PlanFile.{IsWithoutRepeats}
 use Rattle.network_table.specs.Numbered.{Numbered, nothing}
 use Rattle.network_table.specs.Entries.{AreLinked, Fits, entry_eq, entry_eq-decides, network_by, networks_of}

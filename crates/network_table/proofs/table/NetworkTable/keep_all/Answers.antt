@@ -14,8 +14,8 @@ measures-requires-clause-measurable g c κs within =
     let left = left_more s.networks grown.0 c.insert_all.new.self c.len-first.result c.len-first.ensures grown.1 in
     record {
       nodes = c.requires.whole.nodes;
-      kept = subst (All IsKeptWhole) (sym left) (more_fit c.args.networks grown.0 c.requires.alone grown.2);
-      within = subst (All (IsWithin (children s))) (sym left) (more_within (children s) c.args.networks grown.0 c.requires.within grown.2);
+      kept = subst (All IsKeptWhole) (sym left) (more_fit c.args.networks.items grown.0 c.requires.alone grown.2);
+      within = subst (All (IsWithin (children s))) (sym left) (more_within (children s) c.args.networks.items grown.0 c.requires.within grown.2);
     }
 
 pub returns-clause-whole : goal.returns-clause-whole
@@ -26,4 +26,4 @@ returns-clause-whole g c =
     let left = left_more s.networks grown.0 c.insert_all.new.self c.len-first.result c.len-first.ensures grown.1 in
     let measured = c.as_slice.ensures.value ∙ c.in_ok-measures.ensures ∙ ap (map (measure_of s.children)) left in
     whole_kept s c.put_measures.new.self grown.0 c.as_slice.result.now c.requires.whole put.children (put.networks ∙ grown.1) measured put.open_lens put.bounds put.many
-    (more_within (children s) c.args.networks grown.0 c.requires.within grown.2) (subst IsWithoutRepeats (sym put.networks) (c.in_ok-places.ensures.distinct c.requires.whole.distinct))
+    (more_within (children s) c.args.networks.items grown.0 c.requires.within grown.2) (subst IsWithoutRepeats (sym put.networks) (c.in_ok-places.ensures.distinct c.requires.whole.distinct))

@@ -1,2 +1,0 @@
-pub mod Interning
-pub mod Bins
