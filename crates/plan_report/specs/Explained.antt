@@ -1,5 +1,5 @@
 -- Why a plan has its verdict, and why its text is refused, as the bytes of a report.
-use Rattle.std.specs.Prelude.{◌≡◌, ◌⊎◌, ℕ, ◌+◌, ◌-◌, ◌^◌, count_by, min, length, Bool, true, false, List, [], ◌∷◌, Option, Some, None, codes, ⊤}
+use Rattle.std.specs.Prelude.{◌≡◌, ◌⊎◌, ℕ, zero, suc, ◌+◌, ◌-◌, ◌^◌, count_by, min, length, Bool, true, false, List, [], ◌∷◌, Option, Some, None, codes, ⊤}
 use Rattle.std.specs.List.{flat_map}
 use Rattle.std.specs.declared.alloc.Global.{Global}
 use Rattle.std.specs.declared.vec.Vec.{Vec}
@@ -29,6 +29,7 @@ use Rattle.plan_findings.specs.Steps.{takes_step}
 use Rattle.pair_messages.specs.Counts.{numbers_of}
 use Rattle.plan_reasons.specs.declared.cause.Cause.TheVariants as cause
 use Rattle.plan_reasons.specs.declared.cause.Cause.{Cause}
+use Rattle.plan_report.specs.Shorter.{IsShorter}
 use Rattle.plan_reasons.specs.declared.run.Run.{Run}
 use Rattle.plan_report.specs.declared.report.ReportStyle.{ReportStyle}
 
@@ -60,14 +61,28 @@ IsCauseOf task file verdict.GoalFails c = IsRunReason task file c
 IsCauseOf task file verdict.NoArrangement c = c ≡ cause.NoArrangement
 IsCauseOf task file verdict.Valid c = c ≡ cause.Valid
 
+-- at most how many wrong numbers a text shows
+abbrev pub most_numbers : ℕ
+most_numbers = 100
+
+-- what a report shows of a cause, and how many numbers it leaves out: as text those past the first hundred
+abbrev pub IsShownAs : Format → Cause → Cause → ℕ → Type 0
+IsShownAs format.Text whole shown left = IsShorter most_numbers whole shown left
+IsShownAs _ whole shown left = (shown ≡ whole) × (left ≡ 0)
+
+-- the cause of a verdict, as far as a report shows it
+abbrev pub IsShownCauseOf : Task → PlanFile → Verdict → Format → Cause → ℕ → Type 0
+IsShownCauseOf task file v form shown left = (whole : Cause) × IsCauseOf task file v whole × IsShownAs form whole shown left
+
 -- just one error, with this code
 abbrev pub IsSingle : List ℕ → List Diagnostic → Type 0
 IsSingle code ds = (d : Diagnostic) × (ds ≡ d ∷ []) × IsError code d
 
--- the errors of a verdict: one with its name, or those that say its cause
-abbrev pub AreErrorsOf : Task → PlanTexts → Verdict → List Diagnostic → Type 0
-AreErrorsOf task texts v ds =
-    (HasReason v × IsSingle (code_of v) ds) ⊎ ((cause : Cause) × IsCauseOf task texts.plan.file.now v cause × Explains texts cause ds)
+-- the errors of a verdict: one with its name, or those that say its cause; and how many are left out
+abbrev pub AreErrorsOf : Task → PlanTexts → Verdict → Format → List Diagnostic → ℕ → Type 0
+AreErrorsOf task texts v form ds left =
+    (HasReason v × IsSingle (code_of v) ds × (left ≡ 0))
+    ⊎ ((shown : Cause) × IsShownCauseOf task texts.plan.file.now v form shown left × Explains texts shown ds)
 
 -- ## Reports
 
@@ -90,29 +105,38 @@ node_counts task file =
     let steps = count_by (takes_step task) file.decompositions in
     actions ∷ tasks ∷ steps ∷ min (min (actions + tasks) (2 ^ 64 - 1) + steps) (2 ^ 64 - 1) ∷ []
 
--- a line with these numbers, or none
-abbrev pub AreLastLines : Task → PlanFile → Bool → List (Vec Part Global) → Type 0
-AreLastLines task file true lines = (line : Vec Part Global) × (lines ≡ line ∷ []) × (numbers_of line.items ≡ node_counts task file)
-AreLastLines task file false lines = lines ≡ []
+-- a line with some numbers
+abbrev pub IsLineOf : List ℕ → List (Vec Part Global) → Type 0
+IsLineOf numbers lines = (line : Vec Part Global) × (lines ≡ line ∷ []) × (numbers_of line.items ≡ numbers)
 
--- The words of a verdict and its errors in each format. In the text the nodes of a valid plan are counted at
--- the end.
-abbrev pub IsWrittenIn : Format → Task → PlanFile → Verdict → List ℕ → ReportStyle → List Diagnostic → List ℕ → Type 0
-IsWrittenIn format.Text task file v words style ds bytes =
-    (run : List ℕ) × (lines : List (Vec Part Global)) × AreRunLines task file (has_run v style) run × AreLastLines task file (is_valid v) lines
+-- a line that says how many errors are left out, if any are
+abbrev pub AreLeft : ℕ → List (Vec Part Global) → Type 0
+AreLeft zero lines = lines ≡ []
+AreLeft (suc n) lines = IsLineOf (suc n ∷ []) lines
+
+-- a line with these numbers of a valid plan; of another what is left out
+abbrev pub AreLastLines : Task → PlanFile → Bool → ℕ → List (Vec Part Global) → Type 0
+AreLastLines task file true left lines = IsLineOf (node_counts task file) lines
+AreLastLines task file false left lines = AreLeft left lines
+
+-- The words of a verdict and its errors in each format. At the end of the text the nodes of a valid plan are counted, or
+-- the errors that are left out.
+abbrev pub IsWrittenIn : Format → Task → PlanFile → Verdict → List ℕ → ReportStyle → List Diagnostic → ℕ → List ℕ → Type 0
+IsWrittenIn format.Text task file v words style ds left bytes =
+    (run : List ℕ) × (lines : List (Vec Part Global)) × AreRunLines task file (has_run v style) run × AreLastLines task file (is_valid v) left lines
     × (bytes ≡ text_bytes style.colour (is_valid v) words run ds lines)
-IsWrittenIn format.Short task file v words style ds bytes =
+IsWrittenIn format.Short task file v words style ds left bytes =
     (run : List ℕ) × AreRunLines task file (has_run v style) run × (bytes ≡ short_bytes words run ds)
-IsWrittenIn format.Json task file v words style ds bytes = bytes ≡ explained_bytes (Some words) ds
+IsWrittenIn format.Json task file v words style ds left bytes = bytes ≡ explained_bytes (Some words) ds
 
 -- the words of a verdict and its errors in the format that is asked for
-abbrev pub IsWritten : Task → PlanFile → Verdict → List ℕ → ReportStyle → List Diagnostic → List ℕ → Type 0
-IsWritten task file v words style ds bytes = IsWrittenIn style.format task file v words style ds bytes
+abbrev pub IsWritten : Task → PlanFile → Verdict → List ℕ → ReportStyle → List Diagnostic → ℕ → List ℕ → Type 0
+IsWritten task file v words style ds left bytes = IsWrittenIn style.format task file v words style ds left bytes
 
 -- the bytes that say why a file has its verdict
 abbrev pub IsExplanation : Task → PlanTexts → Verdict → List ℕ → ReportStyle → List ℕ → Type 0
 IsExplanation task texts v words style bytes =
-    (ds : List Diagnostic) × AreErrorsOf task texts v ds × IsWritten task texts.plan.file.now v words style ds bytes
+    (ds : List Diagnostic) × (left : ℕ) × AreErrorsOf task texts v style.format ds left × IsWritten task texts.plan.file.now v words style ds left bytes
 
 -- ## Texts that are refused
 

@@ -11,6 +11,7 @@ mod reason;
 mod report;
 mod schemas;
 mod search;
+mod shorter;
 mod spots;
 mod unmet;
 mod words;

@@ -9,6 +9,7 @@ use crate::arrangement::arrangement_reason;
 use crate::faults::fault_error;
 use crate::line::line_reason;
 use crate::reason::{Reason, reason_error};
+use crate::shorter::shorten;
 use diagnostics::{
     Diagnostic, Format, Part, Source, json_verdict, short_report, short_verdict, text_report,
     text_verdict,
@@ -33,12 +34,17 @@ pub struct ReportStyle {
     pub colour: bool,
 }
 
+/// At most how many wrong numbers a text shows.
+const MOST_NUMBERS: usize = 100;
+
 /// What is explained: the verdict on a plan, the words of its line, and how it is written.
 #[derive(Clone, Copy)]
 struct Judged<'a> {
     verdict: Verdict,
     words: &'a str,
     style: ReportStyle,
+    /// How many errors are left out.
+    left: usize,
 }
 
 /// Whether a report has the lines of the run: if they are wanted, and the lines of the plan have one.
@@ -70,17 +76,36 @@ fn states(
     Ok(lines)
 }
 
-/// The last lines: of a valid plan how many nodes its solution has.
+/// How many errors are left out, if any are.
+fn left_line<'a>(alloc: Global, left: usize) -> Result<Vec<Vec<Part<'a>>>, AllocError>
+    ensures { IfOk result (λ lines. spec.AreLeft left lines.items) }
+{
+    if left == 0 {
+        return Ok(Vec::new(alloc));
+    }
+    let parts = [
+        Part::Words("and "),
+        Part::Number(left as u64),
+        Part::Words(" more: explain --format short shows all"),
+    ];
+    let line = Vec::from_slice(alloc, &parts)?;
+    let lines = vec![in alloc; line]?;
+    Ok(lines)
+}
+
+/// The last lines: of a valid plan how many nodes its solution has, of another how many errors are left out.
 fn last_lines<'a>(
     alloc: Global,
     task: &Task,
     file: &PlanFile,
     verdict: Verdict,
+    left: usize,
 ) -> Result<Vec<Vec<Part<'a>>>, AllocError>
-    ensures { IfOk result (λ lines. spec.AreLastLines task.now file.now (spec.is_valid verdict) lines.items) }
+    ensures { IfOk result (λ lines. spec.AreLastLines task.now file.now (spec.is_valid verdict) left lines.items) }
 {
     if !is_valid(verdict) {
-        return Ok(Vec::new(alloc));
+        let lines = left_line(alloc, left)?;
+        return Ok(lines);
     }
     let counts = counts_of(task, file);
     let line = counts_line(alloc, counts)?;
@@ -103,10 +128,10 @@ fn text_of(
     judged: Judged<'_>,
     errors: &[Diagnostic<'_>],
 ) -> Result<Vec<u8>, AllocError>
-    ensures { IfOk result (λ bytes. spec.IsWrittenIn format.Text task.now file.now judged.entry.verdict judged.entry.words.now judged.entry.style errors.now bytes.items) }
+    ensures { IfOk result (λ bytes. spec.IsWrittenIn format.Text task.now file.now judged.entry.verdict judged.entry.words.now judged.entry.style errors.now judged.entry.left bytes.items) }
 {
     let run = states(alloc, task, file, judged.verdict, judged.style)?;
-    let lines = last_lines(alloc, task, file, judged.verdict)?;
+    let lines = last_lines(alloc, task, file, judged.verdict, judged.left)?;
     let text = text_verdict(
         alloc,
         judged.words,
@@ -127,7 +152,7 @@ fn short_of(
     judged: Judged<'_>,
     errors: &[Diagnostic<'_>],
 ) -> Result<Vec<u8>, AllocError>
-    ensures { IfOk result (λ bytes. spec.IsWrittenIn format.Short task.now file.now judged.entry.verdict judged.entry.words.now judged.entry.style errors.now bytes.items) }
+    ensures { IfOk result (λ bytes. spec.IsWrittenIn format.Short task.now file.now judged.entry.verdict judged.entry.words.now judged.entry.style errors.now judged.entry.left bytes.items) }
 {
     let run = states(alloc, task, file, judged.verdict, judged.style)?;
     let text = short_verdict(alloc, judged.words, run.as_slice(), errors)?;
@@ -142,7 +167,7 @@ fn written(
     judged: Judged<'_>,
     errors: &[Diagnostic<'_>],
 ) -> Result<Vec<u8>, AllocError>
-    ensures { IfOk result (λ bytes. spec.IsWritten task.now file.now judged.entry.verdict judged.entry.words.now judged.entry.style errors.now bytes.items) }
+    ensures { IfOk result (λ bytes. spec.IsWritten task.now file.now judged.entry.verdict judged.entry.words.now judged.entry.style errors.now judged.entry.left bytes.items) }
 {
     match judged.style.format {
         Format::Text => text_of(alloc, task, file, judged, errors),
@@ -212,7 +237,8 @@ fn explain_reason<'a>(
     reason: &'a Reason,
     judged: Judged<'_>,
 ) -> Result<Vec<u8>, AllocError>
-    requires { spec.HasReason judged.verdict }
+    requires reason { spec.HasReason judged.verdict }
+    requires whole { judged.left ≡ 0 }
     ensures { IfOk result (λ bytes. spec.IsExplanation task.now texts.now judged.entry.verdict judged.entry.words.now judged.entry.style bytes.items) }
 {
     let code = code_of(judged.verdict);
@@ -221,7 +247,18 @@ fn explain_reason<'a>(
     Ok(text)
 }
 
-/// The report of a cause.
+/// Leaves what a report shows of a cause, and returns how many numbers are left out.
+fn shown_part(cause: &mut Cause, format: Format) -> usize
+    ensures shown { spec.IsShownAs format cause.old cause.new result }
+    ensures once { AreOnce cause.old → AreOnce cause.new }
+{
+    match format {
+        Format::Text => shorten(cause, MOST_NUMBERS),
+        Format::Short | Format::Json => 0,
+    }
+}
+
+/// The report of a cause, as far as it is shown.
 fn explain_cause<'a>(
     alloc: Global,
     texts: &PlanTexts<'a>,
@@ -230,7 +267,7 @@ fn explain_cause<'a>(
     judged: Judged<'_>,
 ) -> Result<Vec<u8>, AllocError>
     requires once { AreOnce cause.now }
-    requires cause { spec.IsCauseOf task.now texts.now.plan.file.now judged.verdict cause.now }
+    requires cause { spec.IsShownCauseOf task.now texts.now.plan.file.now judged.verdict judged.style.format cause.now judged.left }
     ensures { IfOk result (λ bytes. spec.IsExplanation task.now texts.now judged.entry.verdict judged.entry.words.now judged.entry.style bytes.items) }
 {
     let errors = explanation(alloc, texts, cause)?;
@@ -250,11 +287,6 @@ pub fn explain<'a>(
 ) -> Result<Vec<u8>, AllocError>
     ensures { IfOk result (λ bytes. spec.IsExplanation task.now (record { pair = pair.now; plan = plan.now }) verdict words.now style bytes.items) }
 {
-    let judged = Judged {
-        verdict,
-        words,
-        style,
-    };
     let case = PlanCase {
         task,
         domain: pair.domain_tree,
@@ -275,9 +307,22 @@ pub fn explain<'a>(
         },
     };
     if let Some(reason) = reason_of(alloc, &case, plan, verdict)? {
+        let judged = Judged {
+            verdict,
+            words,
+            style,
+            left: 0,
+        };
         return explain_reason(alloc, &here, task, &reason, judged);
     }
-    let cause = cause_of(alloc, &case, verdict)?;
+    let mut cause = cause_of(alloc, &case, verdict)?;
+    let left = shown_part(&mut cause, style.format);
+    let judged = Judged {
+        verdict,
+        words,
+        style,
+        left,
+    };
     explain_cause(alloc, &here, task, &cause, judged)
 }
 

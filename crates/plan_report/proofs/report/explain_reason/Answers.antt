@@ -6,4 +6,4 @@ use Rattle.plan_report.proofs.report.explain_reason.Goals as goal
 pub returns : goal.returns
 returns c =
     let d = c.in_ok-reason_error.field-0 in
-    (d ∷ [], inl (c.requires, (d, refl, subst (λ code. IsError code d) c.code_of-code.ensures c.in_ok-reason_error.ensures)), search rules)
+    (d ∷ [], c.args.judged.left, inl (c.requires.reason, (d, refl, subst (λ code. IsError code d) c.code_of-code.ensures c.in_ok-reason_error.ensures), c.requires.whole), search rules)
