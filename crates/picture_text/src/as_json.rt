@@ -4,7 +4,6 @@ ghost use Rattle.std.specs.Prelude.{◌≡◌, ◌∷◌, ◌++◌, [], IsUtf8, 
 ghost use Rattle.std.specs.List.{flat_map};
 ghost use Rattle.diagnostics.specs.Json.{with_members, array_of, count, object_of, IsReadAs};
 ghost use Rattle.plan_forest.specs.Forest.{lists_of};
-ghost use Rattle.plan_forest.specs.Reached as reached;
 ghost use Rattle.picture_text.specs.Json as spec;
 ghost use Rattle.plan_picture.specs.Seen.{seen};
 ghost use Rattle.picture_text.specs.SeenLine.{seen_line};

@@ -1,6 +1,6 @@
 //! What a solution says of the lines of a plan, beyond what the plan's file says.
 
-ghost use Rattle.std.specs.Prelude.{◌≡◌, ◌++◌, ◌∷◌, map, option_map, OnOk};
+ghost use Rattle.std.specs.Prelude.{◌≡◌, ◌++◌, option_map, OnOk};
 ghost use Rattle.std.specs.List.{flat_map};
 ghost use Rattle.picture_text.specs.Details as spec;
 ghost use Rattle.picture_text.specs.Words.{spaced};
