@@ -74,14 +74,14 @@ module _ (texts : PairTexts) (problem : Option Named) where
       let s = stand f (0, omega arith, refl) in
       (tells_one f d s.0 s.1 s.2 told.0, are_told fs ds (λ g among. stand g (suc among.0, omega (arith, among.1), among.2)) told.1)
 
--- the errors of faults of two trees offer only names that may be meant, and their notes stand at declarations
+-- the errors of faults of two trees have messages, offer only names that may be meant, and have notes at first declarations
 pub are_helpful : (domain : Named) (problem : Option Named) (texts : PairTexts) → AreTextsOf domain problem texts → (faults : List CheckFault)
     (ds : List Diagnostic) → AllZip (TellsPair texts) faults ds → AllZip (Helps domain problem) (map of_pair faults) ds
 are_helpful domain problem texts these [] [] told = tt
 are_helpful domain problem texts these [] (d ∷ ds) told = absurd told
 are_helpful domain problem texts these (f ∷ fs) [] told = absurd told
 are_helpful domain problem texts these (f ∷ fs) (d ∷ ds) told =
-    ((texts, these, told.0.offers, told.0.notes), are_helpful domain problem texts these fs ds told.1)
+    ((texts, these, told.0.message, told.0.offers, told.0.notes), are_helpful domain problem texts these fs ds told.1)
 
 -- ## The text of a side
 

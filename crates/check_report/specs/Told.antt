@@ -18,7 +18,7 @@ use Rattle.diagnostics.specs.declared.diagnostic.Where.TheVariants.{Text, Place}
 use Rattle.hddl_warnings.specs.Told as warning
 use Rattle.hddl_warnings.specs.declared.warning.Warning.{Warning}
 use Rattle.pair_messages.specs.Heads as pair
-use Rattle.pair_messages.specs.Notes.{IsAtDeclaration}
+use Rattle.pair_messages.specs.Notes.{IsNote}
 use Rattle.pair_messages.specs.Offers.{OffersMeant}
 use Rattle.pair_messages.specs.declared.texts.PairTexts.{PairTexts}
 use Rattle.text_messages.specs.Messages as text
@@ -109,13 +109,15 @@ HelpsText t f d =
     (source : Source) × (named source ≡ t) × (d.message.items ≢ []) × text_offers.OffersMeant source f d.remarks.items
     × All (λ note. text_notes.IsNote source f note.spot) d.notes.items
 
--- the error of a fault of two trees offers only names that may be meant, and its notes stand at declarations
+-- the error of a fault of two trees has a message, offers only names that may be meant, and has its notes at the first
+-- declarations of names that the fault has or that are offered
 abbrev pub Helps : Named → Option Named → Fault → Diagnostic → Type 0
 Helps domain problem (of_domain f) d = HelpsText domain f d
 Helps domain None (of_problem f) d = ⊥
 Helps domain (Some problem) (of_problem f) d = HelpsText problem f d
 Helps domain problem (of_pair f) d =
-    (texts : PairTexts) × AreTextsOf domain problem texts × OffersMeant texts f d.remarks.items × All (λ note. IsAtDeclaration texts note.spot) d.notes.items
+    (texts : PairTexts) × AreTextsOf domain problem texts × (d.message.items ≢ []) × OffersMeant texts f d.remarks.items
+    × All (IsNote texts f d.remarks.items) d.notes.items
 
 -- each fault has its diagnostic, in order
 abbrev pub AreTold : Named → Option Named → List Fault → List Diagnostic → Type 0

@@ -1,5 +1,5 @@
 -- Declared names as they are written and in lower case.
-use Rattle.std.proofs.Common.{◌≡◌, ℕ, List, [], ◌∷◌, ◌++◌, map, option_map, true, false, Option, None, Some, refl, sym, ap, ◌∙◌}
+use Rattle.std.proofs.Common.{◌≡◌, List, [], ◌∷◌, ◌++◌, map, option_map, true, false, Option, None, Some, refl, sym, ap, ◌∙◌}
 use Rattle.std.specs.Borrow.{Bor}
 use Rattle.std.specs.List.{flat_map}
 use Rattle.std.proofs.lemmas.List.{map-append}
@@ -8,14 +8,14 @@ use Rattle.hddl_tree.specs.declared.term.VariableGroup.{VariableGroup}
 use Rattle.hddl_tree.specs.declared.domain.DomainText.{DomainText}
 use Rattle.hddl_tree.specs.declared.network.NetworkText.{NetworkText}
 use Rattle.hddl_tree.specs.declared.network.SubtaskText.{SubtaskText}
-use Rattle.hddl_meaning.specs.Mentions.{Text, Typed, folded, texts, typed_variables, variable_mention, mention_of}
+use Rattle.hddl_meaning.specs.Mentions.{Typed, folded, texts, typed_variables, variable_mention, mention_of}
 use Rattle.hddl_meaning.specs.Names.{optional_mention}
-use Rattle.hddl_meaning.specs.Uses.{Variable, parameters_of, quantified_of}
+use Rattle.hddl_meaning.specs.Uses.{parameters_of, quantified_of}
 use Rattle.hddl_meaning.specs.Items.{label_mentions}
 use Rattle.pair_messages.specs.declared.stands.InForce.{InForce}
 use Rattle.pair_messages.specs.declared.stands.Kind.{Kind}
 use Rattle.pair_messages.specs.declared.stands.Kind.TheVariants as kind
-use Rattle.pair_messages.specs.Bindings.{group_texts, variables_in}
+use Rattle.pair_messages.specs.Bindings.{variables_in}
 use Rattle.pair_messages.specs.Offers.{declared_of_kind, label_text, label_texts, names_of_kind, variable_texts}
 use Rattle.pair_messages.specs.Stands.{in_force, section_parameters}
 

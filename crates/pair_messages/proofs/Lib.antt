@@ -1,9 +1,10 @@
 pub mod Picks
 pub mod Nearest
 pub mod Standing
-pub mod Offering
 pub mod Questions
 pub mod Folded
 pub mod Meant
 pub mod Networks
 pub mod Bound
+pub mod FirstPlaces
+pub mod FirstOnes

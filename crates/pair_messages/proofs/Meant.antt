@@ -1,15 +1,14 @@
 -- What is offered for what stands at a place may be meant there.
-use Rattle.std.proofs.Common.{◌≡◌, ℕ, zero, suc, ◌<◌, ◌⊎◌, inl, inr, Option, Some, None, List, [], ◌∷◌, ◌++◌, length, map, get_or, slice_get, refl, sym, ap, subst, ◌∙◌, arith}
+use Rattle.std.proofs.Common.{◌≡◌, ℕ, ◌⊎◌, inl, inr, List, [], ◌∷◌, ◌++◌, get_or, refl, sym, subst}
 use Rattle.std.specs.List.{All}
 use Rattle.std.proofs.lemmas.List.Elements.{All-contains, Contains-append_cases}
-use Rattle.hddl_tree.specs.declared.term.Term.{Term}
 use Rattle.hddl_tree.specs.declared.domain.DomainText.{DomainText}
 use Rattle.hddl_tree.specs.declared.problem.ProblemText.{ProblemText}
 use Rattle.hddl_meaning.specs.Mentions.{IsIn, Text, folded, texts}
 use Rattle.hddl_meaning.specs.Names.{distinct, object, type_mentions, type_names}
 use Rattle.hddl_meaning.specs.Uses as uses
 use Rattle.hddl_meaning.specs.Uses.{Schema, TermUse}
-use Rattle.hddl_meaning.specs.Items.{arguments_of, terms_in}
+use Rattle.hddl_meaning.specs.Items.{arguments_of}
 use Rattle.hddl_meaning.specs.declared.fault.At.{At}
 use Rattle.hddl_meaning.proofs.Listed.{at_head, at_tail, distinct_push, in_cases, in_flat_map, in_left, in_map, in_nothing, in_right}
 use Rattle.hddl_names.proofs.Texts.{distinct-from, distinct-has}

@@ -1,5 +1,5 @@
 -- The network of a section is one of its text.
-use Rattle.std.proofs.Common.{◌≡◌, ◌∙◌, ℕ, [], ◌∷◌, map, subst, sym, ap}
+use Rattle.std.proofs.Common.{◌∙◌, ℕ, [], ◌∷◌, map, subst, sym, ap}
 use Rattle.hddl_tree.specs.declared.domain.DomainText.{DomainText}
 use Rattle.hddl_tree.specs.declared.domain.MethodText.{MethodText}
 use Rattle.hddl_tree.specs.declared.network.NetworkText.{NetworkText}
@@ -22,7 +22,7 @@ own m = (m.place, m.network)
 pub network_at : (d : DomainText) (p : ProblemText) (text : Source) (section : Section) (n : NetworkText) → IsSectionOf d p text section → IsNetworkOf section n → IsNetworkIn d p text n
 network_at d p source.Domain (Method m) n here is =
     (m.now.place, subst (λ (x : NetworkText). IsIn (placed m.now.place x) (map own d.methods)) (sym is) (in_map own m.now d.methods here))
-network_at d p source.Domain (Action a) n here is = absurd here
+network_at d p source.Domain (Action a) n here is = absurd is
 network_at d p source.Domain (Htn h) n here is = absurd here
 network_at d p source.Domain States n here is = absurd here
 network_at d p source.Problem (Method m) n here is = absurd here

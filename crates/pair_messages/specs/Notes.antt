@@ -1,66 +1,174 @@
--- Where the notes of a diagnostic stand.
-use Rattle.std.specs.Prelude.{◌≡◌, ◌⊎◌, ℕ, List}
-use Rattle.hddl_tree.specs.Places.{place_of}
+-- Where the notes of a diagnostic stand: at the first declarations of the names that a fault has, or that are offered
+-- for them.
+use Rattle.std.specs.Prelude.{◌≡◌, ◌⊎◌, ℕ, List, ◌++◌, map, slice_get, Option, Some, None, option_map}
+use Rattle.std.specs.List.{find}
+use Rattle.hddl_words.specs.Names.{Name}
+use Rattle.hddl_tree.specs.declared.term.Term.{Term}
+use Rattle.hddl_tree.specs.declared.term.Term.TheVariants as term
+use Rattle.hddl_tree.specs.declared.term.VariableGroup.{VariableGroup}
 use Rattle.hddl_tree.specs.declared.network.NetworkText.{NetworkText}
 use Rattle.hddl_tree.specs.declared.network.OrderingText.{OrderingText}
-use Rattle.hddl_tree.specs.declared.network.SubtaskText.{SubtaskText}
 use Rattle.hddl_tree.specs.declared.domain.ActionText.{ActionText}
 use Rattle.hddl_tree.specs.declared.domain.DomainText.{DomainText}
 use Rattle.hddl_tree.specs.declared.domain.MethodText.{MethodText}
-use Rattle.hddl_tree.specs.declared.domain.PredicateText.{PredicateText}
-use Rattle.hddl_tree.specs.declared.domain.TaskText.{TaskText}
 use Rattle.hddl_tree.specs.declared.problem.ProblemText.{ProblemText}
-use Rattle.hddl_locate.specs.Places.{DeclaresName, DeclaresVariable, WritesType}
-use Rattle.hddl_meaning.specs.Mentions.{IsIn}
+use Rattle.hddl_locate.specs.Places.{term_place}
+use Rattle.hddl_meaning.specs.Mentions.{IsIn, Mention, Text, folded, mention_of, mentions_of, typed_variables}
+use Rattle.hddl_meaning.specs.Names.{is_same_text, type_mentions}
+use Rattle.hddl_meaning.specs.Items.{declaration_lists, declared_objects, label_mentions, networks_in, schemas_in, variable_mentions}
+use Rattle.hddl_meaning.specs.Uses.{Schema, Use, Variable, schema_of_action, schema_of_method, schema_of_network}
 use Rattle.hddl_meaning.specs.declared.fault.At.{At}
+use Rattle.hddl_meaning.specs.declared.fault.CheckFault.{CheckFault}
+use Rattle.hddl_meaning.specs.declared.fault.CheckFault.TheVariants as fault
 use Rattle.hddl_meaning.specs.declared.fault.Source.{Source}
 use Rattle.hddl_meaning.specs.declared.fault.Source.TheVariants as source
-use Rattle.diagnostics.specs.declared.diagnostic.Spot.{Spot}
+use Rattle.diagnostics.specs.declared.diagnostic.Note.{Note}
+use Rattle.diagnostics.specs.declared.diagnostic.Remark.{Remark}
+use Rattle.near_names.specs.Offers.{offered}
+use Rattle.pair_messages.specs.declared.firsts.Sort.{Sort}
+use Rattle.pair_messages.specs.declared.firsts.Sort.TheVariants as sort
+use Rattle.pair_messages.specs.declared.stands.Kind.{Kind}
+use Rattle.pair_messages.specs.declared.stands.Kind.TheVariants as kind
+use Rattle.pair_messages.specs.declared.stands.Stand.{Stand}
 use Rattle.pair_messages.specs.declared.texts.PairTexts.{PairTexts}
-use Rattle.pair_messages.specs.Heads.{IsSpotAt, text_of}
+use Rattle.pair_messages.specs.Heads.{IsSpotAt, text_of, word_from}
+use Rattle.pair_messages.specs.Stands.{StandsIn, uses_of_kind}
 
--- ## Declarations at a place
+-- ## First declarations
 
--- a predicate, or a parameter of it
-abbrev pub DeclaresPredicate : List PredicateText → ℕ → Type 0
-DeclaresPredicate predicates place = (x : PredicateText) × IsIn x predicates × ((x.name.place ≡ place) ⊎ DeclaresVariable x.parameters place)
+-- the place of the first of some names that has a text
+abbrev pub first_place : List Mention → Text → Option ℕ
+first_place names text = option_map (λ m. m.place) (find (λ m. is_same_text text m.text) names)
 
--- a compound task, or a parameter of it
-abbrev pub DeclaresTask : List TaskText → ℕ → Type 0
-DeclaresTask tasks place = (x : TaskText) × IsIn x tasks × ((x.name.place ≡ place) ⊎ DeclaresVariable x.parameters place)
+-- what a domain declares for uses of a kind, with parameters: predicates, or compound tasks and then actions
+abbrev pub declarations_of : DomainText → Kind → List (Name × List VariableGroup)
+declarations_of d kind.Predicate = map (λ x. (x.name, x.parameters)) d.predicates
+declarations_of d kind.Compound = map (λ x. (x.name, x.parameters)) d.tasks ++ map (λ x. (x.name, x.parameters)) d.actions
+declarations_of d kind.Task = map (λ x. (x.name, x.parameters)) d.tasks ++ map (λ x. (x.name, x.parameters)) d.actions
 
--- a subtask, with its label if it has one; or a pair of an order
-abbrev pub NetworkHas : NetworkText → ℕ → Type 0
-NetworkHas n place = ((s : SubtaskText) × IsIn s n.subtasks × (place_of s ≡ place)) ⊎ ((o : OrderingText) × IsIn o n.orderings × (o.before.place ≡ place))
+-- their names
+abbrev pub called_mentions : DomainText → Kind → List Mention
+called_mentions d k = map (λ x. mention_of x.0) (declarations_of d k)
 
--- a method, or a parameter of it, or what its network has
-abbrev pub DeclaresMethod : List MethodText → ℕ → Type 0
-DeclaresMethod methods place = (x : MethodText) × IsIn x methods × ((x.name.place ≡ place) ⊎ (DeclaresVariable x.parameters place ⊎ NetworkHas x.network place))
+-- the constants of the domain, or the objects of the problem
+abbrev pub object_mentions : DomainText → ProblemText → Source → List Mention
+object_mentions d p text = mentions_of (declared_objects d p text)
 
--- an action, or a parameter of it
-abbrev pub DeclaresAction : List ActionText → ℕ → Type 0
-DeclaresAction actions place = (x : ActionText) × IsIn x actions × ((x.name.place ≡ place) ⊎ DeclaresVariable x.parameters place)
+-- a place of the domain
+abbrev pub IsInDomain : Option ℕ → At → Type 0
+IsInDomain place note = (note.source ≡ source.Domain) × (place ≡ Some note.place)
 
--- what a domain declares
-abbrev pub DomainDeclares : DomainText → ℕ → Type 0
-DomainDeclares d place =
-    (DeclaresName d.types place ⊎ WritesType d.types place)
-    ⊎ (DeclaresName d.constants place ⊎ (DeclaresPredicate d.predicates place ⊎ (DeclaresTask d.tasks place ⊎ (DeclaresMethod d.methods place ⊎ DeclaresAction d.actions place))))
-
--- what a problem declares
-abbrev pub ProblemDeclares : ProblemText → ℕ → Type 0
-ProblemDeclares p place = DeclaresName p.objects place ⊎ ((p.htn.place ≡ place) ⊎ (DeclaresVariable p.htn.parameters place ⊎ NetworkHas p.htn.network place))
-
--- what is declared at a place of a pair
-abbrev pub IsDeclaredAt : DomainText → ProblemText → At → Type 0
-IsDeclaredAt d p at = by at.source
+-- the first constant of a name, or else the first object of the problem
+abbrev pub IsFirstObject : DomainText → ProblemText → Text → At → Type 0
+IsFirstObject d p text note = by note.source
   where
     by : Source → Type 0
-    by source.Domain = DomainDeclares d at.place
-    by source.Problem = ProblemDeclares p at.place
+    by source.Domain = first_place (object_mentions d p source.Domain) text ≡ Some note.place
+    by source.Problem = (first_place (object_mentions d p source.Domain) text ≡ None) × (first_place (object_mentions d p source.Problem) text ≡ Some note.place)
+
+-- the first declaration of a name: of a type, of an object, or of what uses of a kind name
+abbrev pub IsFirst : DomainText → ProblemText → Sort → Text → At → Type 0
+IsFirst d p sort.Type text note = IsInDomain (first_place (type_mentions d) text) note
+IsFirst d p sort.Object text note = IsFirstObject d p text note
+IsFirst d p (sort.Called k) text note = IsInDomain (first_place (called_mentions d k) text) note
+
+-- the first declaration of a name that is offered
+abbrev pub IsFirstOffered : DomainText → ProblemText → List Remark → Sort → At → Type 0
+IsFirstOffered d p remarks of note = (name : List ℕ) × IsIn name (offered remarks) × IsFirst d p of (folded name) note
+
+-- ## Names that stand twice
+
+-- names of one kind or of one list: predicates, tasks, methods and actions; the parameters of a schema; the labels of a network
+abbrev pub name_lists : DomainText → ProblemText → Source → List (List Mention)
+name_lists d p text =
+    declaration_lists d text ++ map (λ s. mentions_of (typed_variables s.parameters)) (schemas_in d p text) ++ map (λ n. label_mentions n.1) (networks_in d p text)
+
+-- the first of a text in one of some lists
+abbrev pub IsFirstIn : List (List Mention) → Text → ℕ → Type 0
+IsFirstIn lists text place = (names : List Mention) × IsIn names lists × (first_place names text ≡ Some place)
+
+-- the first of the name at a place
+abbrev pub IsTwin : PairTexts → At → At → Type 0
+IsTwin t at note =
+    (note.source ≡ at.source)
+    × IsFirstIn (name_lists t.domain_tree.now t.problem_tree.now at.source) (folded (word_from (text_of t at.source) at.place)) note.place
+
+-- ## Uses
+
+-- the use of this kind whose name is at a place
+abbrev pub IsUseAt : DomainText → ProblemText → At → Kind → Use → Type 0
+IsUseAt d p at k u = (s : Schema) × IsIn s (schemas_in d p at.source) × IsIn u (uses_of_kind k s) × (u.atom.name.place ≡ at.place)
+
+-- a name that is offered for a use
+abbrev pub IsOfferedUse : DomainText → ProblemText → At → List Remark → At → Type 0
+IsOfferedUse d p at remarks note = (k : Kind) × (u : Use) × IsUseAt d p at k u × IsFirstOffered d p remarks (sort.Called k) note
+
+-- what a use names
+abbrev pub IsNamedThere : DomainText → ProblemText → At → At → Type 0
+IsNamedThere d p at note = (k : Kind) × (u : Use) × IsUseAt d p at k u × IsFirst d p (sort.Called k) (folded u.atom.name.text) note
+
+-- ## Arguments
+
+-- the name of a method or an action with such a schema, or the bracket of `:htn`
+abbrev pub IsNameOfSchema : DomainText → ProblemText → Source → Schema → ℕ → Type 0
+IsNameOfSchema d p source.Domain s place =
+    ((m : MethodText) × IsIn m d.methods × (s ≡ schema_of_method m) × (m.name.place ≡ place))
+    ⊎ ((a : ActionText) × IsIn a d.actions × (s ≡ schema_of_action a) × (a.name.place ≡ place))
+IsNameOfSchema d p source.Problem s place = (s ≡ schema_of_network p) × (p.htn.place ≡ place)
+
+-- the method, the action or `:htn` around what stands at a place
+abbrev pub IsSectionAround : DomainText → ProblemText → At → At → Type 0
+IsSectionAround d p at note =
+    (note.source ≡ at.source) × ((s : Schema) × IsNameOfSchema d p at.source s note.place × ((found : Stand) × StandsIn s at.place found))
+
+-- what an argument is: the first variable in force of its name, or the first object
+abbrev pub IsArgument : DomainText → ProblemText → Source → List Variable → Term → At → Type 0
+IsArgument d p text variables (term.Variable x) note = (note.source ≡ text) × (first_place (variable_mentions variables) (folded x.text) ≡ Some note.place)
+IsArgument d p text variables (term.Object x) note = IsFirstObject d p (folded x.text) note
+
+-- the first declaration of a name, with its parameters
+abbrev pub IsFirstCalled : DomainText → Kind → Text → Name × List VariableGroup → Type 0
+IsFirstCalled d k text x = IsIn x (declarations_of d k) × (first_place (called_mentions d k) text ≡ Some x.0.place)
+
+-- the parameter at a position
+abbrev pub IsParameter : DomainText → Kind → Text → ℕ → At → Type 0
+IsParameter d k text position note =
+    (x : Name × List VariableGroup) × IsFirstCalled d k text x
+    × IsInDomain (option_map (λ m. m.place) (slice_get (mentions_of (typed_variables x.1)) position)) note
+
+-- an argument of a use, or the parameter at its position
+abbrev pub IsOfArgument : DomainText → ProblemText → Source → Kind → Use → ℕ → At → Type 0
+IsOfArgument d p text k u position note =
+    (t : Term) × (slice_get u.atom.terms position ≡ Some t) × (IsArgument d p text u.variables t note ⊎ IsParameter d k (folded u.atom.name.text) position note)
+
+-- those of the argument at a place
+abbrev pub IsOfArgumentAt : DomainText → ProblemText → At → At → Type 0
+IsOfArgumentAt d p at note =
+    (s : Schema) × (k : Kind) × (u : Use) × (position : ℕ) × IsIn s (schemas_in d p at.source) × IsIn u (uses_of_kind k s)
+    × ((t : Term) → slice_get u.atom.terms position ≡ Some t → term_place t ≡ at.place) × IsOfArgument d p at.source k u position note
+
+-- ## Orders
+
+-- a pair of the order of the network at a place
+abbrev pub IsPair : DomainText → ProblemText → At → At → Type 0
+IsPair d p at note =
+    (note.source ≡ at.source)
+    × ((n : ℕ × NetworkText) × IsIn n (networks_in d p at.source) × (n.0 ≡ at.place) × ((o : OrderingText) × IsIn o n.1.orderings × (o.before.place ≡ note.place)))
 
 -- ## Notes
 
--- a word that stands where something is declared
-abbrev pub IsAtDeclaration : PairTexts → Spot → Type 0
-IsAtDeclaration t spot = (at : At) × IsDeclaredAt t.domain_tree.now t.problem_tree.now at × IsSpotAt (text_of t at.source) at.place spot
+-- where a note of a fault may stand, beside what is offered
+abbrev pub IsNoteOf : PairTexts → CheckFault → List Remark → At → Type 0
+IsNoteOf t (fault.Duplicate at) remarks note = IsTwin t at note
+IsNoteOf t (fault.UnknownType at) remarks note = IsFirstOffered t.domain_tree.now t.problem_tree.now remarks sort.Type note
+IsNoteOf t (fault.UnknownName at) remarks note =
+    IsOfferedUse t.domain_tree.now t.problem_tree.now at remarks note
+    ⊎ (IsFirstOffered t.domain_tree.now t.problem_tree.now remarks sort.Object note ⊎ IsSectionAround t.domain_tree.now t.problem_tree.now at note)
+IsNoteOf t (fault.Arity at) remarks note = IsNamedThere t.domain_tree.now t.problem_tree.now at note
+IsNoteOf t (fault.TypeClash at) remarks note = IsOfArgumentAt t.domain_tree.now t.problem_tree.now at note
+IsNoteOf t (fault.OrderCycle at) remarks note = IsPair t.domain_tree.now t.problem_tree.now at note
+IsNoteOf t _ remarks note = ⊥
+
+-- a note at such a place
+abbrev pub IsNote : PairTexts → CheckFault → List Remark → Note → Type 0
+IsNote t f remarks note = (at : At) × IsNoteOf t f remarks at × IsSpotAt (text_of t at.source) at.place note.spot

@@ -1,8 +1,6 @@
 -- The names that are offered for one that isn't declared.
-use Rattle.std.specs.Prelude.{◌≡◌, ◌⊎◌, ℕ, Bool, false, true, if◌then◌else◌, nat_eq, List, [], ◌∷◌, ◌++◌, map, filter_map, slice_get, codes, Option, Some, None, option_map, unwrap_or}
-use Rattle.std.specs.List.{All, flat_map, starts_with}
-use Rattle.std.specs.declared.alloc.Global.{Global}
-use Rattle.std.specs.declared.vec.Vec.{Vec}
+use Rattle.std.specs.Prelude.{◌≡◌, ◌⊎◌, ℕ, false, true, List, [], ◌∷◌, ◌++◌, map, filter_map, slice_get, Option, Some, None}
+use Rattle.std.specs.List.{All, flat_map}
 use Rattle.hddl_words.specs.Names.{Name}
 use Rattle.hddl_tree.specs.declared.term.Term.{Term}
 use Rattle.hddl_tree.specs.declared.term.Term.TheVariants as term
@@ -17,50 +15,16 @@ use Rattle.hddl_meaning.specs.declared.fault.At.{At}
 use Rattle.hddl_meaning.specs.declared.fault.CheckFault.{CheckFault}
 use Rattle.hddl_meaning.specs.declared.fault.CheckFault.TheVariants as fault
 use Rattle.near_names.specs.Near.{distance_of, is_nearer, may_be_meant, nearest_of}
-use Rattle.diagnostics.specs.declared.diagnostic.Part.{Part}
-use Rattle.diagnostics.specs.declared.diagnostic.Part.TheVariants.{Words, Number}
-use Rattle.diagnostics.specs.declared.diagnostic.Part.TheVariants as part
+use Rattle.near_names.specs.Offers.{offered}
 use Rattle.diagnostics.specs.declared.diagnostic.Remark.{Remark}
 use Rattle.pair_messages.specs.declared.stands.Kind.{Kind}
 use Rattle.pair_messages.specs.declared.stands.Kind.TheVariants as kind
 use Rattle.pair_messages.specs.declared.texts.PairTexts.{PairTexts}
 use Rattle.pair_messages.specs.Heads.{text_of, word_from}
-use Rattle.pair_messages.specs.Sayings.{messages}
 use Rattle.pair_messages.specs.declared.stands.Stand.{Stand}
 use Rattle.pair_messages.specs.declared.stands.Stand.TheVariants as stand
 use Rattle.hddl_locate.specs.Places.{term_place}
 use Rattle.pair_messages.specs.Stands.{in_force, uses_of_kind}
-
--- ## Offers in messages
-
--- the name of a text that a part of a message is
-abbrev pub name_in : Part → List (List ℕ)
-name_in (Words bytes) = []
-name_in (part.Name bytes) = bytes.now ∷ []
-name_in (Number n) = []
-
--- the names of texts in a message, in their order
-abbrev pub named : List Part → List (List ℕ)
-named parts = flat_map name_in parts
-
--- the words that a message begins with
-abbrev pub opening : List Part → Option (List ℕ)
-opening [] = None
-opening (Words bytes ∷ parts) = Some bytes.now
-opening (part.Name bytes ∷ parts) = None
-opening (Number n ∷ parts) = None
-
--- whether a message asks `did you mean`
-abbrev pub is_question : List Part → Bool
-is_question parts = unwrap_or (option_map (λ words. starts_with nat_eq words (codes "did you mean ")) (opening parts)) false
-
--- the names that a message offers: those of a question
-abbrev pub offered_by : List Part → List (List ℕ)
-offered_by parts = if is_question parts then named parts else []
-
--- the names that remarks offer
-abbrev pub offered : List Remark → List (List ℕ)
-offered remarks = flat_map offered_by (messages remarks)
 
 -- ## Names that may be offered
 
@@ -168,8 +132,3 @@ label_text (Some label) = label.text ∷ []
 -- the labels of the subtasks of a network
 abbrev pub label_texts : NetworkText → List (List ℕ)
 label_texts n = flat_map (λ s. label_text s.label) n.subtasks
-
--- what a message offers, if there is one
-abbrev pub offered_if : Option (Vec Part Global) → List (List ℕ)
-offered_if None = []
-offered_if (Some parts) = offered_by parts.items

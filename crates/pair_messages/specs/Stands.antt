@@ -2,7 +2,6 @@
 use Rattle.std.specs.Prelude.{◌≡◌, ℕ, List, [], ◌∷◌, ◌++◌, slice_get, Some}
 use Rattle.std.specs.List.{flat_map}
 use Rattle.hddl_tree.specs.declared.term.Term.{Term}
-use Rattle.hddl_tree.specs.declared.term.AtomText.{AtomText}
 use Rattle.hddl_tree.specs.declared.term.VariableGroup.{VariableGroup}
 use Rattle.hddl_tree.specs.declared.condition.Condition.{Condition}
 use Rattle.hddl_tree.specs.declared.condition.EqualityText.{EqualityText}
@@ -107,9 +106,10 @@ StandsInDomain d place found = (s : Schema) × IsIn s (domain_schemas d) × Stan
 abbrev pub StandsInProblem : ProblemText → ℕ → Stand → Type 0
 StandsInProblem p place found = (s : Schema) × IsIn s (problem_schemas p) × StandsIn s place found
 
--- a section of a text that may have a network
+-- a section of a text that has parameters
 abbrev pub IsSectionOf : DomainText → ProblemText → Source → Section → Type 0
 IsSectionOf d p source.Domain (Method m) = IsIn m.now d.methods
+IsSectionOf d p source.Domain (Action a) = IsIn a.now d.actions
 IsSectionOf d p source.Problem (Htn h) = h.now ≡ p.htn
 IsSectionOf d p text _ = ⊥
 

@@ -1,68 +1,52 @@
 //! Wrong numbers of arguments.
 
-ghost use Rattle.std.specs.Prelude.{◌≡◌, [], IfOk};
-ghost use Rattle.pair_messages.specs.Offers.{offered};
-
-use crate::index::{Declaration, PairIndex};
-use crate::phrases::{declared_with, push_count};
-use crate::saying::Saying;
-use crate::stands::{Kind, Use};
-use crate::texts::spot_at;
+use crate::firsts::declaration_of;
+use crate::index::PairIndex;
+use crate::phrases::count_variables;
+use crate::stands::Use;
 use diagnostics::Part;
 use hddl_names::fold;
 use std::alloc::{AllocError, Global};
 
-/// The declaration of what a use names.
-pub(crate) fn declaration_of<'a>(
+/// How many arguments a use takes: a number, if the declaration is there and is not too long to be counted, and words.
+fn taken<'a>(
     alloc: Global,
     index: &PairIndex<'a>,
     used: &Use<'a>,
-) -> Result<Option<Declaration<'a>>, AllocError> {
+) -> Result<(Part<'a>, Part<'a>), AllocError> {
     let text = fold(alloc, used.atom.name.text())?;
-    let found = if used.kind == Kind::Predicate {
-        index.called.predicates.get(text.as_slice())
-    } else {
-        index.task_or_action(text.as_slice())
+    let count = match declaration_of(index, used.kind, text.as_slice()) {
+        Some(declaration) => count_variables(declaration.parameters),
+        None => None,
     };
-    match found {
-        Some(declaration) => Ok(Some(*declaration)),
-        None => Ok(None),
+    match count {
+        Some(1) => Ok((Part::Number(1), Part::Words(" argument"))),
+        Some(count) => Ok((Part::Number(count as u64), Part::Words(" arguments"))),
+        None => Ok((Part::Words("another number of arguments"), Part::Words(""))),
     }
 }
 
-/// A use with a wrong number of arguments.
-pub(crate) fn wrong_arity<'a>(
+/// The message for a use with a wrong number of arguments.
+pub(crate) fn arity_message<'a>(
     alloc: Global,
     index: &PairIndex<'a>,
     used: &Use<'a>,
-) -> Result<Saying<'a>, AllocError>
-    ensures { IfOk result (λ s. offered s.remarks.items ≡ []) }
-{
-    let mut message = vec![in alloc; Part::Name(used.atom.name.text()), Part::Words(" takes ")]?;
+) -> Result<Vec<Part<'a>>, AllocError> {
+    let (count, words) = taken(alloc, index, used)?;
     let stand = used.atom.terms.len();
-    let found = declaration_of(alloc, index, used)?;
-    match found {
-        Some(declaration) => push_count(
-            &mut message,
-            declaration.count,
-            " argument",
-            " arguments",
-        )?,
-        None => message.push(Part::Words("another number of arguments"))?,
-    }
-    message.push(Part::Words(", and "))?;
-    message.push(Part::Number(stand as u64))?;
-    message.push(Part::Words(if stand == 1 {
+    let here = if stand == 1 {
         " stands here"
     } else {
         " stand here"
-    }))?;
-    let mut saying = Saying::new(alloc, message);
-    if let Some(declaration) = found {
-        saying.note(
-            spot_at(index.texts.domain, declaration.name.place()),
-            declared_with(alloc, declaration.name, declaration.parameters)?,
-        )?;
-    }
-    Ok(saying)
+    };
+    let parts = [
+        Part::Name(used.atom.name.text()),
+        Part::Words(" takes "),
+        count,
+        words,
+        Part::Words(", and "),
+        Part::Number(stand as u64),
+        Part::Words(here),
+    ];
+    Vec::from_slice(alloc, &parts)
 }

@@ -2,27 +2,20 @@
 
 ghost use Rattle.std.specs.Prelude.{◌≡◌, IfOk};
 ghost use Rattle.hddl_meaning.specs.Names.{object_names};
+ghost use Rattle.pair_messages.specs.Firsts.{AreFirstCalled, AreFirstTyped};
 ghost use Rattle.pair_messages.specs.Known.{known_types};
 
+use crate::firsts::{FirstCalled, FirstTyped, first_called, first_typed};
 use crate::known::{Known, known_names};
 use crate::texts::PairTexts;
 use hddl_meaning::Source;
 use hddl_names::fold_to_vec;
-use hddl_tree::{DomainText, MethodText, Name, NameGroup, ProblemText, VariableGroup};
+use hddl_tree::{DomainText, Name, NameGroup, ProblemText};
 use indexmap::IndexMap;
 use std::alloc::{AllocError, Global};
 
 /// What is known of each name in lower case, in the order of the first declarations.
 pub(crate) type ByName<T> = IndexMap<Vec<u8>, T>;
-
-/// A predicate, a compound task or an action.
-#[derive(Clone, Copy, Drop)]
-pub(crate) struct Declaration<'a> {
-    pub(crate) name: &'a Name,
-    pub(crate) parameters: &'a [VariableGroup],
-    /// How many parameters there are.
-    pub(crate) count: usize,
-}
 
 /// A constant or an object.
 #[derive(Drop)]
@@ -56,35 +49,19 @@ impl Drop for Typed<'_> {
     }
 }
 
-/// What a domain declares with parameters: predicates, compound tasks, actions and methods.
-pub(crate) struct Called<'a> {
-    pub(crate) predicates: ByName<Declaration<'a>>,
-    pub(crate) tasks: ByName<Declaration<'a>>,
-    pub(crate) actions: ByName<Declaration<'a>>,
-    pub(crate) methods: ByName<&'a MethodText>,
-}
-
-impl Drop for Called<'_> {
-    fn drop(self) {
-        let Called {
-            predicates: _,
-            tasks: _,
-            actions: _,
-            methods: _,
-        } = self;
-    }
-}
-
 /// The texts of a pair with their declarations by name, made once for all faults of the pair.
 pub struct PairIndex<'a> {
     pub(crate) texts: &'a PairTexts<'a>,
     pub(crate) known: Known,
     pub(crate) typed: Typed<'a>,
-    pub(crate) called: Called<'a>,
+    pub(crate) first_typed: FirstTyped,
+    pub(crate) first_called: FirstCalled,
     /// How many bytes the declared names have in all, those of methods apart.
     pub(crate) names_len: usize,
     ghost types: { known.types ≡ known_types texts.now.domain_tree.now },
     ghost objects: { known.objects ≡ object_names texts.now.domain_tree.now texts.now.problem_tree.now },
+    ghost are_typed: { AreFirstTyped texts.now.domain_tree.now texts.now.problem_tree.now first_typed },
+    ghost are_called: { AreFirstCalled texts.now.domain_tree.now first_called },
 }
 
 impl Drop for PairIndex<'_> {
@@ -93,89 +70,11 @@ impl Drop for PairIndex<'_> {
             texts: _,
             known: _,
             typed: _,
-            called: _,
+            first_typed: _,
+            first_called: _,
             names_len: _,
         } = self;
     }
-}
-
-/// How many variables a typed list has.
-fn count_variables(groups: &[VariableGroup]) -> usize {
-    let mut count: usize = 0;
-    for group in groups {
-        count = count.saturating_add(group.variables.len());
-    }
-    count
-}
-
-/// Adds a declaration, if it is the first of its name.
-fn declare<'a>(
-    alloc: Global,
-    names: &mut ByName<Declaration<'a>>,
-    name: &'a Name,
-    parameters: &'a [VariableGroup],
-) -> Result<(), AllocError> {
-    let key = fold_to_vec(alloc, name.text())?;
-    if !names.contains_key(key.as_slice()) {
-        let count = count_variables(parameters);
-        let _ = names.insert(
-            key,
-            Declaration {
-                name,
-                parameters,
-                count,
-            },
-        )?;
-    }
-    Ok(())
-}
-
-fn predicates_of(
-    alloc: Global,
-    domain: &DomainText,
-) -> Result<ByName<Declaration<'_>>, AllocError> {
-    let mut names = IndexMap::new(alloc);
-    for predicate in domain.predicates.as_slice() {
-        declare(
-            alloc,
-            &mut names,
-            &predicate.name,
-            predicate.parameters.as_slice(),
-        )?;
-    }
-    Ok(names)
-}
-
-fn tasks_of(alloc: Global, domain: &DomainText) -> Result<ByName<Declaration<'_>>, AllocError> {
-    let mut names = IndexMap::new(alloc);
-    for task in domain.tasks.as_slice() {
-        declare(alloc, &mut names, &task.name, task.parameters.as_slice())?;
-    }
-    Ok(names)
-}
-
-fn actions_of(alloc: Global, domain: &DomainText) -> Result<ByName<Declaration<'_>>, AllocError> {
-    let mut names = IndexMap::new(alloc);
-    for action in domain.actions.as_slice() {
-        declare(
-            alloc,
-            &mut names,
-            &action.name,
-            action.parameters.as_slice(),
-        )?;
-    }
-    Ok(names)
-}
-
-fn methods_of(alloc: Global, domain: &DomainText) -> Result<ByName<&MethodText>, AllocError> {
-    let mut names = IndexMap::new(alloc);
-    for method in domain.methods.as_slice() {
-        let key = fold_to_vec(alloc, method.name.text())?;
-        if !names.contains_key(key.as_slice()) {
-            let _ = names.insert(key, method)?;
-        }
-    }
-    Ok(names)
 }
 
 /// Adds a type, if it is new, and a parent of it, if one is given.
@@ -295,35 +194,38 @@ fn typed_of<'a>(
     Ok(Typed { types, objects })
 }
 
-fn called_of(alloc: Global, domain: &DomainText) -> Result<Called<'_>, AllocError> {
-    let predicates = predicates_of(alloc, domain)?;
-    let tasks = tasks_of(alloc, domain)?;
-    let actions = actions_of(alloc, domain)?;
-    let methods = methods_of(alloc, domain)?;
-    Ok(Called {
-        predicates,
-        tasks,
-        actions,
-        methods,
-    })
+/// How many bytes the names of a typed list have in all.
+fn group_names_len(groups: &[NameGroup]) -> usize {
+    let mut total: usize = 0;
+    for group in groups {
+        for name in group.names.as_slice() {
+            total = total.saturating_add(name.text().len());
+        }
+    }
+    total
 }
 
-/// How many bytes some names have in all.
-fn keys_len<T>(names: &ByName<T>) -> usize {
+/// How many bytes the names of predicates, tasks and actions have in all.
+fn called_len(domain: &DomainText) -> usize {
     let mut total: usize = 0;
-    for name in names.keys() {
-        total = total.saturating_add(name.len());
+    for predicate in domain.predicates.as_slice() {
+        total = total.saturating_add(predicate.name.text().len());
+    }
+    for task in domain.tasks.as_slice() {
+        total = total.saturating_add(task.name.text().len());
+    }
+    for action in domain.actions.as_slice() {
+        total = total.saturating_add(action.name.text().len());
     }
     total
 }
 
 /// How many bytes declared names have in all.
-fn names_len(typed: &Typed<'_>, called: &Called<'_>) -> usize {
-    let terms = keys_len(&typed.types).saturating_add(keys_len(&typed.objects));
-    let tasks = keys_len(&called.tasks).saturating_add(keys_len(&called.actions));
-    terms
-        .saturating_add(tasks)
-        .saturating_add(keys_len(&called.predicates))
+fn names_len(domain: &DomainText, problem: &ProblemText) -> usize {
+    called_len(domain)
+        .saturating_add(group_names_len(domain.types.as_slice()))
+        .saturating_add(group_names_len(domain.constants.as_slice()))
+        .saturating_add(group_names_len(problem.objects.as_slice()))
 }
 
 impl<'a> PairIndex<'a> {
@@ -333,23 +235,17 @@ impl<'a> PairIndex<'a> {
         ensures { IfOk result (λ index. index.texts.now ≡ texts.now) }
     {
         let known = known_names(alloc, texts.domain_tree, texts.problem_tree)?;
+        let first_typed = first_typed(alloc, texts.domain_tree, texts.problem_tree)?;
+        let first_called = first_called(alloc, texts.domain_tree)?;
         let typed = typed_of(alloc, texts.domain_tree, texts.problem_tree)?;
-        let called = called_of(alloc, texts.domain_tree)?;
-        let names_len = names_len(&typed, &called);
+        let names_len = names_len(texts.domain_tree, texts.problem_tree);
         Ok(PairIndex {
             texts,
             known,
             typed,
-            called,
+            first_typed,
+            first_called,
             names_len,
         })
-    }
-
-    /// The first compound task of a name in lower case, or else the first action.
-    pub(crate) fn task_or_action(&self, text: &[u8]) -> Option<&Declaration<'a>> {
-        match self.called.tasks.get(text) {
-            Some(task) => Some(task),
-            None => self.called.actions.get(text),
-        }
     }
 }

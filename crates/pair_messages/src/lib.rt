@@ -1,25 +1,33 @@
 //! Diagnostics of the faults of a domain and a problem, and counts of the declarations of the two.
 #![tactic(auto)]
 
+mod advice;
 mod arguments;
+mod around;
 mod clashes;
+mod compared;
 mod declared;
 mod duplicates;
+mod firsts;
 mod fits;
 mod index;
 mod known;
 mod limits;
+mod listed;
 mod names;
 mod near;
-mod noted;
+mod notes;
 mod objects;
 mod orders;
 mod pair;
 mod phrases;
-mod saying;
+mod places;
+mod remarks;
+mod spoken;
 mod stands;
 mod summary;
 mod texts;
+mod twins;
 mod types;
 mod variables;
 mod walks;

@@ -1,11 +1,7 @@
 //! More of something than the limit.
 
-ghost use Rattle.std.specs.Prelude.{◌≡◌, [], IfOk};
-ghost use Rattle.pair_messages.specs.Offers.{offered};
-
 use crate::declared::{Declared, declared_at};
 use crate::index::PairIndex;
-use crate::saying::Saying;
 use crate::variables::places_of;
 use diagnostics::Part;
 use hddl_meaning::At;
@@ -40,22 +36,20 @@ fn words_of<'a>(declared: Option<Declared<'_>>) -> &'a str {
     }
 }
 
-/// More of something than the limit.
-pub(crate) fn too_many<'a>(
+/// The message for more of something than the limit.
+pub(crate) fn limit_message<'a>(
     alloc: Global,
     index: &PairIndex<'a>,
     at: At,
-) -> Result<Saying<'a>, AllocError>
-    ensures { IfOk result (λ s. offered s.remarks.items ≡ []) }
-{
+) -> Result<Vec<Part<'a>>, AllocError> {
     let texts = index.texts;
     let declared = declared_at(texts.domain_tree, texts.problem_tree, at);
+    let mut words = words_of(declared);
     if let Some(Declared::Quantified(groups)) = declared
         && is_past(alloc, groups, at.place)?
     {
-        let message = vec![in alloc; Part::Words("more than 32 variables of a `forall`")]?;
-        return Ok(Saying::new(alloc, message));
+        words = "more than 32 variables of a `forall`";
     }
-    let message = vec![in alloc; Part::Words(words_of(declared))]?;
-    Ok(Saying::new(alloc, message))
+    let parts: [Part<'a>; 1] = [Part::Words(words)];
+    Vec::from_slice(alloc, &parts)
 }

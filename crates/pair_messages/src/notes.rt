@@ -1,161 +1,229 @@
-//! Notes stand where something is declared. Where one was found to stand is looked up in the trees again, so no contract
-//! rests on how it was found.
+//! Notes at the first declarations of names.
 
-ghost use Rattle.std.specs.Prelude.{true, ◌≡◌, IfOk};
+ghost use Rattle.std.specs.Prelude.{◌≡◌, ◌++◌, ℕ, List, IfOk, IfSome, OnOk};
 ghost use Rattle.std.specs.List.{All};
-ghost use Rattle.pair_messages.specs.Notes as spec;
+ghost use Rattle.hddl_meaning.specs.Mentions.{folded, IsIn};
+ghost use Rattle.near_names.specs.Near.{names_of};
+ghost use Rattle.near_names.specs.Offers.{name_in, named, offered, offered_by};
+ghost use Rattle.pair_messages.specs.declared.firsts.Sort.TheVariants as sort_of;
+ghost use Rattle.pair_messages.specs.Firsts.{listed as listed_note, IsFirstNote, IsNoteAt, StandsOn};
+ghost use Rattle.pair_messages.specs.Notes.{IsFirst, IsTwin};
 
-use crate::texts::{PairTexts, spot_of};
-use diagnostics::{Note, Role};
-use hddl_locate::{
-    action_by, method_by, ordering_by, predicate_by, subtask_by, task_by, typed_name_at,
-    typed_or_type_at, typed_variable_at,
-};
-use hddl_meaning::{At, Source as Side};
-use hddl_tree::{DomainText, NetworkText, ProblemText};
+use crate::duplicates::is_declared_twice;
+use crate::firsts::{Sort, declaration_of, first_at};
+use crate::index::PairIndex;
+use crate::phrases::{declared_here, declared_with};
+use crate::stands::Use;
+use crate::texts::{spot_of, word_of};
+use crate::twins::first_twin;
+use diagnostics::{Note, Part, Remark};
+use hddl_meaning::At;
+use hddl_names::fold;
+use near_names::is_question;
 use std::alloc::{AllocError, Global};
 
-/// Whether a predicate or a parameter of one is declared at a place.
-fn in_predicates(domain: &DomainText, place: usize) -> bool
-    ensures { result ≡ true → spec.DeclaresPredicate domain.now.predicates place }
+/// A note at a place of a pair.
+pub(crate) fn note_at<'a>(index: &PairIndex<'a>, at: At, message: Vec<Part<'a>>) -> Note<'a>
+    ensures { StandsOn index.now.texts.now at result }
 {
-    match predicate_by(domain.predicates.as_slice(), place) {
-        Some(predicate) => {
-            predicate.name.place() == place
-                || typed_variable_at(predicate.parameters.as_slice(), place).is_some()
-        }
-        None => false,
+    Note {
+        spot: spot_of(index.texts, at),
+        message,
     }
 }
 
-/// Whether a compound task or a parameter of one is declared at a place.
-fn in_tasks(domain: &DomainText, place: usize) -> bool
-    ensures { result ≡ true → spec.DeclaresTask domain.now.tasks place }
+/// A note, if there is one.
+pub(crate) fn listed<'a>(alloc: Global, note: Option<Note<'a>>) -> Result<Vec<Note<'a>>, AllocError>
+    ensures { IfOk result (λ notes. notes.items ≡ listed_note note.entry) }
 {
-    match task_by(domain.tasks.as_slice(), place) {
-        Some(task) => {
-            task.name.place() == place
-                || typed_variable_at(task.parameters.as_slice(), place).is_some()
-        }
-        None => false,
+    let mut notes = Vec::new(alloc);
+    if let Some(note) = note {
+        notes.push(note)?;
     }
+    Ok(notes)
 }
 
-/// Whether a subtask stands at a place.
-fn has_subtask(network: &NetworkText, place: usize) -> bool
-    ensures { result ≡ true → spec.NetworkHas network.now place }
+/// Adds a name of a text, if a part is one.
+fn push_name<'a>(names: &mut Vec<&'a [u8]>, part: &Part<'a>) -> Result<(), AllocError>
+    ensures { OnOk result (names_of names.new.items ≡ names_of names.old.items ++ name_in part.now) }
 {
-    match subtask_by(network.subtasks.as_slice(), place) {
-        Some(subtask) => subtask.place() == place,
-        None => false,
+    if let Part::Name(name) = part {
+        names.push(*name)?;
     }
+    Ok(())
 }
 
-/// Whether a pair of an order stands at a place.
-fn has_ordering(network: &NetworkText, place: usize) -> bool
-    ensures { result ≡ true → spec.NetworkHas network.now place }
+/// Adds the names of texts in a message.
+fn push_named<'a>(names: &mut Vec<&'a [u8]>, parts: &[Part<'a>]) -> Result<(), AllocError>
+    ensures { OnOk result (names_of names.new.items ≡ names_of names.old.items ++ named parts.now) }
 {
-    match ordering_by(network.orderings.as_slice(), place) {
-        Some(ordering) => ordering.before.place() == place,
-        None => false,
+    for part in parts {
+        push_name(names, part)?;
     }
+    Ok(())
 }
 
-/// Whether a subtask or a pair of an order stands at a place.
-fn in_network(network: &NetworkText, place: usize) -> bool
-    ensures { result ≡ true → spec.NetworkHas network.now place }
+/// Adds the names that a message asks for.
+fn push_offered<'a>(names: &mut Vec<&'a [u8]>, message: &[Part<'a>]) -> Result<(), AllocError>
+    ensures { OnOk result (names_of names.new.items ≡ names_of names.old.items ++ offered_by message.now) }
 {
-    has_subtask(network, place) || has_ordering(network, place)
-}
-
-/// Whether a method, a parameter of one or a part of its network is declared at a place.
-fn in_methods(domain: &DomainText, place: usize) -> bool
-    ensures { result ≡ true → spec.DeclaresMethod domain.now.methods place }
-{
-    // A method's name stands after its bracket, by which methods are looked up.
-    match method_by(domain.methods.as_slice(), place) {
-        Some(method) => {
-            method.name.place() == place
-                || typed_variable_at(method.parameters.as_slice(), place).is_some()
-                || in_network(&method.network, place)
-        }
-        None => false,
+    if is_question(message) {
+        push_named(names, message)?;
     }
+    Ok(())
 }
 
-/// Whether an action or a parameter of one is declared at a place.
-fn in_actions(domain: &DomainText, place: usize) -> bool
-    ensures { result ≡ true → spec.DeclaresAction domain.now.actions place }
+/// The names that remarks offer.
+fn offered_names<'a>(alloc: Global, remarks: &[Remark<'a>]) -> Result<Vec<&'a [u8]>, AllocError>
+    ensures { IfOk result (λ names. names_of names.items ≡ offered remarks.now) }
 {
-    match action_by(domain.actions.as_slice(), place) {
-        Some(action) => {
-            action.name.place() == place
-                || typed_variable_at(action.parameters.as_slice(), place).is_some()
-        }
-        None => false,
+    let mut names = Vec::new(alloc);
+    for remark in remarks {
+        push_offered(&mut names, remark.message.as_slice())?;
     }
+    Ok(names)
 }
 
-/// Whether a domain declares something at a place.
-fn in_domain(domain: &DomainText, place: usize) -> bool
-    ensures { result ≡ true → spec.DomainDeclares domain.now place }
-{
-    typed_or_type_at(domain.types.as_slice(), place).is_some()
-        || typed_name_at(domain.constants.as_slice(), place).is_some()
-        || in_predicates(domain, place)
-        || in_tasks(domain, place)
-        || in_methods(domain, place)
-        || in_actions(domain, place)
-}
-
-/// Whether a problem declares something at a place.
-fn in_problem(problem: &ProblemText, place: usize) -> bool
-    ensures { result ≡ true → spec.ProblemDeclares problem.now place }
-{
-    typed_name_at(problem.objects.as_slice(), place).is_some()
-        || problem.htn.place == place
-        || typed_variable_at(problem.htn.parameters.as_slice(), place).is_some()
-        || in_network(&problem.htn.network, place)
-}
-
-/// Whether something is declared at a place of a pair.
-fn is_declared(domain: &DomainText, problem: &ProblemText, at: At) -> bool
-    ensures { result ≡ true → spec.IsDeclaredAt domain.now problem.now at }
-{
-    match at.source {
-        Side::Domain => in_domain(domain, at.place),
-        Side::Problem => in_problem(problem, at.place),
-    }
-}
-
-/// The side of a text.
-fn side_of(role: Role) -> Side {
-    match role {
-        Role::Problem => Side::Problem,
-        Role::Domain | Role::Plan => Side::Domain,
-    }
-}
-
-/// The notes that stand where something is declared, in their order.
-pub(crate) fn at_declarations<'a>(
+/// What is said where a name is first declared.
+fn first_message<'a>(
     alloc: Global,
-    texts: &PairTexts<'a>,
-    notes: Vec<Note<'a>>,
-) -> Result<Vec<Note<'a>>, AllocError>
-    ensures { IfOk result (λ v. All (λ note. spec.IsAtDeclaration texts.now note.spot) v.items) }
-{
-    let mut noted = Vec::new(alloc);
-    for note in notes {
-        let at = At {
-            source: side_of(note.spot.source.role),
-            place: note.spot.place,
-        };
-        if is_declared(texts.domain_tree, texts.problem_tree, at) {
-            noted.push(Note {
-                spot: spot_of(texts, at),
-                message: note.message,
-            })?;
-        }
+    index: &PairIndex<'a>,
+    sort: Sort,
+    text: &[u8],
+    at: At,
+) -> Result<Vec<Part<'a>>, AllocError> {
+    if let Sort::Called(kind) = sort
+        && let Some(declaration) = declaration_of(index, kind, text)
+    {
+        return declared_with(alloc, declaration.name, declaration.parameters);
     }
-    Ok(noted)
+    declared_here(alloc, word_of(index.texts, at))
+}
+
+/// A note at the first declaration of a name.
+fn first_note<'a>(
+    alloc: Global,
+    index: &PairIndex<'a>,
+    sort: Sort,
+    name: &[u8],
+) -> Result<Option<Note<'a>>, AllocError>
+    ensures { IfOk result (λ found. IfSome found (IsNoteAt index.now.texts.now (IsFirst index.now.texts.now.domain_tree.now index.now.texts.now.problem_tree.now sort (folded name.now)))) }
+{
+    let text = fold(alloc, name)?;
+    let Some(at) = first_at(index, sort, text.as_slice()) else {
+        return Ok(None);
+    };
+    let message = first_message(alloc, index, sort, text.as_slice(), at)?;
+    Ok(Some(note_at(index, at, message)))
+}
+
+/// Adds a note at the first declaration of a name.
+fn add_first_note<'a>(
+    alloc: Global,
+    index: &PairIndex<'a>,
+    sort: Sort,
+    notes: &mut Vec<Note<'a>>,
+    name: &[u8],
+) -> Result<(), AllocError>
+    ensures { OnOk result ((names : List (List ℕ)) → IsIn name.now names → All (IsFirstNote index.now.texts.now sort names) notes.old.items → All (IsFirstNote index.now.texts.now sort names) notes.new.items) }
+{
+    let found = first_note(alloc, index, sort, name)?;
+    if let Some(note) = found {
+        notes.push(note)?;
+    }
+    Ok(())
+}
+
+/// Notes at the first declarations of names.
+fn first_notes<'a>(
+    alloc: Global,
+    index: &PairIndex<'a>,
+    sort: Sort,
+    names: &[&[u8]],
+) -> Result<Vec<Note<'a>>, AllocError>
+    ensures { IfOk result (λ notes. All (IsFirstNote index.now.texts.now sort (names_of names.now)) notes.items) }
+{
+    let mut notes = Vec::new(alloc);
+    for name in names {
+        add_first_note(alloc, index, sort, &mut notes, *name)?;
+    }
+    Ok(notes)
+}
+
+/// Notes at the first declarations of the names that are offered.
+pub(crate) fn offered_notes<'a>(
+    alloc: Global,
+    index: &PairIndex<'a>,
+    sort: Sort,
+    remarks: &[Remark<'a>],
+) -> Result<Vec<Note<'a>>, AllocError>
+    ensures { IfOk result (λ notes. All (IsFirstNote index.now.texts.now sort (offered remarks.now)) notes.items) }
+{
+    let names = offered_names(alloc, remarks)?;
+    let notes = first_notes(alloc, index, sort, names.as_slice())?;
+    Ok(notes)
+}
+
+/// A note at the first declaration of what a use names.
+pub(crate) fn use_notes<'a>(
+    alloc: Global,
+    index: &PairIndex<'a>,
+    used: &Use<'a>,
+) -> Result<Vec<Note<'a>>, AllocError>
+    ensures { IfOk result (λ notes. All (IsNoteAt index.now.texts.now (IsFirst index.now.texts.now.domain_tree.now index.now.texts.now.problem_tree.now (sort_of.Called used.now.kind) (folded used.now.atom.now.name.text))) notes.items) }
+{
+    let note = first_note(alloc, index, Sort::Called(used.kind), used.atom.name.text())?;
+    let notes = listed(alloc, note)?;
+    Ok(notes)
+}
+
+/// Where the first of the name at a place is, among those that it must differ from.
+fn twin_at(alloc: Global, index: &PairIndex<'_>, at: At) -> Result<Option<At>, AllocError>
+    ensures { IfOk result (λ found. IfSome found (IsTwin index.now.texts.now at)) }
+{
+    let word = word_of(index.texts, at);
+    let text = fold(alloc, word)?;
+    let first = first_twin(alloc, index, at, text.as_slice())?;
+    match first {
+        Some(place) => Ok(Some(At {
+            source: at.source,
+            place,
+        })),
+        None => Ok(None),
+    }
+}
+
+/// A note where the name at a place stands first.
+fn twin_note<'a>(
+    alloc: Global,
+    index: &PairIndex<'a>,
+    at: At,
+) -> Result<Option<Note<'a>>, AllocError>
+    ensures { IfOk result (λ found. IfSome found (IsNoteAt index.now.texts.now (IsTwin index.now.texts.now at))) }
+{
+    let found = twin_at(alloc, index, at)?;
+    let Some(first) = found else {
+        return Ok(None);
+    };
+    let words = if is_declared_twice(index, at) {
+        "first declared here"
+    } else {
+        "the first one"
+    };
+    let parts: [Part<'a>; 1] = [Part::Words(words)];
+    let message = Vec::from_slice(alloc, &parts)?;
+    Ok(Some(note_at(index, first, message)))
+}
+
+/// A note where the name at a place stands first, if that is known.
+pub(crate) fn twin_notes<'a>(
+    alloc: Global,
+    index: &PairIndex<'a>,
+    at: At,
+) -> Result<Vec<Note<'a>>, AllocError>
+    ensures { IfOk result (λ notes. All (IsNoteAt index.now.texts.now (IsTwin index.now.texts.now at)) notes.items) }
+{
+    let note = twin_note(alloc, index, at)?;
+    let notes = listed(alloc, note)?;
+    Ok(notes)
 }

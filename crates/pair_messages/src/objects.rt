@@ -1,23 +1,22 @@
 //! Variables and objects that aren't declared.
 
-ghost use Rattle.std.specs.Prelude.{◌≡◌, ℕ, List, [], ◌∷◌, ◌++◌, IfOk, IfSome, OnOk, true};
+ghost use Rattle.std.specs.Prelude.{◌≡◌, List, [], ◌∷◌, IfOk, IfSome, OnOk, true};
 ghost use Rattle.std.specs.List.{All};
 ghost use Rattle.hddl_meaning.specs.Mentions.{folded, IsIn, Text};
 ghost use Rattle.hddl_meaning.specs.Names.{object_names};
 ghost use Rattle.near_names.specs.Near.{names_of};
-ghost use Rattle.pair_messages.specs.Offers.{offered, offered_by, variable_texts, AreNearest, AreWritten, IsNearest, IsVariableOf, MayBeObject};
+ghost use Rattle.near_names.specs.Offers.{offered, offered_by};
+ghost use Rattle.pair_messages.specs.Offers.{variable_texts, AreNearest, AreWritten, IsNearest, IsVariableOf, MayBeObject};
 ghost use Rattle.pair_messages.specs.Stands.{in_force};
 
-use crate::index::{Object, PairIndex};
+use crate::index::PairIndex;
 use crate::known::texts_in;
 use crate::near::{folds_to, may_offer, nearest_among, nearest_within};
-use crate::phrases::{Section, declared_here, push_section, push_typed};
-use crate::saying::Saying;
+use crate::phrases::{Section, section_parts};
+use crate::remarks::{ask, help};
 use crate::stands::InForce;
-use crate::texts::{source_of, spot_at, spot_of};
 use crate::variables::{bindings_of, is_same, names_in_force};
-use diagnostics::Part;
-use hddl_meaning::{At, Source as Side};
+use diagnostics::{Part, Remark};
 use std::alloc::{AllocError, Global};
 
 /// The objects that are nearest to a word, in lower case.
@@ -33,32 +32,14 @@ fn near_objects<'i>(
     Ok(near)
 }
 
-/// Adds where an object is declared first.
-fn note_object<'a>(
-    alloc: Global,
-    index: &PairIndex<'a>,
-    saying: &mut Saying<'a>,
-    object: &Object<'a>,
-) -> Result<(), AllocError>
-    ensures { OnOk result (offered saying.new.remarks.items ≡ offered saying.old.remarks.items) }
-{
-    let source = source_of(index.texts, object.source);
-    saying.note(
-        spot_at(source, object.name.place()),
-        declared_here(alloc, object.name.text())?,
-    )
-}
-
-/// Adds an object to those that are offered, as it is written where it is declared first, and where that is.
+/// Adds an object to those that are offered, as it is written where it is declared first.
 fn offer_object<'a>(
     alloc: Global,
     index: &PairIndex<'a>,
-    saying: &mut Saying<'a>,
     names: &mut Vec<&'a [u8]>,
     text: &[u8],
 ) -> Result<(), AllocError>
-    ensures remarks { OnOk result (offered saying.new.remarks.items ≡ offered saying.old.remarks.items) }
-    ensures names { OnOk result ((all : List Text) → IsIn text.now all → AreWritten all (names_of names.old.items) → AreWritten all (names_of names.new.items)) }
+    ensures { OnOk result ((all : List Text) → IsIn text.now all → AreWritten all (names_of names.old.items) → AreWritten all (names_of names.new.items)) }
 {
     let Some(object) = index.typed.objects.get(text) else {
         return Ok(());
@@ -69,25 +50,36 @@ fn offer_object<'a>(
         return Ok(());
     }
     names.push(name)?;
-    note_object(alloc, index, saying, object)?;
     Ok(())
 }
 
-/// Adds a question for objects in lower case, and where they stand.
-fn offer_objects<'a>(
+/// Objects in lower case, as they are written where they are declared first.
+fn written_objects<'a>(
     alloc: Global,
     index: &PairIndex<'a>,
-    saying: &mut Saying<'a>,
     near: &[&[u8]],
-) -> Result<(), AllocError>
-    ensures { OnOk result ((names : List (List ℕ)) × AreWritten (names_of near.now) names × (offered saying.new.remarks.items ≡ offered saying.old.remarks.items ++ names)) }
+) -> Result<Vec<&'a [u8]>, AllocError>
+    ensures { IfOk result (λ names. AreWritten (names_of near.now) (names_of names.items)) }
 {
-    let mut names = Vec::new(alloc);
+    let mut names: Vec<&'a [u8]> = Vec::new(alloc);
     for text in near {
-        offer_object(alloc, index, saying, &mut names, *text)?;
+        offer_object(alloc, index, &mut names, *text)?;
     }
-    saying.ask(alloc, names.as_slice())?;
-    Ok(())
+    Ok(names)
+}
+
+/// A question for the objects that are nearest to a word.
+fn ask_objects<'a>(
+    alloc: Global,
+    index: &PairIndex<'a>,
+    word: &[u8],
+) -> Result<Vec<Remark<'a>>, AllocError>
+    ensures { IfOk result (λ remarks. All (IsNearest word.now (object_names index.now.texts.now.domain_tree.now index.now.texts.now.problem_tree.now)) (offered remarks.items)) }
+{
+    let near = near_objects(alloc, index, word)?;
+    let names = written_objects(alloc, index, near.as_slice())?;
+    let remarks = ask(alloc, names.as_slice())?;
+    Ok(remarks)
 }
 
 /// Whether a variable has this name after its `?`.
@@ -130,30 +122,38 @@ fn variable_meant<'a>(alloc: Global, name: &'a [u8]) -> Result<Vec<Part<'a>>, Al
     Ok(parts)
 }
 
-/// A constant or an object that isn't declared.
-pub(crate) fn unknown_object<'a>(
+/// The message for a constant or an object that isn't declared.
+pub(crate) fn object_message<'a>(
+    alloc: Global,
+    word: &'a [u8],
+) -> Result<Vec<Part<'a>>, AllocError> {
+    Vec::from_slice(
+        alloc,
+        &[Part::Words("no object is named "), Part::Name(word)],
+    )
+}
+
+/// What is remarked of a constant or an object that isn't declared.
+pub(crate) fn object_remarks<'a>(
     alloc: Global,
     index: &PairIndex<'a>,
     rank: usize,
     scope: &InForce<'a>,
     word: &'a [u8],
-) -> Result<Saying<'a>, AllocError>
-    ensures { IfOk result (λ s. All (MayBeObject index.now.texts.now.domain_tree.now index.now.texts.now.problem_tree.now (in_force scope.now) word.now) (offered s.remarks.items)) }
+) -> Result<Vec<Remark<'a>>, AllocError>
+    ensures { IfOk result (λ remarks. All (MayBeObject index.now.texts.now.domain_tree.now index.now.texts.now.problem_tree.now (in_force scope.now) word.now) (offered remarks.items)) }
 {
-    let message = vec![in alloc; Part::Words("no object is named "), Part::Name(word)]?;
-    let mut saying = Saying::new(alloc, message);
     let found = variable_named(alloc, scope, word)?;
     if let Some(variable) = found {
         let question = variable_meant(alloc, variable)?;
-        saying.help(question)?;
-        return Ok(saying);
+        let remarks = help(alloc, question)?;
+        return Ok(remarks);
     }
     if !may_offer(rank, word, index.names_len) {
-        return Ok(saying);
+        return Ok(Vec::new(alloc));
     }
-    let near = near_objects(alloc, index, word)?;
-    offer_objects(alloc, index, &mut saying, near.as_slice())?;
-    Ok(saying)
+    let remarks = ask_objects(alloc, index, word)?;
+    Ok(remarks)
 }
 
 /// The variables in force that are nearest to a word, for the fault with this many faults before it.
@@ -173,66 +173,45 @@ fn near_variables<'a>(
     Ok(near)
 }
 
-/// Adds the parameters of a section, if it has a place.
-fn note_parameters<'a>(
+/// The message for a variable that isn't in force.
+pub(crate) fn variable_message<'a>(
     alloc: Global,
-    index: &PairIndex<'a>,
-    saying: &mut Saying<'a>,
-    side: Side,
     section: Section<'a>,
-) -> Result<(), AllocError>
-    ensures { OnOk result (offered saying.new.remarks.items ≡ offered saying.old.remarks.items) }
-{
-    let Some(place) = section.place() else {
-        return Ok(());
-    };
-    let mut parts = vec![in alloc; Part::Words("the parameters of ")]?;
-    push_section(&mut parts, section)?;
-    parts.push(Part::Words(" are ("))?;
-    push_typed(&mut parts, "", section.parameters())?;
-    parts.push(Part::Words(")"))?;
-    let at = At {
-        source: side,
-        place,
-    };
-    saying.note(spot_of(index.texts, at), parts)
+    word: &'a [u8],
+) -> Result<Vec<Part<'a>>, AllocError> {
+    let (kind, name) = section_parts(section);
+    let parts = [
+        Part::Name(word),
+        Part::Words(" is no parameter of "),
+        kind,
+        name,
+    ];
+    Vec::from_slice(alloc, &parts)
 }
 
-/// Adds where a variable is declared, if that is wanted and the section has a place.
-fn help_declare<'a>(
-    alloc: Global,
-    saying: &mut Saying<'a>,
-    section: Section<'a>,
-    is_wanted: bool,
-) -> Result<(), AllocError>
-    ensures { OnOk result (offered saying.new.remarks.items ≡ offered saying.old.remarks.items) }
+/// Where a variable is declared.
+fn declare_it<'a>(alloc: Global) -> Result<Vec<Part<'a>>, AllocError>
+    ensures { IfOk result (λ parts. offered_by parts.items ≡ []) }
 {
-    if !is_wanted || section.place().is_none() {
-        return Ok(());
-    }
-    let how = vec![in alloc; Part::Words("add it to `:parameters`")]?;
-    saying.help(how)?;
-    Ok(())
+    let parts = vec![in alloc; Part::Words("add it to `:parameters`")]?;
+    Ok(parts)
 }
 
-/// A variable that isn't in force.
-pub(crate) fn unknown_variable<'a>(
+/// What is remarked of a variable that isn't in force: the nearest ones, or where it is declared.
+pub(crate) fn variable_remarks<'a>(
     alloc: Global,
-    index: &PairIndex<'a>,
     rank: usize,
-    side: Side,
     scope: &InForce<'a>,
     word: &'a [u8],
-) -> Result<Saying<'a>, AllocError>
-    ensures { IfOk result (λ s. All (IsNearest word.now (variable_texts (in_force scope.now))) (offered s.remarks.items)) }
+) -> Result<Vec<Remark<'a>>, AllocError>
+    ensures { IfOk result (λ remarks. All (IsNearest word.now (variable_texts (in_force scope.now))) (offered remarks.items)) }
 {
-    let section = scope.section;
-    let mut message = vec![in alloc; Part::Name(word), Part::Words(" is no parameter of ")]?;
-    push_section(&mut message, section)?;
-    let mut saying = Saying::new(alloc, message);
     let near = near_variables(alloc, rank, scope, word)?;
-    saying.ask(alloc, near.as_slice())?;
-    help_declare(alloc, &mut saying, section, near.is_empty())?;
-    note_parameters(alloc, index, &mut saying, side, section)?;
-    Ok(saying)
+    if near.is_empty() && scope.section.place().is_some() {
+        let how = declare_it(alloc)?;
+        let remarks = help(alloc, how)?;
+        return Ok(remarks);
+    }
+    let remarks = ask(alloc, near.as_slice())?;
+    Ok(remarks)
 }

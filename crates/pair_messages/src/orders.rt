@@ -1,25 +1,27 @@
 //! Orders of subtasks: cycles, and names that no subtask has.
 
-ghost use Rattle.std.specs.Prelude.{◌≡◌, [], ◌++◌, IfOk, IfSome, OnOk, codes, false, nat_eq};
-ghost use Rattle.std.specs.List.{All, starts_with};
+ghost use Rattle.std.specs.Prelude.{◌≡◌, [], ◌++◌, IfOk, IfSome, OnOk, false};
+ghost use Rattle.std.specs.List.{All};
 ghost use Rattle.hddl_meaning.specs.Items.{label_mentions, ordering_names};
 ghost use Rattle.hddl_meaning.specs.Mentions.{IsIn, texts};
 ghost use Rattle.near_names.specs.Near.{names_of};
-ghost use Rattle.pair_messages.specs.Offers.{label_text, label_texts, offered, offered_by, offered_if, IsForLabel, IsForOrdering, IsNearest};
+ghost use Rattle.near_names.specs.Offers.{begins_question, offered, offered_by};
+ghost use Rattle.pair_messages.specs.Offers.{label_text, label_texts, IsForLabel, IsForOrdering, IsNearest};
 ghost use Rattle.pair_messages.specs.Stands.{IsNetworkIn, IsNetworkOf, IsSectionOf};
 
 use crate::index::PairIndex;
 use crate::near::{may_offer, nearest_within};
-use crate::phrases::{Section, did_you_mean, plain, push_names, push_section};
-use crate::saying::Saying;
-use crate::texts::spot_of;
+use crate::phrases::{Section, plain, section_parts};
+use crate::remarks::{fact, help};
+use crate::texts::word_of;
 use cycles::shortest_cycle;
-use diagnostics::Part;
+use diagnostics::{Part, Remark};
 use hddl_locate::{method_by, ordering_by};
 use hddl_meaning::{At, Source as Side};
 use hddl_names::fold_to_vec;
 use hddl_tree::{Name, NetworkText, OrderingText};
 use indexmap::IndexMap;
+use near_names::{did_you_mean, push_names};
 use std::alloc::{AllocError, Global};
 
 /// The most labels that are listed.
@@ -50,7 +52,7 @@ fn section_by<'a>(index: &PairIndex<'a>, at: At) -> Option<Section<'a>>
 }
 
 /// The network that may stand around a place.
-fn network_by<'a>(index: &PairIndex<'a>, at: At) -> Option<&'a NetworkText>
+pub(crate) fn network_by<'a>(index: &PairIndex<'a>, at: At) -> Option<&'a NetworkText>
     ensures { IfSome result (λ n. IsNetworkIn index.now.texts.now.domain_tree.now index.now.texts.now.problem_tree.now at.source n.now) }
 {
     let section = section_by(index, at)?;
@@ -58,26 +60,39 @@ fn network_by<'a>(index: &PairIndex<'a>, at: At) -> Option<&'a NetworkText>
     Some(network)
 }
 
+/// Adds the position of a label, if it is the first of its name.
+fn add_label(
+    alloc: Global,
+    labels: &mut IndexMap<Vec<u8>, usize>,
+    label: &Name,
+    position: usize,
+) -> Result<(), AllocError> {
+    let key = fold_to_vec(alloc, label.text())?;
+    if !labels.contains_key(key.as_slice()) {
+        let _ = labels.insert(key, position)?;
+    }
+    Ok(())
+}
+
 /// The position of the subtask of each label.
 fn labels_of(alloc: Global, network: &NetworkText) -> Result<IndexMap<Vec<u8>, usize>, AllocError> {
     let mut labels = IndexMap::new(alloc);
-    for (position, subtask) in network.subtasks.as_slice().iter().enumerate() {
+    let mut position: usize = 0;
+    for subtask in network.subtasks.as_slice() {
         if let Some(label) = &subtask.label {
-            let key = fold_to_vec(alloc, label.text())?;
-            if !labels.contains_key(key.as_slice()) {
-                let _ = labels.insert(key, position)?;
-            }
+            add_label(alloc, &mut labels, label, position)?;
         }
+        position = position.saturating_add(1);
     }
     Ok(labels)
 }
 
 /// A pair of the order, by positions, with the ordering that asks for it; none where the list does.
 #[derive(Clone, Copy, Drop)]
-struct Asked<'a> {
+pub(crate) struct Asked<'a> {
     before: usize,
     after: usize,
-    ordering: Option<&'a OrderingText>,
+    pub(crate) ordering: Option<&'a OrderingText>,
 }
 
 /// The pair of an ordering, if both labels are there.
@@ -130,88 +145,142 @@ fn called<'a>(network: &'a NetworkText, position: usize) -> &'a [u8] {
     }
 }
 
-/// Adds a pair of a cycle to the label, and where it is asked for.
-fn say_pair<'a>(
-    alloc: Global,
-    index: &PairIndex<'a>,
-    saying: &mut Saying<'a>,
-    side: Side,
-    network: &'a NetworkText,
-    pair: Asked<'a>,
-) -> Result<(), AllocError>
-    ensures { OnOk result (offered saying.new.remarks.items ≡ offered saying.old.remarks.items) }
-{
-    let (before, after) = (called(network, pair.before), called(network, pair.after));
-    saying.label.push(Part::Words(" < "))?;
-    saying.label.push(plain(after))?;
-    if let Some(ordering) = pair.ordering {
-        let parts = vec![in alloc;
-            Part::Name(before),
-            Part::Words(" before "),
-            Part::Name(after),
-            Part::Words(" is asked for here"),
-        ]?;
-        let at = At {
-            source: side,
-            place: ordering.before.place(),
-        };
-        saying.note(spot_of(index.texts, at), parts)?;
+/// The pairs by their positions alone.
+fn positions_of(alloc: Global, pairs: &[Asked<'_>]) -> Result<Vec<(usize, usize)>, AllocError> {
+    let mut positions = Vec::with_capacity(alloc, pairs.len())?;
+    for pair in pairs {
+        positions.push((pair.before, pair.after))?;
     }
-    Ok(())
+    Ok(positions)
 }
 
-/// Adds a cycle of an order.
-fn say_cycle<'a>(
+/// The numbers of the pairs of a cycle.
+fn cycle_in(
     alloc: Global,
-    index: &PairIndex<'a>,
-    saying: &mut Saying<'a>,
-    side: Side,
-    network: &'a NetworkText,
-) -> Result<(), AllocError>
-    ensures { OnOk result (offered saying.new.remarks.items ≡ offered saying.old.remarks.items) }
-{
-    let pairs = pairs_of(alloc, network)?;
-    let mut plain_pairs = Vec::with_capacity(alloc, pairs.len())?;
-    for pair in pairs.as_slice() {
-        plain_pairs.push((pair.before, pair.after))?;
-    }
-    let cycle = shortest_cycle(alloc, network.subtasks.len(), plain_pairs.as_slice())?;
-    if let Some(first) = cycle.first().and_then(|k| pairs.get(*k)) {
-        saying.label.push(plain(called(network, first.before)))?;
-    }
-    for k in cycle.as_slice() {
-        if let Some(pair) = pairs.get(*k).copied() {
-            say_pair(alloc, index, saying, side, network, pair)?;
+    network: &NetworkText,
+    pairs: &[Asked<'_>],
+) -> Result<Vec<usize>, AllocError> {
+    let positions = positions_of(alloc, pairs)?;
+    shortest_cycle(alloc, network.subtasks.len(), positions.as_slice())
+}
+
+/// Some of the pairs, by their numbers.
+fn picked<'a>(
+    alloc: Global,
+    pairs: &[Asked<'a>],
+    numbers: &[usize],
+) -> Result<Vec<Asked<'a>>, AllocError> {
+    let mut found = Vec::new(alloc);
+    for number in numbers {
+        if let Some(pair) = pairs.get(*number) {
+            found.push(*pair)?;
         }
     }
-    Ok(())
+    Ok(found)
 }
 
-/// A network whose order has a cycle.
-pub(crate) fn order_cycle<'a>(
+/// The pairs of a cycle of an order.
+pub(crate) fn cycle_of<'a>(
+    alloc: Global,
+    network: &'a NetworkText,
+) -> Result<Vec<Asked<'a>>, AllocError> {
+    let pairs = pairs_of(alloc, network)?;
+    let cycle = cycle_in(alloc, network, pairs.as_slice())?;
+    picked(alloc, pairs.as_slice(), cycle.as_slice())
+}
+
+/// The subtasks of a cycle, from one back to itself.
+fn way_label<'a>(
+    alloc: Global,
+    network: &'a NetworkText,
+    cycle: &[Asked<'a>],
+) -> Result<Vec<Part<'a>>, AllocError> {
+    let mut label = Vec::new(alloc);
+    if let Some(first) = cycle.first() {
+        label.push(plain(called(network, first.before)))?;
+    }
+    for pair in cycle {
+        label.extend_from_slice(&[Part::Words(" < "), plain(called(network, pair.after))])?;
+    }
+    Ok(label)
+}
+
+/// What stands beside the carets below a network whose order has a cycle: the cycle.
+pub(crate) fn order_label<'a>(
     alloc: Global,
     index: &PairIndex<'a>,
     at: At,
-) -> Result<Saying<'a>, AllocError>
-    ensures { IfOk result (λ s. offered s.remarks.items ≡ []) }
-{
-    let mut message = vec![in alloc; Part::Words("the order of the subtasks of ")]?;
-    match section_by(index, at) {
-        Some(section) => push_section(&mut message, section)?,
-        None => message.push(Part::Words("a network"))?,
-    }
-    message.push(Part::Words(" has a cycle"))?;
-    let mut saying = Saying::new(alloc, message);
+) -> Result<Vec<Part<'a>>, AllocError> {
     let Some(network) = network_by(index, at) else {
-        return Ok(saying);
+        return Ok(Vec::new(alloc));
     };
-    if network.is_ordered {
-        saying.remark(vec![in alloc;
-            Part::Words("the list of `:ordered-subtasks` is an order itself"),
-        ]?)?;
+    let cycle = cycle_of(alloc, network)?;
+    way_label(alloc, network, cycle.as_slice())
+}
+
+/// What is said of a pair of a cycle where it is asked for.
+pub(crate) fn asked_message<'a>(
+    alloc: Global,
+    network: &'a NetworkText,
+    pair: Asked<'a>,
+) -> Result<Vec<Part<'a>>, AllocError> {
+    let parts = [
+        Part::Name(called(network, pair.before)),
+        Part::Words(" before "),
+        Part::Name(called(network, pair.after)),
+        Part::Words(" is asked for here"),
+    ];
+    Vec::from_slice(alloc, &parts)
+}
+
+/// What a section around a place is called.
+fn section_words<'a>(index: &PairIndex<'a>, at: At) -> (Part<'a>, Part<'a>) {
+    match section_by(index, at) {
+        Some(section) => section_parts(section),
+        None => (Part::Words("the network"), Part::Words("")),
     }
-    say_cycle(alloc, index, &mut saying, at.source, network)?;
-    Ok(saying)
+}
+
+/// The message for a network whose order has a cycle.
+pub(crate) fn order_message<'a>(
+    alloc: Global,
+    index: &PairIndex<'a>,
+    at: At,
+) -> Result<Vec<Part<'a>>, AllocError> {
+    let (kind, name) = section_words(index, at);
+    let parts = [
+        Part::Words("the order of the subtasks of "),
+        kind,
+        name,
+        Part::Words(" has a cycle"),
+    ];
+    Vec::from_slice(alloc, &parts)
+}
+
+/// That a list of subtasks is an order.
+fn is_order<'a>(alloc: Global) -> Result<Vec<Part<'a>>, AllocError>
+    ensures { IfOk result (λ parts. offered_by parts.items ≡ []) }
+{
+    let parts = vec![in alloc; Part::Words("the list of `:ordered-subtasks` is an order itself")]?;
+    Ok(parts)
+}
+
+/// What is remarked of a network whose order has a cycle.
+pub(crate) fn order_remarks<'a>(
+    alloc: Global,
+    index: &PairIndex<'a>,
+    at: At,
+) -> Result<Vec<Remark<'a>>, AllocError>
+    ensures { IfOk result (λ remarks. offered remarks.items ≡ []) }
+{
+    match network_by(index, at) {
+        Some(network) if network.is_ordered => {
+            let parts = is_order(alloc)?;
+            let remarks = fact(alloc, parts)?;
+            Ok(remarks)
+        }
+        _ => Ok(Vec::new(alloc)),
+    }
 }
 
 /// Adds a label, if there is one.
@@ -272,7 +341,7 @@ fn ordered_at<'a>(network: &'a NetworkText, place: usize) -> Option<&'a Name>
 
 /// The words before a list of labels.
 fn label_words<'a>(count: usize) -> &'a str
-    ensures { starts_with nat_eq result.now (codes "did you mean ") ≡ false }
+    ensures { begins_question result.now ≡ false }
 {
     if count == 1 {
         "the label is "
@@ -368,38 +437,38 @@ fn subtask_help<'a>(
     Ok(help)
 }
 
-/// Adds what helps, if anything does.
-fn add_help<'a>(saying: &mut Saying<'a>, help: Option<Vec<Part<'a>>>) -> Result<(), AllocError>
-    ensures { OnOk result (offered saying.new.remarks.items ≡ offered saying.old.remarks.items ++ offered_if help.entry) }
-{
-    match help {
-        Some(parts) => {
-            saying.help(parts)?;
-            Ok(())
-        }
-        None => Ok(()),
-    }
+/// The message for a name in an ordering that no subtask has.
+pub(crate) fn subtask_message<'a>(
+    alloc: Global,
+    index: &PairIndex<'a>,
+    at: At,
+) -> Result<Vec<Part<'a>>, AllocError> {
+    let (kind, name) = section_words(index, at);
+    let parts = [
+        Part::Words("no subtask of "),
+        kind,
+        name,
+        Part::Words(" has the label "),
+        Part::Name(word_of(index.texts, at)),
+    ];
+    Vec::from_slice(alloc, &parts)
 }
 
-/// A name in an ordering that no subtask has.
-pub(crate) fn unknown_subtask<'a>(
+/// What is remarked of a name in an ordering that no subtask has.
+pub(crate) fn subtask_remarks<'a>(
     alloc: Global,
     index: &PairIndex<'a>,
     rank: usize,
     at: At,
-    word: &'a [u8],
-) -> Result<Saying<'a>, AllocError>
-    ensures { IfOk result (λ s. All (IsForLabel index.now.texts.now.domain_tree.now index.now.texts.now.problem_tree.now at) (offered s.remarks.items)) }
+) -> Result<Vec<Remark<'a>>, AllocError>
+    ensures { IfOk result (λ remarks. All (IsForLabel index.now.texts.now.domain_tree.now index.now.texts.now.problem_tree.now at) (offered remarks.items)) }
 {
-    let mut message = vec![in alloc; Part::Words("no subtask of ")]?;
-    match section_by(index, at) {
-        Some(section) => push_section(&mut message, section)?,
-        None => message.push(Part::Words("the network"))?,
+    let found = subtask_help(alloc, index, rank, at)?;
+    match found {
+        Some(parts) => {
+            let remarks = help(alloc, parts)?;
+            Ok(remarks)
+        }
+        None => Ok(Vec::new(alloc)),
     }
-    message.push(Part::Words(" has the label "))?;
-    message.push(Part::Name(word))?;
-    let mut saying = Saying::new(alloc, message);
-    let help = subtask_help(alloc, index, rank, at)?;
-    add_help(&mut saying, help)?;
-    Ok(saying)
 }

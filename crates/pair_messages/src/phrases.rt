@@ -1,11 +1,10 @@
-//! Parts of messages: lists of names, counts, typed lists and declarations.
+//! Parts of messages: sections, counts, typed lists and declarations.
 
-ghost use Rattle.std.specs.Prelude.{◌≡◌, ℕ, List, ◌∷◌, [], ◌++◌, IfOk, OnOk};
-ghost use Rattle.near_names.specs.Near.{names_of};
-ghost use Rattle.pair_messages.specs.Offers.{named, offered_by, opening};
+ghost use Rattle.std.specs.Prelude.{◌≡◌, ◌∷◌, [], ◌++◌, OnOk};
 ghost use Rattle.pair_messages.specs.Counts.{number_of, numbers_of};
 ghost use Rattle.pair_messages.specs.Stands.{section_parameters};
 
+use crate::variables::MOST_LOOKED_AT;
 use diagnostics::Part;
 use hddl_tree::{ActionText, HtnText, MethodText, Name, Variable, VariableGroup};
 use std::alloc::{AllocError, Global};
@@ -58,69 +57,14 @@ impl<'a> Section<'a> {
     }
 }
 
-/// Adds what a section is called.
-pub(crate) fn push_section<'a>(
-    parts: &mut Vec<Part<'a>>,
-    section: Section<'a>,
-) -> Result<(), AllocError> {
+/// What a section is called: words, and its name if it has one.
+pub(crate) fn section_parts<'a>(section: Section<'a>) -> (Part<'a>, Part<'a>) {
     match section {
-        Section::Method(method) => {
-            parts.push(Part::Words("method "))?;
-            parts.push(Part::Name(method.name.text()))?;
-            Ok(())
-        }
-        Section::Action(action) => {
-            parts.push(Part::Words("action "))?;
-            parts.push(Part::Name(action.name.text()))?;
-            Ok(())
-        }
-        Section::Htn(_) => {
-            parts.push(Part::Words("`:htn`"))?;
-            Ok(())
-        }
-        Section::States => {
-            parts.push(Part::Words("the problem"))?;
-            Ok(())
-        }
+        Section::Method(method) => (Part::Words("method "), Part::Name(method.name.text())),
+        Section::Action(action) => (Part::Words("action "), Part::Name(action.name.text())),
+        Section::Htn(_) => (Part::Words("`:htn`"), Part::Words("")),
+        Section::States => (Part::Words("the problem"), Part::Words("")),
     }
-}
-
-/// Adds the words before a name of a list: nothing before the first one, and the word before the last one.
-#[tactic(auto, using(crate::proofs::Questions::opening_more))]
-fn push_separator<'a>(
-    parts: &mut Vec<Part<'a>>,
-    is_first: bool,
-    is_last: bool,
-    word: &'a str,
-) -> Result<(), AllocError>
-    ensures names { OnOk result (named parts.new.items ≡ named parts.old.items) }
-    ensures begin { OnOk result ((words : List ℕ) → opening parts.old.items ≡ Some words → opening parts.new.items ≡ Some words) }
-{
-    if is_first {
-        return Ok(());
-    }
-    parts.push(Part::Words(if is_last { word } else { ", " }))?;
-    Ok(())
-}
-
-/// Adds names, as `a`, `b` or `c`, where the word stands before the last one.
-#[tactic(auto, using(crate::proofs::Questions::opening_more))]
-pub(crate) fn push_names<'a>(
-    parts: &mut Vec<Part<'a>>,
-    names: &[&'a [u8]],
-    word: &'a str,
-) -> Result<(), AllocError>
-    ensures names { OnOk result (named parts.new.items ≡ named parts.old.items ++ names_of names.now) }
-    ensures begin { OnOk result ((words : List ℕ) → opening parts.old.items ≡ Some words → opening parts.new.items ≡ Some words) }
-{
-    let count = names.len();
-    let mut left = count;
-    for name in names {
-        push_separator(parts, left == count, left == 1, word)?;
-        parts.push(Part::Name(name))?;
-        left = left.saturating_sub(1);
-    }
-    Ok(())
 }
 
 /// Adds a number of things, as `1 type` and `2 types`. An error where memory was refused.
@@ -137,6 +81,18 @@ pub fn push_count<'a>(
     Ok(())
 }
 
+/// How many variables a typed list has; none where it is too long to be counted for each fault.
+pub(crate) fn count_variables(groups: &[VariableGroup]) -> Option<usize> {
+    if groups.len() > MOST_LOOKED_AT {
+        return None;
+    }
+    let mut count: usize = 0;
+    for group in groups {
+        count = count.saturating_add(group.variables.len());
+    }
+    Some(count)
+}
+
 /// The type that is written, or `object` where none is.
 pub(crate) fn written_type<'a>(of_type: &'a Option<Name>) -> &'a [u8] {
     match of_type {
@@ -145,16 +101,20 @@ pub(crate) fn written_type<'a>(of_type: &'a Option<Name>) -> &'a [u8] {
     }
 }
 
-/// Adds a variable with its type.
+/// Adds a variable with its type, after other words.
 fn push_variable<'a>(
     parts: &mut Vec<Part<'a>>,
+    before: &'a str,
     variable: &'a Variable,
     of_type: &'a Option<Name>,
 ) -> Result<(), AllocError> {
-    parts.push(plain(variable.text()))?;
-    parts.push(Part::Words(" - "))?;
-    parts.push(plain(written_type(of_type)))?;
-    Ok(())
+    let typed = [
+        Part::Words(before),
+        plain(variable.text()),
+        Part::Words(" - "),
+        plain(written_type(of_type)),
+    ];
+    parts.extend_from_slice(&typed)
 }
 
 /// Adds a typed list, as `?a - t ?b - t`, of which 32 variables are written. Before the first one stands `start`.
@@ -167,11 +127,11 @@ pub(crate) fn push_typed<'a>(
     for group in groups {
         for variable in group.variables.as_slice() {
             if written >= MOST_WRITTEN {
-                parts.push(Part::Words(" ..."))?;
-                return Ok(());
+                let more: [Part<'a>; 1] = [Part::Words(" ...")];
+                return parts.extend_from_slice(&more);
             }
-            parts.push(Part::Words(if written == 0 { start } else { " " }))?;
-            push_variable(parts, variable, &group.of_type)?;
+            let before = if written == 0 { start } else { " " };
+            push_variable(parts, before, variable, &group.of_type)?;
             written = written.saturating_add(1);
         }
     }
@@ -184,7 +144,7 @@ pub(crate) fn declared_with<'a>(
     name: &'a Name,
     parameters: &'a [VariableGroup],
 ) -> Result<Vec<Part<'a>>, AllocError> {
-    let mut parts = vec![in alloc; Part::Words("`("), plain(name.text())]?;
+    let mut parts = Vec::from_slice(alloc, &[Part::Words("`("), plain(name.text())])?;
     push_typed(&mut parts, " ", parameters)?;
     parts.push(Part::Words(")` is declared here"))?;
     Ok(parts)
@@ -195,18 +155,5 @@ pub(crate) fn declared_here<'a>(
     alloc: Global,
     name: &'a [u8],
 ) -> Result<Vec<Part<'a>>, AllocError> {
-    Ok(vec![in alloc; Part::Name(name), Part::Words(" is declared here")]?)
-}
-
-/// A question for one of these names.
-pub(crate) fn did_you_mean<'a>(
-    alloc: Global,
-    names: &[&'a [u8]],
-) -> Result<Vec<Part<'a>>, AllocError>
-    ensures { IfOk result (λ parts. offered_by parts.items ≡ names_of names.now) }
-{
-    let mut parts = vec![in alloc; Part::Words("did you mean ")]?;
-    push_names(&mut parts, names, " or ")?;
-    parts.push(Part::Words("?"))?;
-    Ok(parts)
+    Vec::from_slice(alloc, &[Part::Name(name), Part::Words(" is declared here")])
 }

@@ -4,6 +4,7 @@ ghost use Rattle.std.specs.Prelude.{◌≡◌, IfOk, IfSome};
 ghost use Rattle.hddl_meaning.specs.Uses as uses;
 ghost use Rattle.pair_messages.specs.Stands.{in_force, schema_of_atom, schema_of_conditions, schema_of_equality, schema_of_subtasks, section_parameters, StandsAt, StandsIn, StandsInDomain, StandsInProblem};
 
+use crate::index::PairIndex;
 use crate::phrases::Section;
 use hddl_locate::{
     action_by, argument_at, atom_by, condition_by, equality_by, literal_by, method_by, subtask_by,
@@ -11,7 +12,8 @@ use hddl_locate::{
 };
 use hddl_meaning::{At, Source as Side};
 use hddl_tree::{
-    AtomText, Condition, DomainText, EqualityText, NetworkText, ProblemText, Term, VariableGroup,
+    ActionText, AtomText, Condition, DomainText, EqualityText, MethodText, NetworkText,
+    ProblemText, Term, VariableGroup,
 };
 use std::alloc::{AllocError, Global};
 
@@ -156,7 +158,7 @@ fn in_subtasks<'a>(
 }
 
 /// The item at a place of a network.
-fn in_network<'a>(
+pub(crate) fn in_network<'a>(
     alloc: Global,
     section: Section<'a>,
     network: &'a NetworkText,
@@ -171,16 +173,13 @@ fn in_network<'a>(
 }
 
 /// The item at a place of a method.
-fn in_methods<'a>(
+pub(crate) fn in_method<'a>(
     alloc: Global,
-    domain: &'a DomainText,
+    method: &'a MethodText,
     place: usize,
 ) -> Result<Option<Stand<'a>>, AllocError>
-    ensures { IfOk result (λ found. IfSome found (StandsInDomain domain.now place)) }
+    ensures { IfOk result (λ found. IfSome found (StandsIn (uses.schema_of_method method.now) place)) }
 {
-    let Some(method) = method_by(domain.methods.as_slice(), place) else {
-        return Ok(None);
-    };
     let section = Section::Method(method);
     let scope = parameters_of(alloc, section);
     if let Some(found) = in_atom(scope, Kind::Compound, &method.task, place) {
@@ -193,7 +192,41 @@ fn in_methods<'a>(
     Ok(found)
 }
 
+/// The item at a place of the methods.
+fn in_methods<'a>(
+    alloc: Global,
+    domain: &'a DomainText,
+    place: usize,
+) -> Result<Option<Stand<'a>>, AllocError>
+    ensures { IfOk result (λ found. IfSome found (StandsInDomain domain.now place)) }
+{
+    let Some(method) = method_by(domain.methods.as_slice(), place) else {
+        return Ok(None);
+    };
+    let found = in_method(alloc, method, place)?;
+    Ok(found)
+}
+
 /// The item at a place of an action.
+pub(crate) fn in_action<'a>(
+    alloc: Global,
+    action: &'a ActionText,
+    place: usize,
+) -> Result<Option<Stand<'a>>, AllocError>
+    ensures { IfOk result (λ found. IfSome found (StandsIn (uses.schema_of_action action.now) place)) }
+{
+    let section = Section::Action(action);
+    if let Some(literal) = literal_by(action.effect.as_slice(), place) {
+        let scope = parameters_of(alloc, section);
+        if let Some(found) = in_atom(scope, Kind::Predicate, &literal.atom, place) {
+            return Ok(Some(found));
+        }
+    }
+    let found = in_conditions(alloc, section, action.precondition.as_slice(), place)?;
+    Ok(found)
+}
+
+/// The item at a place of the actions.
 fn in_actions<'a>(
     alloc: Global,
     domain: &'a DomainText,
@@ -204,14 +237,7 @@ fn in_actions<'a>(
     let Some(action) = action_by(domain.actions.as_slice(), place) else {
         return Ok(None);
     };
-    let section = Section::Action(action);
-    if let Some(literal) = literal_by(action.effect.as_slice(), place) {
-        let scope = parameters_of(alloc, section);
-        if let Some(found) = in_atom(scope, Kind::Predicate, &literal.atom, place) {
-            return Ok(Some(found));
-        }
-    }
-    let found = in_conditions(alloc, section, action.precondition.as_slice(), place)?;
+    let found = in_action(alloc, action, place)?;
     Ok(found)
 }
 
@@ -252,7 +278,7 @@ fn in_problem<'a>(
 }
 
 /// The item at a place of a pair, if it is a name, an argument or a side.
-pub(crate) fn stand_at<'a>(
+fn stand_at<'a>(
     alloc: Global,
     domain: &'a DomainText,
     problem: &'a ProblemText,
@@ -264,4 +290,15 @@ pub(crate) fn stand_at<'a>(
         Side::Domain => in_domain(alloc, domain, at.place),
         Side::Problem => in_problem(alloc, problem, at.place),
     }
+}
+
+/// The item at a place of a pair with its declarations.
+pub(crate) fn stand_of<'a>(
+    alloc: Global,
+    index: &PairIndex<'a>,
+    at: At,
+) -> Result<Option<Stand<'a>>, AllocError>
+    ensures { IfOk result (λ found. IfSome found (StandsAt index.now.texts.now.domain_tree.now index.now.texts.now.problem_tree.now at)) }
+{
+    stand_at(alloc, index.texts.domain_tree, index.texts.problem_tree, at)
 }

@@ -48,7 +48,7 @@ fn problem_of<'a>(texts: &PairTexts<'a>) -> &'a Source<'a>
 }
 
 /// The text of a side, or the domain's where there is no problem.
-pub(crate) fn source_of<'a>(texts: &PairTexts<'a>, side: Side) -> &'a Source<'a>
+fn source_of<'a>(texts: &PairTexts<'a>, side: Side) -> &'a Source<'a>
     ensures { result.now ≡ spec.text_of texts.now side }
 {
     match side {
@@ -77,7 +77,7 @@ fn word_len(bytes: &[u8]) -> usize
 }
 
 /// The word that begins at a place; of a bracket or at the end no bytes.
-pub(crate) fn word_at<'a>(source: &'a Source<'a>, place: usize) -> &'a [u8]
+fn word_at<'a>(source: &'a Source<'a>, place: usize) -> &'a [u8]
     ensures { result.now ≡ word_from source.now place }
 {
     let text = source.lines.text();
@@ -85,8 +85,15 @@ pub(crate) fn word_at<'a>(source: &'a Source<'a>, place: usize) -> &'a [u8]
     &rest[..word_len(rest)]
 }
 
+/// The word at a place of a pair.
+pub(crate) fn word_of<'a>(texts: &PairTexts<'a>, at: At) -> &'a [u8]
+    ensures { result.now ≡ word_from (spec.text_of texts.now at.source) at.place }
+{
+    word_at(source_of(texts, at.source), at.place)
+}
+
 /// A place with the length of the word there, 1 at a bracket. What stands past the end of the text is its end.
-pub(crate) fn spot_at<'a>(source: &'a Source<'a>, place: usize) -> Spot<'a>
+fn spot_at<'a>(source: &'a Source<'a>, place: usize) -> Spot<'a>
     ensures { spec.IsSpotAt source.now place result }
 {
     let len = source.lines.text().len();

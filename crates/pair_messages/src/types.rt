@@ -1,20 +1,21 @@
 //! Types that aren't declared, and types that are below themselves.
 
-ghost use Rattle.std.specs.Prelude.{◌≡◌, ℕ, List, [], ◌++◌, IfOk, OnOk, codes, false, nat_eq};
-ghost use Rattle.std.specs.List.{All, starts_with};
+ghost use Rattle.std.specs.Prelude.{◌≡◌, List, [], IfOk, OnOk, false};
+ghost use Rattle.std.specs.List.{All};
 ghost use Rattle.hddl_meaning.specs.Mentions.{IsIn, Text};
 ghost use Rattle.hddl_meaning.specs.Names.{type_names};
 ghost use Rattle.near_names.specs.Near.{names_of};
-ghost use Rattle.pair_messages.specs.Offers.{offered, AreNearest, AreWritten, IsNearest};
+ghost use Rattle.near_names.specs.Offers.{begins_question, offered, offered_by};
+ghost use Rattle.pair_messages.specs.Offers.{AreNearest, AreWritten, IsNearest};
 
 use crate::index::PairIndex;
 use crate::known::texts_in;
 use crate::near::{folds_to, may_offer, nearest_among};
-use crate::phrases::{declared_here, plain, push_names};
-use crate::saying::Saying;
-use crate::texts::spot_at;
+use crate::phrases::plain;
+use crate::remarks::{ask, help};
 use crate::walks::cycle_through;
-use diagnostics::Part;
+use diagnostics::{Part, Remark};
+use near_names::push_names;
 use std::alloc::{AllocError, Global};
 
 /// The most types that are listed.
@@ -31,24 +32,6 @@ fn near_types<'i>(
     let names = texts_in(alloc, &index.known.types)?;
     let near = nearest_among(alloc, word, names.as_slice())?;
     Ok(near)
-}
-
-/// Adds where a type is named first.
-fn note_type<'a>(
-    alloc: Global,
-    index: &PairIndex<'a>,
-    saying: &mut Saying<'a>,
-    text: &[u8],
-) -> Result<(), AllocError>
-    ensures { OnOk result (offered saying.new.remarks.items ≡ offered saying.old.remarks.items) }
-{
-    if let Some(known) = index.typed.types.get(text) {
-        saying.note(
-            spot_at(index.texts.domain, known.name.place()),
-            declared_here(alloc, known.name.text())?,
-        )?;
-    }
-    Ok(())
 }
 
 /// Adds a type as it is written where it is named first, and `object` where it isn't. Nothing where that is another text.
@@ -87,26 +70,22 @@ fn written_types<'a>(
     Ok(names)
 }
 
-/// Adds a question for types in lower case, and where they stand.
-fn offer_types<'a>(
+/// A question for types in lower case.
+fn ask_types<'a>(
     alloc: Global,
     index: &PairIndex<'a>,
-    saying: &mut Saying<'a>,
     near: &[&[u8]],
-) -> Result<(), AllocError>
-    ensures { OnOk result ((names : List (List ℕ)) × AreWritten (names_of near.now) names × (offered saying.new.remarks.items ≡ offered saying.old.remarks.items ++ names)) }
+) -> Result<Vec<Remark<'a>>, AllocError>
+    ensures { IfOk result (λ remarks. AreWritten (names_of near.now) (offered remarks.items)) }
 {
-    for text in near {
-        note_type(alloc, index, saying, *text)?;
-    }
     let names = written_types(alloc, index, near)?;
-    saying.ask(alloc, names.as_slice())?;
-    Ok(())
+    let remarks = ask(alloc, names.as_slice())?;
+    Ok(remarks)
 }
 
 /// The words before a list of types.
 fn type_words<'a>(count: usize) -> &'a str
-    ensures { starts_with nat_eq result.now (codes "did you mean ") ≡ false }
+    ensures { begins_question result.now ≡ false }
 {
     if count == 1 {
         "the type is "
@@ -115,61 +94,86 @@ fn type_words<'a>(count: usize) -> &'a str
     }
 }
 
-/// Adds all types, if there are eight at most.
-fn list_types<'a>(
-    alloc: Global,
-    index: &PairIndex<'a>,
-    saying: &mut Saying<'a>,
-) -> Result<(), AllocError>
-    ensures { OnOk result (offered saying.new.remarks.items ≡ offered saying.old.remarks.items) }
+/// A list of types.
+fn types_listed<'a>(alloc: Global, names: &[&'a [u8]]) -> Result<Vec<Part<'a>>, AllocError>
+    ensures { IfOk result (λ parts. offered_by parts.items ≡ []) }
 {
-    let count = index.typed.types.len();
-    if count == 0 || count > MOST_LISTED {
-        return Ok(());
-    }
+    let mut parts = vec![in alloc; Part::Words(type_words(names.len()))]?;
+    push_names(&mut parts, names, " and ")?;
+    Ok(parts)
+}
+
+/// All types as they are written where they are named first.
+fn all_types<'a>(alloc: Global, index: &PairIndex<'a>) -> Result<Vec<&'a [u8]>, AllocError> {
     let mut names = Vec::new(alloc);
     for known in index.typed.types.values() {
         names.push(known.name.text())?;
     }
-    let mut parts = vec![in alloc; Part::Words(type_words(count))]?;
-    push_names(&mut parts, names.as_slice(), " and ")?;
-    saying.help(parts)?;
-    Ok(())
+    Ok(names)
 }
 
-/// A type that isn't declared.
-pub(crate) fn unknown_type<'a>(
+/// All types, if there are eight at most.
+fn few_types<'a>(alloc: Global, index: &PairIndex<'a>) -> Result<Vec<Remark<'a>>, AllocError>
+    ensures { IfOk result (λ remarks. offered remarks.items ≡ []) }
+{
+    let count = index.typed.types.len();
+    if count == 0 || count > MOST_LISTED {
+        return Ok(Vec::new(alloc));
+    }
+    let names = all_types(alloc, index)?;
+    let list = types_listed(alloc, names.as_slice())?;
+    let remarks = help(alloc, list)?;
+    Ok(remarks)
+}
+
+/// The message for a type that isn't declared.
+pub(crate) fn type_message<'a>(alloc: Global, word: &'a [u8]) -> Result<Vec<Part<'a>>, AllocError> {
+    Vec::from_slice(alloc, &[Part::Words("no type is named "), Part::Name(word)])
+}
+
+/// What is remarked of a type that isn't declared: the nearest types, or all.
+pub(crate) fn type_remarks<'a>(
     alloc: Global,
     index: &PairIndex<'a>,
     rank: usize,
-    word: &'a [u8],
-) -> Result<Saying<'a>, AllocError>
-    ensures { IfOk result (λ s. All (IsNearest word.now (type_names index.now.texts.now.domain_tree.now)) (offered s.remarks.items)) }
+    word: &[u8],
+) -> Result<Vec<Remark<'a>>, AllocError>
+    ensures { IfOk result (λ remarks. All (IsNearest word.now (type_names index.now.texts.now.domain_tree.now)) (offered remarks.items)) }
 {
-    let message = vec![in alloc; Part::Words("no type is named "), Part::Name(word)]?;
-    let mut saying = Saying::new(alloc, message);
     if !may_offer(rank, word, index.names_len) {
-        return Ok(saying);
+        return Ok(Vec::new(alloc));
     }
     let near = near_types(alloc, index, word)?;
     if near.is_empty() {
-        list_types(alloc, index, &mut saying)?;
-        return Ok(saying);
+        let remarks = few_types(alloc, index)?;
+        return Ok(remarks);
     }
-    offer_types(alloc, index, &mut saying, near.as_slice())?;
-    Ok(saying)
+    let remarks = ask_types(alloc, index, near.as_slice())?;
+    Ok(remarks)
+}
+
+/// The message for a type that is below itself.
+pub(crate) fn cycle_message<'a>(
+    alloc: Global,
+    word: &'a [u8],
+) -> Result<Vec<Part<'a>>, AllocError> {
+    let parts = [
+        Part::Words("the type "),
+        Part::Name(word),
+        Part::Words(" is below itself"),
+    ];
+    Vec::from_slice(alloc, &parts)
 }
 
 /// The types of a cycle, from the type of this name up to itself.
-fn cycle_label<'a>(
+fn way_label<'a>(
     alloc: Global,
     word: &'a [u8],
     way: &[&'a [u8]],
 ) -> Result<Vec<Part<'a>>, AllocError> {
     let mut label = Vec::new(alloc);
     for name in way.iter().rev() {
-        label.push(plain(name))?;
-        label.push(Part::Words(" - "))?;
+        label.extend_from_slice(&[plain(name), Part::Words(" - ")])?;
     }
     if !way.is_empty() {
         label.push(plain(word))?;
@@ -177,24 +181,16 @@ fn cycle_label<'a>(
     Ok(label)
 }
 
-/// A type that is below itself; its cycle is shown where near names would be offered.
-pub(crate) fn type_cycle<'a>(
+/// What stands beside the carets below a type that is below itself: its cycle, for the first faults.
+pub(crate) fn cycle_label<'a>(
     alloc: Global,
     index: &PairIndex<'a>,
     rank: usize,
     word: &'a [u8],
-) -> Result<Saying<'a>, AllocError>
-    ensures { IfOk result (λ s. offered s.remarks.items ≡ []) }
-{
-    let message = vec![in alloc;
-        Part::Words("the type "),
-        Part::Name(word),
-        Part::Words(" is below itself"),
-    ]?;
-    let mut saying = Saying::new(alloc, message);
-    if may_offer(rank, word, 0) {
-        let way = cycle_through(alloc, index, word)?;
-        saying.label = cycle_label(alloc, word, way.as_slice())?;
+) -> Result<Vec<Part<'a>>, AllocError> {
+    if !may_offer(rank, word, 0) {
+        return Ok(Vec::new(alloc));
     }
-    Ok(saying)
+    let way = cycle_through(alloc, index, word)?;
+    way_label(alloc, word, way.as_slice())
 }

@@ -3,7 +3,7 @@ use Rattle.std.proofs.Common.{◌≡◌, ◌∙◌, ℕ, ◌+◌, ◌<◌, List,
 use Rattle.std.proofs.lemmas.Grind.{flat_map-append}
 use Rattle.std.proofs.lemmas.List.{map-append, take_more}
 use Rattle.diagnostics.specs.declared.diagnostic.Remark.{Remark}
-use Rattle.pair_messages.specs.Offers.{named}
+use Rattle.near_names.specs.Offers.{named}
 use Rattle.plan_messages.specs.Explanation.{named_in, texts_of}
 use Rattle.plan_reasons.specs.declared.literals.FalseLiteral.{FalseLiteral}
 

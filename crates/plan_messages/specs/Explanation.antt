@@ -7,7 +7,7 @@ use Rattle.diagnostics.specs.declared.diagnostic.Remark.{Remark}
 use Rattle.hddl_meaning.specs.declared.fault.Source.TheVariants as side
 use Rattle.pair_messages.specs.Counts.{numbers_of}
 use Rattle.pair_messages.specs.Heads as pair
-use Rattle.pair_messages.specs.Offers.{named}
+use Rattle.near_names.specs.Offers.{named}
 use Rattle.plan_causes.specs.declared.structure.WrongIds.{WrongIds}
 use Rattle.plan_reasons.specs.declared.cause.Cause.{Cause}
 use Rattle.plan_reasons.specs.declared.cause.Cause.TheVariants as cause

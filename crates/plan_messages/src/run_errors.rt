@@ -3,7 +3,7 @@
 ghost use Rattle.std.specs.Prelude.{◌≡◌, ◌∷◌, [], ◌++◌, List, IfOk, OnOk, drop, take};
 ghost use Rattle.std.specs.List.{AllZip};
 ghost use Rattle.diagnostics.specs.declared.diagnostic.Remark as spec;
-ghost use Rattle.pair_messages.specs.Offers.{named};
+ghost use Rattle.near_names.specs.Offers.{named};
 ghost use Rattle.plan_messages.specs.Explanation.{IsActionError, IsGoalError, named_in, texts_of};
 
 use crate::errors::error;

@@ -5,8 +5,8 @@ use Rattle.pair_messages.specs.Offers.{AreWritten}
 use Rattle.pair_messages.proofs.Questions.{written_more}
 use Rattle.pair_messages.proofs.objects.offer_object.Goals as goal
 
-pub returns-clause-names : goal.returns-clause-names
-returns-clause-names c =
+pub returns : goal.returns
+returns c =
     λ all at old.
     subst (λ l. AreWritten all (names_of l)) (sym c.in_ok-push.ensures.items)
     (written_more all c.args.names.now.items _ old (subst (λ t. IsIn t all) (sym (c.in_ok-is_same.ensures c.if-not-is_same.false)) at))

@@ -1,5 +1,3 @@
-use Rattle.std.proofs.Common.{◌≡◌}
-use Rattle.hddl_meaning.specs.Mentions.{IsIn}
 use Rattle.hddl_meaning.specs.Uses as uses
 use Rattle.pair_messages.specs.Stands.{in_force, section_parameters, schema_of_conditions, IsPartOf}
 use Rattle.pair_messages.proofs.stands.in_conditions.Given as goal

@@ -1,8 +1,6 @@
-use Rattle.std.proofs.Common.{subst, sym, IfSome, []}
+use Rattle.std.proofs.Common.{subst, IfSome}
 use Rattle.hddl_meaning.specs.Mentions.{IsIn}
 use Rattle.hddl_meaning.specs.Uses.{parameters_of}
-use Rattle.hddl_meaning.proofs.Listed.{at_head}
-use Rattle.pair_messages.specs.declared.stands.Kind.TheVariants as kind
 use Rattle.pair_messages.specs.Stands.{StandsIn, schema_of_equality, schema_of_subtasks, section_parameters}
 use Rattle.pair_messages.proofs.Standing.{constraint_part, some_widen}
 use Rattle.pair_messages.proofs.stands.in_constraints.Goals as goal

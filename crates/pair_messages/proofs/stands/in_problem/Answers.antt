@@ -1,4 +1,4 @@
-use Rattle.std.proofs.Common.{subst, sym, IfSome, [], ◌∷◌}
+use Rattle.std.proofs.Common.{subst, IfSome, [], ◌∷◌}
 use Rattle.hddl_meaning.specs.Mentions.{IsIn}
 use Rattle.hddl_meaning.specs.Uses.{parameters_of, schema_of_network, schema_of_states}
 use Rattle.hddl_meaning.proofs.Listed.{at_head, at_tail}

@@ -1,4 +1,3 @@
-use Rattle.std.proofs.Common.{◌≡◌}
 use Rattle.std.specs.List.{All}
 use Rattle.pair_messages.specs.Bindings.{IsBindingIn}
 use Rattle.pair_messages.specs.Offers.{variable_texts}

@@ -1,4 +1,4 @@
-use Rattle.std.proofs.Common.{ℕ, List, map}
+use Rattle.std.proofs.Common.{List, map}
 use Rattle.std.specs.List.{All}
 use Rattle.hddl_meaning.specs.Mentions.{Text, folded}
 use Rattle.pair_messages.specs.Bindings.{AreAllIn, IsBindingIn}

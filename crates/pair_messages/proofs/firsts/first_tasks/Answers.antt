@@ -1,0 +1,6 @@
+use Rattle.std.proofs.Common.{◌∙◌, subst, append-nil}
+use Rattle.pair_messages.specs.Firsts.{AreFirstOf}
+use Rattle.pair_messages.proofs.firsts.first_tasks.Goals as goal
+
+pub returns : goal.returns
+returns c = subst (λ names. AreFirstOf names c.in_ok-places.places) (c.as_slice.ensures.value ∙ c.in_ok-mentions.ensures ∙ append-nil _) c.in_ok-places.ensures
