@@ -1,4 +1,4 @@
-use Rattle.std.proofs.Common.{subst}
+use Rattle.std.proofs.Common.{◌∙◌, subst, sym}
 use Rattle.std.proofs.lemmas.Option.{MatchOption-at_some}
 use Rattle.word_machine.specs.Answer.{IsEnding}
 use Rattle.htn_net.specs.Listed.{listing_machine}
@@ -13,3 +13,7 @@ loop-stage-preserved g c = record {
 pub returns-in-None-clause-becomes : goal.returns-in-None-clause-becomes
 returns-in-None-clause-becomes g c =
     g.met.W.Watch.joins c.args.watch.now c.loop-stage.watch c.search_stage.new.watch c.loop-stage.invariant.becomes c.in_ok-searched.ensures.becomes
+
+pub returns-in-None-clause-stopped : goal.returns-in-None-clause-stopped
+returns-in-None-clause-stopped g c n is =
+    sym (g.met.W.Watch.keeps c.args.watch.now c.loop-stage.watch c.loop-stage.invariant.becomes) ∙ c.in_ok-searched.ensures.stopped n is
