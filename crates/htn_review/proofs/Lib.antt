@@ -2,6 +2,8 @@ pub mod Refusing
 pub mod OneAnswer
 mod Exists
 mod Decided
+mod Detailed
+mod TextLines
 mod DecidedLines
 mod DecidedRoom
 mod SomeVerdict

@@ -1,5 +1,6 @@
 pub mod Faults
 pub mod Checking
+pub mod Details
 pub mod Headline
 pub mod Judgement
 pub mod Laws

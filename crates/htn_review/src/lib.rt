@@ -4,6 +4,7 @@
 
 mod caption;
 mod check;
+mod details;
 mod explain;
 mod explanation;
 mod inputs;
@@ -12,6 +13,7 @@ mod laws;
 mod outcome;
 mod page;
 mod sight;
+mod text_lines;
 mod texts;
 mod tree;
 mod verdict;

@@ -1,5 +1,5 @@
 //! The page of a plan.
-ghost use Rattle.std.specs.Prelude.{◌≡◌, ◌+◌, drop, length, None, Some, IfOk};
+ghost use Rattle.std.specs.Prelude.{◌≡◌, ◌+◌, drop, length, None, Some, IfOk, option_map};
 ghost use Rattle.std.specs.Option.{option_copied};
 ghost use Rattle.htn_ground.specs.Naming.{naming_of};
 ghost use Rattle.htn_model.specs.Grounding.{problem_of};
@@ -14,12 +14,13 @@ ghost use Rattle.htn_review.specs.Trees as spec;
 
 use crate::explanation::explain_verdict;
 use crate::inputs::Inputs;
+use crate::sight::Known;
 use crate::texts::Pair;
 use diagnostics::Format;
 use htn_plan::{PlanFile, Verdict};
 use htn_task::Task;
 use picture_html::{MAX_RUN, Remarks, html};
-use picture_text::Caption;
+use picture_text::{Caption, Detail};
 use plan_findings::run_of;
 use plan_picture::Picture;
 use plan_reasons::Run;
@@ -32,22 +33,23 @@ pub(crate) fn page_of<'a>(
     pair: &'a Pair,
     file: &'a PlanFile,
     inputs: Inputs<'a>,
-    verdict: Verdict,
+    known: Known<'_>,
     caption: &Caption<'_>,
     picture: &Picture<'_>,
 ) -> Result<Vec<u8>, AllocError>
     requires held { sights.AreHeld inputs pair.now file.now }
-    requires verdict { IsVerdict (naming_of pair.now.task) (problem_of pair.now.task) file.now (verdict_of verdict) }
-    requires caption { spec.IsCaption pair.now.domain pair.now.problem verdict caption.now }
+    requires verdict { IsVerdict (naming_of pair.now.task) (problem_of pair.now.task) file.now (verdict_of known.verdict) }
+    requires caption { spec.IsCaption pair.now.domain pair.now.problem known.verdict caption.now }
     requires picture { IsPictureOf picture.now.file.now picture.now }
-    ensures { IfOk result (λ bytes. (r : Remarks) × sights.AreRemarksOf inputs.entry pair.now file.now verdict r × IsHtmlOf caption.now r picture.now bytes.items) }
+    ensures { IfOk result (λ bytes. (r : Remarks) × spec.AreRemarks (sights.subject_of inputs.entry pair.now file.now known.entry.verdict) r
+        × (option_map (λ d. d.now) r.details ≡ option_map (λ d. d.now) known.entry.details) × IsHtmlOf caption.now r picture.now bytes.items) }
 {
     let style = page_style();
-    let text = explain_verdict(alloc, pair, file, inputs, verdict, style)?;
+    let text = explain_verdict(alloc, pair, file, inputs, known.verdict, style)?;
     let why = after(text.as_slice(), caption.verdict.len());
-    match run_for(alloc, &pair.task, file, verdict)? {
-        Some(run) => page_with_run(alloc, caption, why, &run, picture),
-        None => page_without_run(alloc, caption, why, picture),
+    match run_for(alloc, &pair.task, file, known.verdict)? {
+        Some(run) => page_with_run(alloc, caption, why, &run, known.details, picture),
+        None => page_without_run(alloc, caption, why, known.details, picture),
     }
 }
 
@@ -57,15 +59,17 @@ fn page_with_run(
     caption: &Caption<'_>,
     why: &[u8],
     run: &Run<'_>,
+    details: Option<&[Detail]>,
     picture: &Picture<'_>,
 ) -> Result<Vec<u8>, AllocError>
     requires { IsPictureOf picture.now.file.now picture.now }
     ensures { IfOk result (λ bytes. (r : Remarks) × (r.why.now ≡ why.now) × (option_copied r.run ≡ Some run.now)
-        × IsHtmlOf caption.now r picture.now bytes.items) }
+        × (option_map (λ d. d.now) r.details ≡ option_map (λ d. d.now) details.entry) × IsHtmlOf caption.now r picture.now bytes.items) }
 {
     let remarks = Remarks {
         why,
         run: Some(run),
+        details,
     };
     let page = html(alloc, caption, &remarks, picture)?;
     Ok(page)
@@ -76,13 +80,18 @@ fn page_without_run(
     alloc: Global,
     caption: &Caption<'_>,
     why: &[u8],
+    details: Option<&[Detail]>,
     picture: &Picture<'_>,
 ) -> Result<Vec<u8>, AllocError>
     requires { IsPictureOf picture.now.file.now picture.now }
     ensures { IfOk result (λ bytes. (r : Remarks) × (r.why.now ≡ why.now) × (r.run ≡ None)
-        × IsHtmlOf caption.now r picture.now bytes.items) }
+        × (option_map (λ d. d.now) r.details ≡ option_map (λ d. d.now) details.entry) × IsHtmlOf caption.now r picture.now bytes.items) }
 {
-    let remarks = Remarks { why, run: None };
+    let remarks = Remarks {
+        why,
+        run: None,
+        details,
+    };
     let page = html(alloc, caption, &remarks, picture)?;
     Ok(page)
 }

@@ -29,12 +29,16 @@ pub enum Drawn {
 #[derive(Clone, Copy, Debug)]
 pub struct Look {
     pub drawing: Drawing,
+    /// Whether text shows what a solution says of the lines of a valid plan.
+    pub has_details: bool,
     /// Whether the report on texts that are refused has colours.
     pub colour: bool,
 }
 
 /// Reads a domain, a problem and a plan, and writes the picture of the plan, with the verdict that `run_verify` writes. A
-/// page also has what `run_explain` says of that, and the run of the plan's actions.
+/// page also has what `run_explain` says of that, and the run of the plan's actions. Of a valid plan a picture as JSON, as
+/// SVG or on a page, and text where that is wanted, also shows what a solution says whose shadow the plan is: the values
+/// of the methods' parameters that the tasks don't show, and when each method's precondition is tested.
 /// Nothing is written where the lines of the plan are no forest, which is the verdict `Structure`; nor where the domain
 /// or the problem is refused, of which `check_texts` makes the report. Nothing is written before all is known.
 ///
@@ -55,14 +59,14 @@ pub fn run_tree<'a, O: Out>(
     ensures refused { IfErr result (λ fault. fault ≢ Output → spec.IsUndrawn domain.entry.text.now problem.entry.text.now plan.entry.text.now fault × (out.new ≡ out.old)) }
     ensures cut_short { IfErr result (λ fault. fault ≡ Output
         → spec.IsPictureCutShort (domain_text domain.entry.name.now domain.entry.text.now) (problem_text problem.entry.name.now problem.entry.text.now)
-        (plan_text plan.entry.name.now plan.entry.text.now) look.drawing (O.contents out.old) (O.contents out.new) × (O.has_failed out.new ≡ true)) }
+        (plan_text plan.entry.name.now plan.entry.text.now) look.drawing look.has_details (O.contents out.old) (O.contents out.new) × (O.has_failed out.new ≡ true)) }
 {
     let inputs = Inputs {
         domain,
         problem,
         plan,
     };
-    match sight_of_texts(alloc, inputs, look.drawing) {
+    match sight_of_texts(alloc, inputs, look) {
         Ok(sight) => show(sight, out),
         Err(fault) => refuse(alloc, domain, problem, look.colour, fault),
     }

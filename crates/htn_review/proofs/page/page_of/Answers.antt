@@ -25,18 +25,19 @@ returns-in-Some c =
     let file = c.args.file.now in
     let text = c.in_ok-text.text.items in
     let task = c.args.pair.now.task in
-    let has = has_run c.args.verdict (length file.actions) in
+    let has = has_run c.args.known.verdict (length file.actions) in
     ok_more _ _ c.page_with_run.result
     (λ bytes h. (
       h.0,
       record {
         text = text;
-        says = subst (λ style. Says (domain_of inputs) (problem_of inputs) (plan_of inputs) style c.args.verdict text) c.page_style-style.ensures c.in_ok-text.ensures;
+        says = subst (λ style. Says (domain_of inputs) (problem_of inputs) (plan_of inputs) style c.args.known.verdict text) c.page_style-style.ensures c.in_ok-text.ensures;
         why = h.1 ∙ c.after-why.ensures ∙ ap (drop (length words + 1)) c.as_slice.ensures.value
-            ∙ after_line words c.args.verdict text c.requires.caption.of_verdict;
+            ∙ after_line words c.args.known.verdict text c.requires.caption.of_verdict;
         run = subst (λ r. IsRunIf task file has r) (sym h.2) (subst (λ r. IsRunIf task file has r) c.in-Some.is c.in_ok-run.ensures);
       },
       h.3,
+      h.4,
     )) c.page_with_run.ensures
 
 pub returns : goal.returns
@@ -46,16 +47,17 @@ returns c =
     let file = c.args.file.now in
     let text = c.in_ok-text.text.items in
     let task = c.args.pair.now.task in
-    let has = has_run c.args.verdict (length file.actions) in
+    let has = has_run c.args.known.verdict (length file.actions) in
     ok_more _ _ c.page_without_run.result
     (λ bytes h. (
       h.0,
       record {
         text = text;
-        says = subst (λ style. Says (domain_of inputs) (problem_of inputs) (plan_of inputs) style c.args.verdict text) c.page_style-style.ensures c.in_ok-text.ensures;
+        says = subst (λ style. Says (domain_of inputs) (problem_of inputs) (plan_of inputs) style c.args.known.verdict text) c.page_style-style.ensures c.in_ok-text.ensures;
         why = h.1 ∙ c.after-why.ensures ∙ ap (drop (length words + 1)) c.as_slice.ensures.value
-            ∙ after_line words c.args.verdict text c.requires.caption.of_verdict;
+            ∙ after_line words c.args.known.verdict text c.requires.caption.of_verdict;
         run = subst (λ r. IsRunIf task file has (option_copied r)) (sym h.2) (subst (λ r. IsRunIf task file has r) c.in-None.is c.in_ok-run.ensures);
       },
       h.3,
+      h.4,
     )) c.page_without_run.ensures

@@ -1,24 +1,16 @@
-use Rattle.std.proofs.Common.{◌++◌, ◌∙◌, ap, map}
-use Rattle.std.specs.Prelude.{codes}
-use Rattle.text_places.specs.Shown.{shown}
+use Rattle.std.proofs.Common.{sym, subst}
+use Rattle.htn_review.specs.Trees.{AreDetailsIf, has_details}
 use Rattle.htn_review.proofs.sight.drawn.Goals as goal
 
-pub picture_bytes-requires-clause-caption : goal.picture_bytes-requires-clause-caption
-picture_bytes-requires-clause-caption c = record {
-  of_domain = c.as_str.ensures.value ∙ c.in_ok-domain.ensures ∙ ap (map shown) c.text.ensures.value;
-  of_problem = c.as_str-2.ensures.value ∙ c.in_ok-problem.ensures ∙ ap (map shown) c.text-2.ensures.value;
-  of_verdict = ap (λ t. t ++ codes "\n") c.as_str-3.ensures.value ∙ c.in_ok-words.ensures;
-  of_mark = c.mark_of-mark.ensures;
-}
-
 pub returns : goal.returns
-returns c = (
-  _,
-  record {
-    of_domain = c.as_str.ensures.value ∙ c.in_ok-domain.ensures ∙ ap (map shown) c.text.ensures.value;
-    of_problem = c.as_str-2.ensures.value ∙ c.in_ok-problem.ensures ∙ ap (map shown) c.text-2.ensures.value;
-    of_verdict = ap (λ t. t ++ codes "\n") c.as_str-3.ensures.value ∙ c.in_ok-words.ensures;
-    of_mark = c.mark_of-mark.ensures;
-  },
-  c.in_ok-bytes.ensures,
-)
+returns c =
+    let pair = c.args.pair.now in
+    let look = c.args.look in
+    let h = c.in_ok-bytes.ensures in (
+      h.0,
+      h.1,
+      _,
+      subst (λ found. AreDetailsIf (has_details look.drawing look.has_details) pair.domain pair.task c.args.picture.now.file.now c.args.verdict found)
+          (sym c.as_slice_of.ensures) c.in_ok-found.ensures,
+      h.2,
+    )

@@ -4,7 +4,7 @@ use Rattle.htn_model.specs.Grounding.{problem_of}
 use Rattle.htn_model.specs.Verdict.{IsVerdict}
 use Rattle.htn_ground.specs.Naming.{naming_of}
 use Rattle.htn_verify.specs.Verdicts.{verdict_of}
-use Rattle.htn_review.specs.Sights.{AreHeld, AreRemarksOf}
+use Rattle.htn_review.specs.Sights.{AreHeld, subject_of}
 use Rattle.htn_review.specs.Trees.{AreDrawn}
 use Rattle.htn_review.proofs.sight.sight_of.Goals as goal
 
@@ -26,14 +26,13 @@ drawn-requires-clause-picture c =
 pub returns-in_ok-bytes-in-Some : goal.returns-in_ok-bytes-in-Some
 returns-in_ok-bytes-in-Some c =
     let is_picture_of = rw c.in-Some.is at c.in_ok-picture.ensures in
-    let pair = c.args.pair.now in
-    let v = c.in_ok-verdict.verdict in
+    let look = c.args.look in
     record {
       is_verdict = c.in_ok-verdict.ensures;
       is_picture = (
         c.in-Some.picture,
         is_picture_of,
-        subst (λ f. AreDrawn pair.domain pair.problem v c.args.drawing (AreRemarksOf c.args.inputs pair f v) c.in-Some.picture c.in_ok-bytes-in-Some.bytes.items)
+        subst (λ f. AreDrawn look.drawing look.has_details (subject_of c.args.inputs c.args.pair.now f c.in_ok-verdict.verdict) c.in-Some.picture c.in_ok-bytes-in-Some.bytes.items)
             is_picture_of.file_is c.in_ok-bytes-in-Some.ensures,
       );
     }

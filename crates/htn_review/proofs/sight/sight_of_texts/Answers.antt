@@ -12,7 +12,7 @@ returns-in_err-pair-clause-refused c =
 pub returns-clause-sight : goal.returns-clause-sight
 returns-clause-sight c =
     ok_more _ _ c.sight_of_text.result
-    (λ s h. sight_shows c.args.inputs c.in_ok-pair.pair h.0 c.args.drawing s c.in_ok-pair.ensures.pair h.1 h.2)
+    (λ s h. sight_shows c.args.inputs c.in_ok-pair.pair h.0 c.args.look.drawing c.args.look.has_details s c.in_ok-pair.ensures.pair h.1 h.2)
     c.sight_of_text.ensures.sight
 
 pub returns-clause-refused : goal.returns-clause-refused
