@@ -21,7 +21,7 @@ needs_threads : (files : List ℕ → File) (request : Request) → Refuses file
 needs_threads files (Plan domain problem bounds seconds has_progress) h = h.4
 needs_threads files (Verify domain problem plan) h = absurd h.4.2
 needs_threads files (Explain domain problem plan format has_states colour) h = absurd h.4.2
-needs_threads files (Tree domain problem plan drawing colour) h = absurd h.4.2
+needs_threads files (Tree domain problem plan drawing has_details colour) h = absurd h.4.2
 needs_threads files (Check domain problem format limit is_strict colour) h = of_texts_never files domain.now (name_of problem) h
 
 module _ (Gets : List ℕ → Type 0) where

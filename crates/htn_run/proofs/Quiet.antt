@@ -18,4 +18,4 @@ module _ {E : Type 0} (contents : E → Option (List ℕ)) (has_failed : E → B
   quiet files (Verify domain problem plan) old new none shows = shows
   quiet files (Check domain problem format limit is_strict colour) old new none shows = shows
   quiet files (Explain domain problem plan format has_states colour) old new none shows = shows
-  quiet files (Tree domain problem plan drawing colour) old new none shows = shows
+  quiet files (Tree domain problem plan drawing has_details colour) old new none shows = shows

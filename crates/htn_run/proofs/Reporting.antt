@@ -182,12 +182,12 @@ faulty_answer files (request.Explain domain problem plan format has_states colou
       | inl refusal ↦ (refusal.cause, of_pair_is_of_texts refusal.cause refusal.of_pair, (h.0, h.1, h.2, h.3, (h.4.0, h.4.1, refusal.refuses)))
       | inr refusal ↦ (fault.Plan refusal.cause, tt, (h.0, h.1, h.2, h.3, (h.4.0, h.4.1, refusal.refuses)))
     ]
-faulty_answer files (request.Tree domain problem plan drawing colour) (Planned ended) text h is = absurd h
-faulty_answer files (request.Tree domain problem plan drawing colour) (Verified ended) text h is = absurd h
-faulty_answer files (request.Tree domain problem plan drawing colour) (Checked ended) text h is = absurd h
-faulty_answer files (request.Tree domain problem plan drawing colour) (Explained came) text h is = absurd h
-faulty_answer files (request.Tree domain problem plan drawing colour) (Drawn (Judged ended)) text h is = absurd (picture_ends ended is)
-faulty_answer files (request.Tree domain problem plan drawing colour) (Drawn (Refused report)) text h is =
+faulty_answer files (request.Tree domain problem plan drawing has_details colour) (Planned ended) text h is = absurd h
+faulty_answer files (request.Tree domain problem plan drawing has_details colour) (Verified ended) text h is = absurd h
+faulty_answer files (request.Tree domain problem plan drawing has_details colour) (Checked ended) text h is = absurd h
+faulty_answer files (request.Tree domain problem plan drawing has_details colour) (Explained came) text h is = absurd h
+faulty_answer files (request.Tree domain problem plan drawing has_details colour) (Drawn (Judged ended)) text h is = absurd (picture_ends ended is)
+faulty_answer files (request.Tree domain problem plan drawing has_details colour) (Drawn (Refused report)) text h is =
     let refusal = h.4.2.2.0 in
     (refusal.cause, of_pair_is_of_texts refusal.cause refusal.of_pair, (h.0, h.1, h.2, h.3, (h.4.0, h.4.1, refusal.refuses)))
 faulty_answer files (request.Check domain problem format limit is_strict colour) (Planned ended) text h is = absurd h

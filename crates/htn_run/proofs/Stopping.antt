@@ -42,44 +42,44 @@ stops_by contents has_failed files request old new fault.NoThread tells refused 
 
 -- a tree that is refused for its plan, wants memory, or whose picture is cut short
 pub stops_undrawn : {O : Type 0} (contents : O → Option (List ℕ)) (has_failed : O → Bool) (files : List ℕ → File) (domain problem plan : Bor (List ℕ))
-    (form : Drawing) (colour : Colour) (old new : O) (d p l : List ℕ) → MayGive (files (file_of domain.now)) d → MayGive (files (file_of problem.now)) p
+    (form : Drawing) (has_details : Bool) (colour : Colour) (old new : O) (d p l : List ℕ) → MayGive (files (file_of domain.now)) d → MayGive (files (file_of problem.now)) p
     → MayGive (files (file_of plan.now)) l → (f : RunFault) → (f ≢ fault.Output → IsUndrawn d p l f × (new ≡ old))
     → (f ≡ fault.Output
-    → IsPictureCutShort (domain_text domain.now d) (problem_text problem.now p) (plan_text plan.now l) form (contents old) (contents new) × (has_failed new ≡ true))
-    → Stops contents has_failed files (request.Tree domain problem plan form colour) old new (Run f)
-stops_undrawn contents has_failed files domain problem plan form colour old new d p l a b c fault.Output refused cut =
+    → IsPictureCutShort (domain_text domain.now d) (problem_text problem.now p) (plan_text plan.now l) form has_details (contents old) (contents new) × (has_failed new ≡ true))
+    → Stops contents has_failed files (request.Tree domain problem plan form has_details colour) old new (Run f)
+stops_undrawn contents has_failed files domain problem plan form has_details colour old new d p l a b c fault.Output refused cut =
     let h = cut refl in ((d, p, a, b, (l, c, h.0)), h.1)
-stops_undrawn contents has_failed files domain problem plan form colour old new d p l a b c (fault.Domain f) refused cut = absurd (refused (λ e. cc)).0
-stops_undrawn contents has_failed files domain problem plan form colour old new d p l a b c (fault.Problem f) refused cut = absurd (refused (λ e. cc)).0
-stops_undrawn contents has_failed files domain problem plan form colour old new d p l a b c (fault.Check f) refused cut = absurd (refused (λ e. cc)).0
-stops_undrawn contents has_failed files domain problem plan form colour old new d p l a b c (fault.Plan f) refused cut =
+stops_undrawn contents has_failed files domain problem plan form has_details colour old new d p l a b c (fault.Domain f) refused cut = absurd (refused (λ e. cc)).0
+stops_undrawn contents has_failed files domain problem plan form has_details colour old new d p l a b c (fault.Problem f) refused cut = absurd (refused (λ e. cc)).0
+stops_undrawn contents has_failed files domain problem plan form has_details colour old new d p l a b c (fault.Check f) refused cut = absurd (refused (λ e. cc)).0
+stops_undrawn contents has_failed files domain problem plan form has_details colour old new d p l a b c (fault.Plan f) refused cut =
     let h = refused (λ e. cc) in (tt, (d, p, a, b, (l, c, h.0)), h.1)
-stops_undrawn contents has_failed files domain problem plan form colour old new d p l a b c fault.OutOfMemory refused cut = (refused (λ e. cc)).1
-stops_undrawn contents has_failed files domain problem plan form colour old new d p l a b c fault.NoThread refused cut = absurd (refused (λ e. cc)).0
+stops_undrawn contents has_failed files domain problem plan form has_details colour old new d p l a b c fault.OutOfMemory refused cut = (refused (λ e. cc)).1
+stops_undrawn contents has_failed files domain problem plan form has_details colour old new d p l a b c fault.NoThread refused cut = absurd (refused (λ e. cc)).0
 
 -- a tree of which the domain or the problem can't be read
 pub stops_unread : {O : Type 0} (contents : O → Option (List ℕ)) (has_failed : O → Bool) (files : List ℕ → File) (domain problem plan : Bor (List ℕ))
-    (form : Drawing) (colour : Colour) (old : O) (first second : List ℕ) → first ≡ file_of domain.now → second ≡ file_of problem.now
-    → (stop : Stop) → IsUnread (LacksText files first second ⊥) stop → Stops contents has_failed files (request.Tree domain problem plan form colour) old old stop
-stops_unread contents has_failed files domain problem plan form colour old first second d p (Unreadable text.Domain) h =
+    (form : Drawing) (has_details : Bool) (colour : Colour) (old : O) (first second : List ℕ) → first ≡ file_of domain.now → second ≡ file_of problem.now
+    → (stop : Stop) → IsUnread (LacksText files first second ⊥) stop → Stops contents has_failed files (request.Tree domain problem plan form has_details colour) old old stop
+stops_unread contents has_failed files domain problem plan form has_details colour old first second d p (Unreadable text.Domain) h =
     (subst (λ n. MayFail (files n)) d h, refl)
-stops_unread contents has_failed files domain problem plan form colour old first second d p (Unreadable text.Problem) h =
+stops_unread contents has_failed files domain problem plan form has_details colour old first second d p (Unreadable text.Problem) h =
     ((h.0, subst (λ n. MayGive (files n) h.0) d h.1, subst (λ n. MayFail (files n)) p h.2), refl)
-stops_unread contents has_failed files domain problem plan form colour old first second d p (Unreadable text.Plan) h = absurd h
-stops_unread contents has_failed files domain problem plan form colour old first second d p (Run f) h =
-    subst (λ x. Stops contents has_failed files (request.Tree domain problem plan form colour) old old (Run x)) (sym h) refl
+stops_unread contents has_failed files domain problem plan form has_details colour old first second d p (Unreadable text.Plan) h = absurd h
+stops_unread contents has_failed files domain problem plan form has_details colour old first second d p (Run f) h =
+    subst (λ x. Stops contents has_failed files (request.Tree domain problem plan form has_details colour) old old (Run x)) (sym h) refl
 
 -- a tree of which the plan can't be read
 pub stops_without_plan : {O : Type 0} (contents : O → Option (List ℕ)) (has_failed : O → Bool) (files : List ℕ → File) (domain problem plan : Bor (List ℕ))
-    (form : Drawing) (colour : Colour) (old : O) (d p : List ℕ) → MayGive (files (file_of domain.now)) d → MayGive (files (file_of problem.now)) p
+    (form : Drawing) (has_details : Bool) (colour : Colour) (old : O) (d p : List ℕ) → MayGive (files (file_of domain.now)) d → MayGive (files (file_of problem.now)) p
     → (file : File) → file ≡ files (file_of plan.now) → (stop : Stop) → IsUnread (λ t. (t ≡ text.Plan) × MayFail file) stop
-    → Stops contents has_failed files (request.Tree domain problem plan form colour) old old stop
-stops_without_plan contents has_failed files domain problem plan form colour old d p a b file is (Unreadable text.Domain) h = let bad = h.0 in absurd cc
-stops_without_plan contents has_failed files domain problem plan form colour old d p a b file is (Unreadable text.Problem) h = let bad = h.0 in absurd cc
-stops_without_plan contents has_failed files domain problem plan form colour old d p a b file is (Unreadable text.Plan) h =
+    → Stops contents has_failed files (request.Tree domain problem plan form has_details colour) old old stop
+stops_without_plan contents has_failed files domain problem plan form has_details colour old d p a b file is (Unreadable text.Domain) h = let bad = h.0 in absurd cc
+stops_without_plan contents has_failed files domain problem plan form has_details colour old d p a b file is (Unreadable text.Problem) h = let bad = h.0 in absurd cc
+stops_without_plan contents has_failed files domain problem plan form has_details colour old d p a b file is (Unreadable text.Plan) h =
     ((d, p, a, b, subst (λ f. MayFail f) is h.1), refl)
-stops_without_plan contents has_failed files domain problem plan form colour old d p a b file is (Run f) h =
-    subst (λ x. Stops contents has_failed files (request.Tree domain problem plan form colour) old old (Run x)) (sym h) refl
+stops_without_plan contents has_failed files domain problem plan form has_details colour old d p a b file is (Run f) h =
+    subst (λ x. Stops contents has_failed files (request.Tree domain problem plan form has_details colour) old old (Run x)) (sym h) refl
 
 -- an explanation that wants memory, or is cut short
 pub stops_unexplained : {O : Type 0} (contents : O → Option (List ℕ)) (has_failed : O → Bool) (files : List ℕ → File) (domain problem plan : Bor (List ℕ))
@@ -136,9 +136,9 @@ lacks_file files (request.Check domain problem format limit is_strict colour) te
 lacks_file files (request.Explain domain problem plan format has_states colour) text.Domain h = inl (inl h)
 lacks_file files (request.Explain domain problem plan format has_states colour) text.Problem h = inl (inr h)
 lacks_file files (request.Explain domain problem plan format has_states colour) text.Plan h = inr h
-lacks_file files (request.Tree domain problem plan drawing colour) text.Domain h = inl (inl h)
-lacks_file files (request.Tree domain problem plan drawing colour) text.Problem h = inl (inr h)
-lacks_file files (request.Tree domain problem plan drawing colour) text.Plan h = inr h
+lacks_file files (request.Tree domain problem plan drawing has_details colour) text.Domain h = inl (inl h)
+lacks_file files (request.Tree domain problem plan drawing has_details colour) text.Problem h = inl (inr h)
+lacks_file files (request.Tree domain problem plan drawing has_details colour) text.Plan h = inr h
 
 -- ## The status of a stop
 

@@ -36,7 +36,7 @@ names_of (Plan domain problem bounds seconds has_progress) = domain.now ∷ prob
 names_of (Verify domain problem plan) = domain.now ∷ problem.now ∷ plan.now ∷ []
 names_of (Check domain problem format limit is_strict colour) = reading.files_of domain.now (reading.name_of problem)
 names_of (Explain domain problem plan format has_states colour) = reading.file_of domain.now ∷ reading.file_of problem.now ∷ reading.file_of plan.now ∷ []
-names_of (Tree domain problem plan drawing colour) = reading.file_of domain.now ∷ reading.file_of problem.now ∷ reading.file_of plan.now ∷ []
+names_of (Tree domain problem plan drawing has_details colour) = reading.file_of domain.now ∷ reading.file_of problem.now ∷ reading.file_of plan.now ∷ []
 
 -- a request that may be refused a thread: one for a plan, with more than one worker
 abbrev pub NeedsThreads : Request → Type 0
@@ -44,7 +44,7 @@ NeedsThreads (Plan domain problem bounds seconds has_progress) = 1 < bounds.work
 NeedsThreads (Verify domain problem plan) = ⊥
 NeedsThreads (Check domain problem format limit is_strict colour) = ⊥
 NeedsThreads (Explain domain problem plan format has_states colour) = ⊥
-NeedsThreads (Tree domain problem plan drawing colour) = ⊥
+NeedsThreads (Tree domain problem plan drawing has_details colour) = ⊥
 
 -- A request that reports this fault of a text by a line on the error output. With a check or an explanation the fault
 -- is in the report instead, and so it is with a tree, unless it is a fault of the plan's text.
@@ -53,7 +53,7 @@ TellsFault (Plan domain problem bounds seconds has_progress) cause = ⊤
 TellsFault (Verify domain problem plan) cause = ⊤
 TellsFault (Check domain problem format limit is_strict colour) cause = ⊥
 TellsFault (Explain domain problem plan format has_states colour) cause = ⊥
-TellsFault (Tree domain problem plan drawing colour) cause = trees.IsOfPlan cause
+TellsFault (Tree domain problem plan drawing has_details colour) cause = trees.IsOfPlan cause
 
 -- the files of a domain and a problem can be read, and this holds of their texts
 abbrev pub OfTexts : (List ℕ → File) → List ℕ → List ℕ → (List ℕ → List ℕ → Type 0) → Type 0
@@ -68,8 +68,8 @@ abbrev pub OfInputs : (List ℕ → File) → List ℕ → List ℕ → List ℕ
 OfInputs files domain problem plan = OfThreeTexts files (reading.file_of domain) (reading.file_of problem) (reading.file_of plan)
 
 -- how the picture is written, as the words ask for it
-abbrev pub AreLooks : Drawing → Colour → Look → Type 0
-AreLooks drawing colour look = (look.drawing ≡ drawing) × checks.MayColour colour look.colour
+abbrev pub AreLooks : Drawing → Bool → Colour → Look → Type 0
+AreLooks drawing has_details colour look = (look.drawing ≡ drawing) × (look.has_details ≡ has_details) × checks.MayColour colour look.colour
 
 -- how the explanation is written, as the words ask for it
 abbrev pub IsStyleOf : Format → Bool → Colour → ReportStyle → Type 0
@@ -89,9 +89,9 @@ Answers files (Explain domain problem plan format has_states colour) (Explained 
     OfInputs files domain.now problem.now plan.now
     (λ d p f. (style : ReportStyle) × IsStyleOf format has_states colour style
     × explaining.Explains (checks.domain_text domain.now d) (checks.problem_text problem.now p) (explaining.plan_text plan.now f) style came text)
-Answers files (Tree domain problem plan drawing colour) (Drawn drawn) text =
+Answers files (Tree domain problem plan drawing has_details colour) (Drawn drawn) text =
     OfInputs files domain.now problem.now plan.now
-    (λ d p f. (look : Look) × AreLooks drawing colour look
+    (λ d p f. (look : Look) × AreLooks drawing has_details colour look
     × trees.Draws (checks.domain_text domain.now d) (checks.problem_text problem.now p) (explaining.plan_text plan.now f) look drawn text)
 Answers files _ _ text = ⊥
 
@@ -117,7 +117,7 @@ Refuses files (Check domain problem format limit is_strict colour) fault =
     reading.OfTexts files domain.now (reading.name_of problem) (λ d p. checks.RefusesCheck d p fault)
 Refuses files (Explain domain problem plan format has_states colour) fault =
     OfInputs files domain.now problem.now plan.now (λ d p f. verdicts.RefusesPlan d p f fault)
-Refuses files (Tree domain problem plan drawing colour) fault =
+Refuses files (Tree domain problem plan drawing has_details colour) fault =
     OfInputs files domain.now problem.now plan.now (λ d p f. verdicts.RefusesPlan d p f fault)
 
 -- a fault of the texts, for which the request has no answer
@@ -138,7 +138,7 @@ LacksFile files (Check domain problem format limit is_strict colour) =
 LacksFile files (Explain domain problem plan format has_states colour) =
     LacksOne files (reading.file_of domain.now) (reading.file_of problem.now)
     ⊎ OfTexts files (reading.file_of domain.now) (reading.file_of problem.now) (λ d p. MayFail (files (reading.file_of plan.now)))
-LacksFile files (Tree domain problem plan drawing colour) =
+LacksFile files (Tree domain problem plan drawing has_details colour) =
     LacksOne files (reading.file_of domain.now) (reading.file_of problem.now)
     ⊎ OfTexts files (reading.file_of domain.now) (reading.file_of problem.now) (λ d p. MayFail (files (reading.file_of plan.now)))
 
@@ -158,7 +158,7 @@ LacksFileOf files (Check domain problem format limit is_strict colour) text = re
 LacksFileOf files (Explain domain problem plan format has_states colour) text =
     LacksText files (reading.file_of domain.now) (reading.file_of problem.now)
     (OfTexts files (reading.file_of domain.now) (reading.file_of problem.now) (λ d p. MayFail (files (reading.file_of plan.now)))) text
-LacksFileOf files (Tree domain problem plan drawing colour) text =
+LacksFileOf files (Tree domain problem plan drawing has_details colour) text =
     LacksText files (reading.file_of domain.now) (reading.file_of problem.now)
     (OfTexts files (reading.file_of domain.now) (reading.file_of problem.now) (λ d p. MayFail (files (reading.file_of plan.now)))) text
 
@@ -196,9 +196,9 @@ IsCutShort files old new (Explain domain problem plan format has_states colour) 
     OfInputs files domain.now problem.now plan.now
     (λ d p f. (style : ReportStyle) × IsStyleOf format has_states colour style
     × explaining.IsExplanationCutShort (checks.domain_text domain.now d) (checks.problem_text problem.now p) (explaining.plan_text plan.now f) style old new)
-IsCutShort files old new (Tree domain problem plan drawing colour) =
+IsCutShort files old new (Tree domain problem plan drawing has_details colour) =
     OfInputs files domain.now problem.now plan.now
-    (λ d p f. trees.IsPictureCutShort (checks.domain_text domain.now d) (checks.problem_text problem.now p) (explaining.plan_text plan.now f) drawing old new)
+    (λ d p f. trees.IsPictureCutShort (checks.domain_text domain.now d) (checks.problem_text problem.now p) (explaining.plan_text plan.now f) drawing has_details old new)
 
 -- the error output of a request while it runs: for a plan the lines of progress, if they are asked for, and nothing for
 -- any other
@@ -208,7 +208,7 @@ ShowsFor contents has_failed files (Plan domain problem bounds seconds has_progr
 ShowsFor contents has_failed files (Verify domain problem plan) old new = new ≡ old
 ShowsFor contents has_failed files (Check domain problem format limit is_strict colour) old new = new ≡ old
 ShowsFor contents has_failed files (Explain domain problem plan format has_states colour) old new = new ≡ old
-ShowsFor contents has_failed files (Tree domain problem plan drawing colour) old new = new ≡ old
+ShowsFor contents has_failed files (Tree domain problem plan drawing has_details colour) old new = new ≡ old
 
 -- whether a request asks for lines of progress
 abbrev pub wants_progress : Request → Bool

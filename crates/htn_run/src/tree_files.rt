@@ -29,10 +29,10 @@ pub(crate) fn tree_files<S: Source, O: Out>(
     out: &mut O,
 ) -> Result<Reply, Stop>
     ensures answered { IfOk result (λ reply. (colour : Colour) → MayColour colour look.colour
-        → AddsAnswer (S.files files.old) (O.contents out.old) (O.contents out.new) reply (request.Tree domain.entry problem.entry plan.entry look.drawing colour)) }
+        → AddsAnswer (S.files files.old) (O.contents out.old) (O.contents out.new) reply (request.Tree domain.entry problem.entry plan.entry look.drawing look.has_details colour)) }
     ensures works { OnOk result (O.has_failed out.new ≡ O.has_failed out.old) }
     ensures stopped { IfErr result (λ stop. (colour : Colour)
-        → Stops O.contents O.has_failed (S.files files.old) (request.Tree domain.entry problem.entry plan.entry look.drawing colour) out.old out.new stop) }
+        → Stops O.contents O.has_failed (S.files files.old) (request.Tree domain.entry problem.entry plan.entry look.drawing look.has_details colour) out.old out.new stop) }
     ensures reads { NotesBeginning (S.reads files.old) (S.reads files.new)
         (reading.file_of domain.entry.now ∷ reading.file_of problem.entry.now ∷ reading.file_of plan.entry.now ∷ []) }
 {

@@ -201,10 +201,12 @@ fn run_request<S: Source, O: Out, E: Out, R: Threads + Wait + Clock + Sync>(
             problem,
             plan,
             drawing,
+            has_details,
             colour,
         } => {
             let look = Look {
                 drawing,
+                has_details,
                 colour: has_colour(colour, false),
             };
             tree_files(alloc, domain, problem, plan, look, files, out)

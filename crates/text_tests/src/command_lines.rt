@@ -47,9 +47,9 @@ fn requests(rt: HostRuntime) -> Result<(), AllocError> {
     let request = "Check { domain: \"-\", problem: Some(\"p.hddl\"), \
         format: Json, limit: 0, is_strict: true, colour: Never }";
     expect_shown(&rt, alloc, line, request)?;
-    let line = "htnplan tree d.hddl p.hddl - --format ascii --color always";
+    let line = "htnplan tree d.hddl p.hddl - --format ascii --details --color always";
     let request = "Tree { domain: \"d.hddl\", problem: \"p.hddl\", plan: \"-\", \
-        drawing: Ascii, colour: Always }";
+        drawing: Ascii, has_details: true, colour: Always }";
     expect_shown(&rt, alloc, line, request)?;
     let line = "htnplan explain d.hddl p.hddl --states - --format short --color always";
     let request = "Explain { domain: \"d.hddl\", problem: \"p.hddl\", plan: \"-\", \
