@@ -1,12 +1,12 @@
 # Completion for bash. A new command is a line of the first table, and a new option a word of its line. An option that
 # takes one of some words is a line of the second table, after its command's name. `--help`, `--strict`,
-# `--states` and `--progress` take nothing, and every other option a number, for which nothing is offered.
+# `--states`, `--details` and `--progress` take nothing, and every other option a number, for which nothing is offered.
 _htnplan_table='
 plan --nodes --workers --piece --progress --seconds --help
 verify --help
 check --format --limit --strict --color --help
 explain --format --states --color --help
-tree --format --color --help
+tree --format --details --color --help
 help
 '
 _htnplan_choices='
@@ -39,7 +39,7 @@ _htnplan() {
         words="$commands --help --version"
     elif [ "$command" = help ]; then
         words=$commands
-    elif [[ $before == -* && $before != --help && $before != --strict && $before != --states && $before != --progress ]]; then
+    elif [[ $before == -* && $before != --help && $before != --strict && $before != --states && $before != --details && $before != --progress ]]; then
         words=$(_htnplan_line "$_htnplan_choices" "$command$before")
     elif [[ $word != -* ]]; then
         # An empty reply lets bash complete the name of a file.

@@ -33,4 +33,5 @@ complete -c htnplan -n '__htnplan_command_is explain' -l states -d 'What each ac
 complete -c htnplan -n '__htnplan_command_is explain' -l color -x -a 'auto always never' -d 'Colours (auto)'
 
 complete -c htnplan -n '__htnplan_command_is tree' -l format -x -a 'text ascii json dot svg html' -d 'How it is drawn (text)'
+complete -c htnplan -n '__htnplan_command_is tree' -l details -d 'Values of parameters, and where preconditions are tested'
 complete -c htnplan -n '__htnplan_command_is tree' -l color -x -a 'auto always never' -d 'Colours (auto)'

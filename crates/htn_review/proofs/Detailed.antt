@@ -1,5 +1,5 @@
 -- The parameters of a method one by one, and what entries say of the lines of a file.
-use Rattle.std.proofs.Common.{◌≡◌, ℕ, zero, suc, ◌+◌, ◌<◌, ◌++◌, ◌∙◌, true, false, if◌then◌else◌, List, [], ◌∷◌, length, map, take, get_or, Some, slice_get, slice_index, refl, sym, ap, append-nil, arith}
+use Rattle.std.proofs.Common.{◌≡◌, ℕ, suc, ◌+◌, ◌<◌, ◌++◌, ◌∙◌, true, false, if◌then◌else◌, List, [], ◌∷◌, length, map, take, get_or, Some, slice_get, slice_index, refl, sym, ap, append-nil, arith}
 use Rattle.std.specs.List.{AllZip, enumerate_from, flat_map, list_any}
 use Rattle.hddl_tree.specs.declared.domain.DomainText.{DomainText}
 use Rattle.htn_ground.specs.Naming.{object_name}

@@ -1,4 +1,4 @@
-use Rattle.std.proofs.Common.{◌≡◌, ℕ, ◌∙◌, ◌++◌, ◌<◌, [], ◌∷◌, ap, arith, length, map, sym}
+use Rattle.std.proofs.Common.{ℕ, ◌∙◌, ◌++◌, ◌<◌, [], ◌∷◌, ap, arith, length, map, sym}
 use Rattle.std.specs.declared.alloc.Global.{Global}
 use Rattle.std.specs.declared.vec.Vec.{Vec}
 use Rattle.std.proofs.lemmas.List.{length-map, map-append}
