@@ -58,7 +58,7 @@ seen_setting setting = (setting.name.items, setting.object.items)
 abbrev pub seen_condition : Condition → List (List ℕ) × ℕ
 seen_condition condition = (lists_of condition.literals.items, condition.gap)
 
--- a detail shows the instance of a method whose step is tested after so many actions
+-- a detail shows the instance of a method whose step is tested after this number of actions
 pub record ShowsInstance (d : DomainText) (t : Task) (instance : Instance) (gap : ℕ) (found : Detail) : Type 0 where
   pub number : ℕ
   pub text : MethodText

@@ -233,8 +233,8 @@ fn details_of_entries(
     Ok(Some(found))
 }
 
-/// What a solution whose shadow a file is says of each decomposition line; none where the file is not valid, or where no
-/// solution is found that is shown to be one.
+/// What a solution whose shadow a file is says of each decomposition line; none where the file is not valid, or where
+/// no solution is found that is shown to be one.
 pub(crate) fn details_of(
     alloc: Global,
     domain: &DomainText,

@@ -53,7 +53,8 @@ fn arranged_details(
     Ok(found)
 }
 
-/// Details of a forest of lines that have instances, with the lines' tasks; none where the lines do not run to the goal.
+/// Details of a forest of lines that have instances, with the lines' tasks; none where the lines do not run to the
+/// goal.
 fn run_details(
     alloc: Global,
     task: &Task,
@@ -80,8 +81,8 @@ fn run_details(
     Ok(found)
 }
 
-/// Of a valid file details, if some are found: the instance of each line, with the gaps of its steps. None where the file
-/// is not valid.
+/// Of a valid file details, if some are found: the instance of each line, with the gaps of its steps. None where the
+/// file is not valid.
 pub fn file_details(
     alloc: Global,
     task: &Task,

@@ -4,9 +4,9 @@ ghost use Rattle.line_details.specs.Entries.{spans_of};
 
 use htn_ground::Instance;
 
-/// An instance of the line's method, or of the initial network for the root line, and how its nodes are placed: the gaps
-/// between which everything below the line is, for each child the position of the network at which it stands, and for
-/// each position the gaps between which that is placed.
+/// An instance of the line's method, or of the initial network for the root line, and how its nodes are placed: the
+/// gaps between which everything below the line is, for each child the position of the network at which it stands, and
+/// for each position the gaps between which that is placed.
 pub struct Entry {
     pub instance: Instance,
     pub from: usize,

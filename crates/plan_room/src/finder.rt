@@ -17,9 +17,9 @@ use htn_order::Order;
 use std::alloc::{AllocError, Global};
 use std::borrow::CowSlice;
 
-/// An instance for a line, or an initial network for the root line, and how its nodes are placed: the gaps between which
-/// everything below the line is, for each child the position of the network at which it stands, and for each position the
-/// gaps between which that is placed.
+/// An instance for a line, or an initial network for the root line, and how its nodes are placed: the gaps between
+/// which everything below the line is, for each child the position of the network at which it stands, and for each
+/// position the gaps between which that is placed.
 pub struct PlacedLine {
     instance: Instance,
     window: Window,
@@ -168,8 +168,8 @@ fn networks_for<L: PlanLines>(lines: &L, line: usize) -> Result<CowSlice<'_, Ins
     Ok(CowSlice::Owned(initials))
 }
 
-/// How the children of a line stand in an instance; none where they don't, or where the finish of a line has to be known
-/// first.
+/// How the children of a line stand in an instance; none where they don't, or where the finish of a line has to be
+/// known first.
 fn place_in<L: PlanLines>(
     alloc: Global,
     lines: &L,

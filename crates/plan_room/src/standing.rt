@@ -66,8 +66,8 @@ fn standing_of(alloc: Global, listed: &[usize], work: &Work) -> Result<Standing,
     })
 }
 
-/// The work on an instance before its first matching, with the children in the order in which they are to be tried; none
-/// where they can't finish, or where the finish of a line has to be known first.
+/// The work on an instance before its first matching, with the children in the order in which they are to be tried;
+/// none where they can't finish, or where the finish of a line has to be known first.
 fn first_work<L: PlanLines>(
     alloc: Global,
     lines: &L,
