@@ -25,7 +25,7 @@ below_grown old new i grown inside = (let e = ap length grown.1 ∙ length-appen
 pub same_grown : {X : Type 0} (old new : List X) (i : ℕ) (d : X) → HasGrown old new → i < length old → get_or new i d ≡ get_or old i d
 same_grown old new i d grown inside = ap (λ l. get_or l i d) grown.1 ∙ get_or_append_left old grown.0 d i inside
 
--- one that is equal to none of them goes last
+-- one that is equal to none of them may stand last
 pub apart_more : {T : Type 0} (eq : T → T → Bool) (laws : IsEquivalence eq) (xs : List T) (x : T) → list_any (eq x) xs ≡ false → AreApart eq xs → AreApart eq (xs ++ x ∷ [])
 apart_more eq laws xs x none apart m n d less h = elim (cases_lt n (length xs)) [
   | inl early ↦ (

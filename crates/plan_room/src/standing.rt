@@ -101,7 +101,7 @@ fn first_work<L: PlanLines>(
     Ok((finish, Some(guessed)))
 }
 
-/// Goes on with the matchings until one has finished by the end of a window.
+/// Continues with the matchings until one has finished by the end of a window.
 fn find_matching<L: PlanLines>(
     lines: &L,
     memo: &Memo,
