@@ -1,15 +1,17 @@
-//! The search by calls.
+//! The search by calls in frames.
 //!
-//! An item is a list of nodes that is left in a state of a call, with the least steps from the start of the call to
-//! there. Its total is the least number of steps of a word through it: those before the call, those to the item, and
-//! the sizes of what is left, in the call and behind it. Items are taken by their totals, and of equal ones the
-//! newest first. An item that is taken waits for the call of its first node, and goes on at each of that call's
-//! exits; one with no node left is an exit of its own call.
+//! An item is a list of nodes that is left in a state of a call, which is a part of a whole state, with the least steps
+//! from the start of the call to there. Its total is the least number of steps of a word through it: those before the
+//! call, those to the item, and the sizes of what is left, in the call and behind it. Items are taken by their totals,
+//! and of equal ones the newest first. An item that is taken waits for the call of its first node in the part of its
+//! state in the node's frame, and continues at each of that call's exits, lifted to its state; one with no node left is
+//! an exit of its own call.
 ghost use Rattle.std.specs.Prelude.{OnOk};
 ghost use Rattle.call_nodes.specs.Nodes.{AreNodes};
-ghost use Rattle.htn_model.specs.Task as tasks;
 
 use crate::found::OUT_OF_REACH;
+use crate::masks::Masks;
+use crate::parts::{lifted_of, part_of};
 use call_nodes::{CallNodes, Operator};
 use call_table::{BlockLists, Exit, Site};
 use htn_task::Task;
@@ -63,6 +65,8 @@ pub(crate) struct Chart {
     alloc: Global,
     /// The most steps that a word may have.
     most_steps: u32,
+    /// What nodes, or anything below them, read or write.
+    masks: Masks,
     /// The state and the node of each call.
     pub(crate) sites: IndexSet<Site>,
     pub(crate) calls: Vec<Called>,
@@ -73,7 +77,7 @@ pub(crate) struct Chart {
     agenda: Vec<Vec<u32>>,
     /// All items of a lesser total are taken.
     total: u32,
-    /// How often items were met, those past the bound too, and more for nodes that were listed.
+    /// How often items were met, those past the bound too.
     work: u64,
     is_given_up: bool,
     is_finished: bool,
@@ -84,6 +88,7 @@ impl Drop for Chart {
         let Chart {
             alloc: _,
             most_steps: _,
+            masks: _,
             sites: _,
             calls: _,
             points: _,
@@ -118,10 +123,11 @@ fn number_at(place: usize) -> Result<u32, AllocError> {
 
 impl Chart {
     /// No item is met. A word may have this many steps at most.
-    pub(crate) fn new(alloc: Global, steps: u32) -> Chart {
+    pub(crate) fn new(alloc: Global, steps: u32, masks: Masks) -> Chart {
         Chart {
             alloc,
             most_steps: steps.min(OUT_OF_REACH - 1),
+            masks,
             sites: IndexSet::new(alloc),
             calls: Vec::new(alloc),
             points: IndexSet::new(alloc),
@@ -137,6 +143,11 @@ impl Chart {
     /// How much was done.
     pub(crate) fn work(&self) -> u64 {
         self.work
+    }
+
+    /// No word has fewer steps.
+    pub(crate) fn total(&self) -> u32 {
+        self.total
     }
 
     /// The least steps before a call and behind it: none of the start.
@@ -204,21 +215,48 @@ impl Chart {
         Some((*point, item.cost))
     }
 
-    /// Continues with an item that waited for its first node, at an exit of that.
-    fn go_on(&mut self, lists: &BlockLists, item: u32, exit: Exit) -> Result<(), AllocError> {
+    /// The part of a state in which a call begins; that of none where no call has the place.
+    fn part(&self, call: u32) -> u32 {
+        match self.sites.get_index(call as usize) {
+            Some(site) => site.state,
+            None => u32::MAX,
+        }
+    }
+
+    /// Continues with an item that waited for its first node, at an exit of that, which began in a part.
+    fn go_on(
+        &mut self,
+        task: &Task,
+        nodes: &mut CallNodes,
+        item: u32,
+        part: u32,
+        exit: Exit,
+    ) -> Result<(), AllocError>
+        requires { AreNodes task.now nodes.old }
+        ensures { OnOk result (AreNodes task.now nodes.new) }
+    {
         let Some((point, cost)) = self.item(item) else {
             return Ok(());
         };
-        let Some(link) = lists.link(point.list) else {
+        let Some(link) = nodes.lists().link(point.list) else {
             return Ok(());
+        };
+        let site = Site {
+            state: point.state,
+            number: link.first,
+        };
+        let state = if exit.state == part {
+            point.state
+        } else {
+            lifted_of(task, nodes, &self.masks, site, exit.state)?
         };
         let cost = cost.saturating_add(exit.cost);
         let next = Point {
             call: point.call,
             list: link.rest,
-            state: exit.state,
+            state,
         };
-        self.meet(lists, next, cost)
+        self.meet(nodes.lists(), next, cost)
     }
 
     /// The place of an item that waits for a call.
@@ -237,34 +275,54 @@ impl Chart {
         }
     }
 
-    /// Notes an exit of a call, and goes on with all that waits for it.
-    fn end(&mut self, lists: &BlockLists, call: u32, exit: Exit) -> Result<(), AllocError> {
+    /// Notes an exit of a call, and continues with all that waits for it.
+    fn end(
+        &mut self,
+        task: &Task,
+        nodes: &mut CallNodes,
+        call: u32,
+        exit: Exit,
+    ) -> Result<(), AllocError>
+        requires { AreNodes task.now nodes.old }
+        ensures { OnOk result (AreNodes task.now nodes.new) }
+    {
         let Some(called) = self.calls.get_mut(call as usize) else {
             return Ok(());
         };
         called.exits.push(exit)?;
         let count = called.waits.len();
+        let part = self.part(call);
         for place in 0..count {
             let Some(item) = self.waiting(call, place) else {
                 return Ok(());
             };
-            self.go_on(lists, item, exit)?;
+            self.go_on(task, nodes, item, part, exit)?;
         }
         Ok(())
     }
 
-    /// Lets an item wait for a call, and goes on with it at the exits that are known.
-    fn wait(&mut self, lists: &BlockLists, call: u32, item: u32) -> Result<(), AllocError> {
+    /// Lets an item wait for a call, and continues with it at the exits that are known.
+    fn wait(
+        &mut self,
+        task: &Task,
+        nodes: &mut CallNodes,
+        call: u32,
+        item: u32,
+    ) -> Result<(), AllocError>
+        requires { AreNodes task.now nodes.old }
+        ensures { OnOk result (AreNodes task.now nodes.new) }
+    {
         let Some(called) = self.calls.get_mut(call as usize) else {
             return Ok(());
         };
         called.waits.push(item)?;
         let count = called.exits.len();
+        let part = self.part(call);
         for place in 0..count {
             let Some(exit) = self.exit(call, place) else {
                 return Ok(());
             };
-            self.go_on(lists, item, exit)?;
+            self.go_on(task, nodes, item, part, exit)?;
         }
         Ok(())
     }
@@ -285,14 +343,21 @@ impl Chart {
     }
 
     /// Begins a call: meets its instances, or notes what its step or action leads to.
-    fn begin(&mut self, nodes: &mut CallNodes, site: Site, call: u32) -> Result<(), AllocError>
-        ensures { OnOk result ((t : tasks.Task) → AreNodes t nodes.old → AreNodes t nodes.new) }
+    fn begin(
+        &mut self,
+        task: &Task,
+        nodes: &mut CallNodes,
+        site: Site,
+        call: u32,
+    ) -> Result<(), AllocError>
+        requires { AreNodes task.now nodes.old }
+        ensures { OnOk result (AreNodes task.now nodes.new) }
     {
         match nodes.operator(site.number) {
             Some(Operator::Task(instances)) => {
                 self.meet_instances(nodes.lists(), call, site.state, instances)
             }
-            Some(Operator::Step(_) | Operator::Action(_)) => self.perform(nodes, site, call),
+            Some(Operator::Step(_) | Operator::Action(_)) => self.perform(task, nodes, site, call),
             Some(Operator::Never) => Ok(()),
             Some(Operator::Unlisted | Operator::Partly) | None => {
                 self.is_given_up = true;
@@ -302,16 +367,23 @@ impl Chart {
     }
 
     /// Notes what the step or the action of a call leads to.
-    fn perform(&mut self, nodes: &mut CallNodes, site: Site, call: u32) -> Result<(), AllocError>
-        ensures { OnOk result ((t : tasks.Task) → AreNodes t nodes.old → AreNodes t nodes.new) }
+    fn perform(
+        &mut self,
+        task: &Task,
+        nodes: &mut CallNodes,
+        site: Site,
+        call: u32,
+    ) -> Result<(), AllocError>
+        requires { AreNodes task.now nodes.old }
+        ensures { OnOk result (AreNodes task.now nodes.new) }
     {
-        match nodes.perform(site.number, site.state)? {
-            Some(state) => self.end(nodes.lists(), call, Exit { state, cost: 1 }),
-            None => Ok(()),
-        }
+        let Some(state) = nodes.perform(site.number, site.state)? else {
+            return Ok(());
+        };
+        self.end(task, nodes, call, Exit { state, cost: 1 })
     }
 
-    /// The place of the call of a node in a state, which may begin only now, with the least steps around it.
+    /// The place of the call of a node in a part of a state, which may begin only now, with the least steps around it.
     fn call_at(
         &mut self,
         task: &Task,
@@ -338,8 +410,30 @@ impl Chart {
         };
         self.sites.insert(site)?;
         self.calls.push(called)?;
-        self.begin(nodes, site, call)?;
+        self.begin(task, nodes, site, call)?;
         Ok(call)
+    }
+
+    /// Lets an item wait for the call of its first node.
+    fn wait_for(
+        &mut self,
+        task: &Task,
+        nodes: &mut CallNodes,
+        item: u32,
+        at: Site,
+        around: u64,
+    ) -> Result<(), AllocError>
+        requires { AreNodes task.now nodes.old }
+        ensures { OnOk result (AreNodes task.now nodes.new) }
+    {
+        let part = part_of(self.alloc, task, nodes, &self.masks, at)?;
+        let site = Site {
+            state: part,
+            number: at.number,
+        };
+        let call = self.call_at(task, nodes, site, around)?;
+        self.wait(task, nodes, call, item)?;
+        Ok(())
     }
 
     /// Takes an item at a place with this total, unless it was taken before.
@@ -362,17 +456,16 @@ impl Chart {
                 self.is_finished = self.is_finished || is_goal(nodes, state);
                 return Ok(());
             }
-            self.end(nodes.lists(), point.call, Exit { state, cost })?;
+            self.end(task, nodes, point.call, Exit { state, cost })?;
             return Ok(());
         };
         let inside = link.nodes.saturating_sub(nodes.lists().nodes(link.rest));
-        let site = Site {
+        let at = Site {
             state: point.state,
             number: link.first,
         };
         let around = u64::from(total).saturating_sub(inside);
-        let call = self.call_at(task, nodes, site, around)?;
-        self.wait(nodes.lists(), call, place)?;
+        self.wait_for(task, nodes, place, at, around)?;
         Ok(())
     }
 
@@ -417,6 +510,25 @@ impl Chart {
             self.take(task, nodes, place, total)?;
         }
         Ok(())
+    }
+
+    /// The masks of nodes.
+    pub(crate) fn into_masks(self) -> Masks {
+        let Chart {
+            alloc: _,
+            most_steps: _,
+            masks,
+            sites: _,
+            calls: _,
+            points: _,
+            items: _,
+            agenda: _,
+            total: _,
+            work: _,
+            is_given_up: _,
+            is_finished: _,
+        } = self;
+        masks
     }
 
     /// Meets the lists of the start in the initial state, the last first.

@@ -1,47 +1,54 @@
 //! The finder.
 ghost use Rattle.std.specs.Prelude.{OnOk};
 ghost use Rattle.call_nodes.specs.Nodes.{AreNodes};
-ghost use Rattle.htn_model.specs.Task as tasks;
 
 use crate::chart::{Chart, Progress};
 use crate::found::Found;
+use crate::masks::Masks;
 use crate::table::table_of;
 use crate::trail::Trail;
 use crate::values::Values;
+use crate::whole::WholeCalls;
 use call_nodes::CallNodes;
-use call_table::CallTable;
 use htn_task::Task;
 use std::alloc::{AllocError, Global};
 
 /// How many values may be settled or looked up for each item that was met.
 const READING: u64 = 16;
 
-/// The word that a search ended with, its table, and the values that it needs.
+/// The word that a search ended with, its calls in whole states, and the values that it needs.
 fn read(
     alloc: Global,
+    task: &Task,
     nodes: &mut CallNodes,
-    table: CallTable,
+    calls: WholeCalls,
     trail: Trail,
     starts: &[u32],
 ) -> Result<Option<Found>, AllocError>
-    ensures { OnOk result ((t : tasks.Task) → AreNodes t nodes.old → AreNodes t nodes.new) }
+    requires { AreNodes task.now nodes.old }
+    ensures { OnOk result (AreNodes task.now nodes.new) }
 {
+    let mut lifted = calls;
     let mut reader = trail;
-    if !reader.start(&table, nodes, starts)? {
+    if !reader.start(task, &mut lifted, nodes, starts)? {
         return Ok(None);
     }
-    if !reader.finish(&table, nodes)? {
+    if !reader.finish(task, &mut lifted, nodes)? {
         return Ok(None);
     }
     let (values, word) = reader.into_parts();
+    let (masks, table, whole) = lifted.into_parts();
+    let frames = masks.into_frames(alloc, nodes)?;
     Ok(Some(Found {
+        frames,
         table,
+        whole,
         values,
         word,
     }))
 }
 
-/// A search for a word of fewest steps that finishes.
+/// A search for a word of fewest steps that finishes, by calls in frames.
 #[derive(Drop)]
 pub struct Finder {
     alloc: Global,
@@ -52,12 +59,14 @@ pub struct Finder {
 
 impl Finder {
     /// A search that has not begun, for a word of at most `steps` steps. None where an initial network is not totally
-    /// ordered. The nodes and states that it meets get numbers.
+    /// ordered. Calls are in frames where at most `most_nodes` nodes are below the start, and else in whole states. The
+    /// nodes and states that it meets get numbers.
     pub fn new(
         alloc: Global,
         task: &Task,
         nodes: &mut CallNodes,
         steps: u32,
+        most_nodes: usize,
     ) -> Result<Option<Finder>, AllocError>
         requires { AreNodes task.now nodes.old }
         ensures { OnOk result (AreNodes task.now nodes.new) }
@@ -65,7 +74,8 @@ impl Finder {
         let Some(starts) = nodes.starts(alloc, task)? else {
             return Ok(None);
         };
-        let mut chart = Chart::new(alloc, steps);
+        let masks = Masks::of(alloc, task, nodes, most_nodes)?;
+        let mut chart = Chart::new(alloc, steps, masks);
         chart.start(nodes.lists(), &starts)?;
         Ok(Some(Finder {
             alloc,
@@ -88,10 +98,21 @@ impl Finder {
         self.chart.advance(task, nodes, most_work)
     }
 
+    /// No word has fewer steps than these, as far as the search has come.
+    pub fn total(&self) -> u32 {
+        self.chart.total()
+    }
+
     /// The word of a search that has found how many steps it has, and what should show that it is the least one. None
     /// where it can't be read off.
-    pub fn read(self, nodes: &mut CallNodes, steps: u32) -> Result<Option<Found>, AllocError>
-        ensures { OnOk result ((t : tasks.Task) → AreNodes t nodes.old → AreNodes t nodes.new) }
+    pub fn read(
+        self,
+        task: &Task,
+        nodes: &mut CallNodes,
+        steps: u32,
+    ) -> Result<Option<Found>, AllocError>
+        requires { AreNodes task.now nodes.old }
+        ensures { OnOk result (AreNodes task.now nodes.new) }
     {
         let Finder {
             alloc,
@@ -100,9 +121,9 @@ impl Finder {
         } = self;
         let table = table_of(alloc, nodes, &chart, steps.saturating_add(1))?;
         let most = chart.work().saturating_mul(READING);
-        drop(chart);
+        let calls = WholeCalls::new(alloc, chart.into_masks(), table);
         let values = Values::new(alloc, most);
         let trail = Trail::new(alloc, values, steps);
-        read(alloc, nodes, table, trail, &starts)
+        read(alloc, task, nodes, calls, trail, &starts)
     }
 }

@@ -1,4 +1,4 @@
-//! The table of calls of a search that ended.
+//! The table of calls in frames of a search that ended.
 
 use crate::chart::{Called, Chart, Item, Point};
 use call_nodes::{CallNodes, Operator};

@@ -5,11 +5,12 @@
 //! are left: so what is taken is never taken back, and the word is the least.
 ghost use Rattle.std.specs.Prelude.{OnOk};
 ghost use Rattle.call_nodes.specs.Nodes.{AreNodes};
-ghost use Rattle.htn_model.specs.Task as tasks;
 
-use crate::values::Values;
+use crate::values::{Values, lift_first};
+use crate::whole::WholeCalls;
 use call_nodes::{CallNodes, Operator};
-use call_table::{CallTable, Site};
+use call_table::Site;
+use htn_task::Task;
 use indexmap::IndexMap;
 use std::alloc::{AllocError, Global};
 
@@ -52,10 +53,14 @@ impl Trail {
     /// behind it are found too, where their sizes don't show that they take as many steps.
     pub(crate) fn start(
         &mut self,
-        table: &CallTable,
-        nodes: &CallNodes,
+        task: &Task,
+        whole: &mut WholeCalls,
+        nodes: &mut CallNodes,
         starts: &[u32],
-    ) -> Result<bool, AllocError> {
+    ) -> Result<bool, AllocError>
+        requires { AreNodes task.now nodes.old }
+        ensures { OnOk result (AreNodes task.now nodes.new) }
+    {
         let state = self.at.state;
         for (rank, list) in starts.iter().enumerate() {
             let number = *list;
@@ -63,7 +68,7 @@ impl Trail {
                 continue;
             }
             let site = Site { state, number };
-            let value = self.values.value(table, nodes, site)?;
+            let value = self.values.value(task, whole, nodes, site)?;
             if value <= self.left && self.word.is_empty() {
                 self.at = site;
                 self.word.push(rank as u64)?;
@@ -84,12 +89,14 @@ impl Trail {
     /// number either way, by which a check finds it.
     fn decomposed(
         &mut self,
-        table: &CallTable,
+        task: &Task,
+        whole: &mut WholeCalls,
         nodes: &mut CallNodes,
         instance: u32,
         rest: u32,
     ) -> Result<Option<Site>, AllocError>
-        ensures { OnOk result ((t : tasks.Task) → AreNodes t nodes.old → AreNodes t nodes.new) }
+        requires { AreNodes task.now nodes.old }
+        ensures { OnOk result (AreNodes task.now nodes.new) }
     {
         let number = nodes.append(self.alloc, instance, rest)?;
         if nodes.lists().nodes(number) >= u64::from(self.left) {
@@ -97,7 +104,7 @@ impl Trail {
         }
         let state = self.at.state;
         let site = Site { state, number };
-        let value = self.values.value(table, nodes, site)?;
+        let value = self.values.value(task, whole, nodes, site)?;
         if value < self.left {
             return Ok(Some(site));
         }
@@ -107,18 +114,20 @@ impl Trail {
     /// Decomposes the first node by the least rank that leads on. Whether there is one.
     fn decompose(
         &mut self,
-        table: &CallTable,
+        task: &Task,
+        whole: &mut WholeCalls,
         nodes: &mut CallNodes,
         node: u32,
         rest: u32,
     ) -> Result<bool, AllocError>
-        ensures { OnOk result ((t : tasks.Task) → AreNodes t nodes.old → AreNodes t nodes.new) }
+        requires { AreNodes task.now nodes.old }
+        ensures { OnOk result (AreNodes task.now nodes.new) }
     {
         for rank in 0..usize::MAX {
             let Some(instance) = instance_at(nodes, node, rank) else {
                 return Ok(false);
             };
-            if let Some(site) = self.decomposed(table, nodes, instance, rest)? {
+            if let Some(site) = self.decomposed(task, whole, nodes, instance, rest)? {
                 self.go(rank, site)?;
                 return Ok(true);
             }
@@ -127,20 +136,27 @@ impl Trail {
     }
 
     /// Takes a step. Whether one leads on.
-    fn step(&mut self, table: &CallTable, nodes: &mut CallNodes) -> Result<bool, AllocError>
-        ensures { OnOk result ((t : tasks.Task) → AreNodes t nodes.old → AreNodes t nodes.new) }
+    fn step(
+        &mut self,
+        task: &Task,
+        whole: &mut WholeCalls,
+        nodes: &mut CallNodes,
+    ) -> Result<bool, AllocError>
+        requires { AreNodes task.now nodes.old }
+        ensures { OnOk result (AreNodes task.now nodes.new) }
     {
         let Some(link) = nodes.lists().link(self.at.number) else {
             return Ok(false);
         };
+        lift_first(task, whole, nodes, self.at)?;
         if let Some(Operator::Task(_)) = nodes.operator(link.first) {
-            return self.decompose(table, nodes, link.first, link.rest);
+            return self.decompose(task, whole, nodes, link.first, link.rest);
         }
         let inner = Site {
             state: self.at.state,
             number: link.first,
         };
-        let Some(call) = table.calls.get(&inner) else {
+        let Some(call) = whole.lifted.calls.get(&inner) else {
             return Ok(false);
         };
         let Some(exit) = call.exits.first() else {
@@ -174,13 +190,15 @@ impl Trail {
     /// Takes all steps. Whether each leads on, and to no node at last.
     pub(crate) fn finish(
         &mut self,
-        table: &CallTable,
+        task: &Task,
+        whole: &mut WholeCalls,
         nodes: &mut CallNodes,
     ) -> Result<bool, AllocError>
-        ensures { OnOk result ((t : tasks.Task) → AreNodes t nodes.old → AreNodes t nodes.new) }
+        requires { AreNodes task.now nodes.old }
+        ensures { OnOk result (AreNodes task.now nodes.new) }
     {
         for _ in 0..self.left {
-            if !self.step(table, nodes)? {
+            if !self.step(task, whole, nodes)? {
                 return Ok(false);
             }
         }

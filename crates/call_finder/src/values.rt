@@ -1,9 +1,13 @@
-//! How many steps are left at least, by a table of calls.
+//! How many steps are left at least, by calls in whole states.
+ghost use Rattle.std.specs.Prelude.{OnOk};
+ghost use Rattle.call_nodes.specs.Nodes.{AreNodes};
 
 use crate::chart::is_goal;
 use crate::found::OUT_OF_REACH;
+use crate::whole::WholeCalls;
 use call_nodes::CallNodes;
-use call_table::{CallTable, Exit, Site};
+use call_table::{Exit, Site};
+use htn_task::Task;
 use indexmap::IndexMap;
 use std::alloc::{AllocError, Global};
 
@@ -72,7 +76,7 @@ impl Values {
     /// The value of a site, if all that it rests on is known; else that is asked for.
     fn settled(
         &mut self,
-        table: &CallTable,
+        whole: &WholeCalls,
         nodes: &CallNodes,
         site: Site,
     ) -> Result<Option<u32>, AllocError> {
@@ -85,7 +89,7 @@ impl Values {
             state: site.state,
             number: link.first,
         };
-        let Some(call) = table.calls.get(&inner) else {
+        let Some(call) = whole.lifted.calls.get(&inner) else {
             return Ok(Some(capped(link.nodes)));
         };
         if !self.ask(&call.exits, link.rest)? {
@@ -99,15 +103,20 @@ impl Values {
     /// Settles the site that was asked for last, or asks for what it rests on.
     fn settle(
         &mut self,
-        table: &CallTable,
-        nodes: &CallNodes,
+        task: &Task,
+        whole: &mut WholeCalls,
+        nodes: &mut CallNodes,
         site: Site,
-    ) -> Result<(), AllocError> {
+    ) -> Result<(), AllocError>
+        requires { AreNodes task.now nodes.old }
+        ensures { OnOk result (AreNodes task.now nodes.new) }
+    {
         if self.known.contains_key(&site) {
             let _ = self.pending.pop();
             return Ok(());
         }
-        if let Some(value) = self.settled(table, nodes, site)? {
+        lift_first(task, whole, nodes, site)?;
+        if let Some(value) = self.settled(whole, nodes, site)? {
             self.known.insert(site, value)?;
             let _ = self.pending.pop();
         }
@@ -117,10 +126,14 @@ impl Values {
     /// The value of a site.
     pub(crate) fn value(
         &mut self,
-        table: &CallTable,
-        nodes: &CallNodes,
+        task: &Task,
+        whole: &mut WholeCalls,
+        nodes: &mut CallNodes,
         site: Site,
-    ) -> Result<u32, AllocError> {
+    ) -> Result<u32, AllocError>
+        requires { AreNodes task.now nodes.old }
+        ensures { OnOk result (AreNodes task.now nodes.new) }
+    {
         self.pending.clear();
         self.pending.push(site)?;
         for _ in 0..self.left {
@@ -128,8 +141,28 @@ impl Values {
             let Some(last) = self.pending.last().copied() else {
                 break;
             };
-            self.settle(table, nodes, last)?;
+            self.settle(task, whole, nodes, last)?;
         }
         Ok(self.known.get(&site).copied().unwrap_or(0))
     }
+}
+
+/// Sees that the call of the first node of a list in a state is lifted.
+pub(crate) fn lift_first(
+    task: &Task,
+    whole: &mut WholeCalls,
+    nodes: &mut CallNodes,
+    site: Site,
+) -> Result<(), AllocError>
+    requires { AreNodes task.now nodes.old }
+    ensures { OnOk result (AreNodes task.now nodes.new) }
+{
+    let Some(link) = nodes.lists().link(site.number) else {
+        return Ok(());
+    };
+    let inner = Site {
+        state: site.state,
+        number: link.first,
+    };
+    whole.lift(task, nodes, inner)
 }

@@ -92,6 +92,13 @@ impl CallNodes {
         self.states.states()
     }
 
+    /// The number of a state, if it has one.
+    pub fn number_of(&self, state: &BitState) -> Option<u32>
+        ensures { IfSome result (λ k. slice_get self.now.states k ≡ Some state.now) }
+    {
+        self.states.number_of(state)
+    }
+
     /// Whether the goal holds in a state. It takes no memory.
     pub fn is_goal(&self, state: &BitState) -> bool
         ensures { (t : tasks.Task) → AreNodes t self.now
@@ -164,6 +171,17 @@ impl CallNodes {
         };
         let number = self.states.keep(after)?;
         Ok(Some(number))
+    }
+
+    /// The number of a state whose atoms have numbers, which it may get only now.
+    pub fn keep_state(&mut self, state: BitState) -> Result<u32, AllocError>
+        requires { IsSetOf self.old.atoms state }
+        ensures own { OnOk result ((t : tasks.Task) → AreNodes t self.old → AreNodes t self.new) }
+        ensures more { OnOk result ((t : tasks.Task) → AreNodes t self.old → AreMore self.old self.new) }
+        ensures number { IfOk result (λ i. slice_get self.new.states i ≡ Some state) }
+    {
+        let number = self.states.keep(state)?;
+        Ok(number)
     }
 
     /// Adds a node that has no number, and returns the one that it gets.

@@ -2,3 +2,8 @@ pub mod Numbers
 pub mod Ruled
 pub mod Ways
 pub mod Words
+pub mod Masks
+pub mod Sets
+pub mod Parts
+pub mod Closing
+pub mod NodeFrames

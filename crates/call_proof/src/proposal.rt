@@ -3,7 +3,7 @@
 use call_table::{CallTable, Site};
 use indexmap::IndexMap;
 
-/// A word that may be the least finishing one, and what should show it.
+/// A word that may be the least finishing one, and what should show it by calls in whole states.
 #[derive(Drop)]
 pub struct Proposal {
     /// Calls of nodes in states, by number.
@@ -12,4 +12,13 @@ pub struct Proposal {
     pub values: IndexMap<Site, u32>,
     /// The rank of an initial network, and then a rank for each step.
     pub word: Vec<u64>,
+}
+
+/// A word that may be the least finishing one, and what should show it by calls in frames.
+#[derive(Drop)]
+pub struct FramedProposal {
+    /// Calls of nodes in parts of states, by number.
+    pub table: CallTable,
+    /// Calls of nodes in whole states, which are lifted from those, values by them, and the word.
+    pub whole: Proposal,
 }

@@ -94,7 +94,7 @@ fn are_rules_at(nodes: &CallNodes, site: &Site, rules: &[Rule]) -> Result<bool, 
 }
 
 /// Whether the rules of each call are those of its node in its state.
-pub fn are_rules(nodes: &CallNodes, table: &CallTable) -> Result<bool, AllocError>
+pub(crate) fn are_rules(nodes: &CallNodes, table: &CallTable) -> Result<bool, AllocError>
     ensures { IfOk result (λ b. IsTrue b → (t : tasks.Task) → AreNodes t nodes.now → AreRules nodes.now t table.now) }
 {
     for k in 0..table.calls.len() {

@@ -184,7 +184,7 @@ fn are_left(nodes: &CallNodes, proposal: &Proposal, lists: &[u32], steps: u64) -
 
 /// Whether a word begins at one of some lists in the first state, goes a least way from there, and no other list takes
 /// fewer steps, nor one before it as few.
-pub fn is_word(
+pub(crate) fn is_word(
     alloc: Global,
     nodes: &CallNodes,
     proposal: &Proposal,

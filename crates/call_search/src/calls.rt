@@ -15,10 +15,13 @@ use std::alloc::{AllocError, Global};
 const FIRST: usize = 10_000;
 
 /// For how many configurations a search by calls may meet one item. To meet one takes about as long as to store one.
-const SHARE: u64 = 12;
+const SHARE: u64 = 8;
+
+/// How many times as many, where calls have shown that no word is within the bound of the other search.
+const AHEAD: u64 = 3;
 
 /// For how many configurations one ground task, instance or node is listed.
-const LISTING: u64 = 50;
+const LISTING: u64 = 15;
 
 /// How much of the decomposition graph is listed at most.
 const MOST_LISTED: u64 = 100_000;
@@ -28,7 +31,7 @@ const MOST_LISTED: u64 = 100_000;
 const WIDE: u64 = 2_048;
 
 /// By what factor the number of configurations has grown when a search by calls begins anew, if more is listed then.
-const GROWTH: usize = 10;
+const GROWTH: usize = 3;
 
 /// A search by calls of the least finishing word of a task's ranks, beside another search of the same task. It does a
 /// small fraction of the work of that.
@@ -41,6 +44,10 @@ pub struct Calls<'a> {
     next: usize,
     /// How often the other search has asked.
     asked: u64,
+    /// How many configurations the other search had when it asked last.
+    seen: usize,
+    /// How many items the search by calls may meet in all, times [`SHARE`].
+    allowed: u64,
     trial: Option<Trial>,
     /// The word that was found.
     word: Option<Vec<u64>>,
@@ -54,6 +61,8 @@ impl Drop for Calls<'_> {
             bound: _,
             next: _,
             asked: _,
+            seen: _,
+            allowed: _,
             trial: _,
             word: _,
         } = self;
@@ -76,6 +85,14 @@ fn continued(trial: &mut Option<Trial>, task: &Task, most_work: u64) -> Result<P
     match trial {
         Some(trial) => trial.advance(task, most_work),
         None => Ok(Progress::Failed),
+    }
+}
+
+/// Whether a search by calls has shown that no word is within a bound.
+fn is_ahead(trial: &Option<Trial>, bound: u64) -> bool {
+    match trial {
+        Some(trial) => u64::from(trial.total()) > bound,
+        None => false,
     }
 }
 
@@ -125,6 +142,8 @@ impl<'a> Calls<'a> {
             bound,
             next,
             asked: 0,
+            seen: 0,
+            allowed: 0,
             trial: None,
             word: None,
         }
@@ -159,14 +178,37 @@ impl<'a> Calls<'a> {
         Ok(self.word.is_none())
     }
 
-    /// Continues the search by calls, if one has begun. Returns whether the other search is to continue.
-    fn advance(&mut self, configurations: usize) -> Result<bool, AllocError>
+    /// Notes how many configurations the other search has within a bound, and lets the search by calls meet more items.
+    fn allow(&mut self, configurations: usize, bound: u64)
         requires { IsRight self.old }
         ensures task { self.new.task.now ≡ self.old.task.now }
         ensures bound { self.new.bound ≡ self.old.bound }
         ensures right { IsRight self.new }
     {
-        let most_work = configurations as u64 / SHARE;
+        let more = if configurations < self.seen {
+            configurations
+        } else {
+            configurations.saturating_sub(self.seen)
+        };
+        let share = if is_ahead(&self.trial, bound) {
+            AHEAD
+        } else {
+            1
+        };
+        self.seen = configurations;
+        self.allowed = self
+            .allowed
+            .saturating_add((more as u64).saturating_mul(share));
+    }
+
+    /// Continues the search by calls, if one has begun. Returns whether the other search is to continue.
+    fn advance(&mut self) -> Result<bool, AllocError>
+        requires { IsRight self.old }
+        ensures task { self.new.task.now ≡ self.old.task.now }
+        ensures bound { self.new.bound ≡ self.old.bound }
+        ensures right { IsRight self.new }
+    {
+        let most_work = self.allowed / SHARE;
         match advanced(&mut self.trial, self.task, most_work)? {
             Some(steps) => self.finish(steps),
             None => Ok(true),
@@ -178,6 +220,7 @@ impl<'a> Calls<'a> {
     pub(crate) fn look(
         &mut self,
         configurations: usize,
+        bound: u64,
         none_below: u64,
     ) -> Result<bool, AllocError>
         requires { IsRight self.old }
@@ -193,7 +236,8 @@ impl<'a> Calls<'a> {
         if self.next <= configurations && !is_wide {
             self.begin(configurations)?;
         }
-        self.advance(configurations)
+        self.allow(configurations, bound);
+        self.advance()
     }
 
     /// The word that was found.

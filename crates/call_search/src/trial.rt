@@ -11,7 +11,7 @@ ghost use Rattle.word_machine.specs.Words.{step_count};
 
 use call_finder::{Finder, Found, Progress};
 use call_nodes::CallNodes;
-use call_proof::{Proposal, is_least};
+use call_proof::{FramedProposal, Frames, Proposal, is_least};
 use htn_task::Task;
 use std::alloc::{AllocError, Global};
 use task_graph::TaskGraph;
@@ -45,12 +45,14 @@ fn nodes_of(alloc: Global, task: &Task, graph: TaskGraph) -> Result<CallNodes, A
     CallNodes::new(alloc, task, sizes)
 }
 
-/// A search that is to begin, from nodes of which none is listed.
+/// A search that is to begin, from nodes of which none is listed. Calls are in frames where all below the start was
+/// listed.
 fn trial_of(
     alloc: Global,
     task: &Task,
     nodes: CallNodes,
     is_cut: bool,
+    listed: u64,
     bound: u64,
 ) -> Result<Option<Trial>, AllocError>
     requires { AreNodes task.now nodes }
@@ -58,7 +60,8 @@ fn trial_of(
 {
     let mut nodes = nodes;
     let steps = u32::try_from(bound).unwrap_or(u32::MAX);
-    let Some(finder) = Finder::new(alloc, task, &mut nodes, steps)? else {
+    let most_nodes = if is_cut { 0 } else { listed as usize };
+    let Some(finder) = Finder::new(alloc, task, &mut nodes, steps, most_nodes)? else {
         return Ok(None);
     };
     Ok(Some(Trial {
@@ -70,25 +73,30 @@ fn trial_of(
 
 /// What the finder proposes, where it can read off a word of this number of steps.
 fn proposal_of(
+    task: &Task,
     finder: Finder,
     nodes: &mut CallNodes,
     steps: u32,
-) -> Result<Option<Proposal>, AllocError>
-    ensures { OnOk result ((t : tasks.Task) → AreNodes t nodes.old → AreNodes t nodes.new) }
+) -> Result<Option<(Frames, FramedProposal)>, AllocError>
+    requires { AreNodes task.now nodes.old }
+    ensures { OnOk result (AreNodes task.now nodes.new) }
 {
-    let Some(found) = finder.read(nodes, steps)? else {
+    let Some(found) = finder.read(task, nodes, steps)? else {
         return Ok(None);
     };
     let Found {
+        frames,
         table,
+        whole,
         values,
         word,
     } = found;
-    Ok(Some(Proposal {
-        table,
+    let whole = Proposal {
+        table: whole,
         values,
         word,
-    }))
+    };
+    Ok(Some((frames, FramedProposal { table, whole })))
 }
 
 /// The word of a proposal that has no more steps than the bound and stands the check.
@@ -96,7 +104,8 @@ fn checked_word(
     alloc: Global,
     task: &Task,
     nodes: &mut CallNodes,
-    proposal: Proposal,
+    frames: &Frames,
+    proposal: FramedProposal,
     bound: u64,
 ) -> Result<Option<Vec<u64>>, AllocError>
     requires { AreNodes task.now nodes.old }
@@ -105,13 +114,14 @@ fn checked_word(
     let Some(starts) = nodes.starts(alloc, task)? else {
         return Ok(None);
     };
-    if steps_of(&proposal.word) > bound {
+    if steps_of(&proposal.whole.word) > bound {
         return Ok(None);
     }
-    if !is_least(alloc, task, nodes, &starts, &proposal)? {
+    if !is_least(alloc, task, nodes, frames, &starts, &proposal)? {
         return Ok(None);
     }
-    let Proposal { word, .. } = proposal;
+    let FramedProposal { whole, .. } = proposal;
+    let Proposal { word, .. } = whole;
     Ok(Some(word))
 }
 
@@ -127,10 +137,10 @@ fn word_of(
     requires { AreNodes task.now nodes.old }
     ensures { IfOk result (λ o. IfSome o (λ word. IsLeastFinishing (listing_machine task.now) bound word.items)) }
 {
-    let Some(proposal) = proposal_of(finder, nodes, steps)? else {
+    let Some((frames, proposal)) = proposal_of(task, finder, nodes, steps)? else {
         return Ok(None);
     };
-    checked_word(alloc, task, nodes, proposal, bound)
+    checked_word(alloc, task, nodes, &frames, proposal, bound)
 }
 
 impl Trial {
@@ -147,12 +157,17 @@ impl Trial {
         let graph = enumerate(alloc, task, listed)?;
         let is_cut = graph.is_cut(task);
         let nodes = nodes_of(alloc, task, graph)?;
-        trial_of(alloc, task, nodes, is_cut, bound)
+        trial_of(alloc, task, nodes, is_cut, listed, bound)
     }
 
     /// Whether a search with a greater limit would list more of the decomposition graph.
     pub(crate) fn is_cut(&self) -> bool {
         self.is_cut
+    }
+
+    /// No word has fewer steps than these, as far as the search has come.
+    pub(crate) fn total(&self) -> u32 {
+        self.finder.total()
     }
 
     /// Continues until the number of steps of the word is known, or until more than this number of items were met.

@@ -81,7 +81,10 @@ impl<W: Watch> Watch for CallWatch<'_, '_, W> {
             self.is_stopped = true;
             return false;
         }
-        match self.calls.look(news.configurations, news.none_below) {
+        match self
+            .calls
+            .look(news.configurations, news.bound, news.none_below)
+        {
             Ok(goes_on) => goes_on,
             Err(AllocError) => false,
         }

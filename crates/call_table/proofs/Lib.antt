@@ -1,5 +1,4 @@
 pub mod Links
 pub mod Followed
 pub mod Looked
-pub mod Meaning
 pub mod Supported

@@ -1,5 +1,4 @@
 pub mod Estimates
 pub mod Lists
-pub mod Meaning
 pub mod Sites
 pub mod Views

@@ -2,7 +2,6 @@
 use Rattle.std.specs.Prelude.{◌≡◌, ℕ, ◌+◌, ◌≤◌, ◌⊎◌, List, map, Option, option_map, Contains, IfSome, nat_eq}
 use Rattle.indexmap.specs.IndexMap.{IndexMap, get}
 use Rattle.htn_calls.specs.Calls as model
-use Rattle.htn_calls.specs.Closed.{IsFollowedByCalls, IsClosed, AreClosed}
 use Rattle.call_table.specs.Lists.{Lists, list_at, nodes_of}
 use Rattle.call_table.specs.Sites.{site_eq}
 use Rattle.call_table.specs.declared.call.Exit.{Exit}
@@ -47,23 +46,6 @@ module _ (l : Lists) where
   IsMetAt c s blocks steps =
       (c.floor ≤ steps + nodes_of l.counts blocks)
       ⊎ ((p : model.Place ℕ ℕ) × Contains (places_view c) p × (p.state ≡ s) × (p.blocks ≡ blocks) × (p.distance ≤ steps))
-
-  module _ (t : CallTable) where
-    -- a block in a state is followed as a call
-    abbrev pub IsCalledBy : Call → ℕ → ℕ → List ℕ → ℕ → Type 0
-    IsCalledBy c = model.IsCalled (numbers t) (listing t) (λ s blocks. nodes_of l.counts blocks) (nodes_of l.counts) (summary_view c) (places_view c)
-
-    -- blocks in a state are followed as calls
-    abbrev pub IsFollowedBy : Call → ℕ → List ℕ → ℕ → Type 0
-    IsFollowedBy c = IsFollowedByCalls (numbers t) (listing t) (λ s blocks. nodes_of l.counts blocks) (nodes_of l.counts) (summary_view c) (places_view c)
-
-    -- a block in a state is a closed call
-    abbrev pub IsClosedCall : ℕ → ℕ → Call → Type 0
-    IsClosedCall s b c = IsClosed (numbers t) (listing t) (λ x blocks. nodes_of l.counts blocks) (nodes_of l.counts) s b (summary_view c)
-
-    -- the calls are a closed table
-    abbrev pub AreClosedCalls : Type 0
-    AreClosedCalls = AreClosed (numbers t) (listing t) (λ s blocks. nodes_of l.counts blocks) (nodes_of l.counts)
 
 -- ## Look-ups
 

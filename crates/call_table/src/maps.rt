@@ -8,7 +8,7 @@ use indexmap::IndexMap;
 use std::alloc::{AllocError, Global};
 
 /// The distance of each place of a call, by its state and its blocks.
-pub(crate) fn places_of(alloc: Global, call: &Call) -> Result<IndexMap<Site, u32>, AllocError>
+pub fn places_of(alloc: Global, call: &Call) -> Result<IndexMap<Site, u32>, AllocError>
     ensures { IfOk result (ArePlaces call.now) }
 {
     let mut found = IndexMap::with_capacity(alloc, call.places.len())?;
@@ -23,7 +23,7 @@ pub(crate) fn places_of(alloc: Global, call: &Call) -> Result<IndexMap<Site, u32
 }
 
 /// The cost of each exit of a call, by its state.
-pub(crate) fn exits_of(alloc: Global, call: &Call) -> Result<IndexMap<u32, u32>, AllocError>
+pub fn exits_of(alloc: Global, call: &Call) -> Result<IndexMap<u32, u32>, AllocError>
     ensures { IfOk result (AreExits call.now) }
 {
     let mut found = IndexMap::with_capacity(alloc, call.exits.len())?;

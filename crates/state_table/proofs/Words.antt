@@ -1,13 +1,14 @@
 -- Sets of numbers, word by word and bit by bit.
-use Rattle.std.proofs.Common.{◌≡◌, ◌≢◌, ℕ, ◌+◌, ◌-◌, ◌*◌, ◌/◌, ◌%◌, ◌^◌, ◌<◌, ◌≤◌, Bool, true, false, not, eqb, ◌||◌, ◌&&◌, ◌⊎◌, inl, inr, List, ◌++◌, length, get_or, set, take, refl, sym, ap, ap₂, ◌∙◌, subst, arith, bit_or, bit_and, get_or-set_same, get_or-set_other}
+use Rattle.std.proofs.Common.{◌≡◌, ◌≢◌, ℕ, ◌+◌, ◌-◌, ◌*◌, ◌/◌, ◌%◌, ◌^◌, ◌<◌, ◌≤◌, Bool, true, false, not, eqb, ◌||◌, ◌&&◌, ◌⊎◌, inl, inr, List, [], ◌∷◌, ◌++◌, length, get_or, set, take, refl, sym, ap, ap₂, ◌∙◌, subst, arith, bit_or, bit_and, cond, get_or-set_same, get_or-set_other}
 use Rattle.std.specs.Int.{bit_at, bit_not, w64}
+use Rattle.std.specs.Prelude.{max, min}
 use Rattle.std.proofs.lemmas.Bool.{cases_lt, cases_eq, eq-eqb, ne_eqb, both_ways}
-use Rattle.std.proofs.lemmas.Nat.{div-add-mod'}
-use Rattle.std.proofs.lemmas.Nat.Bits.{bit_at-lt, bit_at_set_same, bit_at_set_other, bit_at_clear_same, bit_at_clear_other, bit_at-zero, same_from_bits_below}
-use Rattle.std.proofs.lemmas.List.{get_or_past, get_or_default, get_or-take, length-set, length-take, same_lists, drop_all, append-nil, take_all}
+use Rattle.std.proofs.lemmas.Nat.{and_le_l, div-add-mod', or_lt}
+use Rattle.std.proofs.lemmas.Nat.Bits.{bit_at-lt, bit_at_set_same, bit_at_set_other, bit_at_and, bit_at_clear_same, bit_at_clear_other, bit_at_not, bit_at_or, bit_at-zero, same_from_bits_below}
+use Rattle.std.proofs.lemmas.List.{get_or-append, get_or-append_seam, get_or_past, get_or_default, get_or-take, length-append, length-set, length-take, same_lists, drop_all, append-nil, take_all}
 use Rattle.std.proofs.lemmas.List.Folds.{list_any_more}
 use Rattle.std.specs.List.{list_any, refill}
-use Rattle.state_table.specs.Bits.{is_set, has, AreSmall, IsBits}
+use Rattle.state_table.specs.Bits.{is_set, has, mix, AreSmall, IsBits}
 
 -- a bit is 0 or 1
 low_bit : (a : ℕ) → a < 2 → (a ≡ 0) ⊎ (a ≡ 1)
@@ -184,6 +185,107 @@ put_more h x numbers i d less = both h (list_any (eqb x) (take i numbers)) (eqb 
     both : (h a b : Bool) → ((h || a) || b) ≡ (h || (a || b))
     both true a b = refl
     both false a b = refl
+
+-- ## The bits of a mask as other words have them
+
+-- a bit of a mixed word
+abbrev IsMixedBit : ℕ → ℕ → ℕ → Type 0
+IsMixedBit v m p = eqb (max (min v (1 - m)) (min p m)) 1 ≡ cond (eqb m 1) (eqb p 1) (eqb v 1)
+
+mixed_at : (v m p x y z : ℕ) → v ≡ x → m ≡ y → p ≡ z → IsMixedBit x y z → IsMixedBit v m p
+mixed_at v m p x y z e f g h =
+    subst (λ a. IsMixedBit a m p) (sym e) (subst (λ a. IsMixedBit x a p) (sym f) (subst (λ a. IsMixedBit x y a) (sym g) h))
+
+mixed_bits : (v m p : ℕ) → v < 2 → m < 2 → p < 2 → IsMixedBit v m p
+mixed_bits v m p a b c = by (low_bit v a) (low_bit m b) (low_bit p c)
+  where
+    by : (v ≡ 0) ⊎ (v ≡ 1) → (m ≡ 0) ⊎ (m ≡ 1) → (p ≡ 0) ⊎ (p ≡ 1) → IsMixedBit v m p
+    by (inl e) (inl f) (inl g) = mixed_at v m p 0 0 0 e f g refl
+    by (inl e) (inl f) (inr g) = mixed_at v m p 0 0 1 e f g refl
+    by (inl e) (inr f) (inl g) = mixed_at v m p 0 1 0 e f g refl
+    by (inl e) (inr f) (inr g) = mixed_at v m p 0 1 1 e f g refl
+    by (inr e) (inl f) (inl g) = mixed_at v m p 1 0 0 e f g refl
+    by (inr e) (inl f) (inr g) = mixed_at v m p 1 0 1 e f g refl
+    by (inr e) (inr f) (inl g) = mixed_at v m p 1 1 0 e f g refl
+    by (inr e) (inr f) (inr g) = mixed_at v m p 1 1 1 e f g refl
+
+mix_bit : (v m p i : ℕ) → m < 2 ^ 64 → i < 64 → is_set (mix v m p) i ≡ cond (is_set m i) (is_set p i) (is_set v i)
+mix_bit v m p i small less =
+    ap (λ b. eqb b 1) (bit_at_or (bit_and v (bit_not w64 m)) (bit_and p m) i
+    ∙ ap₂ max (bit_at_and v (bit_not w64 m) i ∙ ap (min (bit_at v i)) (bit_at_not w64 m i small less)) (bit_at_and p m i))
+    ∙ mixed_bits (bit_at v i) (bit_at m i) (bit_at p i) (bit_at-lt v i) (bit_at-lt m i) (bit_at-lt p i)
+
+-- a mixed word has 64 bits
+mix_small : (v m p : ℕ) → v < 2 ^ 64 → p < 2 ^ 64 → mix v m p < 2 ^ 64
+mix_small v m p one two =
+    or_lt 64 (bit_and v (bit_not w64 m)) (bit_and p m) (omega (arith, and_le_l v (bit_not w64 m), one)) (omega (arith, and_le_l p m, two))
+
+-- words of which each is mixed, so far as there are some
+abbrev pub AreMixed : List ℕ → List ℕ → List ℕ → List ℕ → Type 0
+AreMixed ws vs ms ps = (j : ℕ) → j < length ws → get_or ws j 0 ≡ mix (get_or vs j 0) (get_or ms j 0) (get_or ps j 0)
+
+-- where there are none
+pub none_mixed : (vs ms ps : List ℕ) → AreMixed [] vs ms ps
+none_mixed vs ms ps j less = absurd (omega (arith, less))
+
+-- one more is mixed
+pub mixed_more : (ws vs ms ps : List ℕ) (k : ℕ) → k ≡ length ws → AreMixed ws vs ms ps
+    → AreMixed (ws ++ mix (get_or vs k 0) (get_or ms k 0) (get_or ps k 0) ∷ []) vs ms ps
+mixed_more ws vs ms ps k long are j less = elim (cases_lt j (length ws)) [
+  | inl before ↦ get_or-append ws (mix (get_or vs k 0) (get_or ms k 0) (get_or ps k 0) ∷ []) 0 j before ∙ are j before
+  | inr after ↦
+      (let last : j ≡ length ws = omega (arith, less, after, length-append ws (mix (get_or vs k 0) (get_or ms k 0) (get_or ps k 0) ∷ [])) in
+      ap (λ j. get_or (ws ++ mix (get_or vs k 0) (get_or ms k 0) (get_or ps k 0) ∷ []) j 0) last
+      ∙ get_or-append_seam ws (mix (get_or vs k 0) (get_or ms k 0) (get_or ps k 0)) [] 0
+      ∙ ap (λ k. mix (get_or vs k 0) (get_or ms k 0) (get_or ps k 0)) (long ∙ sym last))
+]
+
+-- and small
+pub mixed_small : (ws vs ms ps : List ℕ) → AreSmall vs → AreSmall ps → AreMixed ws vs ms ps → AreSmall ws
+mixed_small ws vs ms ps v p are k = elim (cases_lt k (length ws)) [
+  | inl less ↦ subst (λ w. w < 2 ^ 64) (sym (are k less)) (mix_small (get_or vs k 0) (get_or ms k 0) (get_or ps k 0) (v k) (p k))
+  | inr past ↦ subst (λ w. w < 2 ^ 64) (sym (get_or_past ws k 0 past)) (omega arith)
+]
+
+-- either way nothing
+either_false : (b : Bool) → cond b false false ≡ false
+either_false true = refl
+either_false false = refl
+
+-- mixed words have the numbers of a mask as other words have them
+pub mixed_has : (ws vs ms ps : List ℕ) → length vs ≤ length ws → length ps ≤ length ws → AreSmall ms → AreMixed ws vs ms ps
+    → (x : ℕ) → has ws x ≡ cond (has ms x) (has ps x) (has vs x)
+mixed_has ws vs ms ps one two m are x = elim (cases_lt (x / 64) (length ws)) [
+  | inl less ↦
+      ap (λ w. is_set w (x % 64)) (are (x / 64) less)
+      ∙ mix_bit (get_or vs (x / 64) 0) (get_or ms (x / 64) 0) (get_or ps (x / 64) 0) (x % 64) (m (x / 64)) (omega arith)
+  | inr past ↦
+      past_has ws x past
+      ∙ sym (ap₂ (cond (has ms x)) (past_has ps x (omega (arith, two, past))) (past_has vs x (omega (arith, one, past))) ∙ either_false (has ms x))
+]
+
+-- ## Sets inside others
+
+-- a word of which another one has all bits
+inside_bit : (v w i : ℕ) → w < 2 ^ 64 → i < 64 → bit_and v (bit_not w64 w) ≡ 0 → is_set v i ≡ true → is_set w i ≡ true
+inside_bit v w i small less none one = elim (low_bit (bit_at w i) (bit_at-lt w i)) [
+  | inr there ↦ ap (λ b. eqb b 1) there
+  | inl lacks ↦
+      (let zero_bit = sym (bit_at_and v (bit_not w64 w) i) ∙ ap (λ n. bit_at n i) none ∙ bit_at-zero i in
+      let both : min (bit_at v i) (1 - bit_at w i) ≡ 0 = sym (ap (min (bit_at v i)) (bit_at_not w64 w i small less)) ∙ zero_bit in
+      elim (low_bit (bit_at v i) (bit_at-lt v i)) [
+        | inl zero_v ↦ absurd (both_ways (is_set v i) (ap (λ b. eqb b 1) zero_v) one)
+        | inr one_v ↦ (let e : 1 ≡ 0 = sym (ap₂ (λ b d. min b (1 - d)) one_v lacks) ∙ both in absurd (omega (arith, e)))
+      ])
+]
+
+-- words of which others have all bits are a set inside theirs
+pub inside_has : (vs ws : List ℕ) → AreSmall ws → ((k : ℕ) → k < length vs → bit_and (get_or vs k 0) (bit_not w64 (get_or ws k 0)) ≡ 0)
+    → (x : ℕ) → has vs x ≡ true → has ws x ≡ true
+inside_has vs ws small none x has_x = elim (cases_lt (x / 64) (length vs)) [
+  | inl less ↦ inside_bit (get_or vs (x / 64) 0) (get_or ws (x / 64) 0) (x % 64) (small (x / 64)) (omega arith) (none (x / 64) less) has_x
+  | inr past ↦ absurd (both_ways (has vs x) (past_has vs x past) has_x)
+]
 
 -- words after a write through a slice of all of them
 pub written : (words slice : List ℕ) (j v : ℕ) → slice ≡ words → refill (length words) words (set slice j v) ≡ set words j v

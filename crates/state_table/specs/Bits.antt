@@ -1,6 +1,7 @@
 -- Sets of numbers as bits in words of 64.
 use Rattle.std.specs.Prelude.{◌≡◌, ℕ, ◌-◌, ◌/◌, ◌%◌, ◌^◌, ◌<◌, Bool, not, ◌&&◌, ◌||◌, eqb, nat_eq, List, length, get_or}
-use Rattle.std.specs.Int.{bit_at}
+use Rattle.std.specs.Int.{bit_at, bit_not, w64}
+use Rattle.std.specs.Int.Bits.{bit_and, bit_or}
 use Rattle.std.specs.List.{list_any}
 use Rattle.std.specs.Bool.{Decides}
 use Rattle.std.specs.Cmp.{IsEquivalence, IsPartialEquivalence, partial_equiv_from_equiv, unsigned_Decides, decided}
@@ -15,6 +16,10 @@ is_set word i = eqb (bit_at word i) 1
 -- whether the bit of a number is set
 abbrev pub has : List ℕ → ℕ → Bool
 has words x = is_set (get_or words (x / 64) 0) (x % 64)
+
+-- a word with the bits of a mask as another one has them
+abbrev pub mix : ℕ → ℕ → ℕ → ℕ
+mix word mask other = bit_or (bit_and word (bit_not w64 mask)) (bit_and other mask)
 
 -- each word has 64 bits
 abbrev pub AreSmall : List ℕ → Type 0

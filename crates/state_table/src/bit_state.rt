@@ -1,9 +1,9 @@
 //! Sets of atom numbers.
-ghost use Rattle.std.specs.Prelude.{◌≡◌, ◌↔◌, ℕ, [], not, IfOk, IsTrue};
+ghost use Rattle.std.specs.Prelude.{◌≡◌, ◌↔◌, ℕ, [], cond, not, true, IfOk, IsTrue};
 ghost use Rattle.std.specs.List.{list_all};
 ghost use Rattle.state_table.specs.Bits.{has, has_changed, IsBits};
 
-use crate::bits::{Words, has_bit, put_in, take_out, trim};
+use crate::bits::{Words, are_bits_in, has_bit, mixed, put_in, take_out, trim};
 use smallvec::SmallVec;
 use std::alloc::{AllocError, Global};
 use std::hash::{Hash, Hasher};
@@ -90,6 +90,30 @@ impl BitState {
         }
         trim(&mut words);
         Ok(BitState { words })
+    }
+
+    /// The set with those numbers of a mask that another set has.
+    pub fn with_part(&self, mask: &BitState, part: &BitState) -> Result<Self, AllocError>
+        ensures has { IfOk result (λ s. (x : ℕ)
+            → has s x ≡ cond (has mask.now x) (has part.now x) (has self.now x)) }
+        ensures bits { IfOk result IsBits }
+    {
+        let alloc = *self.words.allocator();
+        let mut words = mixed(
+            alloc,
+            self.words.as_slice(),
+            mask.words.as_slice(),
+            part.words.as_slice(),
+        )?;
+        trim(&mut words);
+        Ok(BitState { words })
+    }
+
+    /// Whether another set has all numbers of this one.
+    pub fn is_inside(&self, other: &BitState) -> bool
+        ensures { IsTrue result → (x : ℕ) → has self.now x ≡ true → has other.now x ≡ true }
+    {
+        are_bits_in(self.words.as_slice(), other.words.as_slice())
     }
 }
 

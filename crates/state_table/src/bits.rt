@@ -1,9 +1,11 @@
 //! Bits in words of 64. A word past the last one is 0.
-ghost use Rattle.std.specs.Prelude.{◌≡◌, ◌||◌, ◌&&◌, ◌≤◌, ℕ, eqb, not, length, get_or, OnOk};
-ghost use Rattle.state_table.specs.Bits.{has, AreSmall, IsBits};
+ghost use Rattle.std.specs.Prelude.{◌≡◌, ◌||◌, ◌&&◌, ◌≤◌, ℕ, cond, eqb, not, true, length, get_or, IfOk, IsTrue, OnOk};
+ghost use Rattle.std.specs.Int.{bit_not, w64};
+ghost use Rattle.std.specs.Int.Bits.{bit_and};
+ghost use Rattle.state_table.specs.Bits.{has, mix, AreSmall, IsBits};
 
 use smallvec::SmallVec;
-use std::alloc::AllocError;
+use std::alloc::{AllocError, Global};
 
 /// Words of which the first few need no memory of their own.
 pub(crate) type Words = SmallVec<u64, 4>;
@@ -60,6 +62,64 @@ pub(crate) fn take_out(words: &mut Words, number: u32)
         let slice = words.as_mut_slice();
         slice[at] &= !(1 << (number % 64));
     }
+}
+
+/// The greater of two numbers.
+fn greater(one: usize, other: usize) -> usize
+    ensures one { one ≤ result }
+    ensures other { other ≤ result }
+{
+    if one < other { other } else { one }
+}
+
+/// A word with the bits of a mask as another word has them.
+fn mixed_word(words: &[u64], mask: &[u64], part: &[u64], k: usize) -> u64
+    ensures { result ≡ mix (get_or words.now k 0) (get_or mask.now k 0) (get_or part.now k 0) }
+{
+    let chosen = word(mask, k);
+    (word(words, k) & !chosen) | (word(part, k) & chosen)
+}
+
+/// Words with the bits of a mask as other words have them.
+pub(crate) fn mixed(
+    alloc: Global,
+    words: &[u64],
+    mask: &[u64],
+    part: &[u64],
+) -> Result<Words, AllocError>
+    requires words { AreSmall words.now }
+    requires mask { AreSmall mask.now }
+    requires part { AreSmall part.now }
+    ensures small { IfOk result (λ w. AreSmall w.items) }
+    ensures has { IfOk result (λ w. (x : ℕ)
+        → has w.items x ≡ cond (has mask.now x) (has part.now x) (has words.now x)) }
+{
+    let count = greater(words.len(), part.len());
+    let mut mixed = SmallVec::with_capacity(alloc, count)?;
+    for k in 0..count {
+        mixed.push(mixed_word(words, mask, part, k))?;
+    }
+    Ok(mixed)
+}
+
+/// Whether one of other words has all bits of the word at its place.
+fn is_word_in(words: &[u64], others: &[u64], k: usize) -> bool
+    ensures { IsTrue result → bit_and (get_or words.now k 0) (bit_not w64 (get_or others.now k 0)) ≡ 0 }
+{
+    word(words, k) & !word(others, k) == 0
+}
+
+/// Whether other words have all bits of these.
+pub(crate) fn are_bits_in(words: &[u64], others: &[u64]) -> bool
+    requires { AreSmall others.now }
+    ensures { IsTrue result → (x : ℕ) → has words.now x ≡ true → has others.now x ≡ true }
+{
+    for k in 0..words.len() {
+        if !is_word_in(words, others, k) {
+            return false;
+        }
+    }
+    true
 }
 
 /// Drops the words at the end that are 0.

@@ -1,0 +1,6 @@
+use Rattle.call_nodes.specs.Nodes.{AreNodes}
+use Rattle.call_finder.proofs.chart.Chart.wait.Given as goal
+
+-- the nodes stay those of the task
+abbrev pub invariant-loop-place : goal.invariant-loop-place
+invariant-loop-place l = AreNodes l.task l.nodes

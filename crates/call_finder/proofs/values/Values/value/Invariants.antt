@@ -1,0 +1,6 @@
+use Rattle.call_nodes.specs.Nodes.{AreNodes}
+use Rattle.call_finder.proofs.values.Values.value.Given as goal
+
+-- the nodes stay those of the task
+abbrev pub invariant-loop : goal.invariant-loop
+invariant-loop l = AreNodes l.task l.nodes
