@@ -5,7 +5,7 @@ use Rattle.std.specs.Prelude.{max, min}
 use Rattle.std.proofs.lemmas.Bool.{cases_lt, cases_eq, eq-eqb, ne_eqb, both_ways}
 use Rattle.std.proofs.lemmas.Nat.{and_le_l, div-add-mod', or_lt}
 use Rattle.std.proofs.lemmas.Nat.Bits.{bit_at-lt, bit_at_set_same, bit_at_set_other, bit_at_and, bit_at_clear_same, bit_at_clear_other, bit_at_not, bit_at_or, bit_at-zero, same_from_bits_below}
-use Rattle.std.proofs.lemmas.List.{get_or-append, get_or-append_seam, get_or_past, get_or_default, get_or-take, length-append, length-set, length-take, same_lists, drop_all, append-nil, take_all}
+use Rattle.std.proofs.lemmas.List.{get_or_append_left, get_or_push, get_or_past, get_or_default, get_or-take, length-append, length-set, length-take, same_lists, drop_all, append-nil, take_all}
 use Rattle.std.proofs.lemmas.List.Folds.{list_any_more}
 use Rattle.std.specs.List.{list_any, refill}
 use Rattle.state_table.specs.Bits.{is_set, has, mix, AreSmall, IsBits}
@@ -232,11 +232,10 @@ none_mixed vs ms ps j less = absurd (omega (arith, less))
 pub mixed_more : (ws vs ms ps : List ℕ) (k : ℕ) → k ≡ length ws → AreMixed ws vs ms ps
     → AreMixed (ws ++ mix (get_or vs k 0) (get_or ms k 0) (get_or ps k 0) ∷ []) vs ms ps
 mixed_more ws vs ms ps k long are j less = elim (cases_lt j (length ws)) [
-  | inl before ↦ get_or-append ws (mix (get_or vs k 0) (get_or ms k 0) (get_or ps k 0) ∷ []) 0 j before ∙ are j before
+  | inl before ↦ get_or_append_left ws (mix (get_or vs k 0) (get_or ms k 0) (get_or ps k 0) ∷ []) 0 j before ∙ are j before
   | inr after ↦
       (let last : j ≡ length ws = omega (arith, less, after, length-append ws (mix (get_or vs k 0) (get_or ms k 0) (get_or ps k 0) ∷ [])) in
-      ap (λ j. get_or (ws ++ mix (get_or vs k 0) (get_or ms k 0) (get_or ps k 0) ∷ []) j 0) last
-      ∙ get_or-append_seam ws (mix (get_or vs k 0) (get_or ms k 0) (get_or ps k 0)) [] 0
+      get_or_push ws (mix (get_or vs k 0) (get_or ms k 0) (get_or ps k 0)) 0 j (sym last)
       ∙ ap (λ k. mix (get_or vs k 0) (get_or ms k 0) (get_or ps k 0)) (long ∙ sym last))
 ]
 

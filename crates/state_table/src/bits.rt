@@ -64,12 +64,16 @@ pub(crate) fn take_out(words: &mut Words, number: u32)
     }
 }
 
-/// The greater of two numbers.
-fn greater(one: usize, other: usize) -> usize
-    ensures one { one ≤ result }
-    ensures other { other ≤ result }
+/// How many words the longer of two lists has.
+fn most(one: &[u64], other: &[u64]) -> usize
+    ensures one { length one.now ≤ result }
+    ensures other { length other.now ≤ result }
 {
-    if one < other { other } else { one }
+    if one.len() < other.len() {
+        other.len()
+    } else {
+        one.len()
+    }
 }
 
 /// A word with the bits of a mask as another word has them.
@@ -94,7 +98,7 @@ pub(crate) fn mixed(
     ensures has { IfOk result (λ w. (x : ℕ)
         → has w.items x ≡ cond (has mask.now x) (has part.now x) (has words.now x)) }
 {
-    let count = greater(words.len(), part.len());
+    let count = most(words, part);
     let mut mixed = SmallVec::with_capacity(alloc, count)?;
     for k in 0..count {
         mixed.push(mixed_word(words, mask, part, k))?;

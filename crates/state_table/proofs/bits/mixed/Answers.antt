@@ -1,4 +1,4 @@
-use Rattle.std.proofs.Common.{◌≡◌, ◌+◌, ◌++◌, ◌∷◌, [], List, ℕ, ap, length, subst, sym, arith}
+use Rattle.std.proofs.Common.{◌++◌, ◌∷◌, [], List, ℕ, ap, length, subst, sym, arith}
 use Rattle.std.proofs.lemmas.List.{length-append}
 use Rattle.state_table.proofs.Words.{AreMixed, mixed_has, mixed_more, mixed_small, none_mixed}
 use Rattle.state_table.proofs.bits.mixed.Goals as goal
@@ -33,9 +33,7 @@ pub returns-clause-has : goal.returns-clause-has
 returns-clause-has c =
     let same = c.loop-k.invariant.0 in
     let past = c.loop-k-test.false in
-    let one = c.greater.ensures.one in
-    let other = c.greater.ensures.other in
-    let words = c.len.ensures.value in
-    let part = c.len-2.ensures.value in
-    mixed_has c.loop-k.mixed.items c.args.words.now c.args.mask.now c.args.part.now (omega (arith, same, past, one, words))
-    (omega (arith, same, past, other, part)) c.requires.mask c.loop-k.invariant.1
+    let one = c.most-count.ensures.one in
+    let other = c.most-count.ensures.other in
+    mixed_has c.loop-k.mixed.items c.args.words.now c.args.mask.now c.args.part.now (omega (arith, same, past, one))
+    (omega (arith, same, past, other)) c.requires.mask c.loop-k.invariant.1

@@ -1,4 +1,4 @@
-use Rattle.std.proofs.Common.{rules, ◌≡◌, ◌<◌, ◌^◌, ◌∙◌, ◌⊎◌, inl, inr, ℕ, List, length, slice_get, Some, subst, sym, ap}
+use Rattle.std.proofs.Common.{rules, ◌<◌, ◌^◌, ◌∙◌, inl, inr, ℕ, List, length, slice_get, subst, sym, ap}
 use Rattle.state_table.specs.Bits.{words_eq, words_eq-decides}
 use Rattle.state_table.specs.Numberings.{IsNumbering}
 use Rattle.state_table.proofs.Keys.{numbering_inserted, others_inserted}
