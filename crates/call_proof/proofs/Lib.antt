@@ -2,8 +2,8 @@ pub mod Numbers
 pub mod Ruled
 pub mod Ways
 pub mod Words
-pub mod Masks
+pub mod Masking
 pub mod Sets
-pub mod Parts
+pub mod Lifting
 pub mod Closing
 pub mod NodeFrames

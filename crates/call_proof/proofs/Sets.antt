@@ -1,15 +1,15 @@
 -- Sets whose numbers are those of others, within masks.
-use Rattle.std.proofs.Common.{◌≡◌, ℕ, ◌<◌, Bool, true, false, cond, ◌||◌, ◌&&◌, List, [], length, refl, sym, ap, ◌∙◌, arith}
+use Rattle.std.proofs.Common.{◌≡◌, ℕ, ◌<◌, ◌%◌, Bool, true, false, cond, eqb, ◌||◌, ◌&&◌, List, [], length, refl, sym, ap, ◌∙◌}
+use Rattle.std.proofs.lemmas.Nat.Bits.{bit_at-zero}
 use Rattle.std.proofs.lemmas.Bool.{and_parts}
 use Rattle.state_table.specs.Bits.{has, IsBits}
 use Rattle.state_table.specs.Table.{Table, IsSetOf}
-use Rattle.state_table.proofs.Words.{past_has}
 
 -- what a mask has of a set, and nothing else
 pub within_has : (set mask none words : List ℕ) → none ≡ []
     → ((x : ℕ) → has words x ≡ cond (has mask x) (has set x) (has none x)) → (x : ℕ) → has words x ≡ (has set x && has mask x)
 within_has set mask none words empty made x =
-    made x ∙ ap (cond (has mask x) (has set x)) (ap (λ (l : List ℕ). has l x) empty ∙ past_has [] x (omega arith))
+    made x ∙ ap (cond (has mask x) (has set x)) (ap (λ (l : List ℕ). has l x) empty ∙ ap (λ b. eqb b 1) (bit_at-zero (x % 64)))
     ∙ by (has mask x) (has set x)
   where
     by : (m h : Bool) → cond m h false ≡ (h && m)

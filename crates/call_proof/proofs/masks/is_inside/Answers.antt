@@ -1,4 +1,4 @@
-use Rattle.call_proof.proofs.Masks.{masks_inside}
+use Rattle.call_proof.proofs.Masking.{masks_inside}
 use Rattle.call_proof.proofs.masks.is_inside.Goals as goal
 
 pub returns-clause-numbers : goal.returns-clause-numbers

@@ -1,4 +1,4 @@
-use Rattle.call_proof.proofs.Masks.{masked_lift}
+use Rattle.call_proof.proofs.Masking.{masked_lift}
 use Rattle.call_proof.proofs.Sets.{lifted_set}
 use Rattle.call_proof.proofs.masks.lifted.Goals as goal
 

@@ -1,4 +1,4 @@
-use Rattle.call_proof.proofs.Masks.{masks_united}
+use Rattle.call_proof.proofs.Masking.{masks_united}
 use Rattle.call_proof.proofs.Sets.{united_has}
 use Rattle.call_proof.proofs.masks.united.Goals as goal
 

@@ -1,4 +1,4 @@
-use Rattle.call_proof.proofs.Masks.{masked}
+use Rattle.call_proof.proofs.Masking.{masked}
 use Rattle.call_proof.proofs.Sets.{within_has, within_set}
 use Rattle.call_proof.proofs.masks.within.Goals as goal
 

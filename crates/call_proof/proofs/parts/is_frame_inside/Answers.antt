@@ -1,5 +1,5 @@
 use Rattle.call_proof.specs.Parts.{masks_of}
-use Rattle.call_proof.proofs.Parts.{inside_at}
+use Rattle.call_proof.proofs.Lifting.{inside_at}
 use Rattle.call_proof.proofs.parts.is_frame_inside.Goals as goal
 
 pub returns : goal.returns

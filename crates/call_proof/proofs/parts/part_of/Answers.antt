@@ -4,7 +4,7 @@ use Rattle.call_frames.specs.Framed.{IsPart}
 use Rattle.call_nodes.specs.Nodes.{state_at}
 use Rattle.call_nodes.proofs.Leading.{some_so}
 use Rattle.call_proof.specs.Parts.{frame_at, masks_of}
-use Rattle.call_proof.proofs.Parts.{part_is}
+use Rattle.call_proof.proofs.Lifting.{part_is}
 use Rattle.call_proof.proofs.parts.part_of.Goals as goal
 
 pub returns : goal.returns

@@ -1,5 +1,5 @@
 use Rattle.std.proofs.Common.{◌∙◌, sym}
-use Rattle.call_proof.proofs.Masks.{framed_at}
+use Rattle.call_proof.proofs.Masking.{framed_at}
 use Rattle.call_proof.proofs.NodeFrames.{none_in}
 use Rattle.call_proof.proofs.reads.is_atom_in.Goals as goal
 

@@ -3,7 +3,7 @@ use Rattle.call_table.specs.declared.call.Call.{Call}
 use Rattle.call_table.specs.declared.site.Site.{Site}
 use Rattle.call_table.proofs.Followed.{all_taken, entry_more}
 use Rattle.call_proof.specs.Parts.{IsWholeCall, masks_of}
-use Rattle.call_proof.proofs.Parts.{all_whole}
+use Rattle.call_proof.proofs.Lifting.{all_whole}
 use Rattle.call_proof.proofs.whole.are_lifted.Goals as goal
 
 pub loop-k-preserved : goal.loop-k-preserved

@@ -1,6 +1,6 @@
 use Rattle.std.proofs.Common.{◌≡◌, get_or}
 use Rattle.call_table.specs.declared.call.Exit.{Exit}
-use Rattle.call_proof.proofs.Parts.{same_all, same_more}
+use Rattle.call_proof.proofs.Lifting.{same_all, same_more}
 use Rattle.call_proof.proofs.whole.are_same_exits.Goals as goal
 
 pub loop-k-preserved : goal.loop-k-preserved

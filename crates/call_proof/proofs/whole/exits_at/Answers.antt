@@ -3,7 +3,7 @@ use Rattle.state_table.specs.Table.{IsTable}
 use Rattle.call_table.specs.declared.call.Exit.{Exit}
 use Rattle.call_nodes.proofs.Leading.{some_so}
 use Rattle.call_proof.specs.Parts.{exit_at, exit_in, masks_of}
-use Rattle.call_proof.proofs.Parts.{exits_are}
+use Rattle.call_proof.proofs.Lifting.{exits_are}
 use Rattle.call_proof.proofs.whole.exits_at.Goals as goal
 
 pub returns : goal.returns

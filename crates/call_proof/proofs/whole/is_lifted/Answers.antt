@@ -2,7 +2,7 @@ use Rattle.std.proofs.Common.{Option, IfSome, subst}
 use Rattle.state_table.specs.Table.{IsTable}
 use Rattle.call_table.specs.declared.call.Call.{Call}
 use Rattle.call_proof.specs.Parts.{IsWholeCall, masks_of}
-use Rattle.call_proof.proofs.Parts.{whole_same}
+use Rattle.call_proof.proofs.Lifting.{whole_same}
 use Rattle.call_proof.proofs.whole.is_lifted.Goals as goal
 
 pub returns : goal.returns

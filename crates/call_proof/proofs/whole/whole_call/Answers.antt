@@ -4,7 +4,7 @@ use Rattle.call_frames.specs.Framed.{IsPart}
 use Rattle.call_table.specs.declared.call.Exit.{Exit}
 use Rattle.call_nodes.specs.Nodes.{state_at}
 use Rattle.call_proof.specs.Parts.{exit_at, exit_in, frame_at, masks_of}
-use Rattle.call_proof.proofs.Parts.{whole_is}
+use Rattle.call_proof.proofs.Lifting.{whole_is}
 use Rattle.call_proof.proofs.whole.whole_call.Goals as goal
 
 pub returns : goal.returns

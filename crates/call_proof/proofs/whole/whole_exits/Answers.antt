@@ -5,7 +5,7 @@ use Rattle.call_proof.specs.Masks.{frame_of}
 use Rattle.call_table.specs.declared.call.Exit.{Exit}
 use Rattle.call_nodes.specs.Nodes.{state_at}
 use Rattle.call_proof.specs.Parts.{exit_at, exit_in}
-use Rattle.call_proof.proofs.Parts.{all_mapped, exit_is, one_more_mapped}
+use Rattle.call_proof.proofs.Lifting.{all_mapped, exit_is, one_more_mapped}
 use Rattle.call_proof.proofs.whole.whole_exits.Goals as goal
 
 pub loop-exit-preserved : goal.loop-exit-preserved

@@ -2,7 +2,7 @@ use Rattle.std.proofs.Common.{◌≡◌, ◌∙◌, ℕ, List, Some, slice_get, 
 use Rattle.std.proofs.lemmas.Option.{slice_get-get_or}
 use Rattle.call_nodes.proofs.Leading.{lent}
 use Rattle.call_proof.specs.Parts.{masks_of}
-use Rattle.call_proof.proofs.Parts.{mask_at}
+use Rattle.call_proof.proofs.Lifting.{mask_at}
 use Rattle.call_proof.proofs.frames.Frames.mask.Goals as goal
 
 pub returns : goal.returns
