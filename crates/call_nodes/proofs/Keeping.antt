@@ -1,5 +1,5 @@
 -- The nodes of a task stay so with one more, with more lists or states, and where the instances of one are listed.
-use Rattle.std.proofs.Common.{◌≡◌, ◌∙◌, ◌⊎◌, ◌||◌, inl, inr, ℕ, Bool, if◌then◌else◌, List, [], ◌∷◌, ◌++◌, Some, Option, None, length, map, option_map, set, slice_get, refl, ap, sym, subst, append-nil}
+use Rattle.std.proofs.Common.{◌≡◌, ◌∙◌, ◌⊎◌, ◌||◌, inl, inr, ℕ, Bool, if◌then◌else◌, List, [], ◌∷◌, ◌++◌, Some, length, map, set, slice_get, refl, ap, sym, subst, append-nil}
 use Rattle.std.specs.List.{AllZip, list_any}
 use Rattle.std.specs.Ordering.{on}
 use Rattle.std.proofs.lemmas.List.{length-map, map-append}
@@ -12,12 +12,12 @@ use Rattle.htn_model.specs.Task.{Task}
 use Rattle.htn_ground.specs.Views.{child_view, children_of}
 use Rattle.htn_ground.specs.declared.child.Child.{Child as Node}
 use Rattle.state_table.specs.Numberings.{IsExtension}
-use Rattle.state_table.specs.Table.{IsLater, IsSetOf, state_of}
+use Rattle.state_table.specs.Table.{IsLater, IsSetOf}
 use Rattle.state_table.proofs.Keys.{at_end, not_any}
 use Rattle.state_table.proofs.States.{later_itself}
 use Rattle.tree_sizes.specs.Sizes.{size_of}
 use Rattle.call_table.specs.Lists.{Lists}
-use Rattle.call_nodes.specs.Nodes.{AreMore, AreNodes, IsOperator, children, state_at}
+use Rattle.call_nodes.specs.Nodes.{AreMore, AreNodes, IsOperator, children}
 use Rattle.call_nodes.specs.declared.call_nodes.CallNodes.{CallNodes}
 use Rattle.call_nodes.specs.declared.operator.Operator.{Operator}
 use Rattle.call_nodes.proofs.Numbering.{same_lists, stays_in_use}

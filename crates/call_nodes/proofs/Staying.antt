@@ -3,7 +3,6 @@ use Rattle.std.proofs.Common.{◌≡◌, ◌∙◌, ◌<◌, ℕ, zero, suc, ◌
 use Rattle.std.specs.List.{AllZip}
 use Rattle.std.proofs.lemmas.List.{get_or_append_left}
 use Rattle.std.proofs.lemmas.Option.{none-some, same_Some, slice_get-get_or}
-use Rattle.htn_model.specs.Grounding.{problem_of}
 use Rattle.htn_model.specs.Instance.{Instance}
 use Rattle.htn_model.specs.Literal.{Literal, Action}
 use Rattle.htn_model.specs.PlanFile.{IsIn, IsWithoutRepeats}

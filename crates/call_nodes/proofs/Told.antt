@@ -1,5 +1,5 @@
 -- States and nodes are told apart by their numbers, and each state is as at first in what no effect names.
-use Rattle.std.proofs.Common.{◌≡◌, ◌∙◌, ◌<◌, ℕ, [], ◌&&◌, not, Bool, true, false, Some, length, get_or, slice_get, refl, ap, sym, subst}
+use Rattle.std.proofs.Common.{◌≡◌, ◌∙◌, ◌<◌, ℕ, [], true, false, Some, length, get_or, slice_get, ap, sym}
 use Rattle.std.proofs.lemmas.Option.{slice_get-get_or}
 use Rattle.htn_model.specs.Atom.{Atom}
 use Rattle.htn_model.specs.Grounding.{problem_of}

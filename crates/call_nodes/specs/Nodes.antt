@@ -5,7 +5,6 @@ use Rattle.htn_model.specs.Atom.{Atom}
 use Rattle.htn_model.specs.Grounding as ground
 use Rattle.htn_model.specs.Grounding.{problem_of}
 use Rattle.htn_model.specs.Instance.{Instance}
-use Rattle.htn_model.specs.Instances.{initials}
 use Rattle.htn_model.specs.Literal.{Literal, Action as ModelAction}
 use Rattle.htn_model.specs.PlanFile.{IsWithoutRepeats}
 use Rattle.htn_model.specs.Problem.{Child, GroundTask, Network, precondition, action, perform, task}

@@ -1,4 +1,4 @@
-use Rattle.std.proofs.Common.{◌≡◌, ◌∙◌, ◌++◌, ◌∷◌, [], ap, arith, refl, ℕ, List}
+use Rattle.std.proofs.Common.{◌≡◌, ◌∙◌, ◌++◌, ◌∷◌, [], ap, arith, refl, ℕ}
 use Rattle.std.specs.Ordering.{on}
 use Rattle.indexmap.specs.IndexSet.{insert_key}
 use Rattle.htn_ground.specs.Views.{child_view}

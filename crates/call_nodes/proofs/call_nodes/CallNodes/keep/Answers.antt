@@ -1,4 +1,4 @@
-use Rattle.std.proofs.Common.{◌≡◌, ◌∙◌, None, Some, ap, position, slice_get, sym}
+use Rattle.std.proofs.Common.{◌∙◌, ap, slice_get, sym}
 use Rattle.htn_ground.specs.Views.{child_view}
 use Rattle.htn_model.specs.Equality.{child_eq-decides}
 use Rattle.htn_model.specs.Problem.{child_eq}

@@ -1,4 +1,4 @@
-use Rattle.std.proofs.Common.{◌≡◌, ◌∙◌, ◌∷◌, List, ap, sym, ℕ}
+use Rattle.std.proofs.Common.{◌∙◌, ◌∷◌, List, ap, sym, ℕ}
 use Rattle.call_table.specs.Lists.{Lists, list_at}
 use Rattle.call_nodes.proofs.list_table.ListTable.number_before.Goals as goal
 
