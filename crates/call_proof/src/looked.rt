@@ -7,13 +7,22 @@ use indexmap::IndexMap;
 use std::alloc::{AllocError, Global};
 
 /// A call's node, and its places and exits as they are looked up.
-#[derive(Drop)]
 pub(crate) struct Looked {
     pub(crate) node: u32,
     /// The distance of each place, by its state and its list.
     pub(crate) places: IndexMap<Site, u32>,
     /// The cost of each exit, by its state.
     pub(crate) exits: IndexMap<u32, u32>,
+}
+
+impl Drop for Looked {
+    fn drop(self) {
+        let Looked {
+            node: _,
+            places: _,
+            exits: _,
+        } = self;
+    }
 }
 
 /// What is looked up of a call of a node.
