@@ -10,6 +10,7 @@
 #![tactic(auto)]
 
 mod chart;
+mod components;
 mod find;
 mod found;
 mod masks;

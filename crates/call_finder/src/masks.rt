@@ -2,6 +2,7 @@
 ghost use Rattle.std.specs.Prelude.{OnOk};
 ghost use Rattle.call_nodes.specs.Nodes.{AreNodes};
 
+use crate::components::{Components, components_of};
 use crate::reads::own_mask;
 use call_nodes::{CallNodes, Operator};
 use call_proof::{Frames, is_inside, united};
@@ -45,104 +46,111 @@ fn list_all(
     Ok(false)
 }
 
-/// Notes a compound task above each node of one of its lists.
-fn note_above(
-    nodes: &CallNodes,
-    above: &mut [Vec<u32>],
-    task: u32,
-    list: u32,
-) -> Result<(), AllocError> {
+/// Adds the nodes of a list.
+fn add_nodes(nodes: &CallNodes, found: &mut Vec<u32>, list: u32) -> Result<(), AllocError> {
     let mut at = list;
     for _ in 0..u64::MAX {
         let Some(link) = nodes.lists().link(at) else {
             break;
         };
-        if let Some(tasks) = above.get_mut(link.first as usize) {
-            tasks.push(task)?;
-        }
+        found.push(link.first)?;
         at = link.rest;
     }
     Ok(())
 }
 
-/// By node, the compound tasks of whose instances it is one.
-fn tasks_above(alloc: Global, nodes: &CallNodes) -> Result<Vec<Vec<u32>>, AllocError> {
-    let count = nodes.nodes().len();
-    let mut above = Vec::with_capacity(alloc, count)?;
-    for _ in 0..count {
-        above.push(Vec::new(alloc))?;
+/// The nodes of all instances of a compound task; none for a step or an action.
+fn nodes_below(alloc: Global, nodes: &CallNodes, node: u32) -> Result<Vec<u32>, AllocError> {
+    let mut found = Vec::new(alloc);
+    if let Some(Operator::Task(lists)) = nodes.operator(node) {
+        for list in lists {
+            add_nodes(nodes, &mut found, *list)?;
+        }
     }
+    Ok(found)
+}
+
+/// By node, the nodes of its instances.
+fn all_below(alloc: Global, nodes: &CallNodes) -> Result<Vec<Vec<u32>>, AllocError> {
+    let count = nodes.nodes().len();
+    let mut below = Vec::with_capacity(alloc, count)?;
     for place in 0..count {
-        let Ok(task) = u32::try_from(place) else {
+        let Ok(node) = u32::try_from(place) else {
             return Err(AllocError);
         };
-        let Some(Operator::Task(lists)) = nodes.operator(task) else {
-            continue;
-        };
-        for list in lists {
-            note_above(nodes, &mut above, task, *list)?;
-        }
+        below.push(nodes_below(alloc, nodes, node)?)?;
     }
-    Ok(above)
+    Ok(below)
 }
 
-/// Puts what is in the mask of a node into that of a task above it. Whether that changed.
-fn spread(masks: &mut [BitState], node: usize, task: usize) -> Result<bool, AllocError> {
-    let Some(inner) = masks.get(node) else {
-        return Ok(false);
+/// Puts more into the mask at a place.
+fn add_mask(masks: &mut [BitState], place: usize, more: &BitState) -> Result<(), AllocError> {
+    let Some(mask) = masks.get_mut(place) else {
+        return Ok(());
     };
-    let Some(outer) = masks.get(task) else {
-        return Ok(false);
-    };
-    if is_inside(inner, outer) {
-        return Ok(false);
-    }
-    let both = united(outer, inner)?;
-    if let Some(mask) = masks.get_mut(task) {
-        *mask = both;
-    }
-    Ok(true)
-}
-
-/// Puts what is in the masks of nodes into those of the tasks above them, from these nodes on.
-fn spread_all(
-    masks: &mut [BitState],
-    above: &[Vec<u32>],
-    nodes: Vec<usize>,
-) -> Result<(), AllocError> {
-    let mut changed = nodes;
-    for _ in 0..u64::MAX {
-        let Some(node) = changed.pop() else {
-            break;
-        };
-        let Some(tasks) = above.get(node) else {
-            break;
-        };
-        for outer in tasks {
-            let place = *outer as usize;
-            if spread(masks, node, place)? {
-                changed.push(place)?;
-            }
-        }
+    if !is_inside(more, mask) {
+        *mask = united(mask, more)?;
     }
     Ok(())
 }
 
-/// The masks of nodes by number: the least with what each reads or writes, and with those of the nodes of the instances
-/// of compound tasks.
-fn masks_by_node(
+/// Puts what is in the mask at one place into that at another.
+fn spread(masks: &mut [BitState], inner: usize, outer: usize) -> Result<(), AllocError> {
+    let Some(more) = masks.get(inner) else {
+        return Ok(());
+    };
+    let Some(mask) = masks.get(outer) else {
+        return Ok(());
+    };
+    if is_inside(more, mask) {
+        return Ok(());
+    }
+    let both = united(mask, more)?;
+    if let Some(mask) = masks.get_mut(outer) {
+        *mask = both;
+    }
+    Ok(())
+}
+
+/// Puts what a node itself reads or writes, and the masks of the components below it, into the mask of its component.
+fn fill(
     alloc: Global,
     task: &Task,
     nodes: &CallNodes,
-) -> Result<Vec<BitState>, AllocError> {
-    let above = tasks_above(alloc, nodes)?;
-    let mut masks = Vec::with_capacity(alloc, above.len())?;
-    let mut all = Vec::with_capacity(alloc, above.len())?;
-    for node in nodes.nodes() {
-        all.push(masks.len())?;
-        masks.push(own_mask(alloc, task, nodes.atoms(), node)?)?;
+    masks: &mut [BitState],
+    below: &[u32],
+    components: &Components,
+    node: u32,
+) -> Result<(), AllocError> {
+    let place = components.number(node);
+    if let Some(child) = nodes.nodes().get(node as usize) {
+        let own = own_mask(alloc, task, nodes.atoms(), child)?;
+        add_mask(masks, place, &own)?;
     }
-    spread_all(&mut masks, &above, all)?;
+    for inner in below {
+        spread(masks, components.number(*inner), place)?;
+    }
+    Ok(())
+}
+
+/// The masks of components: the least with what each node of theirs reads or writes, and with those of the nodes of its
+/// instances.
+fn masks_by_component(
+    alloc: Global,
+    task: &Task,
+    nodes: &CallNodes,
+    below: &[Vec<u32>],
+    components: &Components,
+) -> Result<Vec<BitState>, AllocError> {
+    let mut masks = Vec::with_capacity(alloc, components.count as usize)?;
+    for _ in 0..components.count {
+        masks.push(BitState::new(alloc))?;
+    }
+    for node in &components.order {
+        if let Some(inner) = below.get(*node as usize) {
+            fill(alloc, task, nodes, &mut masks, inner, components, *node)?;
+        }
+    }
     Ok(masks)
 }
 
@@ -176,10 +184,21 @@ impl Masks {
         }
     }
 
-    /// Gives the next node this mask.
-    fn add(&mut self, mask: BitState) -> Result<(), AllocError> {
-        let number = number_of(&mut self.masks, mask)?;
-        self.of.push(number)?;
+    /// Gives each node the mask of its component.
+    fn add_all(
+        &mut self,
+        alloc: Global,
+        masks: &[BitState],
+        components: &[u32],
+    ) -> Result<(), AllocError> {
+        let mut numbers = Vec::with_capacity(alloc, masks.len())?;
+        for mask in masks {
+            numbers.push(number_of(&mut self.masks, mask.clone()?)?)?;
+        }
+        for component in components {
+            let number = numbers.get(*component as usize).copied();
+            self.of.push(number.unwrap_or(0))?;
+        }
         Ok(())
     }
 
@@ -198,10 +217,10 @@ impl Masks {
         if !list_all(alloc, task, nodes, most)? {
             return Ok(found);
         }
-        let masks = masks_by_node(alloc, task, nodes)?;
-        for mask in &masks {
-            found.add(mask.clone()?)?;
-        }
+        let below = all_below(alloc, nodes)?;
+        let components = components_of(alloc, &below)?;
+        let masks = masks_by_component(alloc, task, nodes, &below, &components)?;
+        found.add_all(alloc, &masks, &components.numbers)?;
         Ok(found)
     }
 
