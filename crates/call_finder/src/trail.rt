@@ -148,7 +148,7 @@ impl Trail {
         let Some(link) = nodes.lists().link(self.at.number) else {
             return Ok(false);
         };
-        lift_first(task, whole, nodes, self.at)?;
+        let _lifted = lift_first(task, whole, nodes, self.at)?;
         if let Some(Operator::Task(_)) = nodes.operator(link.first) {
             return self.decompose(task, whole, nodes, link.first, link.rest);
         }

@@ -20,7 +20,8 @@ pub(crate) struct Values {
     pub(crate) known: IndexMap<Site, u32>,
     /// Sites that were asked for, each before those that it rests on.
     pub(crate) pending: Vec<Site>,
-    /// How many times sites may still be settled or asked for. Then what is not known is taken for 0.
+    /// How many times sites may still be settled or asked for, and rules and exits lifted. Then what is not known is
+    /// taken for 0.
     pub(crate) left: u64,
 }
 
@@ -115,7 +116,8 @@ impl Values {
             let _ = self.pending.pop();
             return Ok(());
         }
-        lift_first(task, whole, nodes, site)?;
+        let lifted = lift_first(task, whole, nodes, site)?;
+        self.left = self.left.saturating_sub(lifted as u64);
         if let Some(value) = self.settled(whole, nodes, site)? {
             self.known.insert(site, value)?;
             let _ = self.pending.pop();
@@ -137,28 +139,31 @@ impl Values {
         self.pending.clear();
         self.pending.push(site)?;
         for _ in 0..self.left {
-            self.left = self.left.saturating_sub(1);
             let Some(last) = self.pending.last().copied() else {
                 break;
             };
+            if self.left == 0 {
+                break;
+            }
+            self.left = self.left.saturating_sub(1);
             self.settle(task, whole, nodes, last)?;
         }
         Ok(self.known.get(&site).copied().unwrap_or(0))
     }
 }
 
-/// Sees that the call of the first node of a list in a state is lifted.
+/// Sees that the call of the first node of a list in a state is lifted. Returns how many rules and exits that took.
 pub(crate) fn lift_first(
     task: &Task,
     whole: &mut WholeCalls,
     nodes: &mut CallNodes,
     site: Site,
-) -> Result<(), AllocError>
+) -> Result<usize, AllocError>
     requires { AreNodes task.now nodes.old }
     ensures { OnOk result (AreNodes task.now nodes.new) }
 {
     let Some(link) = nodes.lists().link(site.number) else {
-        return Ok(());
+        return Ok(0);
     };
     let inner = Site {
         state: site.state,

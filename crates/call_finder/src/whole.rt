@@ -52,22 +52,28 @@ impl WholeCalls {
         (masks, framed, lifted)
     }
 
-    /// The call in the part of a state.
-    fn framed_call(
+    /// The call of a node in a part of a state.
+    fn framed_call(&self, part: u32, number: u32) -> Option<&Call> {
+        let state = part;
+        self.framed.calls.get(&Site { state, number })
+    }
+
+    /// The whole state of which the part in a node's frame is now another one. What was its part leads to itself.
+    fn state_in(
         &self,
         task: &Task,
         nodes: &mut CallNodes,
         site: Site,
-    ) -> Result<Option<&Call>, AllocError>
+        part: u32,
+        other: u32,
+    ) -> Result<u32, AllocError>
         requires { AreNodes task.now nodes.old }
         ensures { OnOk result (AreNodes task.now nodes.new) }
     {
-        let part = part_of(self.alloc, task, nodes, &self.masks, site)?;
-        let inner = Site {
-            state: part,
-            number: site.number,
-        };
-        Ok(self.framed.calls.get(&inner))
+        if other == part {
+            return Ok(site.state);
+        }
+        lifted_of(task, nodes, &self.masks, site, other)
     }
 
     /// The exits of a call in a whole state.
@@ -76,6 +82,7 @@ impl WholeCalls {
         task: &Task,
         nodes: &mut CallNodes,
         site: Site,
+        part: u32,
         call: &Call,
     ) -> Result<Vec<Exit>, AllocError>
         requires { AreNodes task.now nodes.old }
@@ -84,7 +91,7 @@ impl WholeCalls {
         let mut exits = Vec::with_capacity(self.alloc, call.exits.len())?;
         for exit in &call.exits {
             let cost = exit.cost;
-            let state = lifted_of(task, nodes, &self.masks, site, exit.state)?;
+            let state = self.state_in(task, nodes, site, part, exit.state)?;
             exits.push(Exit { state, cost })?;
         }
         Ok(exits)
@@ -96,6 +103,7 @@ impl WholeCalls {
         task: &Task,
         nodes: &mut CallNodes,
         site: Site,
+        part: u32,
         call: &Call,
     ) -> Result<Vec<Rule>, AllocError>
         requires { AreNodes task.now nodes.old }
@@ -104,7 +112,7 @@ impl WholeCalls {
         let mut rules = Vec::with_capacity(self.alloc, call.rules.len())?;
         for rule in &call.rules {
             let blocks = rule.blocks;
-            let state = lifted_of(task, nodes, &self.masks, site, rule.state)?;
+            let state = self.state_in(task, nodes, site, part, rule.state)?;
             rules.push(Rule { state, blocks })?;
         }
         Ok(rules)
@@ -120,11 +128,12 @@ impl WholeCalls {
         requires { AreNodes task.now nodes.old }
         ensures { OnOk result (AreNodes task.now nodes.new) }
     {
-        let Some(call) = self.framed_call(task, nodes, site)? else {
+        let part = part_of(self.alloc, task, nodes, &self.masks, site)?;
+        let Some(call) = self.framed_call(part, site.number) else {
             return Ok(None);
         };
-        let rules = self.rules_in(task, nodes, site, call)?;
-        let exits = self.exits_in(task, nodes, site, call)?;
+        let rules = self.rules_in(task, nodes, site, part, call)?;
+        let exits = self.exits_in(task, nodes, site, part, call)?;
         Ok(Some(Call {
             rules,
             exits,
@@ -133,22 +142,25 @@ impl WholeCalls {
         }))
     }
 
-    /// Sees that the call of a node in a whole state is lifted, if there is one in the part.
+    /// Sees that the call of a node in a whole state is lifted, if there is one in the part. Returns how many rules and
+    /// exits that took.
     pub(crate) fn lift(
         &mut self,
         task: &Task,
         nodes: &mut CallNodes,
         site: Site,
-    ) -> Result<(), AllocError>
+    ) -> Result<usize, AllocError>
         requires { AreNodes task.now nodes.old }
         ensures { OnOk result (AreNodes task.now nodes.new) }
     {
         if self.lifted.calls.contains_key(&site) {
-            return Ok(());
+            return Ok(0);
         }
-        if let Some(call) = self.made(task, nodes, site)? {
-            self.lifted.calls.insert(site, call)?;
-        }
-        Ok(())
+        let Some(call) = self.made(task, nodes, site)? else {
+            return Ok(0);
+        };
+        let count = call.rules.len().saturating_add(call.exits.len());
+        self.lifted.calls.insert(site, call)?;
+        Ok(count)
     }
 }
