@@ -74,7 +74,7 @@ impl Finder {
         let Some(starts) = nodes.starts(alloc, task)? else {
             return Ok(None);
         };
-        let masks = Masks::of(alloc, task, nodes, most_nodes)?;
+        let masks = Masks::of(alloc, task, nodes, &starts, most_nodes)?;
         let mut chart = Chart::new(alloc, steps, masks);
         chart.start(nodes.lists(), &starts)?;
         Ok(Some(Finder {

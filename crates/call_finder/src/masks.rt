@@ -3,6 +3,7 @@ ghost use Rattle.std.specs.Prelude.{OnOk};
 ghost use Rattle.call_nodes.specs.Nodes.{AreNodes};
 
 use crate::components::{Components, components_of};
+use crate::found::OUT_OF_REACH;
 use crate::reads::own_mask;
 use call_nodes::{CallNodes, Operator};
 use call_proof::{Frames, is_inside, united};
@@ -23,34 +24,15 @@ impl Drop for Masks {
     }
 }
 
-/// Lists all compound tasks below those that have numbers. Whether the nodes are no more than a number.
-fn list_all(
-    alloc: Global,
-    task: &Task,
-    nodes: &mut CallNodes,
-    most: usize,
-) -> Result<bool, AllocError>
-    requires { AreNodes task.now nodes.old }
-    ensures { OnOk result (AreNodes task.now nodes.new) }
-{
-    for node in 0..u32::MAX {
-        let count = nodes.nodes().len();
-        if node as usize >= count {
-            return Ok(true);
-        }
-        if count > most {
-            return Ok(false);
-        }
-        nodes.list_task(alloc, task, node)?;
-    }
-    Ok(false)
-}
-
-/// Adds the nodes of a list.
+/// Adds the nodes of a list, unless no word is so long.
 fn add_nodes(nodes: &CallNodes, found: &mut Vec<u32>, list: u32) -> Result<(), AllocError> {
+    let lists = nodes.lists();
+    if lists.nodes(list) >= u64::from(OUT_OF_REACH) {
+        return Ok(());
+    }
     let mut at = list;
     for _ in 0..u64::MAX {
-        let Some(link) = nodes.lists().link(at) else {
+        let Some(link) = lists.link(at) else {
             break;
         };
         found.push(link.first)?;
@@ -59,18 +41,83 @@ fn add_nodes(nodes: &CallNodes, found: &mut Vec<u32>, list: u32) -> Result<(), A
     Ok(())
 }
 
-/// The nodes of all instances of a compound task; none for a step or an action.
-fn nodes_below(alloc: Global, nodes: &CallNodes, node: u32) -> Result<Vec<u32>, AllocError> {
+/// The nodes of lists that a word may have.
+fn nodes_of(alloc: Global, nodes: &CallNodes, lists: &[u32]) -> Result<Vec<u32>, AllocError> {
     let mut found = Vec::new(alloc);
-    if let Some(Operator::Task(lists)) = nodes.operator(node) {
-        for list in lists {
-            add_nodes(nodes, &mut found, *list)?;
-        }
+    for list in lists {
+        add_nodes(nodes, &mut found, *list)?;
     }
     Ok(found)
 }
 
-/// By node, the nodes of its instances.
+/// The nodes of all instances of a node that a word may have; none for a step or an action.
+fn nodes_below(alloc: Global, nodes: &CallNodes, node: u32) -> Result<Vec<u32>, AllocError> {
+    match nodes.operator(node) {
+        Some(Operator::Task(lists)) => nodes_of(alloc, nodes, lists),
+        _ => Ok(Vec::new(alloc)),
+    }
+}
+
+/// Meets the nodes of all instances of a node that a word may have.
+fn meet_below(
+    alloc: Global,
+    nodes: &CallNodes,
+    met: &mut IndexSet<u32>,
+    node: u32,
+) -> Result<(), AllocError> {
+    let below = nodes_below(alloc, nodes, node)?;
+    for inner in &below {
+        met.insert(*inner)?;
+    }
+    Ok(())
+}
+
+/// Lists all compound tasks that a word may have below some nodes. Whether the nodes there are no more than a number.
+fn list_all(
+    alloc: Global,
+    task: &Task,
+    nodes: &mut CallNodes,
+    first: &[u32],
+    most: usize,
+) -> Result<bool, AllocError>
+    requires { AreNodes task.now nodes.old }
+    ensures { OnOk result (AreNodes task.now nodes.new) }
+{
+    let mut met = IndexSet::new(alloc);
+    for node in first {
+        met.insert(*node)?;
+    }
+    for place in 0..most {
+        if met.len() > most {
+            return Ok(false);
+        }
+        let Some(node) = met.get_index(place).copied() else {
+            return Ok(true);
+        };
+        nodes.list_task(alloc, task, node)?;
+        meet_below(alloc, nodes, &mut met, node)?;
+    }
+    Ok(met.len() <= most)
+}
+
+/// Lists all compound tasks that a word may have below the nodes of some lists. Whether these nodes and those below are
+/// no more than a number.
+fn are_all_listed(
+    alloc: Global,
+    task: &Task,
+    nodes: &mut CallNodes,
+    starts: &[u32],
+    most: usize,
+) -> Result<bool, AllocError>
+    requires { AreNodes task.now nodes.old }
+    ensures { OnOk result (AreNodes task.now nodes.new) }
+{
+    let first = nodes_of(alloc, nodes, starts)?;
+    let are_listed = list_all(alloc, task, nodes, &first, most)?;
+    Ok(are_listed)
+}
+
+/// By node, the nodes of its instances that a word may have.
 fn all_below(alloc: Global, nodes: &CallNodes) -> Result<Vec<Vec<u32>>, AllocError> {
     let count = nodes.nodes().len();
     let mut below = Vec::with_capacity(alloc, count)?;
@@ -202,24 +249,25 @@ impl Masks {
         Ok(())
     }
 
-    /// The masks of all nodes that are known, if there are no more than a number below them: all compound tasks there
-    /// are listed. Else none has a mask.
+    /// The masks of all nodes that are known, if no more than a number are below some lists: all compound tasks there
+    /// are listed. Else none has a mask. What no word may have is left out.
     pub(crate) fn of(
         alloc: Global,
         task: &Task,
         nodes: &mut CallNodes,
+        starts: &[u32],
         most: usize,
     ) -> Result<Masks, AllocError>
         requires { AreNodes task.now nodes.old }
         ensures { OnOk result (AreNodes task.now nodes.new) }
     {
-        let mut found = Masks::none(alloc);
-        if !list_all(alloc, task, nodes, most)? {
-            return Ok(found);
+        if !are_all_listed(alloc, task, nodes, starts, most)? {
+            return Ok(Masks::none(alloc));
         }
         let below = all_below(alloc, nodes)?;
         let components = components_of(alloc, &below)?;
         let masks = masks_by_component(alloc, task, nodes, &below, &components)?;
+        let mut found = Masks::none(alloc);
         found.add_all(alloc, &masks, &components.numbers)?;
         Ok(found)
     }
