@@ -42,36 +42,37 @@ impl Values {
         }
     }
 
-    /// Asks for the values of a list at the exits of a call that are not known. Whether all are.
-    fn ask(&mut self, exits: &[Exit], list: u32) -> Result<bool, AllocError> {
-        let mut are_known = true;
+    /// The least cost of an exit with the value of a list there, where that is below a number of steps; else that
+    /// number. None where it is not known yet: then further values are asked for, at most one more than are known, so
+    /// that exits that cost much are not asked for in vain. The list has this many nodes at least.
+    fn least(
+        &mut self,
+        exits: &[Exit],
+        list: u32,
+        nodes: u64,
+        most: u64,
+    ) -> Result<Option<u64>, AllocError> {
+        let mut least = most;
+        let (mut may_ask, mut asked) = (1u64, 0u64);
         for exit in exits {
+            let cost = u64::from(exit.cost);
+            if cost.saturating_add(nodes) >= least {
+                continue;
+            }
             let site = Site {
                 state: exit.state,
                 number: list,
             };
-            if !self.known.contains_key(&site) {
+            if let Some(value) = self.known.get(&site).copied() {
+                least = least.min(cost.saturating_add(u64::from(value)));
+                may_ask = may_ask.saturating_add(1);
+            } else if asked < may_ask {
                 self.left = self.left.saturating_sub(1);
                 self.pending.push(site)?;
-                are_known = false;
+                asked = asked.saturating_add(1);
             }
         }
-        Ok(are_known)
-    }
-
-    /// The least cost of an exit with the value of a list there, where that is below a number of steps; else that
-    /// number.
-    fn least(&self, exits: &[Exit], list: u32, most: u64) -> u64 {
-        let mut least = most;
-        for exit in exits {
-            let site = Site {
-                state: exit.state,
-                number: list,
-            };
-            let value = self.known.get(&site).copied().unwrap_or(0);
-            least = least.min(u64::from(exit.cost).saturating_add(u64::from(value)));
-        }
-        least
+        Ok(if asked == 0 { Some(least) } else { None })
     }
 
     /// The value of a site, if all that it rests on is known; else that is asked for.
@@ -93,11 +94,11 @@ impl Values {
         let Some(call) = whole.lifted.calls.get(&inner) else {
             return Ok(Some(capped(link.nodes)));
         };
-        if !self.ask(&call.exits, link.rest)? {
+        let behind = lists.nodes(link.rest);
+        let elsewhere = u64::from(call.floor).saturating_add(behind);
+        let Some(least) = self.least(&call.exits, link.rest, behind, elsewhere)? else {
             return Ok(None);
-        }
-        let elsewhere = u64::from(call.floor).saturating_add(lists.nodes(link.rest));
-        let least = self.least(&call.exits, link.rest, elsewhere);
+        };
         Ok(Some(capped(least.max(link.nodes))))
     }
 
