@@ -1,9 +1,6 @@
 //! A search by calls, in parts.
 ghost use Rattle.std.specs.Prelude.{◌≡◌, IfOk, IfSome, OnOk};
-ghost use Rattle.call_nodes.specs.Nodes.{AreListsOf, AreNodes, children};
-ghost use Rattle.htn_ground.specs.Distinct.{distinct};
-ghost use Rattle.htn_model.specs.Instances as instances;
-ghost use Rattle.htn_model.specs.Task as tasks;
+ghost use Rattle.call_nodes.specs.Nodes.{AreNodes};
 ghost use Rattle.htn_net.specs.Listed.{listing_machine};
 ghost use Rattle.task_graph.specs.Graph.{IsGraph};
 ghost use Rattle.word_machine.specs.Answer.{IsLeastFinishing};
