@@ -1,4 +1,5 @@
-//! Nodes that lead to one another, in one walk down.
+//! Strongly connected components: nodes that lead to one another, found in one walk down (R. Tarjan, Depth-first search
+//! and linear graph algorithms, SIAM Journal on Computing 1, 1972).
 
 use std::alloc::{AllocError, Global};
 

@@ -20,8 +20,14 @@ const SHARE: u64 = 8;
 /// How many times as many, where calls have shown that no word is within the bound of the other search.
 const AHEAD: u64 = 3;
 
+/// How many configurations more a search stores until its calls have a greater share: twice as much as at first, then
+/// three times, up to this factor.
+const LONG: u64 = 200_000;
+
+const MOST_OFTEN: u64 = 4;
+
 /// For how many configurations one ground task, instance or node is listed.
-const LISTING: u64 = 15;
+const LISTING: u64 = 5;
 
 /// How much of the decomposition graph is listed at most.
 const MOST_LISTED: u64 = 100_000;
@@ -93,6 +99,17 @@ fn is_ahead(trial: &Option<Trial>, bound: u64) -> bool {
     match trial {
         Some(trial) => u64::from(trial.total()) > bound,
         None => false,
+    }
+}
+
+/// How many times as many items as at first a search by calls may meet for the next configurations.
+fn share_of(trial: &Option<Trial>, configurations: usize, bound: u64) -> u64 {
+    let grown = (configurations as u64 / LONG).saturating_add(1);
+    let share = grown.min(MOST_OFTEN);
+    if is_ahead(trial, bound) {
+        share.max(AHEAD)
+    } else {
+        share
     }
 }
 
@@ -190,11 +207,7 @@ impl<'a> Calls<'a> {
         } else {
             configurations.saturating_sub(self.seen)
         };
-        let share = if is_ahead(&self.trial, bound) {
-            AHEAD
-        } else {
-            1
-        };
+        let share = share_of(&self.trial, configurations, bound);
         self.seen = configurations;
         self.allowed = self
             .allowed
