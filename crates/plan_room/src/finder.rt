@@ -7,9 +7,11 @@ ghost use Rattle.plan_room.specs.Memo.{IsMemo};
 
 use crate::ends::line_end;
 use crate::frames::children_of;
+use crate::guess::number_at;
 use crate::lines::PlanLines;
 use crate::memo::Memo;
 use crate::rooms::{Finish, Question};
+use crate::sequence::sequence;
 use crate::standing::{Standing, find_standing};
 use crate::window::Window;
 use htn_ground::{Child, Instance, ObjectList};
@@ -68,38 +70,59 @@ fn copy_of(alloc: Global, instance: &Instance) -> Result<Instance, AllocError> {
     Ok(Instance::new(instance.method(), values, children, order))
 }
 
-/// The gap by which all before a position have finished.
-fn latest_before(order: &Order, finishes: &[usize], position: usize, gap: usize) -> usize {
-    let mut start = gap;
-    for (place, finish) in finishes.iter().enumerate() {
-        if order.is_before(place, position) {
-            start = start.max(*finish);
+/// The gaps by which the first positions of a sequence have finished, for each number of them.
+fn highs_of(
+    alloc: Global,
+    sequence: &[usize],
+    finishes: &[usize],
+    gap: usize,
+) -> Result<Vec<usize>, AllocError> {
+    let mut highs = Vec::new(alloc);
+    let mut high = gap;
+    highs.push(high)?;
+    for position in sequence {
+        high = high.max(number_at(finishes, *position));
+        highs.push(high)?;
+    }
+    Ok(highs)
+}
+
+/// The gap by which all before a position have finished. Up to a first place of the sequence all are before it, and none
+/// is from a second one on.
+fn start_at(
+    order: &Order,
+    sequence: &[usize],
+    ahead: (usize, usize),
+    finishes: &[usize],
+    highs: &[usize],
+    position: usize,
+) -> usize {
+    let (sure, end) = ahead;
+    let mut start = number_at(highs, sure);
+    let mut place = end;
+    while place > sure && start < number_at(highs, place) {
+        place -= 1;
+        let before = number_at(sequence, place);
+        if order.is_before(before, position) {
+            start = start.max(number_at(finishes, before));
         }
     }
     start
 }
 
 /// For each position the gap by which all before it have finished.
-fn starts_apart(
+fn starts_after(
     alloc: Global,
     order: &Order,
     finishes: &[usize],
     gap: usize,
 ) -> Result<Vec<usize>, AllocError> {
-    let mut starts = Vec::with_capacity(alloc, finishes.len())?;
-    for position in 0..finishes.len() {
-        starts.push(latest_before(order, finishes, position, gap))?;
-    }
-    Ok(starts)
-}
-
-/// The same where each position is before all later ones, in one pass.
-fn starts_in_turn(alloc: Global, finishes: &[usize], gap: usize) -> Result<Vec<usize>, AllocError> {
-    let mut starts = Vec::with_capacity(alloc, finishes.len())?;
-    let mut latest = gap;
-    for finish in finishes {
-        starts.push(latest)?;
-        latest = latest.max(*finish);
+    let (sequence, ahead) = sequence(alloc, order)?;
+    let highs = highs_of(alloc, &sequence, finishes, gap)?;
+    let mut starts = Vec::with_capacity(alloc, ahead.len())?;
+    for (position, places) in ahead.iter().enumerate() {
+        let start = start_at(order, &sequence, *places, finishes, &highs, position);
+        starts.push(start)?;
     }
     Ok(starts)
 }
@@ -124,12 +147,7 @@ fn starts_of(
     finishes: &[usize],
     gap: usize,
 ) -> Result<Vec<usize>, AllocError> {
-    let order = instance.order();
-    let mut starts = if order == &Order::chain(order.size()) {
-        starts_in_turn(alloc, finishes, gap)?
-    } else {
-        starts_apart(alloc, order, finishes, gap)?
-    };
+    let mut starts = starts_after(alloc, instance.order(), finishes, gap)?;
     start_steps(instance.children().as_slice(), finishes, &mut starts);
     Ok(starts)
 }

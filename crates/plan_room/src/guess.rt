@@ -89,7 +89,7 @@ fn tasks_of(alloc: Global, after: &[usize]) -> Result<Vec<usize>, AllocError> {
 }
 
 /// The number at a place, 0 past all.
-fn number_at(numbers: &[usize], place: usize) -> usize
+pub(crate) fn number_at(numbers: &[usize], place: usize) -> usize
     ensures { result ≡ get_or numbers.now place 0 }
 {
     match numbers.get(place) {
