@@ -226,7 +226,7 @@ rows_ok : Ok look.outline
 rows_ok = four look.rows look.words look.marks look.signs refl refl refl refl
 
 line_ok : Ok look.line
-line_ok = join look.time look.bars refl refl
+line_ok = four look.time look.bars look.narrow look.paper refl refl refl refl
 
 style_ok : Ok style
 style_ok = four look.colours look.around look.outline look.line colours_ok around_ok rows_ok line_ok

@@ -7,7 +7,7 @@ abbrev pub day : List ℕ
 day =
     codes "<style>\n:root{color-scheme:light dark;--bg:#fff;--ink:#0f172a;--dim:#64748b;--edge:#e2e8f0;\n"
     ++ (codes "--grid:#eef2f7;--over:#f1f5f9;--act:#10b981;--on:#fff;--bar:78% 86%;--method:#4f46e5;\n"
-    ++ (codes "--ok:#047857;--ok-bg:#d1fae5;--bad:#dc2626;--bad-bg:#fee2e2;--mono:ui-monospace,SFMono-Regular,\n"
+    ++ (codes "--ok:#047857;--ok-bg:#d1fae5;--bad:#b91c1c;--bad-bg:#fee2e2;--mono:ui-monospace,SFMono-Regular,\n"
     ++ codes "Menlo,Consolas,\"DejaVu Sans Mono\",\"Liberation Mono\",monospace}\n"))
 
 -- colours by night
@@ -36,7 +36,7 @@ boxes =
 -- why the verdict is so
 abbrev pub why : List ℕ
 why =
-    codes ".why{margin:0;padding:12px 16px;overflow:auto;border-left:4px solid var(--edge);border-radius:10px}\n"
+    codes ".why{margin:0;padding:12px 16px;overflow:auto;border-left:4px solid var(--edge);border-radius:0 10px 10px 0}\n"
     ++ (codes ".why{font:12.5px/1.5 var(--mono);color:var(--dim)}\n"
     ++ (codes ".why.no{border-color:var(--bad);color:var(--ink);background:var(--bad-bg)}\n"
     ++ codes ".why.no::first-line{font-weight:600;color:var(--bad)}\n"))
@@ -54,7 +54,7 @@ run =
 -- the legend
 abbrev pub legend : List ℕ
 legend =
-    codes ".key{display:flex;gap:18px;color:var(--dim);font-size:12.5px}\n"
+    codes ".key{display:flex;flex-wrap:wrap;gap:2px 18px;color:var(--dim);font-size:12.5px}\n"
     ++ (codes ".key i{display:inline-block;width:18px;height:10px;margin-right:6px;border-radius:3px}\n"
     ++ codes ".key i{background:hsl(230 var(--bar))}.key .a{background:var(--act)}\n")
 
@@ -88,7 +88,7 @@ signs =
     ++ (codes ".sign:before{content:\"\\25cb\"}summary .sign:before{content:\"\\25b6\"}\n"
     ++ (codes "details[open]>summary .sign:before{content:\"\\25bc\"}\n"
     ++ (codes ".label .no{min-width:22px;padding:0 5px;border-radius:9px;text-align:center;font-size:11px}\n"
-    ++ codes ".label .no{color:var(--on);background:var(--act)}.bad .label .no{color:var(--bg);background:var(--bad)}\n")))
+    ++ codes ".label .no{color:var(--on);background:var(--ok)}.bad .label .no{color:var(--bg);background:var(--bad)}\n")))
 
 -- the time line
 abbrev pub time : List ℕ
@@ -96,16 +96,30 @@ time =
     codes ".time{position:relative;margin-right:14px;border-left:1px solid var(--edge);\n"
     ++ (codes "background:linear-gradient(to right,var(--grid) 1px,transparent 1px);\n"
     ++ (codes "background-size:calc(100%*var(--s)/var(--n)) 100%}.time u{text-decoration:none;font-size:11px}\n"
-    ++ codes ".time u,.time i{position:absolute;left:calc(100%*var(--a)/var(--n))}.time u{top:7px;padding-left:3px}\n"))
+    ++ (codes ".time u,.time i{position:absolute;left:calc(100%*var(--a)/var(--n))}.time u{top:7px}\n"
+    ++ codes ".time u{margin-left:calc(50%/var(--n));transform:translateX(-50%)}.head .time{background:none}\n")))
 
 -- its bars
 abbrev pub bars : List ℕ
 bars =
-    codes ".time i{width:calc(100%*(var(--b) - var(--a) + 1)/var(--n));min-width:2px;top:7px;bottom:7px}\n"
-    ++ (codes ".time i{border-radius:4px;background:hsl(calc(230 + var(--d,0)*12) var(--bar))}\n"
-    ++ (codes ".act .time i{top:5px;bottom:5px;background:var(--act)}\n"
-    ++ (codes ".time .link{top:calc(50% - 1px);bottom:calc(50% - 1px)}\n"
-    ++ codes ".bad .time i{background:var(--bad)}@media print{.head{position:static}}\n</style>\n")))
+    codes ".time i{width:calc(100%*(var(--b) - var(--a) + 1)/var(--n));min-width:2px;top:0;bottom:0}\n"
+    ++ (codes ".time i{height:12px;margin:auto 0}.act .time i{height:16px;background:var(--act)}\n"
+    ++ (codes ".time i{border-radius:4px;background:hsl(calc(230 + var(--d,0)*12) var(--bar))}.time .link{height:2px}\n"
+    ++ codes ".bad .time i{background:var(--bad)}.time:has(u:nth-child(24)) u:nth-child(2n){display:none}\n"))
+
+-- fewer numbers above the time line of a narrow page
+abbrev pub narrow : List ℕ
+narrow =
+    codes "@media(max-width:1150px){.time:has(u:nth-child(11)) u:not(:nth-child(5n+1)){display:none}}\n"
+    ++ codes "@media(max-width:700px){.time:has(u:nth-child(11)) u:not(:nth-child(10n+1)){display:none}}\n"
+
+-- a page on paper
+abbrev pub paper : List ℕ
+paper =
+    codes "@media print{.head{position:static}.why{white-space:pre-wrap}.why,.tree,.run{overflow:visible}\n"
+    ++ (codes ".tree svg{max-width:100%;height:auto}.row,tr{break-inside:avoid}\n"
+    ++ (codes "td,td span,td+td:not([class]){white-space:normal}.why,td{overflow-wrap:anywhere}\n"
+    ++ codes ".row *,.key i{-webkit-print-color-adjust:exact;print-color-adjust:exact}}\n</style>\n"))
 
 -- colours
 abbrev pub colours : List ℕ
@@ -121,7 +135,7 @@ outline = rows ++ (words ++ (marks ++ signs))
 
 -- the time line
 abbrev pub line : List ℕ
-line = time ++ bars
+line = time ++ (bars ++ (narrow ++ paper))
 
 -- all of it
 abbrev pub style : List ℕ
@@ -132,11 +146,13 @@ abbrev pub details_style : List ℕ
 details_style =
     codes "<style>\n.row:not(.head){position:relative}.tip{display:none;position:absolute;z-index:3;margin-left:12px}\n"
     ++ (codes ".tip{left:min(460px,75%);top:calc(100% - 2px);padding:8px 12px;border-radius:8px;pointer-events:none}\n"
-    ++ (codes ".tip{background:var(--ink);color:var(--bg);font:12px/1.5 var(--mono);white-space:pre}\n"
+    ++ (codes ".tip{width:max-content;max-width:calc(100vw - 560px);overflow-wrap:anywhere}\n"
+    ++ (codes ".tip{background:var(--ink);color:var(--bg);font:12px/1.5 var(--mono);white-space:pre-wrap}\n"
     ++ (codes ".row:hover>.tip:not(:empty),.row:focus-visible>.tip:not(:empty){display:block}\n"
     ++ (codes ".time .p,.key .p{width:9px;height:9px;min-width:0;border:2px solid var(--method);border-radius:0}\n"
     ++ (codes ".time .p,.key .p{background:var(--bg);transform:rotate(45deg)}\n"
-    ++ codes ".time .p{top:50%;bottom:auto;margin:-5px 0 0 -5px}@media print{.tip{display:none!important}}\n</style>\n")))))
+    ++ (codes ".time .p{margin:auto 0 auto -5px}@media print{.tip{display:none!important}}\n"
+    ++ codes "@media(max-width:800px){.tip{left:0;max-width:calc(100vw - 84px)}}\n</style>\n")))))))
 
 -- the same, if anything is said of lines
 abbrev pub more_style : Option (List Detail) → List ℕ

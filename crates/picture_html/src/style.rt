@@ -10,7 +10,7 @@ use std::alloc::AllocError;
 const STYLE: &[u8] = b"<style>
 :root{color-scheme:light dark;--bg:#fff;--ink:#0f172a;--dim:#64748b;--edge:#e2e8f0;
 --grid:#eef2f7;--over:#f1f5f9;--act:#10b981;--on:#fff;--bar:78% 86%;--method:#4f46e5;
---ok:#047857;--ok-bg:#d1fae5;--bad:#dc2626;--bad-bg:#fee2e2;--mono:ui-monospace,SFMono-Regular,
+--ok:#047857;--ok-bg:#d1fae5;--bad:#b91c1c;--bad-bg:#fee2e2;--mono:ui-monospace,SFMono-Regular,
 Menlo,Consolas,\"DejaVu Sans Mono\",\"Liberation Mono\",monospace}
 @media (prefers-color-scheme:dark){:root{--bg:#0b1120;--ink:#e2e8f0;--dim:#94a3b8;--edge:#1e293b;
 --grid:#172036;--over:#16203a;--act:#34d399;--on:#06281f;--bar:40% 42%;--method:#a5b4fc;
@@ -23,7 +23,7 @@ h1{display:inline;margin:0 12px 0 0;font-size:22px;overflow-wrap:anywhere}
 .verdict.no{color:var(--bad);background:var(--bad-bg)}.chart{max-width:calc(480px + var(--n)*56px)}
 .chart,.tree{border:1px solid var(--edge);border-radius:10px}.tree svg{display:block;border-radius:10px}
 .tree{overflow:auto;width:fit-content;max-width:100%}
-.why{margin:0;padding:12px 16px;overflow:auto;border-left:4px solid var(--edge);border-radius:10px}
+.why{margin:0;padding:12px 16px;overflow:auto;border-left:4px solid var(--edge);border-radius:0 10px 10px 0}
 .why{font:12.5px/1.5 var(--mono);color:var(--dim)}
 .why.no{border-color:var(--bad);color:var(--ink);background:var(--bad-bg)}
 .why.no::first-line{font-weight:600;color:var(--bad)}
@@ -33,7 +33,7 @@ th,td{padding:5px 12px;text-align:left;vertical-align:top;border-top:1px solid v
 th{border:0;color:var(--dim);font-weight:400}th+th+th{width:36%}td span,td+td:not([class]){white-space:nowrap}
 td:first-child{width:1%;text-align:right;font-weight:700}td:first-child,.add{color:var(--ok)}
 .del{color:var(--bad)}
-.key{display:flex;gap:18px;color:var(--dim);font-size:12.5px}
+.key{display:flex;flex-wrap:wrap;gap:2px 18px;color:var(--dim);font-size:12.5px}
 .key i{display:inline-block;width:18px;height:10px;margin-right:6px;border-radius:3px}
 .key i{background:hsl(230 var(--bar))}.key .a{background:var(--act)}
 .row{display:grid;grid-template-columns:min(460px,75%) minmax(0,1fr);border-top:1px solid var(--grid)}
@@ -51,16 +51,22 @@ mark,.bad em,.bad .label b{color:var(--bad)}
 .sign:before{content:\"\\25cb\"}summary .sign:before{content:\"\\25b6\"}
 details[open]>summary .sign:before{content:\"\\25bc\"}
 .label .no{min-width:22px;padding:0 5px;border-radius:9px;text-align:center;font-size:11px}
-.label .no{color:var(--on);background:var(--act)}.bad .label .no{color:var(--bg);background:var(--bad)}
+.label .no{color:var(--on);background:var(--ok)}.bad .label .no{color:var(--bg);background:var(--bad)}
 .time{position:relative;margin-right:14px;border-left:1px solid var(--edge);
 background:linear-gradient(to right,var(--grid) 1px,transparent 1px);
 background-size:calc(100%*var(--s)/var(--n)) 100%}.time u{text-decoration:none;font-size:11px}
-.time u,.time i{position:absolute;left:calc(100%*var(--a)/var(--n))}.time u{top:7px;padding-left:3px}
-.time i{width:calc(100%*(var(--b) - var(--a) + 1)/var(--n));min-width:2px;top:7px;bottom:7px}
-.time i{border-radius:4px;background:hsl(calc(230 + var(--d,0)*12) var(--bar))}
-.act .time i{top:5px;bottom:5px;background:var(--act)}
-.time .link{top:calc(50% - 1px);bottom:calc(50% - 1px)}
-.bad .time i{background:var(--bad)}@media print{.head{position:static}}
+.time u,.time i{position:absolute;left:calc(100%*var(--a)/var(--n))}.time u{top:7px}
+.time u{margin-left:calc(50%/var(--n));transform:translateX(-50%)}.head .time{background:none}
+.time i{width:calc(100%*(var(--b) - var(--a) + 1)/var(--n));min-width:2px;top:0;bottom:0}
+.time i{height:12px;margin:auto 0}.act .time i{height:16px;background:var(--act)}
+.time i{border-radius:4px;background:hsl(calc(230 + var(--d,0)*12) var(--bar))}.time .link{height:2px}
+.bad .time i{background:var(--bad)}.time:has(u:nth-child(24)) u:nth-child(2n){display:none}
+@media(max-width:1150px){.time:has(u:nth-child(11)) u:not(:nth-child(5n+1)){display:none}}
+@media(max-width:700px){.time:has(u:nth-child(11)) u:not(:nth-child(10n+1)){display:none}}
+@media print{.head{position:static}.why{white-space:pre-wrap}.why,.tree,.run{overflow:visible}
+.tree svg{max-width:100%;height:auto}.row,tr{break-inside:avoid}
+td,td span,td+td:not([class]){white-space:normal}.why,td{overflow-wrap:anywhere}
+.row *,.key i{-webkit-print-color-adjust:exact;print-color-adjust:exact}}
 </style>
 ";
 
@@ -68,11 +74,13 @@ background-size:calc(100%*var(--s)/var(--n)) 100%}.time u{text-decoration:none;f
 const DETAILS_STYLE: &[u8] = b"<style>
 .row:not(.head){position:relative}.tip{display:none;position:absolute;z-index:3;margin-left:12px}
 .tip{left:min(460px,75%);top:calc(100% - 2px);padding:8px 12px;border-radius:8px;pointer-events:none}
-.tip{background:var(--ink);color:var(--bg);font:12px/1.5 var(--mono);white-space:pre}
+.tip{width:max-content;max-width:calc(100vw - 560px);overflow-wrap:anywhere}
+.tip{background:var(--ink);color:var(--bg);font:12px/1.5 var(--mono);white-space:pre-wrap}
 .row:hover>.tip:not(:empty),.row:focus-visible>.tip:not(:empty){display:block}
 .time .p,.key .p{width:9px;height:9px;min-width:0;border:2px solid var(--method);border-radius:0}
 .time .p,.key .p{background:var(--bg);transform:rotate(45deg)}
-.time .p{top:50%;bottom:auto;margin:-5px 0 0 -5px}@media print{.tip{display:none!important}}
+.time .p{margin:auto 0 auto -5px}@media print{.tip{display:none!important}}
+@media(max-width:800px){.tip{left:0;max-width:calc(100vw - 84px)}}
 </style>
 ";
 
