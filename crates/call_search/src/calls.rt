@@ -20,10 +20,11 @@ const SHARE: u64 = 8;
 /// How many times as many, where calls have shown that no word is within the bound of the other search.
 const AHEAD: u64 = 3;
 
-/// How many configurations more a search stores until its calls have a greater share: twice as much as at first, then
-/// three times, up to this factor.
+/// How many configurations more a search stores until its calls in frames have a greater share: twice as much as at
+/// first, then three times, up to [`MOST_OFTEN`] times.
 const LONG: u64 = 200_000;
 
+/// By what factor the share of calls in frames grows at most.
 const MOST_OFTEN: u64 = 4;
 
 /// For how many configurations one ground task, instance or node is listed.
@@ -102,9 +103,21 @@ fn is_ahead(trial: &Option<Trial>, bound: u64) -> bool {
     }
 }
 
+/// Whether the calls of a search are in frames: those on whole states rarely end before a long search does.
+fn is_framed(trial: &Option<Trial>) -> bool {
+    match trial {
+        Some(trial) => !trial.is_cut(),
+        None => false,
+    }
+}
+
 /// How many times as many items as at first a search by calls may meet for the next configurations.
 fn share_of(trial: &Option<Trial>, configurations: usize, bound: u64) -> u64 {
-    let grown = (configurations as u64 / LONG).saturating_add(1);
+    let grown = if is_framed(trial) {
+        (configurations as u64 / LONG).saturating_add(1)
+    } else {
+        1
+    };
     let share = grown.min(MOST_OFTEN);
     if is_ahead(trial, bound) {
         share.max(AHEAD)
