@@ -3,7 +3,7 @@
 
 use std::alloc::{AllocError, Global};
 
-/// The mark of a node that has a component, greater than that of all that are met before.
+/// The mark of a node that has a component: it is greater than the marks of visited nodes that have none.
 const CLOSED: u32 = u32::MAX;
 
 /// The components of a graph: nodes are in the same one where each leads to the other.
@@ -39,18 +39,19 @@ impl Drop for Components {
 #[derive(Clone, Copy, Drop)]
 struct Turn {
     node: u32,
-    /// Its place among those that were met.
+    /// The number of nodes that were visited up to it.
     met: u32,
     next: usize,
 }
 
 /// A walk down a graph.
 struct Walk {
-    /// By node, the first place of a node without a component that it is known to lead to; 0 where it is not met yet.
+    /// By node, the least visit number among nodes without a component that it is known to lead to; 0 for a node that
+    /// is not visited yet.
     low: Vec<u32>,
-    /// How many nodes are met.
+    /// How many nodes are visited.
     met: u32,
-    /// The nodes without a component that are met.
+    /// The visited nodes that have no component yet.
     open: Vec<u32>,
     /// The way down to a node.
     way: Vec<Turn>,
@@ -69,7 +70,7 @@ impl Drop for Walk {
     }
 }
 
-/// A list of one number as often as this.
+/// A list with this number of copies of a number.
 fn repeated(alloc: Global, number: u32, count: usize) -> Result<Vec<u32>, AllocError> {
     let mut numbers = Vec::with_capacity(alloc, count)?;
     for _ in 0..count {
@@ -87,7 +88,7 @@ fn node_below(below: &[Vec<u32>], node: u32, place: usize) -> Option<u32> {
 }
 
 impl Walk {
-    /// Of so many nodes none is met.
+    /// A walk of a graph with this number of nodes, which has not begun.
     fn new(alloc: Global, count: usize) -> Result<Walk, AllocError> {
         let low = repeated(alloc, 0, count)?;
         Ok(Walk {
@@ -115,7 +116,7 @@ impl Walk {
         }
     }
 
-    /// Goes down to a node that is met only now.
+    /// Visits a node for the first time.
     fn enter(&mut self, node: u32) -> Result<(), AllocError> {
         self.met = self.met.saturating_add(1);
         let met = self.met;
@@ -126,7 +127,7 @@ impl Walk {
         Ok(())
     }
 
-    /// Makes a component of a node and of those that were met after it and have none.
+    /// Makes a component of its root and of the nodes that were visited later and have none.
     fn close(&mut self, node: u32) -> Result<(), AllocError> {
         let number = self.components.count;
         self.components.count = number.saturating_add(1);
@@ -146,7 +147,7 @@ impl Walk {
         Ok(())
     }
 
-    /// Goes back up from a node.
+    /// Ends the visit of a node, all below which are visited, and closes the component that it is the root of.
     fn leave(&mut self, turn: Turn) -> Result<(), AllocError> {
         if self.low(turn.node) == turn.met {
             self.close(turn.node)?;

@@ -43,7 +43,7 @@ fn is_literal_in(atoms: &AtomTable, mask: &BitState, literal: &Literal) -> bool
     }
 }
 
-/// Whether the atoms of some literals are.
+/// Whether the atom of each of these literals is in the frame of a mask.
 fn are_literals_in(atoms: &AtomTable, mask: &BitState, literals: &[Literal]) -> bool
     ensures { result ≡ list_all (λ l. model.is_literal_in (frame_of atoms.now mask.now) (literal_of l)) literals.now }
 {
@@ -55,7 +55,7 @@ fn are_literals_in(atoms: &AtomTable, mask: &BitState, literals: &[Literal]) -> 
     true
 }
 
-/// Whether some atoms are.
+/// Whether each of these atoms is in the frame of a mask.
 fn are_atoms_in(atoms: &AtomTable, mask: &BitState, list: &[Atom]) -> bool
     ensures { result ≡ list_all (frame_of atoms.now mask.now) list.now }
 {

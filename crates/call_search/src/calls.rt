@@ -103,7 +103,8 @@ fn is_ahead(trial: &Option<Trial>, bound: u64) -> bool {
     }
 }
 
-/// Whether the calls of a search are in frames: those on whole states rarely end before a long search does.
+/// Whether the calls of a search may be in frames, since all of the decomposition graph is listed. Calls on whole
+/// states rarely end before a long search does.
 fn is_framed(trial: &Option<Trial>) -> bool {
     match trial {
         Some(trial) => !trial.is_cut(),

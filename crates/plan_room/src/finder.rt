@@ -87,8 +87,8 @@ fn highs_of(
     Ok(highs)
 }
 
-/// The gap by which all before a position have finished. Up to a first place of the sequence all are before it, and none
-/// is from a second one on.
+/// The gap by which all before a position have finished. `ahead` are two places of the sequence: all positions in front
+/// of the first one are before the position, and none from the second one on is.
 fn start_at(
     order: &Order,
     sequence: &[usize],
