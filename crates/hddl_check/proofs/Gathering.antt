@@ -19,6 +19,11 @@ pub nothing_in : (fs : List CheckFault) → ((f : CheckFault) → IsIn f fs → 
 nothing_in [] gone = refl
 nothing_in (f ∷ fs) gone = absurd (gone f (at_head f fs))
 
+-- the first of a list is in it
+pub first_in : {X : Type 0} (xs : List X) (x : X) → slice_get xs 0 ≡ Some x → IsIn x xs
+first_in [] x e = cc
+first_in (y ∷ ys) x e = let same : y ≡ x = cc in subst (λ z. IsIn z (y ∷ ys)) same (at_head y ys)
+
 -- what holds of whatever a value may be holds of it
 pub some_of : {X : Type 0} {Q : X → Type 0} (o : Option X) → ((x : X) → o ≡ Some x → Q x) → IfSome o Q
 some_of None h = tt

@@ -58,7 +58,7 @@ module _ (d : DomainText) where
   predicates = map (λ x. mention_of x.name) d.predicates
 
   -- the names of the compound tasks
-  abbrev tasks : List Mention
+  abbrev pub tasks : List Mention
   tasks = map (λ x. mention_of x.name) d.tasks
 
   -- the names of the methods
@@ -66,7 +66,7 @@ module _ (d : DomainText) where
   methods = map (λ x. mention_of x.name) d.methods
 
   -- the names of the actions
-  abbrev actions : List Mention
+  abbrev pub actions : List Mention
   actions = map (λ x. mention_of x.name) d.actions
 
   -- what follows in a list, from each place on
@@ -137,7 +137,7 @@ module _ (d : DomainText) (p : ProblemText) where
 
   -- by its kind, a thing is one of the lists or uses that the text has
   abbrev pub IsPart : Source → Part → Type 0
-  IsPart text (Different g) = IsIn g (groups d p text)
+  IsPart text (Different g) = IsIn g (groups d p text) ⊎ ((text ≡ source.Domain) × (g ≡ actions d))
   IsPart text (Limited n m) = IsLimited text n m
   IsPart text (TypeName m) = IsIn m (type_uses d p text)
   IsPart text (Atom u) = IsIn u (flattened (λ s. s.atoms) (schemas_in d p text))
@@ -218,10 +218,11 @@ module _ (d : DomainText) (p : ProblemText) where
         h x (subst (λ y. IsIn y (type_parts ys)) (sym is) (in_map TypeName m (flat_map type_of ys) (in_flat_map type_of t m ys (sub t among) typed)))
 
     -- the variables of a schema that must differ are such a list of the text
-    group_of_schema : (s : Schema) (g : List Mention) → IsIn s schemas → IsIn g (schema_groups s) → IsIn g (groups d p text)
+    group_of_schema : (s : Schema) (g : List Mention) → IsIn s schemas → IsIn g (schema_groups s) → IsPart text (Different g)
     group_of_schema s g has in' =
-        in_left g (declaration_groups d text ++ flat_map schema_groups schemas) (map (λ n. label_mentions n.1) (networks_in d p text))
-        (in_right g (declaration_groups d text) (flat_map schema_groups schemas) (in_flat_map schema_groups s g schemas has in'))
+        inl
+        (in_left g (declaration_groups d text ++ flat_map schema_groups schemas) (map (λ n. label_mentions n.1) (networks_in d p text))
+        (in_right g (declaration_groups d text) (flat_map schema_groups schemas) (in_flat_map schema_groups s g schemas has in')))
 
     -- the variables of a schema that are counted are such a list of the text
     limited_in_schema : (s : Schema) (m : List Mention) → IsIn s schemas → IsIn m (limited_of s) → IsLimited text most_parameters m
@@ -278,15 +279,16 @@ module _ (d : DomainText) (p : ProblemText) where
     network_are : (place : ℕ) (n : NetworkText) → IsIn (place, n) (networks_in d p text) → Every (IsPart text) (network_parts place n)
     network_are place n has =
         every_cons (IsPart text) (Different (label_mentions n)) (Limited most_subtasks (subtask_mentions n) ∷ Network place n ∷ [])
+        (inl
         (in_right (label_mentions n) (declaration_groups d text ++ flat_map schema_groups schemas) (map (λ n. label_mentions n.1) (networks_in d p text))
-        (in_map {X = ℕ × NetworkText} (λ n. label_mentions n.1) (place, n) (networks_in d p text) has))
+        (in_map {X = ℕ × NetworkText} (λ n. label_mentions n.1) (place, n) (networks_in d p text) has)))
         (every_cons (IsPart text) (Limited most_subtasks (subtask_mentions n)) (Network place n ∷ []) (inr (inr (inr (refl, ((place, n), has, refl)))))
         (every_cons (IsPart text) (Network place n) [] has (every_nil (IsPart text))))
 
   -- ### The domain
 
   -- declared names that must differ are such a list of the domain
-  of_declaration : (g : List Mention) → IsIn g (declaration_groups d source.Domain) → IsIn g (groups d p source.Domain)
+  pub of_declaration : (g : List Mention) → IsIn g (declaration_groups d source.Domain) → IsIn g (groups d p source.Domain)
   of_declaration g in' =
       in_left g (declaration_groups d source.Domain ++ flat_map schema_groups (domain_schemas d)) (map (λ n. label_mentions n.1) (networks_in d p source.Domain))
       (in_left g (declaration_groups d source.Domain) (flat_map schema_groups (domain_schemas d)) in')
@@ -302,16 +304,18 @@ module _ (d : DomainText) (p : ProblemText) where
   -- declared names, different and counted, are of the domain
   names_are : (m : List Mention) → IsIn m (declaration_groups d source.Domain) → IsIn m (declaration_lists d source.Domain) → Every DomainPart (name_parts m)
   names_are m different limited =
-      every_cons DomainPart (Different m) (Limited most_declarations m ∷ []) (of_declaration m different)
+      every_cons DomainPart (Different m) (Limited most_declarations m ∷ []) (inl (of_declaration m different))
       (every_cons DomainPart (Limited most_declarations m) [] (limit_are m limited) (every_nil DomainPart))
 
   -- the names of tasks and actions are of the domain
   task_names_are : Every DomainPart (task_name_parts d)
   task_names_are =
-      every_cons DomainPart (Different (tasks d ++ actions d)) (Limited most_declarations (tasks d) ∷ Limited most_declarations (actions d) ∷ [])
-      (of_declaration (tasks d ++ actions d) (2, omega arith, refl))
+      every_cons DomainPart (Different (actions d)) (Different (tasks d ++ actions d) ∷ Limited most_declarations (tasks d) ∷ Limited most_declarations (actions d) ∷ [])
+      (inr (refl, refl))
+      (every_cons DomainPart (Different (tasks d ++ actions d)) (Limited most_declarations (tasks d) ∷ Limited most_declarations (actions d) ∷ [])
+      (inl (of_declaration (tasks d ++ actions d) (2, omega arith, refl)))
       (every_cons DomainPart (Limited most_declarations (tasks d)) (Limited most_declarations (actions d) ∷ []) (limit_are (tasks d) (1, omega arith, refl))
-      (every_cons DomainPart (Limited most_declarations (actions d)) [] (limit_are (actions d) (3, omega arith, refl)) (every_nil DomainPart)))
+      (every_cons DomainPart (Limited most_declarations (actions d)) [] (limit_are (actions d) (3, omega arith, refl)) (every_nil DomainPart))))
 
   -- all that is typed in the domain
   abbrev domain_used : List Typed
@@ -550,7 +554,7 @@ module _ (d : DomainText) (p : ProblemText) where
         | inr later ↦ elim (in_cases (methods d) g ((tasks d ++ actions d) ∷ []) later) [
           | inl e ↦ subst (λ g. IsIn (Different g) (domain_parts d)) e (in_method_names (Different (methods d)) (0, omega arith, refl))
           | inr last ↦ elim (in_cases (tasks d ++ actions d) g [] last) [
-            | inl e ↦ subst (λ g. IsIn (Different g) (domain_parts d)) e (in_task_names (Different (tasks d ++ actions d)) (0, omega arith, refl))
+            | inl e ↦ subst (λ g. IsIn (Different g) (domain_parts d)) e (in_task_names (Different (tasks d ++ actions d)) (1, omega arith, refl))
             | inr none ↦ absurd (in_nothing g none)
           ]
         ]
@@ -563,11 +567,11 @@ module _ (d : DomainText) (p : ProblemText) where
       elim (in_cases (predicates d) m (tasks d ∷ methods d ∷ actions d ∷ []) at) [
         | inl e ↦ subst (λ m. IsIn (Limited most_declarations m) (domain_parts d)) e (in_predicate_names (Limited most_declarations (predicates d)) (1, omega arith, refl))
         | inr later ↦ elim (in_cases (tasks d) m (methods d ∷ actions d ∷ []) later) [
-          | inl e ↦ subst (λ m. IsIn (Limited most_declarations m) (domain_parts d)) e (in_task_names (Limited most_declarations (tasks d)) (1, omega arith, refl))
+          | inl e ↦ subst (λ m. IsIn (Limited most_declarations m) (domain_parts d)) e (in_task_names (Limited most_declarations (tasks d)) (2, omega arith, refl))
           | inr third ↦ elim (in_cases (methods d) m (actions d ∷ []) third) [
             | inl e ↦ subst (λ m. IsIn (Limited most_declarations m) (domain_parts d)) e (in_method_names (Limited most_declarations (methods d)) (1, omega arith, refl))
             | inr last ↦ elim (in_cases (actions d) m [] last) [
-              | inl e ↦ subst (λ m. IsIn (Limited most_declarations m) (domain_parts d)) e (in_task_names (Limited most_declarations (actions d)) (2, omega arith, refl))
+              | inl e ↦ subst (λ m. IsIn (Limited most_declarations m) (domain_parts d)) e (in_task_names (Limited most_declarations (actions d)) (3, omega arith, refl))
               | inr none ↦ absurd (in_nothing m none)
             ]
           ]
@@ -635,7 +639,7 @@ module _ (d : DomainText) (p : ProblemText) where
       ])
 
   -- names or variables of a text that must differ have to
-  group_in : (text : Source) (g : List Mention) → IsPart text (Different g) → IsIn (Different g) (parts_of text)
+  group_in : (text : Source) (g : List Mention) → IsIn g (groups d p text) → IsIn (Different g) (parts_of text)
   group_in text g in' =
       elim (Contains-append_cases (declaration_groups d text ++ flat_map schema_groups (schemas_in d p text)) (map (λ n. label_mentions n.1) (networks_in d p text)) g in') [
         | inl before ↦ elim (Contains-append_cases (declaration_groups d text) (flat_map schema_groups (schemas_in d p text)) g before) [
@@ -645,6 +649,10 @@ module _ (d : DomainText) (p : ProblemText) where
         | inr at ↦ let (w, has, is) = mapped {Z = ℕ × NetworkText} (λ n. label_mentions n.1) (networks_in d p text) g at in
             network_in text w (Different g) has (subst (λ g. IsIn (Different g) (network_parts w.0 w.1)) (sym is) (0, omega arith, refl))
       ]
+
+  -- the names of the actions have to differ
+  actions_in : (text : Source) → text ≡ source.Domain → IsIn (Different (actions d)) (parts_of text)
+  actions_in text is = subst (λ text. IsIn (Different (actions d)) (parts_of text)) (sym is) (in_task_names (Different (actions d)) (0, omega arith, refl))
 
   -- the parameters of a predicate have to be few enough
   predicate_limit_in : (text : Source) (m : List Mention) → IsIn m (predicate_parameters d text) → IsIn (Limited most_parameters m) (parts_of text)
@@ -762,7 +770,8 @@ module _ (d : DomainText) (p : ProblemText) where
 
   -- whatever is of a text has to fit in it
   pub has_part : (text : Source) (x : Part) → IsPart text x → IsIn x (parts_of text)
-  has_part text (Different g) is = group_in text g is
+  has_part text (Different g) (inl in') = group_in text g in'
+  has_part text (Different g) (inr (is, e)) = subst (λ g. IsIn (Different g) (parts_of text)) (sym e) (actions_in text is)
   has_part text (Limited n m) is = limited_in text n m is
   has_part text (TypeName m) is = used_in text m (subst (IsIn m) (sym (used_types text)) is)
   has_part text (Atom u) is = let (s, has, at) = flat_mapped (λ s. s.atoms) (schemas_in d p text) u is in schema_in text s (Atom u) has (in_atoms s u at)

@@ -1,5 +1,5 @@
 -- The parts of the two texts fail exactly where the items do.
-use Rattle.std.proofs.Common.{◌≡◌, ℕ, List, ◌++◌, ◌⊎◌, Some, true, inl, inr, refl, sym, subst}
+use Rattle.std.proofs.Common.{◌≡◌, ℕ, List, ◌++◌, ◌⊎◌, Some, inl, inr, refl, sym, subst, arith}
 use Rattle.std.specs.List.{flat_map, zip}
 use Rattle.std.proofs.lemmas.List.Elements.{Contains-append_cases}
 use Rattle.hddl_tree.specs.declared.term.Term.{Term}
@@ -12,7 +12,7 @@ use Rattle.hddl_meaning.specs.Mentions.{Text, Mention, Typed, IsIn}
 use Rattle.hddl_meaning.specs.Uses.{Use, TermUse, Schema}
 use Rattle.hddl_meaning.specs.Items as items
 use Rattle.hddl_meaning.specs.Names.{object_names, predicate_names, compound_names, task_names}
-use Rattle.hddl_meaning.specs.Items.{FailsAt, IsMissing, IsUnknownType, IsUnknownName, IsWrongArity, IsClash, IsTypeClash, IsTooMany, IsWellTypedPair, Signature, predicate_signatures, task_signatures, schemas_in, IsPast, terms_in, tasks_in, arguments_of, flattened, subtask_mentions, most_declarations, most_parameters, most_variables, most_subtasks}
+use Rattle.hddl_meaning.specs.Items.{FailsAt, IsDuplicate, IsMissing, IsUnknownType, IsUnknownName, IsWrongArity, IsClash, IsTypeClash, IsTooMany, IsWellTypedPair, Signature, predicate_signatures, task_signatures, schemas_in, IsPast, terms_in, tasks_in, arguments_of, flattened, subtask_mentions, most_declarations, most_parameters, most_variables, most_subtasks, groups}
 use Rattle.hddl_meaning.specs.declared.fault.Source.{Source}
 use Rattle.hddl_meaning.specs.declared.fault.Source.TheVariants as source
 use Rattle.hddl_meaning.specs.declared.fault.At.{At}
@@ -20,15 +20,17 @@ use Rattle.hddl_meaning.specs.declared.fault.CheckFault.{CheckFault}
 use Rattle.hddl_meaning.specs.declared.fault.CheckFault.TheVariants as fault
 use Rattle.hddl_meaning.proofs.Listed.{in_left, in_right, in_flat_map}
 use Rattle.hddl_uses.specs.Known.{AreKnown, IsKnown}
-use Rattle.hddl_uses.specs.Parts.{Part, FailsIn, PassedOverIn, UseFails, IsWrongCount, HasClash}
-use Rattle.hddl_check.specs.TextParts.{PartFails, PartPassed}
+use Rattle.hddl_uses.specs.Parts.{Part, FailsIn, UseFails, IsWrongCount, HasClash}
+use Rattle.hddl_check.specs.TextParts.{PartFails}
 use Rattle.hddl_check.specs.Cycles.{IsCycleFault}
-use Rattle.hddl_check.specs.Faults.{IsFirst, IsLeftOut, IsOvertakenName, IsUntypedClash}
-use Rattle.hddl_scope.specs.Ranks.{comes_before}
+use Rattle.hddl_check.specs.Faults.{IsFirst, IsLeftOut, IsNamed, IsOvertakenName}
+use Rattle.hddl_scope.specs.Repeats.{IsRepeat, IsRepeatOfFirst}
+use Rattle.hddl_scope.proofs.Repeating.{of_two, repeat_or_overtaken, some_repeat}
 use Rattle.hddl_uses.specs.Parts.Part.{Different, Limited, TypeName, Atom, Decomposed, Subtask, Side, Network, Types, Objects}
 use Rattle.hddl_scope.proofs.Finding.{flat_mapped}
 use Rattle.hddl_check.proofs.Typing.{objects_known}
-use Rattle.hddl_check.proofs.TextParts.{IsPart, IsLimited, is_part, has_part}
+use Rattle.hddl_check.proofs.Repeats.{repeat_after}
+use Rattle.hddl_check.proofs.TextParts.{IsPart, IsLimited, actions, is_part, has_part, of_declaration, tasks}
 
 module _ (d : DomainText) (p : ProblemText) where
   -- ## A part that fails is a fault
@@ -127,10 +129,17 @@ module _ (d : DomainText) (p : ProblemText) where
           unknown,
         ))))
 
+    -- names that must differ and don't are a fault of the pair
+    repeat_fails : (g : List Mention) (place : ℕ) (f : CheckFault) → IsIn g (groups d p text) → f ≡ fault.Duplicate (at_place place) → IsRepeat g place → FailsAt d p f
+    repeat_fails g place f in' e (before, first, middle, second, after, whole, same, is) =
+        fails_by f (fault.Duplicate (at_place place)) e (g, before, first, middle, second, after, in', whole, same, is)
+
     -- whatever fails of a text is a fault of the pair
     part_fails : (x : Part) (f : CheckFault) → IsPart d p text x → FailsIn d p text x f → FailsAt d p f
-    part_fails (Different g) f in' (place, e, (before, first, middle, second, after, whole, same, is)) =
-        fails_by f (fault.Duplicate (at_place place)) e (g, before, first, middle, second, after, in', whole, same, is)
+    part_fails (Different g) f (inl in') (place, e, again) = repeat_fails g place f in' e (of_two g place again)
+    part_fails (Different g) f (inr (is, actions_are)) (place, e, again) =
+        repeat_fails (tasks d ++ actions d) place f (subst (λ text. IsIn (tasks d ++ actions d) (groups d p text)) (sym is) (of_declaration d p (tasks d ++ actions d) (2, omega arith, refl))) e
+        (repeat_after (tasks d) (actions d) place (of_two (actions d) place (subst (λ g. IsRepeatOfFirst g place) actions_are again)))
     part_fails (Limited n m) f is h = limited_fails n m f is h
     part_fails (TypeName m) f in' (place, e, (undeclared, is)) = fails_by f (fault.UnknownType (at_place place)) e (m, in', undeclared, is)
     part_fails (Atom u) f in' h = atom_fails u f in' h
@@ -168,6 +177,23 @@ module _ (d : DomainText) (p : ProblemText) where
   failing_part : (f : CheckFault) (text : Source) (x : Part) → IsPart d p text x → FailsIn d p text x f → PartFails d p f
   failing_part f source.Domain x is fails = inl (x, has_part d p source.Domain x is, fails)
   failing_part f source.Problem x is fails = inr (x, has_part d p source.Problem x is, fails)
+
+  -- ### Names that must differ
+
+  -- two that don't fail by the first of their text, or are overtaken by it
+  repeat_faults : (at : At) → IsDuplicate d p at → PartFails d p (fault.Duplicate at) ⊎ IsOvertakenName d p (fault.Duplicate at)
+  repeat_faults at (g, before, first, middle, second, after, in', whole, same, is) =
+      elim (repeat_or_overtaken g at.place (before, first, middle, second, after, whole, same, is)) [
+        | inl again ↦ inl (failing_part (fault.Duplicate at) at.source (Different g) (inl in') (at.place, refl, again))
+        | inr over ↦ inr (at, g, refl, in', over)
+      ]
+
+  -- where some don't, one fails by the first of its text
+  some_fails : (f : CheckFault) → IsOvertakenName d p f → (g : CheckFault) × PartFails d p g
+  some_fails f (at, g, e, in', (before, first, middle, second, after, third, whole, same, is, among, text, lt)) =
+      let (place, again) = some_repeat g at.place (before, first, middle, second, after, whole, same, is) in
+      let other = fault.Duplicate (at_place at.source place) in
+      (other, failing_part other at.source (Different g) (inl in') (place, refl, again))
 
   -- ### Types and limits
 
@@ -254,27 +280,25 @@ module _ (d : DomainText) (p : ProblemText) where
         task_faults at.source u (fault.TypeClash at) in'
         (λ names. inr (inr (inr (at.place, refl, (s, argument, of_place, e, among, record { clash = clash; known = is_known argument })))))
 
-    -- each fault of the pair is a cycle of types or fails in one of the texts
-    pub faults_complete : (f : CheckFault) → FailsAt d p f → IsCycleFault d f ⊎ PartFails d p f
-    faults_complete (fault.Duplicate at) (g, before, first, middle, second, after, in', whole, same, is) =
-        inr (failing_part (fault.Duplicate at) at.source (Different g) in' (at.place, refl, (before, first, middle, second, after, whole, same, is)))
-    faults_complete (fault.UnknownType at) h = inr (type_faults at h)
-    faults_complete (fault.TypeCycle at) h = inl (at, refl, h)
-    faults_complete (fault.UnknownName at) h = inr (name_faults at h)
-    faults_complete (fault.Arity at) h = inr (count_faults at h)
-    faults_complete (fault.TypeClash at) h = inr (clash_faults at h)
+    -- each fault of the pair is a cycle of types or fails in one of the texts, or is overtaken
+    pub faults_complete : (f : CheckFault) → FailsAt d p f → (IsCycleFault d f ⊎ PartFails d p f) ⊎ IsOvertakenName d p f
+    faults_complete (fault.Duplicate at) h = elim (repeat_faults at h) [ inl fails ↦ inl (inr fails) | inr over ↦ inr over ]
+    faults_complete (fault.UnknownType at) h = inl (inr (type_faults at h))
+    faults_complete (fault.TypeCycle at) h = inl (inl (at, refl, h))
+    faults_complete (fault.UnknownName at) h = inl (inr (name_faults at h))
+    faults_complete (fault.Arity at) h = inl (inr (count_faults at h))
+    faults_complete (fault.TypeClash at) h = inl (inr (clash_faults at h))
     faults_complete (fault.OrderCycle at) (w, a, in', cycle, is) =
-        inr (failing_part (fault.OrderCycle at) at.source (Network w.0 w.1) in' (inl (at.place, refl, (a, cycle, is))))
+        inl (inr (failing_part (fault.OrderCycle at) at.source (Network w.0 w.1) in' (inl (at.place, refl, (a, cycle, is)))))
     faults_complete (fault.UnknownSubtask at) (w, name, in', named, missing) =
-        inr (failing_part (fault.UnknownSubtask at) at.source (Network w.0 w.1) in' (inr (at.place, refl, (name, named, missing))))
-    faults_complete (fault.TooMany at) h = inr (many_faults at h)
+        inl (inr (failing_part (fault.UnknownSubtask at) at.source (Network w.0 w.1) in' (inr (at.place, refl, (name, named, missing)))))
+    faults_complete (fault.TooMany at) h = inl (inr (many_faults at h))
     faults_complete fault.OutOfMemory h = absurd h
 
-  -- each fault of the pair is a cycle of types or fails in one of the texts, or is a clash where the objects aren't known
-  pub faults_decided : AreKnown d p ⊎ (AreKnown d p → ⊥) → (f : CheckFault) → FailsAt d p f → (IsCycleFault d f ⊎ PartFails d p f) ⊎ IsUntypedClash d p f
-  faults_decided (inl known) f h = inl (faults_complete known f h)
-  faults_decided (inr unknown) (fault.Duplicate at) (g, before, first, middle, second, after, in', whole, same, is) =
-      inl (inr (failing_part (fault.Duplicate at) at.source (Different g) in' (at.place, refl, (before, first, middle, second, after, whole, same, is))))
+  -- each fault of the pair is a cycle of types or fails in one of the texts, or isn't looked for
+  pub faults_decided : AreKnown d p ⊎ (AreKnown d p → ⊥) → (f : CheckFault) → FailsAt d p f → (IsCycleFault d f ⊎ PartFails d p f) ⊎ IsLeftOut d p f
+  faults_decided (inl known) f h = elim (faults_complete known f h) [ inl q ↦ inl q | inr over ↦ inr (inl over) ]
+  faults_decided (inr unknown) (fault.Duplicate at) h = elim (repeat_faults at h) [ inl fails ↦ inl (inr fails) | inr over ↦ inr (inl over) ]
   faults_decided (inr unknown) (fault.UnknownType at) h = inl (inr (type_faults at h))
   faults_decided (inr unknown) (fault.TypeCycle at) h = inl (inl (at, refl, h))
   faults_decided (inr unknown) (fault.UnknownName at) h = inl (inr (name_faults at h))
@@ -290,19 +314,19 @@ module _ (d : DomainText) (p : ProblemText) where
 
       atoms : (u : Use) (s : Signature) (argument : Term) (of_place : Typed) → IsIn u (flattened (λ s. s.atoms) (schemas_in d p at.source))
           → items.declaration_in (predicate_signatures d) u.atom.name ≡ Some s → IsIn (argument, of_place) (zip u.atom.terms s.places)
-          → IsClash d p u.variables argument of_place at.place → (IsCycleFault d (fault.TypeClash at) ⊎ PartFails d p (fault.TypeClash at)) ⊎ IsUntypedClash d p (fault.TypeClash at)
+          → IsClash d p u.variables argument of_place at.place → (IsCycleFault d (fault.TypeClash at) ⊎ PartFails d p (fault.TypeClash at)) ⊎ IsLeftOut d p (fault.TypeClash at)
       atoms u s (term.Variable x) of_place in' e among clash =
           inl (inr (failing_part (fault.TypeClash at) at.source (Atom u) in' (variable_clash (predicate_names d) (predicate_signatures d) u s x of_place e among clash)))
-      atoms u s (term.Object x) of_place in' e among clash = inr (at, u.variables, x, of_place, refl, clash, unknown)
+      atoms u s (term.Object x) of_place in' e among clash = inr (inr (at, u.variables, x, of_place, refl, clash, unknown))
 
       tasks : (u : Use) (s : Signature) (argument : Term) (of_place : Typed) → IsIn u (flattened tasks_in (schemas_in d p at.source))
           → items.declaration_in (task_signatures d) u.atom.name ≡ Some s → IsIn (argument, of_place) (zip u.atom.terms s.places)
-          → IsClash d p u.variables argument of_place at.place → (IsCycleFault d (fault.TypeClash at) ⊎ PartFails d p (fault.TypeClash at)) ⊎ IsUntypedClash d p (fault.TypeClash at)
+          → IsClash d p u.variables argument of_place at.place → (IsCycleFault d (fault.TypeClash at) ⊎ PartFails d p (fault.TypeClash at)) ⊎ IsLeftOut d p (fault.TypeClash at)
       tasks u s (term.Variable x) of_place in' e among clash =
           inl (inr (task_faults at.source u (fault.TypeClash at) in' (λ names. variable_clash names (task_signatures d) u s x of_place e among clash)))
-      tasks u s (term.Object x) of_place in' e among clash = inr (at, u.variables, x, of_place, refl, clash, unknown)
+      tasks u s (term.Object x) of_place in' e among clash = inr (inr (at, u.variables, x, of_place, refl, clash, unknown))
 
-      by : IsTypeClash d p at → (IsCycleFault d (fault.TypeClash at) ⊎ PartFails d p (fault.TypeClash at)) ⊎ IsUntypedClash d p (fault.TypeClash at)
+      by : IsTypeClash d p at → (IsCycleFault d (fault.TypeClash at) ⊎ PartFails d p (fault.TypeClash at)) ⊎ IsLeftOut d p (fault.TypeClash at)
       by (inl (u, s, argument, of_place, in', e, among, clash)) = atoms u s argument of_place in' e among clash
       by (inr (u, s, argument, of_place, in', e, among, clash)) = tasks u s argument of_place in' e among clash
   faults_decided (inr unknown) (fault.OrderCycle at) (w, a, in', cycle, is) =
@@ -312,24 +336,6 @@ module _ (d : DomainText) (p : ProblemText) where
   faults_decided (inr unknown) (fault.TooMany at) h = inl (inr (many_faults at h))
   faults_decided (inr unknown) fault.OutOfMemory h = absurd h
 
-  -- what is passed over of a part is a name that is overtaken
-  overtaken : (text : Source) (x : Part) (f : CheckFault) → IsPart d p text x → PassedOverIn text x f → IsOvertakenName d p f
-  overtaken text (Different g) f in' (place, e, over) = (record { source = text; place = place }, g, e, in', over)
-  overtaken text (Limited n m) f in' gone = absurd gone
-  overtaken text (TypeName m) f in' gone = absurd gone
-  overtaken text (Atom u) f in' gone = absurd gone
-  overtaken text (Decomposed u) f in' gone = absurd gone
-  overtaken text (Subtask u) f in' gone = absurd gone
-  overtaken text (Side t) f in' gone = absurd gone
-  overtaken text (Network at n) f in' gone = absurd gone
-  overtaken text Types f in' gone = absurd gone
-  overtaken text Objects f in' gone = absurd gone
-
-  -- what is passed over is left out of a list of all faults
-  pub left_out : (f : CheckFault) → PartPassed d p f → IsLeftOut d p f
-  left_out f (inl (x, at, o)) = inl (overtaken source.Domain x f (is_part d p source.Domain x at) o)
-  left_out f (inr (x, at, o)) = inl (overtaken source.Problem x f (is_part d p source.Problem x at) o)
-
   -- a cycle of types, and what fails in one of the texts, is a fault of the pair
   pub faults_sound : (f : CheckFault) → IsCycleFault d f ⊎ PartFails d p f → FailsAt d p f
   faults_sound f (inl (at, is, cycle)) = subst (FailsAt d p) (sym is) cycle
@@ -337,11 +343,10 @@ module _ (d : DomainText) (p : ProblemText) where
 
   -- ## Where no part fails
 
-  -- a fault before which none comes of those that fail, but for what is passed over, is the first
-  pub first_of : AreKnown d p ⊎ (AreKnown d p → ⊥) → (f : CheckFault)
-      → ((g : CheckFault) → IsCycleFault d g ⊎ PartFails d p g → comes_before g f ≡ true → PartPassed d p g) → IsFirst d p f
-  first_of known f first = λ g fails before.
-      elim (faults_decided known g fails) [ inl q ↦ left_out g (first g q before) | inr untyped ↦ inr untyped ]
+  -- the fault that is named is the first
+  pub named_is_first : AreKnown d p ⊎ (AreKnown d p → ⊥) → (f : CheckFault) → IsNamed d p f → IsFirst d p f
+  named_is_first known f named = λ g fails before.
+      elim (faults_decided known g fails) [ inl q ↦ absurd (named.1 g q before) | inr out ↦ out ]
 
   module _ (none : (f : CheckFault) → IsCycleFault d f ⊎ PartFails d p f → ⊥) where
     -- no type is unknown
@@ -354,4 +359,5 @@ module _ (d : DomainText) (p : ProblemText) where
 
     -- nothing fails
     pub pair_is_well_typed : AreKnown d p → IsWellTypedPair d p
-    pair_is_well_typed known f h = none f (faults_complete known f h)
+    pair_is_well_typed known f h =
+        elim (faults_complete known f h) [ inl q ↦ none f q | inr over ↦ let (g, fails) = some_fails f over in none g (inr fails) ]

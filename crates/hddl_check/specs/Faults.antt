@@ -1,4 +1,4 @@
--- All faults of a pair, those that aren't looked for, and the first.
+-- All faults of a pair, those that aren't looked for, the first, and the one that is named.
 use Rattle.std.specs.Prelude.{◌≡◌, ◌⊎◌, true, List}
 use Rattle.hddl_words.specs.Names.{Name}
 use Rattle.hddl_tree.specs.declared.domain.DomainText.{DomainText}
@@ -37,3 +37,8 @@ IsLeftOut d p f = IsOvertakenName d p f ⊎ IsUntypedClash d p f
 -- no fault comes before it in the texts, but for those that aren't looked for
 abbrev pub IsFirst : DomainText → ProblemText → CheckFault → Type 0
 IsFirst d p f = (g : CheckFault) → FailsAt d p g → comes_before g f ≡ true → IsLeftOut d p g
+
+-- The fault for which a pair is refused: of those that are looked for, the one before which none comes. Of names that
+-- must differ each that isn't the first of its text is looked for, at the later of its place and that of the first.
+abbrev pub IsNamed : DomainText → ProblemText → CheckFault → Type 0
+IsNamed d p f = PairFails d p f × ((g : CheckFault) → PairFails d p g → comes_before g f ≡ true → ⊥)

@@ -14,7 +14,7 @@ use Rattle.hddl_meaning.specs.Items as items
 use Rattle.hddl_meaning.specs.declared.fault.Source.TheVariants as source
 use Rattle.hddl_meaning.specs.declared.fault.CheckFault.{CheckFault}
 use Rattle.hddl_scope.specs.Findings.{AnyOf}
-use Rattle.hddl_uses.specs.Parts.{Part, FailsIn, PassedOverIn, Different, Limited, Atom, Decomposed, Subtask, Side, Types, Objects, type_parts, quantifier_parts, network_parts}
+use Rattle.hddl_uses.specs.Parts.{Part, FailsIn, Different, Limited, Atom, Decomposed, Subtask, Side, Types, Objects, type_parts, quantifier_parts, network_parts}
 
 -- the parts of parameters: they differ, are few enough, and have declared types
 abbrev pub parameter_parts : List VariableGroup → List Part
@@ -55,12 +55,12 @@ task_parts x = type_parts (typed_variables x.parameters)
 abbrev pub name_parts : List Mention → List Part
 name_parts mentions = Different mentions ∷ Limited items.most_declarations mentions ∷ []
 
--- the names of tasks and actions, which differ together and are few enough each
+-- the names of tasks and actions, which differ together, the actions by themselves too, and are few enough each
 abbrev pub task_name_parts : DomainText → List Part
 task_name_parts d =
     let tasks = map (λ x. mention_of x.name) d.tasks in
     let actions = map (λ x. mention_of x.name) d.actions in
-    Different (tasks ++ actions) ∷ Limited items.most_declarations tasks ∷ Limited items.most_declarations actions ∷ []
+    Different actions ∷ Different (tasks ++ actions) ∷ Limited items.most_declarations tasks ∷ Limited items.most_declarations actions ∷ []
 
 -- the parts of a domain: its declared names, and then the parts of its declarations
 abbrev pub declared_parts : DomainText → List Part
@@ -87,7 +87,3 @@ problem_parts p =
 -- a part of one of the texts fails
 abbrev pub PartFails : DomainText → ProblemText → CheckFault → Type 0
 PartFails d p f = AnyOf (FailsIn d p source.Domain) (domain_parts d) f ⊎ AnyOf (FailsIn d p source.Problem) (problem_parts p) f
-
--- a fault of a part of one of the texts that isn't looked for
-abbrev pub PartPassed : DomainText → ProblemText → CheckFault → Type 0
-PartPassed d p f = AnyOf (PassedOverIn source.Domain) (domain_parts d) f ⊎ AnyOf (PassedOverIn source.Problem) (problem_parts p) f

@@ -5,7 +5,7 @@ ghost use Rattle.hddl_names.specs.Members.{AreDeclaredTypes};
 ghost use Rattle.hddl_uses.specs.Declarations.{AreDeclarationsOf};
 ghost use Rattle.hddl_scope.specs.Findings.{Adds};
 ghost use Rattle.hddl_uses.specs.Known.{AreKnown};
-ghost use Rattle.hddl_check.specs.TextParts.{PartFails, PartPassed};
+ghost use Rattle.hddl_check.specs.TextParts.{PartFails};
 
 use crate::shape::{check_domain, check_problem};
 use hddl_meaning::Source;
@@ -30,7 +30,7 @@ pub(crate) fn check_texts<'a, 'd>(
     requires types { types.now ≡ domain.now }
     requires objects { MatchOption objects (AreKnown domain.now problem.now → ⊥) (λ o. AreKnown domain.now problem.now × AreDeclaredTypes domain.now problem.now o.now) }
     requires declared { AreDeclarationsOf domain.now declared.now }
-    ensures { OnOk result (Adds (PartPassed domain.now problem.now) (PartFails domain.now problem.now) found.old found.new) }
+    ensures { OnOk result (Adds (λ _. ⊥) (PartFails domain.now problem.now) found.old found.new) }
 {
     let in_domain = Context {
         alloc,

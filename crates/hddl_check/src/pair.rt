@@ -4,8 +4,8 @@ ghost use Rattle.hddl_meaning.specs.Building.{IsTaskOf, vocabulary_of};
 ghost use Rattle.hddl_meaning.specs.Items.{FailsAt, IsWellTypedPair};
 ghost use Rattle.hddl_meaning.specs.declared.fault.CheckFault.TheVariants.{OutOfMemory};
 ghost use Rattle.hddl_meaning.specs.declared.fault.CheckFault.{CheckFault};
-ghost use Rattle.hddl_check.specs.Faults.{IsFirst, IsLeftOut, PairFails};
-ghost use Rattle.hddl_check.specs.TextParts.{PartFails, PartPassed};
+ghost use Rattle.hddl_check.specs.Faults.{IsFirst, IsLeftOut, IsNamed, PairFails};
+ghost use Rattle.hddl_check.specs.TextParts.{PartFails};
 ghost use Rattle.hddl_names.specs.Members.{AreDeclaredTypes};
 ghost use Rattle.hddl_scope.specs.Findings.{Adds, Finds};
 ghost use Rattle.hddl_scope.specs.Ranks.{AreInOrder};
@@ -34,7 +34,7 @@ fn check_with(
 ) -> Result<(), AllocError>
     requires vocabulary { vocabulary.now ≡ vocabulary_of types.now problem.now }
     requires objects { MatchOption objects (AreKnown types.now problem.now → ⊥) (λ o. AreKnown types.now problem.now × AreDeclaredTypes types.now problem.now o.now) }
-    ensures { OnOk result (Adds (PartPassed types.now problem.now) (PartFails types.now problem.now) found.old found.new) }
+    ensures { OnOk result (Adds (λ _. ⊥) (PartFails types.now problem.now) found.old found.new) }
 {
     let domain = types.domain();
     let declared = Declarations::of(alloc, domain)?;
@@ -53,7 +53,7 @@ fn check_pair(
     found: &mut Findings,
 ) -> Result<(), AllocError>
     requires { vocabulary.now ≡ vocabulary_of types.now problem.now }
-    ensures added { OnOk result (Adds (PartPassed types.now problem.now) (PairFails types.now problem.now) found.old found.new) }
+    ensures added { OnOk result (Adds (λ _. ⊥) (PairFails types.now problem.now) found.old found.new) }
     ensures known { OnOk result (AreKnown types.now problem.now ⊎ (AreKnown types.now problem.now → ⊥)) }
 {
     check_cycles(alloc, types, found)?;
@@ -71,7 +71,7 @@ fn find_faults(
     found: &mut Findings,
 ) -> Result<(), AllocError>
     requires { vocabulary.now ≡ vocabulary_of domain.now problem.now }
-    ensures added { OnOk result (Adds (PartPassed domain.now problem.now) (PairFails domain.now problem.now) found.old found.new) }
+    ensures added { OnOk result (Adds (λ _. ⊥) (PairFails domain.now problem.now) found.old found.new) }
     ensures known { OnOk result (AreKnown domain.now problem.now ⊎ (AreKnown domain.now problem.now → ⊥)) }
 {
     let types = TypeHierarchy::of(alloc, domain, vocabulary)?;
@@ -89,6 +89,7 @@ fn fault_of(
     requires { vocabulary.now ≡ vocabulary_of domain.now problem.now }
     ensures finds { IfOk result (Finds (PairFails domain.now problem.now)) }
     ensures first { IfOk result (λ fault. IfSome fault (IsFirst domain.now problem.now)) }
+    ensures named { IfOk result (λ fault. IfSome fault (IsNamed domain.now problem.now)) }
 {
     let mut found = Findings::first(alloc);
     find_faults(alloc, domain, problem, vocabulary, &mut found)?;
@@ -123,6 +124,7 @@ fn answer_with(
     ensures task { IfOk result (λ answer. IfOk answer (IsTaskOf domain.now problem.now)) }
     ensures fault { IfOk result (λ answer. IfErr answer (FailsAt domain.now problem.now)) }
     ensures first { IfOk result (λ answer. IfErr answer (IsFirst domain.now problem.now)) }
+    ensures named { IfOk result (λ answer. IfErr answer (IsNamed domain.now problem.now)) }
 {
     let fault = fault_of(alloc, domain, problem, vocabulary)?;
     if let Some(fault) = fault {
@@ -142,6 +144,7 @@ fn answer_of(
     ensures task { IfOk result (λ answer. IfOk answer (IsTaskOf domain.now problem.now)) }
     ensures fault { IfOk result (λ answer. IfErr answer (FailsAt domain.now problem.now)) }
     ensures first { IfOk result (λ answer. IfErr answer (IsFirst domain.now problem.now)) }
+    ensures named { IfOk result (λ answer. IfErr answer (IsNamed domain.now problem.now)) }
 {
     let vocabulary = Vocabulary::of(alloc, domain, problem)?;
     answer_with(alloc, domain, problem, &vocabulary)
@@ -160,6 +163,8 @@ pub fn check(alloc: Global, domain: &DomainText, problem: &ProblemText) -> Resul
     ensures fault { IfErr result (λ fault. fault ≢ OutOfMemory → FailsAt domain.now problem.now fault) }
     // None comes before it, but for those that aren't looked for.
     ensures first { IfErr result (λ fault. fault ≢ OutOfMemory → IsFirst domain.now problem.now fault) }
+    // It is the first of those that are looked for.
+    ensures named { IfErr result (λ fault. fault ≢ OutOfMemory → IsNamed domain.now problem.now fault) }
 {
     match answer_of(alloc, domain, problem) {
         Ok(answer) => answer,
@@ -175,7 +180,7 @@ fn found_with(
     vocabulary: &Vocabulary,
 ) -> Result<Findings, AllocError>
     requires vocabulary { vocabulary.now ≡ vocabulary_of domain.now problem.now }
-    ensures added { IfOk result (Adds (PartPassed domain.now problem.now) (PairFails domain.now problem.now) (record { keeps_all = true; faults = [] })) }
+    ensures added { IfOk result (Adds (λ _. ⊥) (PairFails domain.now problem.now) (record { keeps_all = true; faults = [] })) }
     ensures known { OnOk result (AreKnown domain.now problem.now ⊎ (AreKnown domain.now problem.now → ⊥)) }
 {
     let mut found = Findings::all(alloc);
@@ -189,7 +194,7 @@ fn all_found(
     domain: &DomainText,
     problem: &ProblemText,
 ) -> Result<Findings, AllocError>
-    ensures added { IfOk result (Adds (PartPassed domain.now problem.now) (PairFails domain.now problem.now) (record { keeps_all = true; faults = [] })) }
+    ensures added { IfOk result (Adds (λ _. ⊥) (PairFails domain.now problem.now) (record { keeps_all = true; faults = [] })) }
     ensures known { OnOk result (AreKnown domain.now problem.now ⊎ (AreKnown domain.now problem.now → ⊥)) }
 {
     let vocabulary = Vocabulary::of(alloc, domain, problem)?;
@@ -215,10 +220,19 @@ pub fn all_faults(
     ensures none { IfOk result (λ faults. (faults.items ≡ []) ↔ IsWellTypedPair domain.now problem.now) }
     // They come in the order of the texts, and none twice.
     ensures order { IfOk result (λ faults. AreInOrder faults.items) }
-    // The first is the fault that `check` names.
+    // None comes before the first, but for those that aren't looked for.
     ensures first { IfOk result (λ faults. IfSome (slice_get faults.items 0) (IsFirst domain.now problem.now)) }
+    // Those that are looked for are listed, and no others.
+    ensures found { IfOk result (λ faults. (f : CheckFault) → Contains faults.items f ↔ PairFails domain.now problem.now f) }
+    // The first is the fault that `check` names.
+    ensures named { IfOk result (λ faults. IfSome (slice_get faults.items 0) (IsNamed domain.now problem.now)) }
 {
     let found = all_found(alloc, domain, problem)?;
     let faults = in_order(alloc, found.faults())?;
     Ok(faults)
 }
+
+/// The two texts determine the fault that is named: `check` names the one that `all_faults` lists first.
+pub fn named_faults_are_unique()
+    ensures unique { (d : DomainText) (p : ProblemText) (f g : CheckFault) → IsNamed d p f → IsNamed d p g → f ≡ g }
+{}

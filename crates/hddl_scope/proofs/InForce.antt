@@ -1,20 +1,20 @@
 -- Variables in force: one more of them, and some taken back.
-use Rattle.std.proofs.Common.{◌≡◌, ◌⊎◌, ℕ, zero, suc, ◌<◌, ◌≤◌, ◌+◌, min, Bool, true, false, cond, max, List, [], ◌∷◌, ◌++◌, Option, Some, None, option_map, slice_get, refl, sym, ap, subst, ◌∙◌, inl, inr, arith, take, length, true≢false, length-append}
+use Rattle.std.proofs.Common.{◌≡◌, ◌⊎◌, ℕ, zero, suc, ◌<◌, ◌≤◌, ◌+◌, min, Bool, true, false, cond, List, [], ◌∷◌, ◌++◌, Option, Some, None, IfSome, option_map, slice_get, refl, sym, ap, subst, ◌∙◌, inl, inr, arith, take, length, true≢false, length-append}
 use Rattle.std.proofs.lemmas.List.{map-append, length-take, length-map}
 use Rattle.std.proofs.lemmas.Option.{slice_get_within}
 use Rattle.hddl_meaning.specs.Mentions.{Mention, Text, IsIn}
 use Rattle.hddl_meaning.specs.Names.{is_same_text}
 use Rattle.hddl_meaning.specs.Uses.{Variable}
 use Rattle.hddl_meaning.specs.Items.{variable_in, variable_mentions}
-use Rattle.hddl_meaning.proofs.Listed.{at_head, at_tail, in_cases, in_map, in_nothing, texts_decide}
+use Rattle.hddl_meaning.proofs.Listed.{in_cases, in_nothing, texts_decide}
 use Rattle.hddl_scope.specs.Findings.{Finds, IsOneOf}
 use Rattle.hddl_scope.specs.Numbers.{Entries, number_at}
-use Rattle.hddl_scope.specs.Repeats.{IsRepeat, repeat_of}
+use Rattle.hddl_scope.specs.Repeats.{IsFirstOf, IsRepeatOfFirst, repeat_of}
 use Rattle.hddl_scope.specs.InForce.{AreNoted, IsScope, variables_of}
 use Rattle.hddl_scope.specs.declared.in_force.Entry.{Entry}
-use Rattle.hddl_scope.proofs.Finding.{IfSome-weaker, mapped, sound-one}
+use Rattle.hddl_scope.proofs.Finding.{IfSome-weaker, sound-one}
 use Rattle.hddl_scope.proofs.Positions.{next_number, numbers_more}
-use Rattle.hddl_scope.proofs.Repeating.{Contains-middle, more, snoc_cases, stands}
+use Rattle.hddl_scope.proofs.Repeating.{more, no_repeat, repeat_cases, repeats_here}
 
 -- the text of a variable
 abbrev text_of : Variable → Text
@@ -66,31 +66,26 @@ pushed_at (z ∷ xs) x (suc k) y e = elim (pushed_at xs x k y e) [ inl h ↦ inl
 
 -- ## The first variable of a text
 
--- the variable that is found is in force and has the text
-found_in : (vs : List Variable) (t : Text) (v : Variable) → variable_in vs t ≡ Some v → IsIn v vs × (t ≡ text_of v)
-found_in [] t v e = cc
-found_in (w ∷ vs) t v e = by (is_same_text t (text_of w)) refl e (found_in vs t v)
+-- the variable that is found is the first that mentions the text
+found_first : (vs : List Variable) (t : Text) → IsFirstOf (variable_mentions vs) t (place_in vs t)
+found_first [] t = λ m at same. in_nothing m at
+found_first (w ∷ vs) t = by (is_same_text t (text_of w)) refl (variable_in vs t) (found_first vs t)
   where
-    by : (b : Bool) → is_same_text t (text_of w) ≡ b → cond b (Some w) (variable_in vs t) ≡ Some v
-        → (variable_in vs t ≡ Some v → IsIn v vs × (t ≡ text_of v)) → IsIn v (w ∷ vs) × (t ≡ text_of v)
-    by true same e rest =
-        let is : w ≡ v = cc in
-        (subst (λ z. IsIn z (w ∷ vs)) is (at_head w vs), (texts_decide t (text_of w)).0 same ∙ ap (λ (z : Variable). text_of z) is)
-    by false same e rest = let r = rest e in (at_tail w v vs r.0, r.1)
-
--- where none is found, no variable in force has the text
-found_none : (vs : List Variable) (t : Text) → variable_in vs t ≡ None → (v : Variable) → IsIn v vs → text_of v ≡ t → ⊥
-found_none [] t e v at same = in_nothing v at
-found_none (w ∷ vs) t e v at same = by (is_same_text t (text_of w)) refl e (found_none vs t)
-  where
-    by : (b : Bool) → is_same_text t (text_of w) ≡ b → cond b (Some w) (variable_in vs t) ≡ None
-        → (variable_in vs t ≡ None → (v : Variable) → IsIn v vs → text_of v ≡ t → ⊥) → ⊥
-    by true here e rest = cc
-    by false here e rest =
-        elim (in_cases w v vs at) [
-          | inl is ↦ true≢false (sym ((texts_decide t (text_of w)).1 (sym (ap (λ (z : Variable). text_of z) is ∙ same))) ∙ here)
-          | inr later ↦ rest e v later same
+    by : (b : Bool) → is_same_text t (text_of w) ≡ b → (o : Option Variable) → IsFirstOf (variable_mentions vs) t (option_map (λ v. v.typed.mention.place) o)
+        → IsFirstOf (variable_mentions (w ∷ vs)) t (option_map (λ v. v.typed.mention.place) (cond b (Some w) o))
+    by true same o rest = ([], w.typed.mention, variable_mentions vs, refl, sym ((texts_decide t (text_of w)).0 same), refl, λ x at _. in_nothing x at)
+    by false differs o rest = later o rest
+      where
+        behind : (xs : List Mention) → ((x : Mention) → IsIn x xs → x.text ≡ t → ⊥) → (x : Mention) → IsIn x (w.typed.mention ∷ xs) → x.text ≡ t → ⊥
+        behind xs none x at same = elim (in_cases w.typed.mention x xs at) [
+          | inl is ↦ true≢false (sym ((texts_decide t (text_of w)).1 (sym (ap (λ (y : Mention). y.text) is ∙ same))) ∙ differs)
+          | inr i ↦ none x i same
         ]
+
+        later : (o : Option Variable) → IsFirstOf (variable_mentions vs) t (option_map (λ v. v.typed.mention.place) o)
+            → IsFirstOf (variable_mentions (w ∷ vs)) t (option_map (λ v. v.typed.mention.place) o)
+        later None none = behind (variable_mentions vs) none
+        later (Some v) (front, m, rest, cut, same, at, none) = (w.typed.mention ∷ front, m, rest, ap (λ l. w.typed.mention ∷ l) cut, same, at, behind front none)
 
 -- ## One more variable
 
@@ -107,43 +102,28 @@ module _ (vs : List Variable) (v : Variable) where
   pushed : variable_mentions (vs ++ v ∷ []) ≡ ms ++ m ∷ []
   pushed = map-append (λ (v : Variable). v.typed.mention) vs (v ∷ [])
 
-  -- a new variable changes nothing of which repeat is first
-  repeats_new : (found next : Option ℕ) → variable_in vs m.text ≡ None → Finds (IsRepeat ms) found → IsOneOf found None next → Finds (IsRepeat (ms ++ m ∷ [])) next
-  repeats_new found next none old one = record {
-    sound = sound-one (IsRepeat (ms ++ m ∷ [])) (IfSome-weaker (IsRepeat ms) (IsRepeat (ms ++ m ∷ [])) (more ms m) found old.sound) tt one;
-    complete = λ e place (before, first, middle, second, after, cut, same, is). elim (snoc_cases ms m (before ++ first ∷ middle) second after cut) [
-      | inl (all, last) ↦
-          let at : IsIn first ms = subst (IsIn first) all (Contains-middle before middle first) in
-          let (w, in', is) = mapped (λ (v : Variable). v.typed.mention) vs first at in
-          found_none vs m.text none w in' (ap (λ (x : Mention). x.text) (sym is) ∙ same ∙ ap (λ (x : Mention). x.text) last)
-      | inr (rest, e') ↦ old.complete (one.none e).0 place (before, first, middle, second, rest, e', same, is)
-    ];
-  }
+  -- a repeat that is found with one variable more
+  repeats_more : (found here next : Option ℕ) → Finds (IsRepeatOfFirst ms) found → here ≡ repeat_of (place_in vs m.text) m.place → IsOneOf found here next
+      → Finds (IsRepeatOfFirst (variable_mentions (vs ++ v ∷ []))) next
+  repeats_more found here next old is one =
+      subst (λ l. Finds (IsRepeatOfFirst l) next) (sym pushed) (by here is one)
+    where
+      kept : IfSome found (IsRepeatOfFirst (ms ++ m ∷ []))
+      kept = IfSome-weaker (IsRepeatOfFirst ms) (IsRepeatOfFirst (ms ++ m ∷ [])) (more ms m) found old.sound
 
-  -- a variable that stood before is the first repeat, unless there is an earlier one
-  repeats_old : (w : Variable) (found next : Option ℕ) → variable_in vs m.text ≡ Some w → Finds (IsRepeat ms) found → IsOneOf found (Some (max w.typed.mention.place m.place)) next
-      → Finds (IsRepeat (ms ++ m ∷ [])) next
-  repeats_old w found next some old one =
-      let is = found_in vs m.text w some in
-      let cut : (before : List Mention) × (after : List Mention) × (ms ≡ before ++ w.typed.mention ∷ after) =
-      stands ms w.typed.mention (in_map (λ (v : Variable). v.typed.mention) w vs is.0) in
-      let repeat : IsRepeat (ms ++ m ∷ []) (max w.typed.mention.place m.place) =
-      (cut.0, w.typed.mention, cut.1, m, [], ap (λ l. l ++ m ∷ []) cut.2, sym is.1, refl) in
-      record {
-        sound = sound-one (IsRepeat (ms ++ m ∷ [])) (IfSome-weaker (IsRepeat ms) (IsRepeat (ms ++ m ∷ [])) (more ms m) found old.sound) repeat one;
+      by : (h : Option ℕ) → h ≡ repeat_of (place_in vs m.text) m.place → IsOneOf found h next → Finds (IsRepeatOfFirst (ms ++ m ∷ [])) next
+      by None is one = record {
+        sound = sound-one (IsRepeatOfFirst (ms ++ m ∷ [])) kept tt one;
+        complete = λ e place r. elim (repeat_cases ms m (place_in vs m.text) (found_first vs m.text) place r) [
+          | inl again ↦ let gone = is ∙ again in cc
+          | inr before ↦ old.complete (one.none e).0 place before
+        ];
+      }
+      by (Some place) is one = record {
+        sound =
+            sound-one (IsRepeatOfFirst (ms ++ m ∷ [])) kept (repeats_here ms m (place_in vs m.text) (found_first vs m.text) place (sym is)) one;
         complete = λ e. let none = (one.none e).1 in cc;
       }
-
-  -- the first repeat with one variable more, whether it is new or not
-  repeats_more : (found here next : Option ℕ) → Finds (IsRepeat ms) found → here ≡ repeat_of (place_in vs m.text) m.place → IsOneOf found here next
-      → Finds (IsRepeat (variable_mentions (vs ++ v ∷ []))) next
-  repeats_more found here next old is one =
-      subst (λ l. Finds (IsRepeat l) next) (sym pushed) (by (variable_in vs m.text) refl (subst (λ h. IsOneOf found h next) is one))
-    where
-      by : (o : Option Variable) → variable_in vs m.text ≡ o → IsOneOf found (repeat_of (option_map (λ v. v.typed.mention.place) o) m.place) next
-          → Finds (IsRepeat (ms ++ m ∷ [])) next
-      by None e one = repeats_new found next e old one
-      by (Some w) e one = repeats_old w found next e old one
 
   -- what is known of the variables in force, with one variable more
   pub noted_more : (known after : Entries) (found here next : Option ℕ) → ((t : Text) → number_at after t ≡ next_number known m.text (length vs) t)
@@ -155,17 +135,12 @@ module _ (vs : List Variable) (v : Variable) where
 
 -- ## The scope
 
--- the empty list has no item
-nothing_in : {X : Type 0} (before : List X) (x : X) (after : List X) → [] ≡ before ++ x ∷ after → ⊥
-nothing_in [] x after e = cc
-nothing_in (y ∷ before) x after e = cc
-
 -- no variables, of which nothing is known
 pub scope_none : IsScope [] [] None
 scope_none = record {
   whole = record {
     positions = λ t. refl;
-    repeats = record { sound = tt; complete = λ e place (before, first, middle, second, after, cut, same, is). nothing_in (before ++ first ∷ middle) second after cut };
+    repeats = record { sound = tt; complete = λ e. no_repeat };
   };
   before = λ k e at. cc;
   rising = λ k j e f at_k at_j le. cc;

@@ -11,9 +11,9 @@ use Rattle.hddl_meaning.specs.Mentions.{IsIn}
 use Rattle.hddl_meaning.specs.declared.fault.CheckFault.{CheckFault}
 use Rattle.hddl_meaning.proofs.Listed.{in_cases, in_nothing}
 use Rattle.hddl_scope.specs.Findings.{Kept, keep}
-use Rattle.hddl_scope.specs.Ranks.{AreInOrder, comes_before, rank_cmp, rank_of}
+use Rattle.hddl_scope.specs.Ranks.{AreInOrder, comes_before, fault_of, rank_cmp, rank_of}
 use Rattle.hddl_scope.specs.declared.ranks.Rank.{Rank}
-use Rattle.hddl_scope.proofs.Ordering.{rank_cmp-same, rank_cmp-total}
+use Rattle.hddl_scope.proofs.Ordering.{back, rank_cmp-same, rank_cmp-total}
 
 -- how two faults compare
 abbrev by_rank : CheckFault → CheckFault → Ordering
@@ -46,6 +46,15 @@ before_other f g h one not = by (by_rank g h) refl
     by Less e = absurd (not (ap is_lt e))
     by Equal e = subst (λ (r : Rank). is_lt (rank_cmp (rank_of f) r) ≡ true) (sym (rank_cmp-same (rank_of g) (rank_of h) e)) one
     by Greater e = before_both f h g one (ap is_lt (rank_cmp-total.antisymm (rank_of h) (rank_of g) ∙ ap ordering_reverse e))
+
+-- two faults of which neither comes before the other are the same
+pub neither_before : (f g : CheckFault) → NotBefore f g → NotBefore g f → f ≡ g
+neither_before f g not_first not_second = by (by_rank f g) refl
+  where
+    by : (o : Ordering) → by_rank f g ≡ o → f ≡ g
+    by Less e = absurd (not_first (ap is_lt e))
+    by Equal e = sym (back f) ∙ ap fault_of (rank_cmp-same (rank_of f) (rank_of g) e) ∙ back g
+    by Greater e = absurd (not_second (ap is_lt (rank_cmp-total.antisymm (rank_of g) (rank_of f) ∙ ap ordering_reverse e)))
 
 -- the first that is kept, after one and then others
 pub record KeepsLeast (g : CheckFault) (fs kept : List CheckFault) : Type 0 where

@@ -7,9 +7,9 @@ use Rattle.std.proofs.lemmas.List.Elements.{Contains-append_left, Contains-appen
 use Rattle.hddl_meaning.specs.Mentions.{Text, Mention, IsIn}
 use Rattle.hddl_meaning.specs.Names.{is_same_text}
 use Rattle.hddl_scope.specs.Numbers.{Entries, number_at}
-use Rattle.hddl_scope.specs.Repeats.{AreRepeats, IsFirstOf, IsOvertaken, IsRepeat, noted, repeat_of}
+use Rattle.hddl_scope.specs.Repeats.{AreRepeats, IsFirstOf, IsOvertaken, IsRepeat, IsRepeatOfFirst, noted, repeat_of}
 use Rattle.std.proofs.lemmas.Bool.{cases_lt}
-use Rattle.hddl_meaning.proofs.Listed.{at_head, at_tail, in_nothing, texts_decide}
+use Rattle.hddl_meaning.proofs.Listed.{at_head, at_tail, in_cases, in_nothing, texts_decide}
 
 -- a text has the same bytes as itself
 pub same_itself : (t : Text) → is_same_text t t ≡ true
@@ -76,32 +76,19 @@ snoc_cases (x ∷ ms) m (b ∷ bs) second after e =
       | inr (rest, is) ↦ inr (rest, λ i. same i ∷ is i)
     ]
 
--- an item of a list stands somewhere
-pub stands : {X : Type 0} (xs : List X) (x : X) → IsIn x xs → (before : List X) × (after : List X) × (xs ≡ before ++ x ∷ after)
-stands [] x at = absurd (let gone : at.0 < 0 = at.1 in omega (arith, gone))
-stands (y ∷ ys) x at = elim (Contains-append_cases (y ∷ []) ys x at) [
-  | inl one ↦ elim (Contains-push_cases [] y x one) [ inl (k, lt, is) ↦ absurd (let gone : k < 0 = lt in omega (arith, gone)) | inr e ↦ ([], ys, ap (λ z. z ∷ ys) e) ]
-  | inr more ↦ let (before, after, is) = stands ys x more in (y ∷ before, after, ap (λ l. y ∷ l) is)
-]
-
 -- a value in the middle of a list is in it
 pub Contains-middle : {X : Type 0} (before after : List X) (x : X) → IsIn x (before ++ x ∷ after)
 Contains-middle before after x = Contains-append_right before (x ∷ after) x (Contains-append_left (x ∷ []) after x (Contains-push [] x))
 
--- in an empty list nothing stands twice
-pub no_repeat : (place : ℕ) → IsRepeat [] place → ⊥
-no_repeat place ([], first, middle, second, after, e, same, is) = cc
-no_repeat place (b ∷ bs, first, middle, second, after, e, same, is) = cc
+-- in an empty list nothing stands again
+pub no_repeat : (place : ℕ) → IsRepeatOfFirst [] place → ⊥
+no_repeat place ([], m, after, first, e, is_first, is) = cc
+no_repeat place (b ∷ bs, m, after, first, e, is_first, is) = cc
 
--- what stands twice in a list does so with one mention more
-pub more : (ms : List Mention) (m : Mention) (place : ℕ) → IsRepeat ms place → IsRepeat (ms ++ m ∷ []) place
-more ms m place (before, first, middle, second, after, e, same, is) =
-    (before, first, middle, second, after ++ m ∷ [], ap (λ l. l ++ m ∷ []) e ∙ append_assoc (before ++ first ∷ middle) (second ∷ after) (m ∷ []), same, is)
-
--- what is overtaken in a list is so with one mention more
-pub overtaken_more : (ms : List Mention) (m : Mention) (place : ℕ) → IsOvertaken ms place → IsOvertaken (ms ++ m ∷ []) place
-overtaken_more ms m place (before, first, middle, second, after, third, e, same, is, at, text, lt) =
-    (before, first, middle, second, after ++ m ∷ [], third, ap (λ l. l ++ m ∷ []) e ∙ append_assoc (before ++ first ∷ middle) (second ∷ after) (m ∷ []), same, is, at, text, lt)
+-- what stands again in a list does so with one mention more
+pub more : (ms : List Mention) (m : Mention) (place : ℕ) → IsRepeatOfFirst ms place → IsRepeatOfFirst (ms ++ m ∷ []) place
+more ms m place (before, second, after, first, e, is_first, is) =
+    (before, second, after ++ m ∷ [], first, ap (λ l. l ++ m ∷ []) e ∙ append_assoc before (second ∷ after) (m ∷ []), is_first, is)
 
 -- the first mention of a text is another of that text, or stands before it
 first_or_before : (front rest before after : List Mention) (m first : Mention) → front ++ m ∷ rest ≡ before ++ first ∷ after
@@ -119,61 +106,40 @@ first_or_before (f ∷ fs) rest (b ∷ bs) after m first e none =
 later_is : (a b : ℕ) → ((max a b ≡ b) × (a ≤ b)) ⊎ ((max a b ≡ a) × (b < a))
 later_is a b = elim (cases_lt b a) [ inl lt ↦ inr (omega (arith, lt), lt) | inr le ↦ inl (omega (arith, le), le) ]
 
+-- the first mention of a text has one place
+first_unique : (ms : List Mention) (t : Text) (place : ℕ) (o : Option ℕ) → IsFirstOf ms t (Some place) → IsFirstOf ms t o → o ≡ Some place
+first_unique ms t place None (front, m, rest, cut, same, at, none) other =
+    absurd (other m (subst (IsIn m) (sym cut) (Contains-middle front rest m)) same)
+first_unique ms t place (Some k) (front, m, rest, cut, same, at, none) (front', n, rest', cut', same', at', none') =
+    elim (first_or_before front rest front' rest' m n (sym cut ∙ cut') (λ x i e. none x i (e ∙ same'))) [
+      | inl is ↦ ap Some (sym at' ∙ ap (λ (x : Mention). x.place) (sym is) ∙ at)
+      | inr i ↦ absurd (none' m i same)
+    ]
+
 module _ (ms : List Mention) (m : Mention) (found : Option ℕ) (is_first : IsFirstOf ms m.text found) where
-  -- where the mention stands again, it repeats one before
-  pub repeats_here : (place : ℕ) → repeat_of found m.place ≡ Some place → IsRepeat (ms ++ m ∷ []) place
+  -- where the mention stands again, it repeats the first one before
+  pub repeats_here : (place : ℕ) → repeat_of found m.place ≡ Some place → IsRepeatOfFirst (ms ++ m ∷ []) place
   repeats_here place e = by found is_first e
     where
-      by : (o : Option ℕ) → IsFirstOf ms m.text o → repeat_of o m.place ≡ Some place → IsRepeat (ms ++ m ∷ []) place
+      by : (o : Option ℕ) → IsFirstOf ms m.text o → repeat_of o m.place ≡ Some place → IsRepeatOfFirst (ms ++ m ∷ []) place
       by None none e = cc
-      by (Some n) (front, first, rest, cut, same, at, none) e =
-          (front, first, rest, m, [], ap (λ l. l ++ m ∷ []) cut, same, let is : max n m.place ≡ place = cc in sym is ∙ ap (λ k. max k m.place) (sym at))
+      by (Some n) first e = (ms, m, [], n, refl, first, let is : max n m.place ≡ place = cc in sym is)
 
-  -- where it doesn't, nothing before has its text
-  pub none_here : repeat_of found m.place ≡ None → (x : Mention) → IsIn x ms → x.text ≡ m.text → ⊥
-  none_here e = by found is_first e
-    where
-      by : (o : Option ℕ) → IsFirstOf ms m.text o → repeat_of o m.place ≡ None → (x : Mention) → IsIn x ms → x.text ≡ m.text → ⊥
-      by None none e = none
-      by (Some n) is e = cc
-
-  -- a repeat by the mention is that of the first one before, or an older one, or overtaken
-  later_repeat : (before middle : List Mention) (first : Mention) (place : ℕ) → before ++ first ∷ middle ≡ ms → first.text ≡ m.text → place ≡ max first.place m.place
-      → (repeat_of found m.place ≡ Some place) ⊎ IsRepeat ms place ⊎ IsOvertaken (ms ++ m ∷ []) place
-  later_repeat before middle first place all same is = by found is_first
-    where
-      whole : ms ++ m ∷ [] ≡ before ++ first ∷ middle ++ m ∷ []
-      whole = ap (λ l. l ++ m ∷ []) (sym all)
-
-      by : (o : Option ℕ) → IsFirstOf ms m.text o → (repeat_of o m.place ≡ Some place) ⊎ IsRepeat ms place ⊎ IsOvertaken (ms ++ m ∷ []) place
-      by None none = absurd (none first (subst (IsIn first) all (Contains-middle before middle first)) same)
-      by (Some n) (front, third, rest, cut, text, at, none) =
-          elim (first_or_before front rest before middle third first (sym cut ∙ sym all) (λ x i e. none x i (e ∙ same))) [
-            | inl e ↦ inl (ap Some (sym (is ∙ ap (λ k. max k m.place) (sym (ap (λ (x : Mention). x.place) e) ∙ at))))
-            | inr i ↦ elim (cases_lt place third.place) [
-              | inl lt ↦ inr (inr (before, first, middle, m, [], third, whole, same, is, i, text ∙ sym same, lt))
-              | inr le ↦ elim (later_is first.place m.place) [
-                | inl (last, _) ↦ inl (ap Some (let big : max n m.place ≡ place = omega (arith, at, le, is, last) in big))
-                | inr (last, _) ↦
-                    let (b, a, cut') = stands before third i in
-                    inr (inl (b, third, a, first, middle, sym all ∙ ap (λ l. l ++ first ∷ middle) cut', text ∙ sym same, omega (arith, le, is, last)))
-              ]
-            ]
-          ]
-
-  -- so is each repeat of the list with it
-  pub repeat_cases : (place : ℕ) → IsRepeat (ms ++ m ∷ []) place → (repeat_of found m.place ≡ Some place) ⊎ IsRepeat ms place ⊎ IsOvertaken (ms ++ m ∷ []) place
-  repeat_cases place (before, first, middle, second, after, e, same, is) =
-      elim (snoc_cases ms m (before ++ first ∷ middle) second after e) [
+  -- what stands again in the list with it is the mention, or stood again before
+  pub repeat_cases : (place : ℕ) → IsRepeatOfFirst (ms ++ m ∷ []) place → (repeat_of found m.place ≡ Some place) ⊎ IsRepeatOfFirst ms place
+  repeat_cases place (before, second, after, n, e, first, is) =
+      elim (snoc_cases ms m before second after e) [
         | inl (all, last) ↦
-            later_repeat before middle first place all (same ∙ ap (λ (x : Mention). x.text) last) (is ∙ ap (λ (x : Mention). max first.place x.place) last)
-        | inr (rest, e') ↦ inr (inl (before, first, middle, second, rest, e', same, is))
+            let here : IsFirstOf ms m.text (Some n) = subst (λ (x : Mention). IsFirstOf ms x.text (Some n)) last (subst (λ l. IsFirstOf l second.text (Some n)) all first) in
+            inl
+            (ap (λ o. repeat_of o m.place) (first_unique ms m.text n found here is_first) ∙ ap Some (ap (λ (x : Mention). max n x.place) (sym last) ∙ sym is))
+        | inr (rest, e') ↦ inr (before, second, rest, n, e', first, is)
       ]
 
 -- the repeats that are listed of the first mentions, but for those that were listed elsewhere
 pub record Listed (Elsewhere : ℕ → Type 0) (ms : List Mention) (places : List ℕ) : Type 0 where
-  pub sound : (place : ℕ) → IsIn place places → IsRepeat ms place
-  pub complete : (place : ℕ) → IsRepeat ms place → IsIn place places ⊎ Elsewhere place ⊎ IsOvertaken ms place
+  pub sound : (place : ℕ) → IsIn place places → IsRepeatOfFirst ms place
+  pub complete : (place : ℕ) → IsRepeatOfFirst ms place → IsIn place places ⊎ Elsewhere place
 
 -- the places after one mention more
 abbrev pub with_place : List ℕ → Option ℕ → List ℕ
@@ -185,19 +151,10 @@ pub Listed-more : (E : ℕ → Type 0) (ms : List Mention) (m : Mention) (found 
     → Listed E ms places → Listed E (ms ++ m ∷ []) (with_place places (repeat_of found m.place))
 Listed-more E ms m found places is_first old = by (repeat_of found m.place) refl
   where
-    kept : (place : ℕ) → IsIn place places ⊎ E place ⊎ IsOvertaken ms place → IsIn place places ⊎ E place ⊎ IsOvertaken (ms ++ m ∷ []) place
-    kept place (inl i) = inl i
-    kept place (inr (inl e)) = inr (inl e)
-    kept place (inr (inr o)) = inr (inr (overtaken_more ms m place o))
-
     by : (o : Option ℕ) → repeat_of found m.place ≡ o → Listed E (ms ++ m ∷ []) (with_place places o)
     by None e = record {
       sound = λ place i. more ms m place (old.sound place i);
-      complete = λ place r. elim (repeat_cases ms m found is_first place r) [
-        | inl here ↦ let gone = sym e ∙ here in cc
-        | inr (inl before) ↦ kept place (old.complete place before)
-        | inr (inr over) ↦ inr (inr over)
-      ];
+      complete = λ place r. elim (repeat_cases ms m found is_first place r) [ inl here ↦ let gone = sym e ∙ here in cc | inr before ↦ old.complete place before ];
     }
     by (Some n) e = record {
       sound = λ place i. elim (Contains-push_cases places n place i) [
@@ -206,28 +163,22 @@ Listed-more E ms m found places is_first old = by (repeat_of found m.place) refl
       ];
       complete = λ place r. elim (repeat_cases ms m found is_first place r) [
         | inl here ↦ inl (subst (λ k. IsIn k (places ++ n ∷ [])) (let is : n ≡ place = let both = sym e ∙ here in cc in is) (Contains-push places n))
-        | inr (inl before) ↦ elim (kept place (old.complete place before)) [
-          | inl i ↦ inl (Contains-append_left places (n ∷ []) place i)
-          | inr rest ↦ inr rest
-        ]
-        | inr (inr over) ↦ inr (inr over)
+        | inr before ↦ elim (old.complete place before) [ inl i ↦ inl (Contains-append_left places (n ∷ []) place i) | inr rest ↦ inr rest ]
       ];
     }
 
 -- ## Names that are read in turn
 
--- each text has the place of its first mention, the repeats are listed, and where none is there is none
+-- each text has the place of its first mention, and the repeats are listed
 pub record Read (known : Entries) (ms : List Mention) (places : List ℕ) : Type 0 where
   pub firsts : (t : Text) → IsFirstOf ms t (number_at known t)
   pub listed : Listed (λ _. ⊥) ms places
-  pub none : places ≡ [] → (place : ℕ) → IsRepeat ms place → ⊥
 
 -- before anything is read nothing is known or listed
 pub Read-start : Read [] [] []
 Read-start = record {
   firsts = λ t m at same. in_nothing m at;
   listed = record { sound = λ place i. absurd (in_nothing place i); complete = λ place r. absurd (no_repeat place r) };
-  none = λ _. no_repeat;
 }
 
 -- the first mention of a text stays it with one mention more
@@ -274,24 +225,8 @@ pub Read-more : (known : Entries) (ms : List Mention) (m : Mention) (places : Li
     → Read (noted known m) (ms ++ m ∷ []) (with_place places (repeat_of (number_at known m.text) m.place))
 Read-more known ms m places old = record {
   firsts = firsts_more known ms m old.firsts;
-  listed = Listed-more (λ _. ⊥) ms m found places (old.firsts m.text) old.listed;
-  none = by (repeat_of found m.place) refl;
+  listed = Listed-more (λ _. ⊥) ms m (number_at known m.text) places (old.firsts m.text) old.listed;
 }
-  where
-    found : Option ℕ
-    found = number_at known m.text
-
-    pushed : (n : ℕ) → places ++ n ∷ [] ≡ [] → ⊥
-    pushed n e = in_nothing n (subst (IsIn n) e (Contains-push places n))
-
-    by : (o : Option ℕ) → repeat_of found m.place ≡ o → with_place places o ≡ [] → (place : ℕ) → IsRepeat (ms ++ m ∷ []) place → ⊥
-    by None e empty place (before, first, middle, second, after, cut, same, is) =
-        elim (snoc_cases ms m (before ++ first ∷ middle) second after cut) [
-          | inl (all, last) ↦
-              none_here ms m found (old.firsts m.text) e first (subst (IsIn first) all (Contains-middle before middle first)) (same ∙ ap (λ (x : Mention). x.text) last)
-          | inr (rest, e') ↦ old.none empty place (before, first, middle, second, rest, e', same, is)
-        ]
-    by (Some n) e empty place r = pushed n empty
 
 -- the step of a loop over the mentions
 pub Read-step : (known after : Entries) (ms : List Mention) (i : ℕ) (m : Mention) (found : Option ℕ) (places next : List ℕ) → i < length ms → m ≡ get_or ms i m
@@ -307,5 +242,72 @@ Read-step known after ms i m found places next lt is told then put old =
 pub Listed-repeats : (ms : List Mention) (places : List ℕ) → Listed (λ _. ⊥) ms places → AreRepeats 0 ms places
 Listed-repeats ms places h = record {
   sound = h.sound;
-  complete = λ place r. elim (h.complete place r) [ inl i ↦ inl i | inr (inl gone) ↦ absurd gone | inr (inr over) ↦ inr (inr over) ];
+  complete = λ place r. elim (h.complete place r) [ inl i ↦ inl i | inr gone ↦ absurd gone ];
 }
+
+-- ## Any two names of one text
+
+-- a text is mentioned first somewhere, or not at all
+first_of : (ms : List Mention) (t : Text) → (o : Option ℕ) × IsFirstOf ms t o
+first_of [] t = (None, λ m at same. in_nothing m at)
+first_of (m ∷ ms) t = by (is_same_text m.text t) refl (first_of ms t)
+  where
+    by : (b : Bool) → is_same_text m.text t ≡ b → (o : Option ℕ) × IsFirstOf ms t o → (o : Option ℕ) × IsFirstOf (m ∷ ms) t o
+    by true same rest = (Some m.place, ([], m, ms, refl, (texts_decide m.text t).0 same, refl, λ x at _. in_nothing x at))
+    by false differs (o, is) = (o, later o is)
+      where
+        differ : m.text ≡ t → ⊥
+        differ e = true≢false (sym ((texts_decide m.text t).1 e) ∙ differs)
+
+        behind : (xs : List Mention) → ((x : Mention) → IsIn x xs → x.text ≡ t → ⊥) → (x : Mention) → IsIn x (m ∷ xs) → x.text ≡ t → ⊥
+        behind xs none x at same = elim (in_cases m x xs at) [ inl is ↦ differ (ap (λ (y : Mention). y.text) is ∙ same) | inr i ↦ none x i same ]
+
+        later : (o : Option ℕ) → IsFirstOf ms t o → IsFirstOf (m ∷ ms) t o
+        later None none = behind ms none
+        later (Some place) (front, first, rest, cut, same, at, none) = (m ∷ front, first, rest, ap (λ l. m ∷ l) cut, same, at, behind front none)
+
+-- a repeat of the first mention is one of two mentions of one text
+pub of_two : (ms : List Mention) (place : ℕ) → IsRepeatOfFirst ms place → IsRepeat ms place
+of_two ms place (before, m, after, n, cut, (front, first, rest, cut', same, at, none), is) =
+    (front, first, rest, m, after, cut ∙ ap (λ l. l ++ m ∷ after) cut', same, is ∙ ap (λ k. max k m.place) (sym at))
+
+-- where two mentions have one text, one repeats the first
+pub some_repeat : (ms : List Mention) (place : ℕ) → IsRepeat ms place → (other : ℕ) × IsRepeatOfFirst ms other
+some_repeat ms place (before, first, middle, second, after, e, same, is) = by (first_of (before ++ first ∷ middle) second.text)
+  where
+    by : (o : Option ℕ) × IsFirstOf (before ++ first ∷ middle) second.text o → (other : ℕ) × IsRepeatOfFirst ms other
+    by (None, none) = absurd (none first (Contains-middle before middle first) same)
+    by (Some n, is_first) = (max n second.place, (before ++ first ∷ middle, second, after, n, e, is_first, refl))
+
+-- a repeat of two mentions is one of the first of their text, or is overtaken by that
+pub repeat_or_overtaken : (ms : List Mention) (place : ℕ) → IsRepeat ms place → IsRepeatOfFirst ms place ⊎ IsOvertaken ms place
+repeat_or_overtaken ms place (before, first, middle, second, after, e, same, is) = by (first_of before first.text)
+  where
+    by : (o : Option ℕ) × IsFirstOf before first.text o → IsRepeatOfFirst ms place ⊎ IsOvertaken ms place
+    by (None, none) = inl (before ++ first ∷ middle, second, after, first.place, e, (before, first, middle, refl, same, refl, λ x i t. none x i (t ∙ sym same)), is)
+    by (Some n, (front, third, rest, cut, text, at, none)) =
+        elim (cases_lt place third.place) [
+          | inl lt ↦ inr (before, first, middle, second, after, third, e, same, is, subst (IsIn third) (sym cut) (Contains-middle front rest third), text, lt)
+          | inr le ↦ elim (later_is first.place second.place) [
+            | inl (last, _) ↦
+                inl (
+                  before ++ first ∷ middle,
+                  second,
+                  after,
+                  n,
+                  e,
+                  (front, third, rest ++ first ∷ middle, ap (λ l. l ++ first ∷ middle) cut ∙ append_assoc front (third ∷ rest) (first ∷ middle), text ∙ same, at, λ x i t. none x i (t ∙ sym same)),
+                  omega (arith, at, le, is, last),
+                )
+            | inr (last, _) ↦
+                inl (
+                  before,
+                  first,
+                  middle ++ second ∷ after,
+                  n,
+                  e ∙ append_assoc before (first ∷ middle) (second ∷ after),
+                  (front, third, rest, cut, text, at, none),
+                  omega (arith, at, le, is, last),
+                )
+          ]
+        ]

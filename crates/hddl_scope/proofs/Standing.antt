@@ -7,7 +7,7 @@ use Rattle.hddl_meaning.specs.Names.{is_same_text}
 use Rattle.hddl_meaning.specs.Uses.{Variable}
 use Rattle.hddl_meaning.specs.Items.{variable_mentions}
 use Rattle.hddl_meaning.proofs.Listed.{at_head, at_tail, in_cases, in_nothing, in_left, texts_decide}
-use Rattle.hddl_scope.specs.Repeats.{AreRepeats, IsFirstOf, IsRepeat, repeat_of}
+use Rattle.hddl_scope.specs.Repeats.{AreRepeats, IsFirstOf, IsRepeatOfFirst, repeat_of}
 use Rattle.hddl_scope.specs.Scopes.{has_text}
 use Rattle.std.proofs.lemmas.List.{length-map, take_all, take_more}
 use Rattle.std.proofs.lemmas.Option.{slice_get-get_or, slice_get-map}
@@ -140,9 +140,9 @@ Listed-step E vs k here places next lt told then old =
 
 -- what is listed up to the end is listed of all variables
 pub Listed-whole : (vs : List Variable) (start k : ℕ) (places : List ℕ) → length vs ≤ k
-    → Listed (IsRepeat (take start (variable_mentions vs))) (take k (variable_mentions vs)) places → AreRepeats start (variable_mentions vs) places
+    → Listed (IsRepeatOfFirst (take start (variable_mentions vs))) (take k (variable_mentions vs)) places → AreRepeats start (variable_mentions vs) places
 Listed-whole vs start k places le h =
     let ms : List Mention = variable_mentions vs in
     let long : length ms ≡ length vs = length-map vs (λ (v : Variable). v.typed.mention) in
-    let h' = subst (λ l. Listed (IsRepeat (take start ms)) l places) (take_all k ms (omega (arith, le, long))) h in
+    let h' = subst (λ l. Listed (IsRepeatOfFirst (take start ms)) l places) (take_all k ms (omega (arith, le, long))) h in
     record { sound = h'.sound; complete = h'.complete }

@@ -6,14 +6,14 @@ use Rattle.hddl_meaning.specs.Items.{variable_mentions}
 use Rattle.hddl_meaning.specs.Uses.{Variable}
 use Rattle.hddl_scope.specs.Findings.{Finds}
 use Rattle.hddl_scope.specs.Numbers.{Entries, number_at}
-use Rattle.hddl_scope.specs.Repeats.{IsRepeat}
+use Rattle.hddl_scope.specs.Repeats.{IsRepeatOfFirst}
 use Rattle.hddl_scope.specs.Scopes.{has_text}
 use Rattle.hddl_scope.specs.declared.in_force.Entry.{Entry}
 
 -- the position of the first variable of each text, and one whose text stood before
 pub record AreNoted (known : Entries) (variables : List Variable) (repeat : Option ℕ) : Type 0 where
   pub positions : (t : Text) → number_at known t ≡ position (has_text t) variables
-  pub repeats : Finds (IsRepeat (variable_mentions variables)) repeat
+  pub repeats : Finds (IsRepeatOfFirst (variable_mentions variables)) repeat
 
 -- the variables of the entries, in their order
 abbrev pub variables_of : List Entry → List Variable

@@ -37,14 +37,20 @@ IsOvertaken group place =
     × (group ≡ before ++ first ∷ middle ++ second ∷ after) × (first.text ≡ second.text) × (place ≡ max first.place second.place)
     × IsIn third before × (third.text ≡ first.text) × (place < third.place)
 
--- the places at which mentions after the first `start` ones repeat others, but for those that are overtaken
-pub record AreRepeats (start : ℕ) (group : List Mention) (places : List ℕ) : Type 0 where
-  pub sound : (place : ℕ) → IsIn place places → IsRepeat group place
-  pub complete : (place : ℕ) → IsRepeat group place → IsIn place places ⊎ IsRepeat (take start group) place ⊎ IsOvertaken group place
-
 -- the place of the first mention of a text, or None where there is none
 abbrev pub IsFirstOf : List Mention → Text → Option ℕ → Type 0
 IsFirstOf group text None = (m : Mention) → IsIn m group → m.text ≡ text → ⊥
 IsFirstOf group text (Some place) =
     (before : List Mention) × (m : Mention) × (after : List Mention) × (group ≡ before ++ m ∷ after) × (m.text ≡ text) × (m.place ≡ place)
     × ((x : Mention) → IsIn x before → x.text ≡ text → ⊥)
+
+-- a mention and the first one before it of its text: the later place of the two
+abbrev pub IsRepeatOfFirst : List Mention → ℕ → Type 0
+IsRepeatOfFirst group place =
+    (before : List Mention) × (m : Mention) × (after : List Mention) × (first : ℕ)
+    × (group ≡ before ++ m ∷ after) × IsFirstOf before m.text (Some first) × (place ≡ max first m.place)
+
+-- the places at which mentions after the first `start` ones repeat the first of their text
+pub record AreRepeats (start : ℕ) (group : List Mention) (places : List ℕ) : Type 0 where
+  pub sound : (place : ℕ) → IsIn place places → IsRepeatOfFirst group place
+  pub complete : (place : ℕ) → IsRepeatOfFirst group place → IsIn place places ⊎ IsRepeatOfFirst (take start group) place

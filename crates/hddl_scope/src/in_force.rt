@@ -8,7 +8,7 @@ ghost use Rattle.hddl_meaning.specs.Items.{IsPast, variable_in, variable_mention
 ghost use Rattle.hddl_meaning.specs.Uses.{parameters_of, quantified_of};
 ghost use Rattle.hddl_scope.specs.Findings.{Finds};
 ghost use Rattle.hddl_scope.specs.Numbers.{number_at};
-ghost use Rattle.hddl_scope.specs.Repeats.{AreRepeats, IsFirstOf, IsRepeat, repeat_of};
+ghost use Rattle.hddl_scope.specs.Repeats.{AreRepeats, IsFirstOf, IsRepeatOfFirst, repeat_of};
 ghost use Rattle.hddl_scope.specs.Scopes.{group_variables, has_text};
 
 use crate::numbers::Numbers;
@@ -158,7 +158,7 @@ impl<'a> Scope<'a> {
 
     /// The place of a variable whose text occurs before it, if there is one.
     pub fn repeat(&self) -> Option<usize>
-        ensures { Finds (IsRepeat (variable_mentions self.now)) result }
+        ensures { Finds (IsRepeatOfFirst (variable_mentions self.now)) result }
     {
         self.repeat
     }

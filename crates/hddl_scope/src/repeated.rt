@@ -1,8 +1,8 @@
 //! Names that must differ.
-ghost use Rattle.std.specs.Prelude.{◌≡◌, ℕ, [], IfOk, OnOk};
+ghost use Rattle.std.specs.Prelude.{◌≡◌, IfOk, OnOk};
 ghost use Rattle.hddl_scope.specs.Findings.{IsOneOf};
 ghost use Rattle.hddl_scope.specs.Numbers.{number_at};
-ghost use Rattle.hddl_scope.specs.Repeats.{AreRepeats, IsRepeat, noted, repeat_of};
+ghost use Rattle.hddl_scope.specs.Repeats.{AreRepeats, noted, repeat_of};
 
 use crate::mention::Mention;
 use crate::numbers::Numbers;
@@ -60,8 +60,7 @@ pub(crate) fn note(
 /// The places of repeated names: for each name but the first of its text, its place or that of the first, whichever is
 /// later.
 pub fn repeats(alloc: Global, mentions: &[Mention<'_>]) -> Result<Vec<usize>, AllocError>
-    ensures repeats { IfOk result (λ places. AreRepeats 0 mentions.now places.items) }
-    ensures none { IfOk result (λ places. places.items ≡ [] → (place : ℕ) → IsRepeat mentions.now place → ⊥) }
+    ensures { IfOk result (λ places. AreRepeats 0 mentions.now places.items) }
 {
     let mut known = Numbers::with_capacity(alloc, mentions.len())?;
     let mut places = Vec::new(alloc);

@@ -12,7 +12,7 @@ use Rattle.hddl_meaning.specs.declared.fault.CheckFault.{CheckFault}
 use Rattle.hddl_meaning.specs.declared.fault.CheckFault.TheVariants as fault
 use Rattle.hddl_meaning.proofs.Listed.{at_head, at_tail, in_cases, in_map, in_nothing, texts_decide}
 use Rattle.hddl_scope.specs.Findings.{Adds, AddsAny, AnyOf, Faulted, Kept}
-use Rattle.hddl_scope.proofs.Adding.{Adds-both, Adds-none, Adds-same}
+use Rattle.hddl_scope.proofs.Adding.{Adds-both, Adds-every, Adds-none, Adds-same}
 use Rattle.hddl_scope.proofs.Finding.{AnyOf-cases, AnyOf-left, AnyOf-right, mapped}
 use Rattle.hddl_uses.specs.Parts.{HasClash, HasUnknownArgument, IsWrongCount, Part, UseFails}
 use Rattle.hddl_uses.specs.Contexts.{AnyArgumentFails, ArgumentClashes, ArgumentFails, Fails, PassedInside, PassedOver, PlacesFail, TermFails}
@@ -22,14 +22,14 @@ use Rattle.hddl_uses.proofs.Using.{zip_parameters, zip_typed}
 
 -- ## Inside a `forall`
 
--- what is passed over is so inside a `forall` too
+-- where nothing is passed over, nothing is inside a `forall`
 pub inside : (c : Context) (w : List Variable) (x : Part) {before after : Kept} → Adds (PassedOver c x) (Fails c x) before after → Adds (PassedInside c w x) (Fails c x) before after
-inside c w x = Adds-same (λ f o. inl o) (λ f p. p) (λ f p. p)
+inside c w x = Adds-every
 
 -- the same of all parts of a list
 pub all_inside : (c : Context) (w : List Variable) (xs : List Part) {before after : Kept} → AddsAny (PassedOver c) (Fails c) xs before after
     → AddsAny (PassedInside c w) (Fails c) xs before after
-all_inside c w xs = Adds-same (λ f (x, at, o). (x, at, inl o)) (λ f p. p) (λ f p. p)
+all_inside c w xs = Adds-same (λ f (x, at, o). absurd o) (λ f p. p) (λ f p. p)
 
 -- ## Arguments beside places
 

@@ -5,9 +5,9 @@ use Rattle.hddl_meaning.specs.Mentions.{Mention, IsIn}
 use Rattle.hddl_meaning.specs.declared.fault.Source.{Source}
 use Rattle.hddl_meaning.specs.declared.fault.CheckFault.{CheckFault}
 use Rattle.hddl_meaning.specs.declared.fault.CheckFault.TheVariants.{Duplicate}
-use Rattle.hddl_meaning.proofs.Listed.{at_head, at_tail, in_cases, in_map}
+use Rattle.hddl_meaning.proofs.Listed.{at_tail, in_cases, in_map, in_nothing}
 use Rattle.hddl_scope.specs.Findings.{Adds, Faulted, Kept, keep}
-use Rattle.hddl_scope.specs.Repeats.{AreRepeats, IsOvertaken, IsRepeat}
+use Rattle.hddl_scope.specs.Repeats.{AreRepeats, IsRepeatOfFirst}
 use Rattle.hddl_scope.proofs.Finding.{mapped}
 use Rattle.hddl_scope.proofs.Repeating.{no_repeat}
 use Rattle.hddl_uses.specs.Contexts.{duplicate_at}
@@ -25,7 +25,7 @@ empty_mapped f (x ∷ xs) e = cc
 
 module _ (text : Source) (ms : List Mention) (places : List ℕ) where
   -- each listed place is one of a repeat
-  listed_sound : (start : ℕ) → AreRepeats start ms places → (f : CheckFault) → IsIn f (map (duplicate_at text) places) → Faulted Duplicate text (IsRepeat ms) f
+  listed_sound : (start : ℕ) → AreRepeats start ms places → (f : CheckFault) → IsIn f (map (duplicate_at text) places) → Faulted Duplicate text (IsRepeatOfFirst ms) f
   listed_sound start h f at = let (place, in', is) = mapped (duplicate_at text) places f at in (place, is, h.sound place in')
 
   -- a listed place is among the faults
@@ -33,24 +33,23 @@ module _ (text : Source) (ms : List Mention) (places : List ℕ) where
   listed_in place f e i = subst (λ x. IsIn x (map (duplicate_at text) places)) (sym e) (in_map (duplicate_at text) place places i)
 
   -- the repeats of a whole list
-  pub repeats_added : {before after : Kept} → AreRepeats 0 ms places → (places ≡ [] → (place : ℕ) → IsRepeat ms place → ⊥)
-      → after ≡ fold keep before (map (duplicate_at text) places) → Adds (Faulted Duplicate text (IsOvertaken ms)) (Faulted Duplicate text (IsRepeat ms)) before after
-  repeats_added h none is = record {
+  pub repeats_added : {O : CheckFault → Type 0} {before after : Kept} → AreRepeats 0 ms places
+      → after ≡ fold keep before (map (duplicate_at text) places) → Adds O (Faulted Duplicate text (IsRepeatOfFirst ms)) before after
+  repeats_added h is = record {
     added = map (duplicate_at text) places;
     sound = listed_sound 0 h;
-    complete = λ f (place, e, r). elim (h.complete place r) [
-      | inl i ↦ inl (listed_in place f e i)
-      | inr (inl before) ↦ absurd (no_repeat place before)
-      | inr (inr over) ↦ inr (place, e, over)
-    ];
-    none = λ e f (place, _, r). none (empty_mapped (duplicate_at text) places e) place r;
+    complete = λ f (place, e, r). inl (listed_in place f e (listed place r));
+    none = λ e f (place, _, r). in_nothing place (subst (IsIn place) (empty_mapped (duplicate_at text) places e) (listed place r));
     is = is;
   }
+    where
+      listed : (place : ℕ) → IsRepeatOfFirst ms place → IsIn place places
+      listed place r = elim (h.complete place r) [ inl i ↦ i | inr before ↦ absurd (no_repeat place before) ]
 
   -- the repeats past the first so many, with one that is known
-  pub repeats_among : {before after : Kept} (start known : ℕ) → IsRepeat ms known → AreRepeats start ms places
+  pub repeats_among : {before after : Kept} (start known : ℕ) → IsRepeatOfFirst ms known → AreRepeats start ms places
       → after ≡ fold keep before (duplicate_at text known ∷ map (duplicate_at text) places)
-      → Adds (λ f. Faulted Duplicate text (IsRepeat (take start ms)) f ⊎ Faulted Duplicate text (IsOvertaken ms) f) (Faulted Duplicate text (IsRepeat ms)) before after
+      → Adds (Faulted Duplicate text (IsRepeatOfFirst (take start ms))) (Faulted Duplicate text (IsRepeatOfFirst ms)) before after
   repeats_among start known one h is = record {
     added = duplicate_at text known ∷ map (duplicate_at text) places;
     sound = λ f at. elim (in_cases (duplicate_at text known) f (map (duplicate_at text) places) at) [
@@ -59,8 +58,7 @@ module _ (text : Source) (ms : List Mention) (places : List ℕ) where
     ];
     complete = λ f (place, e, r). elim (h.complete place r) [
       | inl i ↦ inl (at_tail (duplicate_at text known) f (map (duplicate_at text) places) (listed_in place f e i))
-      | inr (inl before) ↦ inr (inl (place, e, before))
-      | inr (inr over) ↦ inr (inr (place, e, over))
+      | inr before ↦ inr (place, e, before)
     ];
     none = λ e. cc;
     is = is;

@@ -11,26 +11,24 @@ use Rattle.hddl_meaning.specs.declared.fault.Source.{Source}
 use Rattle.hddl_meaning.specs.declared.fault.CheckFault.{CheckFault}
 use Rattle.hddl_meaning.specs.declared.fault.CheckFault.TheVariants as fault
 use Rattle.hddl_scope.specs.Findings.{AnyOf, Faulted}
-use Rattle.hddl_scope.specs.Repeats.{IsOvertaken, IsRepeat}
-use Rattle.hddl_uses.specs.Parts.{ArgumentFailsIn, ClashesAt, Part, Different, Side, FailsIn, PassedOverIn}
+use Rattle.hddl_uses.specs.Parts.{ArgumentFailsIn, ClashesAt, Part, Different, Side, FailsIn}
 use Rattle.hddl_uses.specs.declared.context.Context.{Context}
 
 -- a part of the text that is checked fails with a fault
 abbrev pub Fails : Context → Part → CheckFault → Type 0
 Fails c = FailsIn c.domain.now c.problem.now c.source
 
--- a fault of a part that isn't looked for
+-- of a part by itself no fault is passed over
 abbrev pub PassedOver : Context → Part → CheckFault → Type 0
-PassedOver c = PassedOverIn c.source
+PassedOver c part f = ⊥
 
 -- a fault that isn't looked for where these variables are in force: their own repeats are looked for where they come
 abbrev pub PassedInside : Context → List Variable → Part → CheckFault → Type 0
-PassedInside c variables part f = PassedOver c part f ⊎ Fails c (Different (variable_mentions variables)) f
+PassedInside c variables part = Fails c (Different (variable_mentions variables))
 
--- a repeat among the first `start` variables, or one that is overtaken
+-- a repeat among the first `start` variables
 abbrev pub RepeatsBefore : Context → ℕ → List Variable → CheckFault → Type 0
-RepeatsBefore c start variables f =
-    Fails c (Different (take start (variable_mentions variables))) f ⊎ Faulted fault.Duplicate c.source (IsOvertaken (variable_mentions variables)) f
+RepeatsBefore c start variables = Fails c (Different (take start (variable_mentions variables)))
 
 -- a name that stands again at a place
 abbrev pub duplicate_at : Source → ℕ → CheckFault

@@ -21,7 +21,7 @@ use Rattle.hddl_meaning.specs.declared.fault.CheckFault.{CheckFault}
 use Rattle.hddl_meaning.specs.declared.fault.CheckFault.TheVariants as fault
 use Rattle.hddl_scope.specs.Findings.{Faulted}
 use Rattle.hddl_uses.specs.Known.{IsKnownClash}
-use Rattle.hddl_scope.specs.Repeats.{IsOvertaken, IsRepeat}
+use Rattle.hddl_scope.specs.Repeats.{IsRepeatOfFirst}
 
 -- one part of a pair with a condition on it
 pub data Part : Type 0 where
@@ -93,7 +93,7 @@ HasUnknownLabel n place = (name : Name) × IsIn name (ordering_names n) × items
 
 -- a part fails in its text with a fault: the fault's kind is the part's, and its place is one that the part allows
 abbrev pub FailsIn : DomainText → ProblemText → Source → Part → CheckFault → Type 0
-FailsIn d p text (Different mentions) f = Faulted fault.Duplicate text (IsRepeat mentions) f
+FailsIn d p text (Different mentions) f = Faulted fault.Duplicate text (IsRepeatOfFirst mentions) f
 FailsIn d p text (Limited limit mentions) f = Faulted fault.TooMany text (items.IsPast limit mentions) f
 FailsIn d p text (TypeName m) f = Faulted fault.UnknownType text (IsUndeclaredType d m) f
 FailsIn d p text (Atom u) f = UseFails d p text (predicate_names d) (items.predicate_signatures d) u f
@@ -103,11 +103,6 @@ FailsIn d p text (Side t) f = Faulted fault.UnknownName text (items.IsUnknownTer
 FailsIn d p text (Network place n) f = Faulted fault.OrderCycle text (IsCyclic place n) f ⊎ Faulted fault.UnknownSubtask text (HasUnknownLabel n) f
 FailsIn d p text Types f = Faulted fault.TooMany text (items.IsPastDistinct items.most_declarations (type_mentions d)) f
 FailsIn d p text Objects f = Faulted fault.TooMany text (λ place. items.IsPastObjects d p (record { source = text; place = place })) f
-
--- a fault of a part that isn't looked for: a repeat of names that are overtaken by one in front of them
-abbrev pub PassedOverIn : Source → Part → CheckFault → Type 0
-PassedOverIn text (Different mentions) f = Faulted fault.Duplicate text (IsOvertaken mentions) f
-PassedOverIn text _ f = ⊥
 
 -- ## Parts
 

@@ -5,7 +5,6 @@ use Rattle.hddl_uses.specs.Contexts.{Fails, PassedOver}
 use Rattle.hddl_scope.specs.Findings.{Adds}
 use Rattle.hddl_uses.specs.Parts.{Different, Limited}
 use Rattle.hddl_scope.proofs.Adding.{Adds-cons, Adds-single}
-use Rattle.hddl_check.proofs.Repeats.{either_repeat}
 use Rattle.hddl_check.proofs.declarations.check_task_names_with.Goals as goal
 
 pub returns : goal.returns
@@ -14,10 +13,9 @@ returns c =
     let P = Fails c.args.context.now in
     let tasks : List Mention = map (λ x. mention_of x.name) c.args.domain.now.tasks in
     let actions : List Mention = map (λ x. mention_of x.name) c.args.domain.now.actions in
-    Adds-cons O P (Different (tasks ++ actions)) (Limited most_declarations tasks ∷ Limited most_declarations actions ∷ [])
-    (either_repeat c.args.context.now.source tasks actions
+    Adds-cons O P (Different actions) (Different (tasks ++ actions) ∷ Limited most_declarations tasks ∷ Limited most_declarations actions ∷ [])
     (subst (λ ms. Adds (O (Different ms)) (P (Different ms)) c.args.found.now c.check_different.new.found) c.requires c.in_ok-check_different.ensures)
-    c.in_ok-check_all_task_names.ensures)
+    (Adds-cons O P (Different (tasks ++ actions)) (Limited most_declarations tasks ∷ Limited most_declarations actions ∷ []) c.in_ok-check_all_task_names.ensures
     (Adds-cons O P (Limited most_declarations tasks) (Limited most_declarations actions ∷ []) c.in_ok-check_task_count.ensures
     (Adds-single O P (Limited most_declarations actions)
-    (subst (λ ms. Adds (O (Limited most_declarations ms)) (P (Limited most_declarations ms)) c.check_task_count.new.found c.check_limit.new.found) c.requires c.in_ok-check_limit.ensures)))
+    (subst (λ ms. Adds (O (Limited most_declarations ms)) (P (Limited most_declarations ms)) c.check_task_count.new.found c.check_limit.new.found) c.requires c.in_ok-check_limit.ensures))))

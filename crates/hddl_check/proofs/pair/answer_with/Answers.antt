@@ -1,6 +1,6 @@
 use Rattle.std.proofs.Common.{IfSome, Option, subst}
 use Rattle.hddl_meaning.specs.declared.fault.CheckFault.{CheckFault}
-use Rattle.hddl_check.specs.Faults.{IsFirst, PairFails}
+use Rattle.hddl_check.specs.Faults.{IsFirst, IsNamed, PairFails}
 use Rattle.hddl_check.proofs.Whole.{are_known, faults_sound, pair_is_well_typed}
 use Rattle.hddl_check.proofs.pair.answer_with.Goals as goal
 
@@ -22,6 +22,10 @@ returns-in-Some-clause-fault c =
 pub returns-in-Some-clause-first : goal.returns-in-Some-clause-first
 returns-in-Some-clause-first c =
     subst (λ (o : Option CheckFault). IfSome o (IsFirst c.args.domain.now c.args.problem.now)) c.in-Some.is c.in_ok-fault.ensures.first
+
+pub returns-in-Some-clause-named : goal.returns-in-Some-clause-named
+returns-in-Some-clause-named c =
+    subst (λ (o : Option CheckFault). IfSome o (IsNamed c.args.domain.now c.args.problem.now)) c.in-Some.is c.in_ok-fault.ensures.named
 
 pub returns-clause-fits : goal.returns-clause-fits
 returns-clause-fits c =

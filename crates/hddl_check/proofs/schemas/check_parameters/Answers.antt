@@ -1,4 +1,4 @@
-use Rattle.std.proofs.Common.{◌∷◌, ◌∙◌, ap, inl, inr, subst, List}
+use Rattle.std.proofs.Common.{◌∷◌, ◌∙◌, ap, subst, List}
 use Rattle.hddl_meaning.specs.Items.{most_parameters, variable_mentions}
 use Rattle.hddl_meaning.specs.Mentions.{Mention, mentions_of, typed_variables}
 use Rattle.hddl_meaning.specs.declared.fault.CheckFault.{CheckFault}
@@ -19,8 +19,8 @@ returns c =
     let ms : List Mention = mentions_of (typed_variables gs) in
     let types : List Part = type_parts (typed_variables gs) in
     let mentions = ap variable_mentions c.requires ∙ parameter_mentions gs in
-    let over : (f : CheckFault) → RepeatsBefore context 0 c.args.scope.now f → O (Different (variable_mentions c.args.scope.now)) f = λ f h.
-    elim h [ inl (place, e, r) ↦ absurd (no_repeat place r) | inr passed ↦ passed ] in
+    let over : (f : CheckFault) → RepeatsBefore context 0 c.args.scope.now f → O (Different (variable_mentions c.args.scope.now)) f = λ f (place, e, r).
+    no_repeat place r in
     Adds-cons O P (Different ms) (Limited most_parameters ms ∷ types)
     (subst (λ ms. Adds (O (Different ms)) (P (Different ms)) c.args.found.now c.check_repeats.new.found) mentions
     (Adds-same {O = RepeatsBefore context 0 c.args.scope.now} over (λ f h. h) (λ f h. h) c.in_ok-check_repeats.ensures))

@@ -26,12 +26,7 @@ loop-mention-preserved c =
     Read-step c.loop-mention.known c.note_after.new.known c.args.mentions.now c.loop-mention.mention-index m c.get-first.result places c.match-first.places.items
     c.loop-mention-test.true c.mention-item.is told next c.in_ok-note_after.ensures c.loop-mention.invariant
 
-pub returns-clause-repeats : goal.returns-clause-repeats
-returns-clause-repeats c =
+pub returns : goal.returns
+returns c =
     let read = subst (λ ms. Read c.loop-mention.known ms c.loop-mention.places.items) (take_all c.loop-mention.mention-index c.args.mentions.now c.loop-mention-test.false) c.loop-mention.invariant in
     Listed-repeats c.args.mentions.now c.loop-mention.places.items read.listed
-
-pub returns-clause-none : goal.returns-clause-none
-returns-clause-none c =
-    let read = subst (λ ms. Read c.loop-mention.known ms c.loop-mention.places.items) (take_all c.loop-mention.mention-index c.args.mentions.now c.loop-mention-test.false) c.loop-mention.invariant in
-    read.none

@@ -1,4 +1,4 @@
-use Rattle.std.proofs.Common.{◌≡◌, ◌⊎◌, ◌++◌, ◌∷◌, ◌∙◌, ap, inl, inr, refl, sym, subst, List, map, take}
+use Rattle.std.proofs.Common.{◌≡◌, ◌⊎◌, ◌++◌, ◌∷◌, ◌∙◌, ap, inl, refl, sym, subst, List, map, take}
 use Rattle.std.proofs.lemmas.List.{take_all}
 use Rattle.std.proofs.lemmas.Result.{IfOk-weaker}
 use Rattle.std.specs.List.{flat_map}
@@ -70,16 +70,12 @@ returns-after-loop-part t c =
     let within : c.enter.new.scope ≡ inner = c.in_ok-enter-in-Forall.ensures.ok ∙ ap (λ g. scope ++ quantified_of g) c.as_slice.ensures in
     let whole : take c.loop-part.part-index c.as_slice-part-items.result.now ≡ body =
     take_all c.loop-part.part-index c.as_slice-part-items.result.now c.loop-part-test.false ∙ c.as_slice-part-items.ensures in
-    let over : (f : CheckFault) → AnyOf (PassedInside context inner) rest f → AnyOf P own f ⊎ AnyOf O rest f = λ f (x, at, o).
-    elim o [
-      | inl passed ↦ inr (x, at, inl passed)
-      | inr again ↦
-          inl (
-            Different all,
-            at_head (Different all) (Limited most_parameters new ∷ Limited most_variables all ∷ type_parts (typed_variables groups)),
-            subst (λ ms. P (Different ms) f) (scope_mentions scope groups) again,
-          )
-    ] in
+    let over : (f : CheckFault) → AnyOf (PassedInside context inner) rest f → AnyOf P own f ⊎ AnyOf O rest f = λ f (x, at, again).
+    inl (
+      Different all,
+      at_head (Different all) (Limited most_parameters new ∷ Limited most_variables all ∷ type_parts (typed_variables groups)),
+      subst (λ ms. P (Different ms) f) (scope_mentions scope groups) again,
+    ) in
     record {
       found = Adds-list O P (sym (ap (condition_parts scope) c.in-Forall.is))
           (Adds-within O P (own ++ rest) (condition_parts scope (Forall groups body)) (to_forall scope groups body) (from_forall scope groups body)

@@ -7,5 +7,5 @@ use Rattle.hddl_uses.proofs.mentions.check_different.Goals as goal
 
 pub returns : goal.returns
 returns c =
-    repeats_added c.args.context.now.source c.args.mentions.now c.in_ok-places.places.items c.in_ok-places.ensures.repeats c.in_ok-places.ensures.none
+    repeats_added c.args.context.now.source c.args.mentions.now c.in_ok-places.places.items c.in_ok-places.ensures
     (c.in_ok-push_repeats.ensures ∙ ap (λ (l : List ℕ). fold keep c.args.found.now (map (duplicate_at c.args.context.now.source) l)) c.deref.ensures.value)

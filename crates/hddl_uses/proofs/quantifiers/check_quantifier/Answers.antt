@@ -1,4 +1,4 @@
-use Rattle.std.proofs.Common.{◌≡◌, ◌++◌, ◌∙◌, ap, inl, inr, length, subst, sym, List, ◌∷◌, take}
+use Rattle.std.proofs.Common.{◌≡◌, ◌++◌, ◌∙◌, ap, length, subst, sym, List, ◌∷◌, take}
 use Rattle.std.proofs.lemmas.List.{length-map}
 use Rattle.hddl_meaning.specs.Mentions.{Mention, mentions_of, typed_variables}
 use Rattle.hddl_meaning.specs.Uses.{Variable}
@@ -25,11 +25,8 @@ returns c = λ around within long.
     let front : take c.args.start (variable_mentions c.args.scope.now) ≡ variable_mentions around =
     (λ i. take ((long ∙ sym (length-map around (λ (v : Variable). v.typed.mention))) i) (whole i)) ∙ take_whole (variable_mentions around) own in
     let types : List Part = type_parts (typed_variables c.args.groups.now) in
-    let again : (f : CheckFault) → RepeatsBefore context c.args.start c.args.scope.now f → O (Different all) f = λ f h.
-    elim h [
-      | inl before ↦ inr (subst (λ ms. P (Different ms) f) front before)
-      | inr over ↦ inl (subst (λ ms. PassedOver context (Different ms) f) whole over)
-    ] in
+    let again : (f : CheckFault) → RepeatsBefore context c.args.start c.args.scope.now f → O (Different all) f = λ f before.
+    subst (λ ms. P (Different ms) f) front before in
     Adds-cons O P (Different all) (Limited items.most_parameters own ∷ Limited items.most_variables all ∷ types)
     (Adds-same {O = RepeatsBefore context c.args.start c.args.scope.now} again
     (λ f h. h) (λ f h. h)

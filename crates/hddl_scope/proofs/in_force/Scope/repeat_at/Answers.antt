@@ -1,4 +1,4 @@
-use Rattle.std.proofs.Common.{◌≡◌, ◌∙◌, ◌≤◌, ◌<◌, Option, Some, None, ap, arith, option_map, option_and_then, slice_get, refl, subst, sym}
+use Rattle.std.proofs.Common.{◌≡◌, ◌∙◌, ◌<◌, None, ap, option_map, slice_get, refl, sym}
 use Rattle.std.specs.List.{position}
 use Rattle.hddl_meaning.specs.Mentions.{Mention}
 use Rattle.hddl_meaning.specs.Uses.{Variable}

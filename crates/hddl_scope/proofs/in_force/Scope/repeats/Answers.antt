@@ -1,9 +1,7 @@
-use Rattle.std.proofs.Common.{◌≡◌, ◌∙◌, ◌<◌, ◌≤◌, ap, arith, length, subst, sym, take}
-use Rattle.std.proofs.lemmas.List.{length-map, take_all}
-use Rattle.hddl_meaning.specs.Mentions.{Mention}
-use Rattle.hddl_meaning.specs.Uses.{Variable}
+use Rattle.std.proofs.Common.{◌≡◌, ◌∙◌, ◌<◌, ◌≤◌, ap, arith, length, sym, take}
+use Rattle.std.proofs.lemmas.List.{length-map}
 use Rattle.hddl_meaning.specs.Items.{variable_mentions}
-use Rattle.hddl_scope.specs.Repeats.{AreRepeats, IsRepeat}
+use Rattle.hddl_scope.specs.Repeats.{IsRepeatOfFirst}
 use Rattle.hddl_scope.specs.declared.in_force.Entry.{Entry}
 use Rattle.hddl_scope.proofs.Repeating.{with_place}
 use Rattle.hddl_scope.proofs.Standing.{Listed-step, Listed-whole}
@@ -22,7 +20,7 @@ loop-position-preserved c =
       | in-Some+in_ok-push w ↦ ap (λ v. v.items) w.places-is ∙ w.in_ok-push.ensures.items ∙ ap (with_place c.loop-position.places.items) (sym w.in-Some.is)
       | in_default w ↦ ap (λ v. v.items) w.places-is ∙ ap (with_place c.loop-position.places.items) (sym w.in_default.is)
     ] in
-    Listed-step (IsRepeat (take c.args.start (variable_mentions vs))) vs c.loop-position.position c.repeat_at.result c.loop-position.places.items c.match-repeat_at.places.items
+    Listed-step (IsRepeatOfFirst (take c.args.start (variable_mentions vs))) vs c.loop-position.position c.repeat_at.result c.loop-position.places.items c.match-repeat_at.places.items
     (omega (arith, lt, end, long)) c.repeat_at.ensures next c.loop-position.invariant
 
 pub returns : goal.returns
