@@ -4,3 +4,5 @@ mod Quotes
 mod TameGraphs
 mod Objects
 mod Forests
+mod Readings
+mod TextForests

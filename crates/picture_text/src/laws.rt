@@ -10,7 +10,7 @@ ghost use Rattle.picture_text.specs.declared.as_text.Glyphs.{Glyphs};
 ghost use Rattle.picture_text.specs.Dot.{dot_bytes, label_rest, quoted_rest};
 ghost use Rattle.picture_text.specs.Json.{json_bytes};
 ghost use Rattle.picture_text.specs.Lines.{Line};
-ghost use Rattle.picture_text.specs.OneForest.{JsonShowsForests};
+ghost use Rattle.picture_text.specs.OneForest.{JsonShowsForests, TextShowsForests};
 ghost use Rattle.picture_text.specs.Tame.{AreTame, is_tame_in, past_quote};
 ghost use Rattle.picture_text.specs.Text.{text_bytes};
 
@@ -44,3 +44,13 @@ pub fn json_is_one_line()
 pub fn json_shows_forests()
     ensures { JsonShowsForests }
 {}
+
+/// Two pictures with one text, in which no details are shown, have the same roots, the same lines in their rows and the
+/// same children of each, all by their ids. So two files with one picture as text have one forest, up to the order of
+/// siblings, whatever the verdicts on them are. A line's depth is read off the signs before its words, and its id behind
+/// them or in the margin, whose width is read off the title: so the names of the problems must begin with no blank.
+pub fn text_shows_forests()
+    ensures { TextShowsForests }
+{
+    plan_picture::outlines_are_forests();
+}

@@ -20,6 +20,7 @@ pub use detail::{
 };
 pub use laws::{
     graph_is_tame, json_is_one_line, json_shows_forests, labels_end_at_quotes, text_is_tame,
+    text_shows_forests,
 };
 pub use line::{Line, line_at};
 pub use words::{is_marked, mark_of, say, say_number, say_task};
