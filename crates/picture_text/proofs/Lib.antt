@@ -6,3 +6,4 @@ mod Objects
 mod Forests
 mod Readings
 mod TextForests
+mod GraphForests

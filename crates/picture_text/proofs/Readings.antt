@@ -17,15 +17,15 @@ use Rattle.picture_text.specs.declared.as_text.Glyphs.{Glyphs}
 use Rattle.picture_text.specs.declared.as_text.Glyphs.TheVariants.{Unicode, Ascii}
 use Rattle.picture_text.specs.Text.{branch, bar, cut}
 
-left : (a b : Bool) → (a && b) ≡ true → a ≡ true
+pub left : (a b : Bool) → (a && b) ≡ true → a ≡ true
 left true b h = refl
 left false b h = absurd cc
 
-right : (a b : Bool) → (a && b) ≡ true → b ≡ true
+pub right : (a b : Bool) → (a && b) ≡ true → b ≡ true
 right true b h = h
 right false b h = absurd cc
 
-both : (a b : Bool) → a ≡ true → b ≡ true → (a && b) ≡ true
+pub both : (a b : Bool) → a ≡ true → b ≡ true → (a && b) ≡ true
 both a b f g = rw (f, g) refl
 
 -- ## Blanks
@@ -194,7 +194,7 @@ abbrev pub past_line : List ℕ → List ℕ
 past_line [] = []
 past_line (b ∷ bytes) = cond (b == 10) bytes (past_line bytes)
 
-no_end : (b : ℕ) → nat_eq (shown b) 10 ≡ false
+pub no_end : (b : ℕ) → nat_eq (shown b) 10 ≡ false
 no_end b = ⊎_elim (λ as_is. rw as_is (grind (arith, nat_tests, as_is))) (λ hidden. rw hidden refl) (cases_Bool (nat_eq b 9 || (nat_le 32 b && nat_le b 126)))
 
 -- no line ends within words that are shown

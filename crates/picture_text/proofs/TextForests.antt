@@ -43,7 +43,7 @@ number_text None = []
 number_text (Some id) = id_text id
 
 -- the line can be written: its words are names, and its id fits 64 bits
-abbrev IsNamed : Line → Type 0
+abbrev pub IsNamed : Line → Type 0
 IsNamed (action line) = IsActionLine line
 IsNamed (task line) = IsDecompositionLine line
 
@@ -193,14 +193,14 @@ same_id n m (action line) (action other) is are margins e = by (nat_eq line.id n
 -- ## Rows
 
 -- a row whose line is there and can be written, and whose depth is written
-record IsRead (file : PlanFile) (r : DeclaredRow) : Type 0 where
-  line : Line
-  there : line_at file r.line ≡ Some line
-  named : IsNamed line
-  bars : length r.above.items ≤ r.depth
-  low : r.depth < 10 ^ 64
+pub record IsRead (file : PlanFile) (r : DeclaredRow) : Type 0 where
+  pub line : Line
+  pub there : line_at file r.line ≡ Some line
+  pub named : IsNamed line
+  pub bars : length r.above.items ≤ r.depth
+  pub low : r.depth < 10 ^ 64
 
-abbrev AreRead : PlanFile → List DeclaredRow → Type 0
+abbrev pub AreRead : PlanFile → List DeclaredRow → Type 0
 AreRead file [] = Unit {0}
 AreRead file (r ∷ rows) = IsRead file r × AreRead file rows
 
@@ -421,7 +421,7 @@ are_read file is (r ∷ rows) within low =
     let deep = own.1 in
     (record { line = line; there = there; named = named; bars = own.0; low = omega arith }, are_read file is rows (λ l i. within l (inr i)) (λ row i. low row (inr i)))
 
-drawing_read : (file : PlanFile) (roots : List ℕ) (children : List (List ℕ)) (rows : List DeclaredRow) → IsPlanFile file → IsDrawing file roots children (seen_all rows) → AreRead file rows
+pub drawing_read : (file : PlanFile) (roots : List ℕ) (children : List (List ℕ)) (rows : List DeclaredRow) → IsPlanFile file → IsDrawing file roots children (seen_all rows) → AreRead file rows
 drawing_read file roots children rows is drawing =
     let once = have_all_once file roots children (seen_all rows) drawing in
     let few = few_lines file is drawing.is_forest.is_forest in

@@ -1,4 +1,4 @@
--- What a picture as text and as JSON shows of a file: its forest.
+-- What a picture shows of a file: its forest.
 use Rattle.std.specs.Prelude.{◌≡◌, ◌≢◌, ℕ, List, ◌∷◌, length, map, Option, None}
 use Rattle.htn_model.specs.PlanFile.{PlanFile}
 use Rattle.plan_forest.specs.Forest.{lists_of}
@@ -9,6 +9,7 @@ use Rattle.plan_text.specs.PlanFile.{IsPlanFile}
 use Rattle.picture_text.specs.declared.caption.Caption.{Caption}
 use Rattle.picture_text.specs.declared.detail.Detail.{Detail}
 use Rattle.picture_text.specs.declared.as_text.Glyphs.{Glyphs}
+use Rattle.picture_text.specs.Dot.{dot_bytes}
 use Rattle.picture_text.specs.Json.{picture_json}
 use Rattle.picture_text.specs.Lines.{id_at}
 use Rattle.picture_text.specs.Text.{text_bytes}
@@ -51,3 +52,9 @@ TextShowsForests =
     (glyphs : Glyphs) (caption other_caption : Caption) (picture other : Picture) (file other_file : PlanFile)
     → IsFlush caption.problem.now → IsFlush other_caption.problem.now → IsPlanFile file → IsPlanFile other_file → IsPictureOf file picture → IsPictureOf other_file other
     → text_bytes glyphs caption None picture ≡ text_bytes glyphs other_caption None other → AreOneForest picture other
+
+-- So are pictures with the same bytes in the language of graphviz, whatever is said of their problems and verdicts.
+abbrev pub GraphShowsForests : Type 0
+GraphShowsForests =
+    (caption other_caption : Caption) (picture other : Picture) (file other_file : PlanFile) → IsPlanFile file → IsPlanFile other_file → IsPictureOf file picture → IsPictureOf other_file other
+    → dot_bytes caption picture ≡ dot_bytes other_caption other → AreOneForest picture other

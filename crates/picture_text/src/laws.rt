@@ -10,7 +10,7 @@ ghost use Rattle.picture_text.specs.declared.as_text.Glyphs.{Glyphs};
 ghost use Rattle.picture_text.specs.Dot.{dot_bytes, label_rest, quoted_rest};
 ghost use Rattle.picture_text.specs.Json.{json_bytes};
 ghost use Rattle.picture_text.specs.Lines.{Line};
-ghost use Rattle.picture_text.specs.OneForest.{JsonShowsForests, TextShowsForests};
+ghost use Rattle.picture_text.specs.OneForest.{GraphShowsForests, JsonShowsForests, TextShowsForests};
 ghost use Rattle.picture_text.specs.Tame.{AreTame, is_tame_in, past_quote};
 ghost use Rattle.picture_text.specs.Text.{text_bytes};
 
@@ -54,3 +54,9 @@ pub fn text_shows_forests()
 {
     plan_picture::outlines_are_forests();
 }
+
+/// Two pictures with the same bytes in the language of graphviz are of one forest in the same way: its nodes and edges
+/// are those of the picture.
+pub fn graph_shows_forests()
+    ensures { GraphShowsForests }
+{}

@@ -19,8 +19,8 @@ pub use detail::{
     settings_of,
 };
 pub use laws::{
-    graph_is_tame, json_is_one_line, json_shows_forests, labels_end_at_quotes, text_is_tame,
-    text_shows_forests,
+    graph_is_tame, graph_shows_forests, json_is_one_line, json_shows_forests, labels_end_at_quotes,
+    text_is_tame, text_shows_forests,
 };
 pub use line::{Line, line_at};
 pub use words::{is_marked, mark_of, say, say_number, say_task};
