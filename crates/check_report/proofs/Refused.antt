@@ -1,17 +1,21 @@
 -- Reports with an error, and those without one.
 use Rattle.std.proofs.Common.{◌≡◌, ◌≢◌, inl, inr, ℕ, Bool, true, false, cond, ◌||◌, ◌&&◌, not, ◌∙◌, ap, arith, sym, subst, refl, List, [], ◌∷◌, ◌++◌, map, Option, Some, None}
 use Rattle.std.specs.List.{All, AllZip, list_any}
+use Rattle.std.specs.Prelude.{slice_get}
 use Rattle.std.proofs.lemmas.List.Elements.{All-append, All-cons, All-nil}
 use Rattle.std.proofs.lemmas.List.Folds.{list_any-append, list_any_none}
 use Rattle.std.proofs.lemmas.List.Sorted.{All-permutation}
 use Rattle.diagnostics.specs.declared.diagnostic.Diagnostic.{Diagnostic}
 use Rattle.diagnostics.specs.Written as report
 use Rattle.diagnostics.specs.declared.reached.Reached.{Reached}
+use Rattle.hddl_check.specs.Faults.{IsNamed}
 use Rattle.hddl_meaning.specs.Items.{FailsAt}
 use Rattle.hddl_meaning.specs.declared.fault.At.{At}
 use Rattle.hddl_meaning.specs.declared.fault.CheckFault.{CheckFault}
+use Rattle.hddl_scope.proofs.Least.{neither_before}
 use Rattle.hddl_text.specs.Grammar.{DerivesDomain, DerivesProblem}
 use Rattle.hddl_text.specs.Spelling.{Spells}
+use Rattle.hddl_text.proofs.Laws.{domain_laws, problem_laws}
 use Rattle.hddl_tree.specs.declared.domain.DomainText.{DomainText}
 use Rattle.hddl_tree.specs.declared.problem.ProblemText.{ProblemText}
 use Rattle.hddl_warnings.specs.declared.warning.Warning.{Warning}
@@ -19,7 +23,7 @@ use Rattle.check_report.specs.Alone.{IsOwnFault, Text, no_problem}
 use Rattle.check_report.specs.Checks.{AreRefused, Checks, bytes_of}
 use Rattle.check_report.specs.Reach.{Unplanned, never_applied, no_plan}
 use Rattle.check_report.specs.Report.{is_error}
-use Rattle.check_report.specs.Texts.{AllWarnings, AreFaultsOf, DomainFinds, Fault, Finds, FitTogether, IsRefused, PairFinds, alone, both, first, of_domain, of_pair, of_problem, second, together, unread}
+use Rattle.check_report.specs.Texts.{AllWarnings, AreFaultsOf, ArePairFaults, DomainFinds, Fault, Finds, FitTogether, IsRefused, PairFinds, alone, both, first, of_domain, of_pair, of_problem, second, together, unread}
 use Rattle.check_report.specs.Told.{AreTextsWarned, AreTold, AreWarned, Named, Tells, TellsAt, Warns, WarnsOfPlans}
 use Rattle.check_report.specs.declared.report.Checked.{Checked}
 use Rattle.check_report.specs.declared.report.Finding.TheVariants.{Sound, Warned, Faulty}
@@ -141,10 +145,10 @@ FirstIs P (f ∷ fs) = P f
 
 module _ (domain : Text) where
   -- the first fault of two trees
-  first_of_pair : (problem : Text) (d : DomainText) (p : ProblemText) (LeftOut : CheckFault → Type 0) (faults : List CheckFault) → Spells DerivesDomain domain d
-      → Spells DerivesProblem problem p → AreFaultsOf (FailsAt d p) LeftOut faults → FirstIs (IsRefused domain (Some problem)) (map of_pair faults)
-  first_of_pair problem d p LeftOut [] spelled other are = tt
-  first_of_pair problem d p LeftOut (c ∷ cs) spelled other are = (d, p, spelled, other, are.sound c (0, omega arith, refl))
+  first_of_pair : (problem : Text) (d : DomainText) (p : ProblemText) (faults : List CheckFault) → Spells DerivesDomain domain d
+      → Spells DerivesProblem problem p → ArePairFaults d p faults → FirstIs (IsRefused domain (Some problem)) (map of_pair faults)
+  first_of_pair problem d p [] spelled other are = tt
+  first_of_pair problem d p (c ∷ cs) spelled other are = (d, p, spelled, other, are.all.sound c (0, omega arith, refl), are.named)
 
   -- the first fault of a domain's tree
   first_of_domain : (d : DomainText) (e : ProblemText) (LeftOut : CheckFault → Type 0) (faults : List CheckFault) → Spells DerivesDomain domain d
@@ -158,7 +162,7 @@ module _ (domain : Text) where
   first_of_both problem (both h k) = h
   first_of_both problem (first h spelled) = h
   first_of_both problem (second spelled h) = (_, spelled, h)
-  first_of_both problem (together found spelled other are reach warn) = first_of_pair problem _ _ _ _ spelled other are.all
+  first_of_both problem (together found spelled other are reach warn) = first_of_pair problem _ _ _ spelled other are
 
   -- the first fault of a domain alone
   first_of_own : {faults : List Fault} {ws : AllWarnings} {counts : List (List ℕ)} {reached : Option Reached} → DomainFinds domain faults ws counts reached
@@ -171,6 +175,30 @@ module _ (domain : Text) where
       → Finds domain problem faults ws counts reached → FirstIs (IsRefused domain problem) faults
   first_is_refused None faults ws counts reached found = first_of_own found
   first_is_refused (Some problem) faults ws counts reached found = first_of_both problem found
+
+  -- ## The fault that is named
+
+  -- of two trees no other fault is named
+  one_named : (d : DomainText) (p : ProblemText) (f g : CheckFault) → IsNamed d p f → IsNamed d p g → f ≡ g
+  one_named d p f g one other = neither_before f g (other.1 f one.0) (one.1 g other.0)
+
+  -- the fault for which two trees are refused is the first of theirs
+  named_leads : (d : DomainText) (p : ProblemText) (f : CheckFault) (faults : List CheckFault) → FailsAt d p f → IsNamed d p f → ArePairFaults d p faults
+      → slice_get (map of_pair faults) 0 ≡ Some (of_pair f)
+  named_leads d p f [] fails named are = absurd (are.none.0 refl f fails)
+  named_leads d p f (c ∷ cs) fails named are = ap (λ g. Some (of_pair g)) (one_named d p c f are.named named)
+
+  -- the fault for which two texts are refused, where it is one of their trees, is the first that is found
+  pub named_is_listed_first : (problem : Text) (f : CheckFault) {faults : List Fault} {ws : AllWarnings} {counts : List (List ℕ)} {reached : Option Reached}
+      → IsRefused domain (Some problem) (of_pair f) → PairFinds domain problem faults ws counts reached → slice_get faults 0 ≡ Some (of_pair f)
+  named_is_listed_first problem f (d, p, spelled, other, fails, named) (both h k) = absurd (h.unspelled d spelled)
+  named_is_listed_first problem f (d, p, spelled, other, fails, named) (first h also) = absurd (h.unspelled d spelled)
+  named_is_listed_first problem f (d, p, spelled, other, fails, named) (second also h) = absurd (h.unspelled p other)
+  named_is_listed_first problem f (d, p, spelled, other, fails, named) (together {d = e} {p = q} {faults = faults} found also too are reach warn) =
+      let domain_is : d ≡ e = domain_laws.one domain d e spelled also in
+      let problem_is : p ≡ q = problem_laws.one problem p q other too in
+      named_leads e q f faults (subst (λ x. FailsAt x q f) domain_is (subst (λ x. FailsAt d x f) problem_is fails))
+      (subst (λ x. IsNamed x q f) domain_is (subst (λ x. IsNamed d x f) problem_is named)) are
 
   -- ## No fault
 

@@ -11,7 +11,7 @@ use Rattle.hddl_text.specs.Spelling.{Spells, FaultAt}
 use Rattle.hddl_meaning.specs.Items.{IsWellTypedPair, FailsAt}
 use Rattle.hddl_meaning.specs.declared.fault.CheckFault.{CheckFault}
 use Rattle.hddl_scope.specs.Ranks.{AreInOrder}
-use Rattle.hddl_check.specs.Faults.{IsFirst, IsLeftOut}
+use Rattle.hddl_check.specs.Faults.{IsFirst, IsLeftOut, IsNamed}
 use Rattle.hddl_meaning.specs.Mentions.{IsIn}
 use Rattle.hddl_warnings.specs.Order.{warning_cmp}
 use Rattle.hddl_warnings.specs.Warnings.{IsOtherDomain, IsWarning}
@@ -36,15 +36,15 @@ pub record IsFaulty {Tree : Type 0} (Derives : List Word → Tree → Type 0) (t
 
 -- ## One fault, and none
 
--- Why two texts are refused: the domain's is read first, then the problem's, and then the two are checked. Without a
--- problem the domain is checked by itself.
+-- Why two texts are refused: the domain's is read first, then the problem's, and then the two are checked. Of the faults
+-- of two trees it is the one that is named. Without a problem the domain is checked by itself.
 abbrev pub IsRefused : Text → Option Text → Fault → Type 0
 IsRefused domain problem (of_domain f) = IsFaulty DerivesDomain domain f
 IsRefused domain None (of_problem f) = ⊥
 IsRefused domain (Some problem) (of_problem f) = (d : DomainText) × Spells DerivesDomain domain d × IsFaulty DerivesProblem problem f
 IsRefused domain None (of_pair f) = (d : DomainText) × (e : ProblemText) × Spells DerivesDomain domain d × Spells DerivesProblem no_problem e × IsOwnFault domain d e f
 IsRefused domain (Some problem) (of_pair f) =
-    (d : DomainText) × (p : ProblemText) × Spells DerivesDomain domain d × Spells DerivesProblem problem p × FailsAt d p f
+    (d : DomainText) × (p : ProblemText) × Spells DerivesDomain domain d × Spells DerivesProblem problem p × FailsAt d p f × IsNamed d p f
 
 -- The texts spell trees that fit together. A domain alone spells a tree that has no fault of its own, but for those that
 -- aren't looked for.
@@ -68,6 +68,7 @@ pub record ArePairFaults (d : DomainText) (p : ProblemText) (faults : List Check
   pub all : AreFaultsOf (FailsAt d p) (IsLeftOut d p) faults
   pub none : (faults ≡ []) ↔ IsWellTypedPair d p
   pub first : IfSome (slice_get faults 0) (IsFirst d p)
+  pub named : IfSome (slice_get faults 0) (IsNamed d p)
 
 -- the faults of a domain's tree by itself
 abbrev pub AreOwnFaults : Text → DomainText → ProblemText → List CheckFault → Type 0

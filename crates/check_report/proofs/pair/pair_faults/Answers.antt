@@ -9,4 +9,5 @@ returns c = record {
   };
   none = c.in_ok-faults.ensures.none;
   first = c.in_ok-faults.ensures.first;
+  named = c.in_ok-faults.ensures.named;
 }
