@@ -1,5 +1,6 @@
 pub mod Refusing
 pub mod OneAnswer
+mod ListedFirst
 mod Exists
 mod Decided
 mod Detailed

@@ -2,6 +2,7 @@
 use Rattle.std.proofs.Common.{◌≢◌, ℕ, List, Result, Ok, Err, IfOk, IfErr, subst}
 use Rattle.word_machine.specs.declared.bounds.Bounds.{Bounds}
 use Rattle.htn_review.specs.Headline.{IsWant, Refuses}
+use Rattle.htn_review.specs.Named.{IsNamedOf}
 use Rattle.htn_review.specs.declared.outcome.RunFault.{RunFault}
 use Rattle.htn_review.specs.declared.outcome.RunFault.TheVariants.{Output}
 use Rattle.htn_review.specs.declared.outcome.RunFault.TheVariants as fault
@@ -34,6 +35,16 @@ want_refuses domain problem bounds (fault.Plan f) h = absurd h
 want_refuses domain problem bounds fault.OutOfMemory h = tt
 want_refuses domain problem bounds fault.NoThread h = h
 want_refuses domain problem bounds fault.Output h = absurd h
+
+-- what is no fault of two trees is named as it is
+pub want_is_named : (domain problem : List ℕ) (bounds : Bounds) (f : RunFault) → (f ≢ Output → IsWant bounds f) → IsNamedOf domain problem f
+want_is_named domain problem bounds (fault.Domain f) h = tt
+want_is_named domain problem bounds (fault.Problem f) h = tt
+want_is_named domain problem bounds (fault.Check f) h = absurd (h (λ e. cc))
+want_is_named domain problem bounds (fault.Plan f) h = tt
+want_is_named domain problem bounds fault.OutOfMemory h = tt
+want_is_named domain problem bounds fault.NoThread h = tt
+want_is_named domain problem bounds fault.Output h = tt
 
 -- what holds of all faults holds of a result that may be one
 pub at_error : {T E : Type 0} (P : E → Type 0) (r : Result T E) → ((e : E) → P e) → IfErr r P

@@ -1,5 +1,7 @@
 -- Consequences for the answers of a run: the texts and the bound determine it.
-use Rattle.std.specs.Prelude.{◌≡◌, ◌↔◌, ◌≤◌, ◌<◌, ◌^◌, ℕ, List, Some, codes, length, ⊤}
+use Rattle.std.specs.Prelude.{◌≡◌, ◌↔◌, ◌≤◌, ◌<◌, ◌^◌, ℕ, List, Option, Some, IsSomeAnd, codes, length, slice_get, ⊤}
+use Rattle.check_report.specs.Texts.{AllWarnings, Fault, Finds}
+use Rattle.diagnostics.specs.declared.reached.Reached.{Reached}
 use Rattle.hddl_tree.specs.declared.domain.DomainText.{DomainText}
 use Rattle.hddl_tree.specs.declared.problem.ProblemText.{ProblemText}
 use Rattle.hddl_text.specs.Grammar.{DerivesDomain, DerivesProblem}
@@ -18,6 +20,7 @@ use Rattle.htn_review.specs.declared.outcome.Outcome.TheVariants.{Found}
 use Rattle.htn_review.specs.declared.outcome.RunFault.{RunFault}
 use Rattle.htn_review.specs.declared.outcome.RunFault.TheVariants as fault
 use Rattle.htn_review.specs.Headline.{Answers, IsTaskOfTexts, Refuses}
+use Rattle.htn_review.specs.Named.{IsNamedOf, IsSameFault}
 use Rattle.htn_review.specs.Judgement.{Judges, RefusesPlan, ShowsSolution, verdict_text}
 
 -- two texts have one task at most
@@ -55,6 +58,14 @@ abbrev pub FaultyHaveNoAnswer : Type 0
 FaultyHaveNoAnswer =
     (domain problem : List ℕ) (bounds : Bounds) (f : RunFault) (bound : ℕ) (outcome : Outcome) (text : List ℕ)
     → IsOfTexts f → Refuses domain problem bounds f → Answers domain problem bound outcome text → ⊥
+
+-- what a check of two texts lists first is the fault for which a run refuses them; of two trees it is the fault that the
+-- run names
+abbrev pub NamedIsListedFirst : Type 0
+NamedIsListedFirst =
+    (domain problem : List ℕ) (bounds : Bounds) (f : RunFault) (faults : List Fault) (warnings : AllWarnings) (counts : List (List ℕ)) (reached : Option Reached)
+    → IsOfTexts f → Refuses domain problem bounds f → IsNamedOf domain problem f → Finds domain (Some problem) faults warnings counts reached
+    → IsSomeAnd (slice_get faults 0) (IsSameFault f)
 
 -- ## Verdicts
 

@@ -2,6 +2,7 @@ pub mod Faults
 pub mod Checking
 pub mod Details
 pub mod Headline
+pub mod Named
 pub mod Judgement
 pub mod Laws
 pub mod Sights

@@ -1,5 +1,6 @@
 //! Consequences of the definitions of an answer and a verdict. Each function here is a law, with an empty body.
 ghost use Rattle.htn_review.specs.Laws.{AnswersAreUnique, AnswersExist, FaultyHaveNoAnswer, TextsHaveATask, TextsHaveOneTask};
+ghost use Rattle.htn_review.specs.Laws.{NamedIsListedFirst};
 ghost use Rattle.htn_review.specs.Laws.{FaultyHaveNoVerdict, LongPlansAreRefused, PlansAreValid, ValidIsSolved, VerdictsAreTold, VerdictsAreUnique, VerdictsExist};
 
 /// The two texts and the bound determine the outcome and the text of the answer. Texts have one task at most.
@@ -17,6 +18,12 @@ pub fn answers_exist()
 /// A domain and a problem that are refused for a fault of theirs have no answer, for any bound.
 pub fn faulty_texts_have_no_answer()
     ensures none { FaultyHaveNoAnswer }
+{}
+
+/// What `check` lists first is the fault for which `plan` refuses a domain and a problem: a fault of the same text, and
+/// where both spell trees the same fault.
+pub fn named_faults_are_listed_first()
+    ensures first { NamedIsListedFirst }
 {}
 
 /// The three texts determine the verdict and its text. Different verdicts have different texts.

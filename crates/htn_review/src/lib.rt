@@ -26,7 +26,7 @@ pub use htn_plan::{Out, Sink, Verdict};
 pub use judge::run_verify;
 pub use laws::{
     answers_are_unique, answers_exist, faulty_texts_have_no_answer, faulty_texts_have_no_verdict,
-    plans_are_valid, verdicts_are_unique, verdicts_exist,
+    named_faults_are_listed_first, plans_are_valid, verdicts_are_unique, verdicts_exist,
 };
 pub use outcome::{Outcome, RunFault, Watched};
 pub use plan_report::ReportStyle;

@@ -7,6 +7,7 @@ ghost use Rattle.hddl_text.specs.Spelling.{Spells};
 ghost use Rattle.hddl_tree.specs.declared.domain.DomainText.{DomainText};
 ghost use Rattle.word_machine.specs.declared.bounds.Bounds.{Bounds};
 ghost use Rattle.htn_review.specs.Headline.{IsTaskOfTexts, Refuses};
+ghost use Rattle.htn_review.specs.Named.{IsNamedOf};
 ghost use Rattle.htn_review.specs.Sights.{IsPairOf};
 
 use crate::outcome::RunFault;
@@ -52,6 +53,8 @@ pub(crate) fn pair_of(alloc: Global, domain: &[u8], problem: &[u8]) -> Result<Pa
 pub fn task_of(alloc: Global, domain: &[u8], problem: &[u8]) -> Result<Task, RunFault>
     ensures task { IfOk result (IsTaskOfTexts domain.now problem.now) }
     ensures refused { IfErr result (λ fault. (bounds : Bounds) → Refuses domain.now problem.now bounds fault) }
+    // Of several faults of the pair it is the one that a check lists first.
+    ensures named { IfErr result (IsNamedOf domain.now problem.now) }
 {
     let domain_tree = domain_of(alloc, domain)?;
     let problem_tree = problem_of(alloc, problem)?;
@@ -69,6 +72,8 @@ fn task_of_trees(
     ensures task { IfOk result (IsTaskOf domain.now problem.now) }
     ensures refused { IfErr result (λ fault. (first second : List ℕ) (bounds : Bounds)
         → Spells DerivesDomain first domain.now → Spells DerivesProblem second problem.now → Refuses first second bounds fault) }
+    ensures named { IfErr result (λ fault. (first second : List ℕ)
+        → Spells DerivesDomain first domain.now → Spells DerivesProblem second problem.now → IsNamedOf first second fault) }
 {
     match check(alloc, domain, problem) {
         Ok(task) => Ok(task),
@@ -82,6 +87,7 @@ fn task_of_trees(
 fn domain_of(alloc: Global, text: &[u8]) -> Result<DomainText, RunFault>
     ensures spelled { IfOk result (Spells DerivesDomain text.now) }
     ensures refused { IfErr result (λ fault. (problem : List ℕ) (bounds : Bounds) → Refuses text.now problem bounds fault) }
+    ensures named { IfErr result (λ fault. (problem : List ℕ) → IsNamedOf text.now problem fault) }
 {
     match read_domain(alloc, text) {
         Ok(tree) => Ok(tree),
@@ -97,6 +103,7 @@ fn problem_of(alloc: Global, text: &[u8]) -> Result<ProblemText, RunFault>
     ensures spelled { IfOk result (Spells DerivesProblem text.now) }
     ensures refused { IfErr result (λ fault. (domain : List ℕ) (tree : DomainText) (bounds : Bounds)
         → Spells DerivesDomain domain tree → Refuses domain text.now bounds fault) }
+    ensures named { IfErr result (λ fault. (domain : List ℕ) → IsNamedOf domain text.now fault) }
 {
     match read_problem(alloc, text) {
         Ok(tree) => Ok(tree),

@@ -8,4 +8,5 @@ returns-in_default c = record {
     spelled,
     (c.in-Err.ensures.refused (λ e. c.in_default.not-OutOfMemory e), λ e. c.in_default.not-OutOfMemory e, c.in-Err.ensures.fault),
   );
+  named = λ domain. tt;
 }

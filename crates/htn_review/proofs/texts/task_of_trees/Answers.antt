@@ -11,4 +11,12 @@ returns-in_default c = record {
     problem_spelled,
     c.in-Err.ensures.fault (λ e. c.in_default.not-OutOfMemory e),
   );
+  named = λ first second domain_spelled problem_spelled. (
+    c.args.domain.now,
+    c.args.problem.now,
+    domain_spelled,
+    problem_spelled,
+    c.in-Err.ensures.fault (λ e. c.in_default.not-OutOfMemory e),
+    c.in-Err.ensures.named (λ e. c.in_default.not-OutOfMemory e),
+  );
 }
