@@ -227,7 +227,7 @@ impl Chart {
     fn go_on(
         &mut self,
         task: &Task,
-        nodes: &mut CallNodes,
+        nodes: &mut CallNodes<'_>,
         item: u32,
         part: u32,
         exit: Exit,
@@ -279,7 +279,7 @@ impl Chart {
     fn end(
         &mut self,
         task: &Task,
-        nodes: &mut CallNodes,
+        nodes: &mut CallNodes<'_>,
         call: u32,
         exit: Exit,
     ) -> Result<(), AllocError>
@@ -305,7 +305,7 @@ impl Chart {
     fn wait(
         &mut self,
         task: &Task,
-        nodes: &mut CallNodes,
+        nodes: &mut CallNodes<'_>,
         call: u32,
         item: u32,
     ) -> Result<(), AllocError>
@@ -346,7 +346,7 @@ impl Chart {
     fn begin(
         &mut self,
         task: &Task,
-        nodes: &mut CallNodes,
+        nodes: &mut CallNodes<'_>,
         site: Site,
         call: u32,
     ) -> Result<(), AllocError>
@@ -370,7 +370,7 @@ impl Chart {
     fn perform(
         &mut self,
         task: &Task,
-        nodes: &mut CallNodes,
+        nodes: &mut CallNodes<'_>,
         site: Site,
         call: u32,
     ) -> Result<(), AllocError>
@@ -387,7 +387,7 @@ impl Chart {
     fn call_at(
         &mut self,
         task: &Task,
-        nodes: &mut CallNodes,
+        nodes: &mut CallNodes<'_>,
         site: Site,
         around: u64,
     ) -> Result<u32, AllocError>
@@ -418,7 +418,7 @@ impl Chart {
     fn wait_for(
         &mut self,
         task: &Task,
-        nodes: &mut CallNodes,
+        nodes: &mut CallNodes<'_>,
         item: u32,
         at: Site,
         around: u64,
@@ -440,7 +440,7 @@ impl Chart {
     fn take(
         &mut self,
         task: &Task,
-        nodes: &mut CallNodes,
+        nodes: &mut CallNodes<'_>,
         place: u32,
         total: u32,
     ) -> Result<(), AllocError>
@@ -493,7 +493,7 @@ impl Chart {
     fn take_all(
         &mut self,
         task: &Task,
-        nodes: &mut CallNodes,
+        nodes: &mut CallNodes<'_>,
         total: u32,
         most_work: u64,
     ) -> Result<(), AllocError>
@@ -549,7 +549,7 @@ impl Chart {
     pub(crate) fn advance(
         &mut self,
         task: &Task,
-        nodes: &mut CallNodes,
+        nodes: &mut CallNodes<'_>,
         most_work: u64,
     ) -> Result<Progress, AllocError>
         requires { AreNodes task.now nodes.old }
@@ -573,7 +573,7 @@ impl Chart {
 }
 
 /// Whether the goal holds in the state of a number.
-pub(crate) fn is_goal(nodes: &CallNodes, state: u32) -> bool {
+pub(crate) fn is_goal(nodes: &CallNodes<'_>, state: u32) -> bool {
     match nodes.states().get(state as usize) {
         Some(state) => nodes.is_goal(state),
         None => false,

@@ -20,7 +20,7 @@ const READING: u64 = 16;
 fn read(
     alloc: Global,
     task: &Task,
-    nodes: &mut CallNodes,
+    nodes: &mut CallNodes<'_>,
     calls: WholeCalls,
     trail: Trail,
     starts: &[u32],
@@ -64,7 +64,7 @@ impl Finder {
     pub fn new(
         alloc: Global,
         task: &Task,
-        nodes: &mut CallNodes,
+        nodes: &mut CallNodes<'_>,
         steps: u32,
         most_nodes: usize,
     ) -> Result<Option<Finder>, AllocError>
@@ -89,7 +89,7 @@ impl Finder {
     pub fn advance(
         &mut self,
         task: &Task,
-        nodes: &mut CallNodes,
+        nodes: &mut CallNodes<'_>,
         most_work: u64,
     ) -> Result<Progress, AllocError>
         requires { AreNodes task.now nodes.old }
@@ -108,7 +108,7 @@ impl Finder {
     pub fn read(
         self,
         task: &Task,
-        nodes: &mut CallNodes,
+        nodes: &mut CallNodes<'_>,
         steps: u32,
     ) -> Result<Option<Found>, AllocError>
         requires { AreNodes task.now nodes.old }

@@ -25,7 +25,7 @@ impl Drop for Masks {
 }
 
 /// Adds the nodes of a list, unless no word is so long.
-fn add_nodes(nodes: &CallNodes, found: &mut Vec<u32>, list: u32) -> Result<(), AllocError> {
+fn add_nodes(nodes: &CallNodes<'_>, found: &mut Vec<u32>, list: u32) -> Result<(), AllocError> {
     let lists = nodes.lists();
     if lists.nodes(list) >= u64::from(OUT_OF_REACH) {
         return Ok(());
@@ -42,7 +42,7 @@ fn add_nodes(nodes: &CallNodes, found: &mut Vec<u32>, list: u32) -> Result<(), A
 }
 
 /// The nodes of lists that a word may have.
-fn nodes_of(alloc: Global, nodes: &CallNodes, lists: &[u32]) -> Result<Vec<u32>, AllocError> {
+fn nodes_of(alloc: Global, nodes: &CallNodes<'_>, lists: &[u32]) -> Result<Vec<u32>, AllocError> {
     let mut found = Vec::new(alloc);
     for list in lists {
         add_nodes(nodes, &mut found, *list)?;
@@ -51,7 +51,7 @@ fn nodes_of(alloc: Global, nodes: &CallNodes, lists: &[u32]) -> Result<Vec<u32>,
 }
 
 /// The nodes of all instances of a node that a word may have; none for a step or an action.
-fn nodes_below(alloc: Global, nodes: &CallNodes, node: u32) -> Result<Vec<u32>, AllocError> {
+fn nodes_below(alloc: Global, nodes: &CallNodes<'_>, node: u32) -> Result<Vec<u32>, AllocError> {
     match nodes.operator(node) {
         Some(Operator::Task(lists)) => nodes_of(alloc, nodes, lists),
         _ => Ok(Vec::new(alloc)),
@@ -61,7 +61,7 @@ fn nodes_below(alloc: Global, nodes: &CallNodes, node: u32) -> Result<Vec<u32>, 
 /// Meets the nodes of all instances of a node that a word may have.
 fn meet_below(
     alloc: Global,
-    nodes: &CallNodes,
+    nodes: &CallNodes<'_>,
     met: &mut IndexSet<u32>,
     node: u32,
 ) -> Result<(), AllocError> {
@@ -76,7 +76,7 @@ fn meet_below(
 fn list_all(
     alloc: Global,
     task: &Task,
-    nodes: &mut CallNodes,
+    nodes: &mut CallNodes<'_>,
     first: &[u32],
     most: usize,
 ) -> Result<bool, AllocError>
@@ -105,7 +105,7 @@ fn list_all(
 fn are_all_listed(
     alloc: Global,
     task: &Task,
-    nodes: &mut CallNodes,
+    nodes: &mut CallNodes<'_>,
     starts: &[u32],
     most: usize,
 ) -> Result<bool, AllocError>
@@ -118,7 +118,7 @@ fn are_all_listed(
 }
 
 /// By node, the nodes of its instances that a word may have.
-fn all_below(alloc: Global, nodes: &CallNodes) -> Result<Vec<Vec<u32>>, AllocError> {
+fn all_below(alloc: Global, nodes: &CallNodes<'_>) -> Result<Vec<Vec<u32>>, AllocError> {
     let count = nodes.nodes().len();
     let mut below = Vec::with_capacity(alloc, count)?;
     for place in 0..count {
@@ -163,7 +163,7 @@ fn spread(masks: &mut [BitState], inner: usize, outer: usize) -> Result<(), Allo
 fn fill(
     alloc: Global,
     task: &Task,
-    nodes: &CallNodes,
+    nodes: &CallNodes<'_>,
     masks: &mut [BitState],
     below: &[u32],
     components: &Components,
@@ -185,7 +185,7 @@ fn fill(
 fn masks_by_component(
     alloc: Global,
     task: &Task,
-    nodes: &CallNodes,
+    nodes: &CallNodes<'_>,
     below: &[Vec<u32>],
     components: &Components,
 ) -> Result<Vec<BitState>, AllocError> {
@@ -202,7 +202,7 @@ fn masks_by_component(
 }
 
 /// A mask of all atoms that have numbers.
-fn full_mask(alloc: Global, nodes: &CallNodes) -> Result<BitState, AllocError> {
+fn full_mask(alloc: Global, nodes: &CallNodes<'_>) -> Result<BitState, AllocError> {
     let mut numbers = Vec::new(alloc);
     for place in 0..nodes.atoms().len() {
         let Ok(number) = u32::try_from(place) else {
@@ -254,7 +254,7 @@ impl Masks {
     pub(crate) fn of(
         alloc: Global,
         task: &Task,
-        nodes: &mut CallNodes,
+        nodes: &mut CallNodes<'_>,
         starts: &[u32],
         most: usize,
     ) -> Result<Masks, AllocError>
@@ -282,7 +282,7 @@ impl Masks {
     pub(crate) fn into_frames(
         self,
         alloc: Global,
-        nodes: &CallNodes,
+        nodes: &CallNodes<'_>,
     ) -> Result<Frames, AllocError> {
         let Masks { mut of, mut masks } = self;
         let full = full_mask(alloc, nodes)?;

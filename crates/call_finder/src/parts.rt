@@ -13,7 +13,7 @@ use state_table::BitState;
 use std::alloc::{AllocError, Global};
 
 /// The state of a number, if there is one.
-fn numbered(nodes: &CallNodes, number: u32) -> Option<&BitState>
+fn numbered<'a>(nodes: &'a CallNodes<'_>, number: u32) -> Option<&'a BitState>
     ensures { IfSome result (λ s. (t : tasks.Task) → AreNodes t nodes.now → IsSetOf nodes.now.atoms s.now) }
 {
     nodes.states().get(number as usize)
@@ -24,7 +24,7 @@ fn numbered(nodes: &CallNodes, number: u32) -> Option<&BitState>
 pub(crate) fn part_of(
     alloc: Global,
     task: &Task,
-    nodes: &mut CallNodes,
+    nodes: &mut CallNodes<'_>,
     masks: &Masks,
     site: Site,
 ) -> Result<u32, AllocError>
@@ -46,7 +46,7 @@ pub(crate) fn part_of(
 /// one of them has no number it is the other one.
 pub(crate) fn lifted_of(
     task: &Task,
-    nodes: &mut CallNodes,
+    nodes: &mut CallNodes<'_>,
     masks: &Masks,
     site: Site,
     part: u32,

@@ -43,7 +43,7 @@ fn performed(alloc: Global, called: &Called) -> Result<Call, AllocError> {
 /// What is known of a call, with the places of its items, once all items of a lesser total than `top` were taken.
 fn call_of(
     alloc: Global,
-    nodes: &CallNodes,
+    nodes: &CallNodes<'_>,
     site: &Site,
     called: &Called,
     places: Vec<Place>,
@@ -101,7 +101,7 @@ fn take_places(alloc: Global, places: &mut [Vec<Place>], call: usize) -> Vec<Pla
 /// The table of a search that took all items of a lesser total than `top`.
 pub(crate) fn table_of(
     alloc: Global,
-    nodes: &CallNodes,
+    nodes: &CallNodes<'_>,
     chart: &Chart,
     top: u32,
 ) -> Result<CallTable, AllocError> {

@@ -27,7 +27,7 @@ pub(crate) struct Trail {
 }
 
 /// The list of the instance of a rank of a compound task.
-fn instance_at(nodes: &CallNodes, node: u32, rank: usize) -> Option<u32> {
+fn instance_at(nodes: &CallNodes<'_>, node: u32, rank: usize) -> Option<u32> {
     match nodes.operator(node) {
         Some(Operator::Task(instances)) => instances.get(rank).copied(),
         _ => None,
@@ -55,7 +55,7 @@ impl Trail {
         &mut self,
         task: &Task,
         whole: &mut WholeCalls,
-        nodes: &mut CallNodes,
+        nodes: &mut CallNodes<'_>,
         starts: &[u32],
     ) -> Result<bool, AllocError>
         requires { AreNodes task.now nodes.old }
@@ -91,7 +91,7 @@ impl Trail {
         &mut self,
         task: &Task,
         whole: &mut WholeCalls,
-        nodes: &mut CallNodes,
+        nodes: &mut CallNodes<'_>,
         instance: u32,
         rest: u32,
     ) -> Result<Option<Site>, AllocError>
@@ -116,7 +116,7 @@ impl Trail {
         &mut self,
         task: &Task,
         whole: &mut WholeCalls,
-        nodes: &mut CallNodes,
+        nodes: &mut CallNodes<'_>,
         node: u32,
         rest: u32,
     ) -> Result<bool, AllocError>
@@ -140,7 +140,7 @@ impl Trail {
         &mut self,
         task: &Task,
         whole: &mut WholeCalls,
-        nodes: &mut CallNodes,
+        nodes: &mut CallNodes<'_>,
     ) -> Result<bool, AllocError>
         requires { AreNodes task.now nodes.old }
         ensures { OnOk result (AreNodes task.now nodes.new) }
@@ -192,7 +192,7 @@ impl Trail {
         &mut self,
         task: &Task,
         whole: &mut WholeCalls,
-        nodes: &mut CallNodes,
+        nodes: &mut CallNodes<'_>,
     ) -> Result<bool, AllocError>
         requires { AreNodes task.now nodes.old }
         ensures { OnOk result (AreNodes task.now nodes.new) }

@@ -79,7 +79,7 @@ impl Values {
     fn settled(
         &mut self,
         whole: &WholeCalls,
-        nodes: &CallNodes,
+        nodes: &CallNodes<'_>,
         site: Site,
     ) -> Result<Option<u32>, AllocError> {
         let lists = nodes.lists();
@@ -107,7 +107,7 @@ impl Values {
         &mut self,
         task: &Task,
         whole: &mut WholeCalls,
-        nodes: &mut CallNodes,
+        nodes: &mut CallNodes<'_>,
         site: Site,
     ) -> Result<(), AllocError>
         requires { AreNodes task.now nodes.old }
@@ -131,7 +131,7 @@ impl Values {
         &mut self,
         task: &Task,
         whole: &mut WholeCalls,
-        nodes: &mut CallNodes,
+        nodes: &mut CallNodes<'_>,
         site: Site,
     ) -> Result<u32, AllocError>
         requires { AreNodes task.now nodes.old }
@@ -157,7 +157,7 @@ impl Values {
 pub(crate) fn lift_first(
     task: &Task,
     whole: &mut WholeCalls,
-    nodes: &mut CallNodes,
+    nodes: &mut CallNodes<'_>,
     site: Site,
 ) -> Result<usize, AllocError>
     requires { AreNodes task.now nodes.old }

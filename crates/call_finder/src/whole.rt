@@ -62,7 +62,7 @@ impl WholeCalls {
     fn state_in(
         &self,
         task: &Task,
-        nodes: &mut CallNodes,
+        nodes: &mut CallNodes<'_>,
         site: Site,
         part: u32,
         other: u32,
@@ -80,7 +80,7 @@ impl WholeCalls {
     fn exits_in(
         &self,
         task: &Task,
-        nodes: &mut CallNodes,
+        nodes: &mut CallNodes<'_>,
         site: Site,
         part: u32,
         call: &Call,
@@ -101,7 +101,7 @@ impl WholeCalls {
     fn rules_in(
         &self,
         task: &Task,
-        nodes: &mut CallNodes,
+        nodes: &mut CallNodes<'_>,
         site: Site,
         part: u32,
         call: &Call,
@@ -122,7 +122,7 @@ impl WholeCalls {
     fn made(
         &self,
         task: &Task,
-        nodes: &mut CallNodes,
+        nodes: &mut CallNodes<'_>,
         site: Site,
     ) -> Result<Option<Call>, AllocError>
         requires { AreNodes task.now nodes.old }
@@ -147,7 +147,7 @@ impl WholeCalls {
     pub(crate) fn lift(
         &mut self,
         task: &Task,
-        nodes: &mut CallNodes,
+        nodes: &mut CallNodes<'_>,
         site: Site,
     ) -> Result<usize, AllocError>
         requires { AreNodes task.now nodes.old }

@@ -130,7 +130,7 @@ module _ (t : Task) (a : CallNodes) (own : AreNodes t a) where
     -- the new one has the number that comes next
     pub number_of_new : (number : ℕ) → number ≡ length a.lists.counts → slice_get (children b) number ≡ Some (child_view v)
     number_of_new number next =
-        let count : number ≡ length (children a) = next ∙ ap length own.sizes ∙ length-map (children a) (size_of a.sizes) in
+        let count : number ≡ length (children a) = next ∙ ap length own.sizes ∙ length-map (children a) (size_of a.sizes.now) in
         ap (slice_get (children b)) count ∙ ap (λ (xs : List Child). slice_get xs (length (children a))) one_more ∙ at_end (children a) (child_view v)
 
     pub more_with_node : b.states ≡ a.states → AreMore a b
@@ -143,7 +143,7 @@ module _ (t : Task) (a : CallNodes) (own : AreNodes t a) where
 
     -- with its operator and its size
     pub with_node : (o : Operator) → b ≡ record a { atoms = b.atoms; nodes = b.nodes; operators = b.operators; lists = b.lists }
-        → b.operators.items ≡ a.operators.items ++ o ∷ [] → b.lists.counts ≡ a.lists.counts ++ size_of a.sizes (child_view v) ∷ []
+        → b.operators.items ≡ a.operators.items ++ o ∷ [] → b.lists.counts ≡ a.lists.counts ++ size_of a.sizes.now (child_view v) ∷ []
         → ((n : ℕ) → slice_get (children a) n ≡ Some (child_view v) → ⊥) → IsOperator t b.atoms (children b) b.lists (child_view v) o → AreNodes t b
     with_node o is_b operators counts new is =
         let x = child_view v in
@@ -156,7 +156,7 @@ module _ (t : Task) (a : CallNodes) (own : AreNodes t a) where
           nodes_apart = subst IsWithoutRepeats (sym one_more) (apart_with (children a) x own.nodes_apart new);
           goal = literals_later t a.atoms b.atoms later a.goal (problem_of t).goal own.goal;
           measure = own.measure;
-          sizes = counts ∙ ap (λ (ns : List ℕ). ns ++ size_of a.sizes x ∷ []) own.sizes ∙ sym (map-append (size_of a.sizes) (children a) (x ∷ [])) ∙ ap (map (size_of a.sizes)) (sym one_more);
+          sizes = counts ∙ ap (λ (ns : List ℕ). ns ++ size_of a.sizes.now x ∷ []) own.sizes ∙ sym (map-append (size_of a.sizes.now) (children a) (x ∷ [])) ∙ ap (map (size_of a.sizes.now)) (sym one_more);
           operators =
               subst (λ xs. AllZip (IsOperator t b.atoms (children b) b.lists) xs b.operators.items) (sym one_more)
               (subst (λ os. AllZip (IsOperator t b.atoms (children b) b.lists) (children a ++ x ∷ []) os) (sym operators)

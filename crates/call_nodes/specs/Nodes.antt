@@ -78,8 +78,8 @@ pub record AreNodes (t : Task) (n : CallNodes) : Type 0 where
   pub states_apart : IsWithoutRepeats n.states
   pub nodes_apart : IsWithoutRepeats (children n)
   pub goal : AreCompiled n.atoms n.goal (problem_of t).goal
-  pub measure : IsLowerMeasure (problem_of t) (size_of n.sizes)
-  pub sizes : n.lists.counts ≡ map (size_of n.sizes) (children n)
+  pub measure : IsLowerMeasure (problem_of t) (size_of n.sizes.now)
+  pub sizes : n.lists.counts ≡ map (size_of n.sizes.now) (children n)
   pub operators : AllZip (IsOperator t n.atoms (children n) n.lists) (children n) n.operators.items
 
 -- the same with more atoms, states, nodes and lists

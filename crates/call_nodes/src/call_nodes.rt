@@ -26,18 +26,18 @@ use std::alloc::{AllocError, Global};
 use tree_sizes::TreeSizes;
 
 /// The states and the nodes of a task that were met, by number, with what each node does, and lists of nodes.
-pub struct CallNodes {
+pub struct CallNodes<'a> {
     atoms: AtomTable,
     goal: CompiledLiterals,
     states: StateTable,
-    sizes: TreeSizes,
+    sizes: &'a TreeSizes,
     nodes: IndexSet<Child>,
     /// By node.
     operators: Vec<Operator>,
     lists: ListTable,
 }
 
-impl Drop for CallNodes {
+impl Drop for CallNodes<'_> {
     fn drop(self) {
         let CallNodes {
             atoms: _,
@@ -58,11 +58,15 @@ fn is_ordered(instance: &Instance) -> bool
     *instance.order() == Order::chain(instance.children().len())
 }
 
-impl CallNodes {
+impl<'a> CallNodes<'a> {
     /// Nothing of a task is met yet but its initial state and the atoms of its goal. The sizes are how many steps the
     /// nodes take at least.
-    pub fn new(alloc: Global, task: &Task, sizes: TreeSizes) -> Result<CallNodes, AllocError>
-        requires { IsLowerMeasure (problem_of task.now) (size_of sizes) }
+    pub fn new(
+        alloc: Global,
+        task: &Task,
+        sizes: &'a TreeSizes,
+    ) -> Result<CallNodes<'a>, AllocError>
+        requires { IsLowerMeasure (problem_of task.now) (size_of sizes.now) }
         ensures own { IfOk result (AreNodes task.now) }
         ensures none { IfOk result (λ n. children n ≡ []) }
     {

@@ -108,7 +108,7 @@ module _ {S : Type 0} (t : Task) (n : CallNodes) (masks : List (List ℕ)) (tabl
   passes = is_as_at_first (problem_of t)
 
   abbrev size : Child → ℕ
-  size = size_of n.sizes
+  size = size_of n.sizes.now
 
   abbrev own_sites : List (ℕ × ℕ)
   own_sites = sites t n table framed.rules

@@ -39,7 +39,7 @@ fn is_through(
 /// Whether a place of a call is followed: its first node as a call in its frame, which is inside that of the call.
 fn is_followed(
     alloc: Global,
-    nodes: &CallNodes,
+    nodes: &CallNodes<'_>,
     frames: &Frames,
     table: &CallTable,
     call: &Call,
@@ -75,7 +75,7 @@ fn is_followed(
 /// Whether a node in a part of a state is a closed call, by its rules, exits and places.
 fn is_closed(
     alloc: Global,
-    nodes: &CallNodes,
+    nodes: &CallNodes<'_>,
     frames: &Frames,
     table: &CallTable,
     site: &Site,
@@ -102,7 +102,7 @@ fn is_closed(
 /// the words of masks, and memory for one call at a time. An error means that memory was refused.
 pub(crate) fn are_closed_in(
     alloc: Global,
-    nodes: &CallNodes,
+    nodes: &CallNodes<'_>,
     frames: &Frames,
     table: &CallTable,
 ) -> Result<bool, AllocError>

@@ -29,7 +29,7 @@ use std::alloc::{AllocError, Global};
 const NEVER: u32 = u32::MAX;
 
 /// In which states the goal holds.
-fn ends_of(alloc: Global, nodes: &CallNodes) -> Result<Vec<bool>, AllocError>
+fn ends_of(alloc: Global, nodes: &CallNodes<'_>) -> Result<Vec<bool>, AllocError>
     ensures { IfOk result (λ ends. (t : tasks.Task) → AreNodes t nodes.now
         → ends.items ≡ map (λ s. holds (state_of nodes.now.atoms s) (problem_of t).goal) nodes.now.states) }
 {
@@ -46,7 +46,7 @@ fn ends_of(alloc: Global, nodes: &CallNodes) -> Result<Vec<bool>, AllocError>
 fn are_framed(
     alloc: Global,
     task: &Task,
-    nodes: &CallNodes,
+    nodes: &CallNodes<'_>,
     frames: &Frames,
     table: &CallTable,
     whole: &CallTable,
@@ -76,7 +76,7 @@ fn are_framed(
 pub fn is_least(
     alloc: Global,
     task: &Task,
-    nodes: &CallNodes,
+    nodes: &CallNodes<'_>,
     frames: &Frames,
     starts: &[u32],
     proposal: &FramedProposal,

@@ -14,7 +14,7 @@ use state_table::BitState;
 use std::alloc::{AllocError, Global};
 
 /// The state of a number, if there is one.
-pub(crate) fn numbered(nodes: &CallNodes, number: u32) -> Option<&BitState>
+pub(crate) fn numbered<'a>(nodes: &'a CallNodes<'_>, number: u32) -> Option<&'a BitState>
     ensures { IfSome result (λ s. slice_get nodes.now.states number ≡ Some s.now) }
 {
     nodes.states().get(number as usize)
@@ -23,7 +23,7 @@ pub(crate) fn numbered(nodes: &CallNodes, number: u32) -> Option<&BitState>
 /// The number of the part of a state in the frame of a node; none where one of the three has no number.
 pub(crate) fn part_of(
     alloc: Global,
-    nodes: &CallNodes,
+    nodes: &CallNodes<'_>,
     frames: &Frames,
     state: u32,
     node: u32,
@@ -43,7 +43,7 @@ pub(crate) fn part_of(
 
 /// The number of a state with what is in the frame of a mask as the state of another number has it, if it has one.
 pub(crate) fn lifted_of(
-    nodes: &CallNodes,
+    nodes: &CallNodes<'_>,
     whole: &BitState,
     mask: &BitState,
     part: u32,

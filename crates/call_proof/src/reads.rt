@@ -107,7 +107,7 @@ fn is_node_in(
 pub(crate) fn are_frames(
     alloc: Global,
     task: &Task,
-    nodes: &CallNodes,
+    nodes: &CallNodes<'_>,
     frames: &Frames,
 ) -> Result<bool, AllocError>
     ensures { IfOk result (λ b. IsTrue b → (j : ℕ) (x : ModelChild) → slice_get (children nodes.now) j ≡ Some x

@@ -10,7 +10,7 @@ use state_table::BitState;
 use std::alloc::AllocError;
 
 /// Whether a number is that of a state.
-fn is_state(nodes: &CallNodes, number: u32, state: &BitState) -> bool
+fn is_state(nodes: &CallNodes<'_>, number: u32, state: &BitState) -> bool
     ensures { IsTrue result → slice_get nodes.now.states number ≡ Some state.now }
 {
     match nodes.states().get(number as usize) {
@@ -20,7 +20,7 @@ fn is_state(nodes: &CallNodes, number: u32, state: &BitState) -> bool
 }
 
 /// Whether the one rule leads to this state, with nothing left to do.
-fn is_rule_into(nodes: &CallNodes, rules: &[Rule], after: &BitState) -> bool
+fn is_rule_into(nodes: &CallNodes<'_>, rules: &[Rule], after: &BitState) -> bool
     ensures { IsTrue result → AreRulesInto nodes.now.lists nodes.now.states rules.now (Some after.now) }
 {
     if rules.len() != 1 {
@@ -48,7 +48,7 @@ fn are_instances(rules: &[Rule], state: u32, lists: &[u32]) -> bool
 }
 
 /// Whether these are the rules of a step or an action in a state.
-fn are_performed(nodes: &CallNodes, site: &Site, rules: &[Rule]) -> Result<bool, AllocError>
+fn are_performed(nodes: &CallNodes<'_>, site: &Site, rules: &[Rule]) -> Result<bool, AllocError>
     ensures { IfOk result (λ b. IsTrue b → (t : tasks.Task) → AreNodes t nodes.now
         → ArePerformed nodes.now t site.now.state site.now.number rules.now) }
 {
@@ -73,7 +73,7 @@ fn is_carried_out(operator: &Operator) -> bool
 }
 
 /// Whether these are the rules of a node in a state.
-fn are_rules_at(nodes: &CallNodes, site: &Site, rules: &[Rule]) -> Result<bool, AllocError>
+fn are_rules_at(nodes: &CallNodes<'_>, site: &Site, rules: &[Rule]) -> Result<bool, AllocError>
     ensures { IfOk result (λ b. IsTrue b → (t : tasks.Task) → AreNodes t nodes.now
         → AreRulesAt nodes.now t site.now.state site.now.number rules.now) }
 {
@@ -94,7 +94,7 @@ fn are_rules_at(nodes: &CallNodes, site: &Site, rules: &[Rule]) -> Result<bool, 
 }
 
 /// Whether the rules of each call are those of its node in its state.
-pub(crate) fn are_rules(nodes: &CallNodes, table: &CallTable) -> Result<bool, AllocError>
+pub(crate) fn are_rules(nodes: &CallNodes<'_>, table: &CallTable) -> Result<bool, AllocError>
     ensures { IfOk result (λ b. IsTrue b → (t : tasks.Task) → AreNodes t nodes.now → AreRules nodes.now t table.now) }
 {
     for k in 0..table.calls.len() {

@@ -9,7 +9,7 @@ use call_table::{Rule, Site, value_of};
 use std::alloc::{AllocError, Global};
 
 /// How many steps are left at least of a list in a state, by the values.
-fn steps_left(nodes: &CallNodes, proposal: &Proposal, list: u32, state: u32) -> u64
+fn steps_left(nodes: &CallNodes<'_>, proposal: &Proposal, list: u32, state: u32) -> u64
     ensures { AreLeft nodes.now.lists proposal.now.table proposal.now.values result state
         (list_at nodes.now.lists list) }
 {
@@ -20,7 +20,7 @@ fn steps_left(nodes: &CallNodes, proposal: &Proposal, list: u32, state: u32) -> 
 /// lists may show it without the value of both together.
 fn is_longer(
     alloc: Global,
-    nodes: &CallNodes,
+    nodes: &CallNodes<'_>,
     proposal: &Proposal,
     rule: &Rule,
     rest: u32,
@@ -43,7 +43,7 @@ fn is_longer(
 /// Whether each of some rules leads, with the nodes of a list behind, to where more steps than these are left.
 fn are_longer(
     alloc: Global,
-    nodes: &CallNodes,
+    nodes: &CallNodes<'_>,
     proposal: &Proposal,
     rules: &[Rule],
     rest: u32,
@@ -63,7 +63,7 @@ fn are_longer(
 /// Where a rule leads, with the nodes of a list behind; none where both lists together have no number.
 fn site_after(
     alloc: Global,
-    nodes: &CallNodes,
+    nodes: &CallNodes<'_>,
     rule: &Rule,
     rest: u32,
 ) -> Result<Option<Site>, AllocError>
@@ -84,7 +84,7 @@ fn site_after(
 /// steps than these are left; none also where both lists together have no number.
 fn follow_rank(
     alloc: Global,
-    nodes: &CallNodes,
+    nodes: &CallNodes<'_>,
     proposal: &Proposal,
     rules: &[Rule],
     rank: u64,
@@ -108,7 +108,7 @@ fn follow_rank(
 /// Where a rank leads from a list in a state, if each lesser rank leads to where more steps than these are left.
 fn after_rank(
     alloc: Global,
-    nodes: &CallNodes,
+    nodes: &CallNodes<'_>,
     proposal: &Proposal,
     at: Site,
     rank: u64,
@@ -146,7 +146,7 @@ fn is_end(ends: &[bool], state: u32) -> bool
 /// takes more steps.
 fn is_way(
     alloc: Global,
-    nodes: &CallNodes,
+    nodes: &CallNodes<'_>,
     proposal: &Proposal,
     ends: &[bool],
     from: Site,
@@ -170,7 +170,7 @@ fn is_way(
 }
 
 /// Whether each of some lists takes these steps at least from the first state.
-fn are_left(nodes: &CallNodes, proposal: &Proposal, lists: &[u32], steps: u64) -> bool
+fn are_left(nodes: &CallNodes<'_>, proposal: &Proposal, lists: &[u32], steps: u64) -> bool
     ensures { IsTrue result
         → AreListsLeft nodes.now.lists proposal.now.table proposal.now.values steps lists.now }
 {
@@ -186,7 +186,7 @@ fn are_left(nodes: &CallNodes, proposal: &Proposal, lists: &[u32], steps: u64) -
 /// fewer steps, nor one before it as few.
 pub(crate) fn is_word(
     alloc: Global,
-    nodes: &CallNodes,
+    nodes: &CallNodes<'_>,
     proposal: &Proposal,
     ends: &[bool],
     starts: &[u32],

@@ -14,7 +14,7 @@ use std::alloc::{AllocError, Global};
 /// Exits of a part in a whole state, by a mask; none where one of them has no number.
 fn whole_exits(
     alloc: Global,
-    nodes: &CallNodes,
+    nodes: &CallNodes<'_>,
     whole: &BitState,
     mask: &BitState,
     exits: &[Exit],
@@ -36,7 +36,7 @@ fn whole_exits(
 /// Exits of a node in the part of a state, in the whole state; none where something has no number.
 fn exits_at(
     alloc: Global,
-    nodes: &CallNodes,
+    nodes: &CallNodes<'_>,
     frames: &Frames,
     exits: &[Exit],
     state: u32,
@@ -59,7 +59,7 @@ fn exits_at(
 /// are left out. None where the table has no such call, and where the part or an exit has no number.
 pub(crate) fn whole_call(
     alloc: Global,
-    nodes: &CallNodes,
+    nodes: &CallNodes<'_>,
     frames: &Frames,
     table: &CallTable,
     state: u32,
@@ -126,7 +126,7 @@ fn is_same_call(one: &Call, other: &Call) -> bool
 /// Whether a call of a node in a state is lifted from that of a table.
 fn is_lifted(
     alloc: Global,
-    nodes: &CallNodes,
+    nodes: &CallNodes<'_>,
     frames: &Frames,
     table: &CallTable,
     site: &Site,
@@ -144,7 +144,7 @@ fn is_lifted(
 /// Whether the calls of nodes in whole states are lifted from those of a table.
 pub(crate) fn are_lifted(
     alloc: Global,
-    nodes: &CallNodes,
+    nodes: &CallNodes<'_>,
     frames: &Frames,
     table: &CallTable,
     whole: &CallTable,

@@ -2,9 +2,12 @@
 use Rattle.std.specs.Prelude.{◌≡◌, ℕ, Option, IfSome}
 use Rattle.std.specs.declared.alloc.Global.{Global}
 use Rattle.std.specs.declared.vec.Vec.{Vec}
+use Rattle.htn_model.specs.Grounding.{problem_of}
 use Rattle.htn_model.specs.Task.{Task}
 use Rattle.htn_net.specs.Listed.{listing_machine}
 use Rattle.word_machine.specs.Answer.{IsLeastFinishing}
+use Rattle.tree_sizes.specs.Measure.{IsLowerMeasure}
+use Rattle.tree_sizes.specs.Sizes.{size_of}
 use Rattle.call_nodes.specs.Nodes.{AreNodes}
 use Rattle.call_search.specs.declared.calls.Calls.{Calls}
 use Rattle.call_search.specs.declared.trial.Trial.{Trial}
@@ -14,9 +17,9 @@ abbrev pub AreRight : Task → ℕ → Option (Vec ℕ Global) → Option Trial 
 AreRight t bound word trial =
     IfSome word (λ w. IsLeastFinishing (listing_machine t) bound w.items) × IfSome trial (λ x. AreNodes t x.nodes)
 
--- what a search by calls has found is right
+-- the sizes of the nodes are least ones, and what a search by calls has found is right
 abbrev pub IsRight : Calls → Type 0
-IsRight c = AreRight c.task.now c.bound c.word c.trial
+IsRight c = IsLowerMeasure (problem_of c.task.now) (size_of c.sizes.now) × AreRight c.task.now c.bound c.word c.trial
 
 -- a search by calls of the same task within the same bound, which is right if the other one is
 abbrev pub IsSameSearch : Calls → Calls → Type 0

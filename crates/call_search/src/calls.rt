@@ -2,7 +2,10 @@
 ghost use Rattle.std.specs.Prelude.{◌≡◌, IfSome, None, OnOk};
 ghost use Rattle.call_nodes.specs.Nodes.{AreNodes};
 ghost use Rattle.call_search.specs.Right.{IsRight};
+ghost use Rattle.htn_model.specs.Grounding.{problem_of};
 ghost use Rattle.htn_net.specs.Listed.{listing_machine};
+ghost use Rattle.tree_sizes.specs.Measure.{IsLowerMeasure};
+ghost use Rattle.tree_sizes.specs.Sizes.{size_of};
 ghost use Rattle.word_machine.specs.Answer.{IsLeastFinishing};
 
 use crate::ordered::are_ordered;
@@ -10,15 +13,20 @@ use crate::trial::Trial;
 use call_finder::Progress;
 use htn_task::Task;
 use std::alloc::{AllocError, Global};
+use tree_sizes::TreeSizes;
 
-/// How many configurations a search has when a search by calls begins beside it.
-const FIRST: usize = 10_000;
+/// How many configurations a search has at least when a search by calls in frames begins beside it.
+const FIRST: usize = 1_000;
+
+/// How many it has when one by calls on whole states begins. These rarely end before a long search does.
+const FIRST_WHOLE: usize = 10_000;
 
 /// For how many configurations a search by calls may meet one item. To meet one takes about as long as to store one.
 const SHARE: u64 = 8;
 
-/// How many times as many, where calls have shown that no word is within the bound of the other search.
-const AHEAD: u64 = 3;
+/// How many times as many, where calls have shown that no word is within the bound of the other search: then calls find
+/// out faster than that search, whose work within the bound is in vain.
+const AHEAD: u64 = 8;
 
 /// How many configurations more a search stores until its calls in frames have a greater share: twice as much as at
 /// first, then three times, up to [`MOST_OFTEN`] times.
@@ -27,35 +35,30 @@ const LONG: u64 = 200_000;
 /// By what factor the share of calls in frames grows at most.
 const MOST_OFTEN: u64 = 4;
 
-/// For how many configurations one ground task, instance or node is listed.
-const LISTING: u64 = 5;
-
-/// How much of the decomposition graph is listed at most.
-const MOST_LISTED: u64 = 100_000;
-
-/// A search is wide that stores more configurations than this each time that it asks. Then most of them are instances
-/// of few tasks, and to list these for calls takes as long as the search.
+/// A search is wide that stores more configurations than this each time that it asks. Where the decomposition graph is
+/// cut off, most of them are instances of few tasks, and to list these for calls takes as long as the search.
 const WIDE: u64 = 2_048;
-
-/// By what factor the number of configurations has grown when a search by calls begins anew, if more is listed then.
-const GROWTH: usize = 3;
 
 /// A search by calls of the least finishing word of a task's ranks, beside another search of the same task. It does a
 /// small fraction of the work of that.
 pub struct Calls<'a> {
     alloc: Global,
     task: &'a Task,
+    /// The least sizes of the task's nodes.
+    sizes: &'a TreeSizes,
     /// The most steps of a word.
     bound: u64,
-    /// How many configurations the other search has when the next search by calls begins.
-    next: usize,
+    /// Whether calls are in frames.
+    in_frames: bool,
+    /// How many configurations the other search has when the search by calls begins.
+    first: usize,
     /// How often the other search has asked.
     asked: u64,
     /// How many configurations the other search had when it asked last.
     seen: usize,
     /// How many items the search by calls may meet in all, times [`SHARE`].
     allowed: u64,
-    trial: Option<Trial>,
+    trial: Option<Trial<'a>>,
     /// The word that was found.
     word: Option<Vec<u64>>,
 }
@@ -65,8 +68,10 @@ impl Drop for Calls<'_> {
         let Calls {
             alloc: _,
             task: _,
+            sizes: _,
             bound: _,
-            next: _,
+            in_frames: _,
+            first: _,
             asked: _,
             seen: _,
             allowed: _,
@@ -76,16 +81,12 @@ impl Drop for Calls<'_> {
     }
 }
 
-/// How many configurations there are when the next search by calls begins: none does that would list as much.
-fn next_of(trial: &Option<Trial>, configurations: usize) -> usize {
-    match trial {
-        Some(trial) if trial.is_cut() => configurations.saturating_mul(GROWTH),
-        _ => usize::MAX,
-    }
-}
-
 /// Continues a search by calls, if one has begun. Where none has, none will find a word.
-fn continued(trial: &mut Option<Trial>, task: &Task, most_work: u64) -> Result<Progress, AllocError>
+fn continued(
+    trial: &mut Option<Trial<'_>>,
+    task: &Task,
+    most_work: u64,
+) -> Result<Progress, AllocError>
     requires { IfSome trial.old (λ x. AreNodes task.now x.nodes) }
     ensures { OnOk result (IfSome trial.new (λ x. AreNodes task.now x.nodes)) }
 {
@@ -96,39 +97,38 @@ fn continued(trial: &mut Option<Trial>, task: &Task, most_work: u64) -> Result<P
 }
 
 /// Whether a search by calls has shown that no word is within a bound.
-fn is_ahead(trial: &Option<Trial>, bound: u64) -> bool {
+fn is_ahead(trial: &Option<Trial<'_>>, bound: u64) -> bool {
     match trial {
         Some(trial) => u64::from(trial.total()) > bound,
         None => false,
     }
 }
 
-/// Whether the calls of a search may be in frames, since all of the decomposition graph is listed. Calls on whole
-/// states rarely end before a long search does.
-fn is_framed(trial: &Option<Trial>) -> bool {
-    match trial {
-        Some(trial) => !trial.is_cut(),
-        None => false,
-    }
-}
-
 /// How many times as many items as at first a search by calls may meet for the next configurations.
-fn share_of(trial: &Option<Trial>, configurations: usize, bound: u64) -> u64 {
-    let grown = if is_framed(trial) {
+fn share_of(is_ahead: bool, in_frames: bool, configurations: usize) -> u64 {
+    let grown = if in_frames {
         (configurations as u64 / LONG).saturating_add(1)
     } else {
         1
     };
     let share = grown.min(MOST_OFTEN);
-    if is_ahead(trial, bound) {
-        share.max(AHEAD)
+    if is_ahead { share.max(AHEAD) } else { share }
+}
+
+/// How many configurations the other search has when a search by calls begins beside it. Calls in frames list all nodes
+/// first, so they wait for as many configurations. None begins if a network is not totally ordered.
+fn first_of(task: &Task, sizes: &TreeSizes, in_frames: bool) -> usize {
+    if !are_ordered(task) {
+        usize::MAX
+    } else if in_frames {
+        sizes.graph().nodes().len().max(FIRST)
     } else {
-        share
+        FIRST_WHOLE
     }
 }
 
 /// Ends a search by calls.
-fn forget(trial: &mut Option<Trial>)
+fn forget(trial: &mut Option<Trial<'_>>)
     ensures { trial.new ≡ None }
 {
     *trial = None;
@@ -137,7 +137,7 @@ fn forget(trial: &mut Option<Trial>)
 /// Continues a search by calls, and returns the number of steps of the word if it is known then. A search that fails,
 /// or is refused memory, ends.
 fn advanced(
-    trial: &mut Option<Trial>,
+    trial: &mut Option<Trial<'_>>,
     task: &Task,
     most_work: u64,
 ) -> Result<Option<u32>, AllocError>
@@ -159,19 +159,28 @@ fn advanced(
 }
 
 impl<'a> Calls<'a> {
-    /// A search within a bound on the steps of the word, which has not begun. It never begins if a network of the task
-    /// is not totally ordered.
-    pub fn new(alloc: Global, task: &'a Task, bound: u64) -> Calls<'a>
+    /// A search within a bound on the steps of the word, which has not begun, with the least sizes of the task's nodes.
+    /// Calls are in frames where `in_frames` says so, which is meant for a small decomposition graph, and else on whole
+    /// states. It never begins if a network of the task is not totally ordered.
+    pub fn new(
+        alloc: Global,
+        task: &'a Task,
+        sizes: &'a TreeSizes,
+        in_frames: bool,
+        bound: u64,
+    ) -> Calls<'a>
+        requires { IsLowerMeasure (problem_of task.now) (size_of sizes.now) }
         ensures task { result.task.now ≡ task.now }
         ensures bound { result.bound ≡ bound }
         ensures right { IsRight result }
     {
-        let next = if are_ordered(task) { FIRST } else { usize::MAX };
         Calls {
             alloc,
             task,
+            sizes,
             bound,
-            next,
+            in_frames,
+            first: first_of(task, sizes, in_frames),
             asked: 0,
             seen: 0,
             allowed: 0,
@@ -181,15 +190,15 @@ impl<'a> Calls<'a> {
     }
 
     /// Begins a search by calls.
-    fn begin(&mut self, configurations: usize) -> Result<(), AllocError>
+    fn begin(&mut self) -> Result<(), AllocError>
         requires { IsRight self.old }
         ensures task { self.new.task.now ≡ self.old.task.now }
         ensures bound { self.new.bound ≡ self.old.bound }
         ensures right { IsRight self.new }
     {
-        let listed = (configurations as u64 / LISTING).min(MOST_LISTED);
-        let trial = Trial::new(self.alloc, self.task, listed, self.bound)?;
-        self.next = next_of(&trial, configurations);
+        self.first = usize::MAX;
+        let most_nodes = if self.in_frames { usize::MAX } else { 0 };
+        let trial = Trial::new(self.alloc, self.task, self.sizes, most_nodes, self.bound)?;
         self.trial = trial;
         Ok(())
     }
@@ -221,7 +230,7 @@ impl<'a> Calls<'a> {
         } else {
             configurations.saturating_sub(self.seen)
         };
-        let share = share_of(&self.trial, configurations, bound);
+        let share = share_of(is_ahead(&self.trial, bound), self.in_frames, configurations);
         self.seen = configurations;
         self.allowed = self
             .allowed
@@ -259,9 +268,9 @@ impl<'a> Calls<'a> {
             return Ok(true);
         }
         self.asked = self.asked.saturating_add(1);
-        let is_wide = configurations as u64 > self.asked.saturating_mul(WIDE);
-        if self.next <= configurations && !is_wide {
-            self.begin(configurations)?;
+        let is_wide = !self.in_frames && configurations as u64 > self.asked.saturating_mul(WIDE);
+        if self.first <= configurations && !is_wide {
+            self.begin()?;
         }
         self.allow(configurations, bound);
         self.advance()

@@ -2,7 +2,9 @@
 ghost use Rattle.std.specs.Prelude.{◌≡◌, IfOk, IfSome, OnOk};
 ghost use Rattle.call_nodes.specs.Nodes.{AreNodes};
 ghost use Rattle.htn_net.specs.Listed.{listing_machine};
-ghost use Rattle.task_graph.specs.Graph.{IsGraph};
+ghost use Rattle.htn_model.specs.Grounding.{problem_of};
+ghost use Rattle.tree_sizes.specs.Measure.{IsLowerMeasure};
+ghost use Rattle.tree_sizes.specs.Sizes.{size_of};
 ghost use Rattle.word_machine.specs.Answer.{IsLeastFinishing};
 ghost use Rattle.word_machine.specs.Words.{step_count};
 
@@ -11,16 +13,13 @@ use call_nodes::CallNodes;
 use call_proof::{FramedProposal, Frames, Proposal, is_least};
 use htn_task::Task;
 use std::alloc::{AllocError, Global};
-use task_graph::TaskGraph;
-use tree_sizes::{TreeSizes, enumerate};
+use tree_sizes::TreeSizes;
 
 /// A search for the least finishing word by calls, which is made in parts.
 #[derive(Drop)]
-pub(crate) struct Trial {
-    nodes: CallNodes,
+pub(crate) struct Trial<'a> {
+    nodes: CallNodes<'a>,
     finder: Finder,
-    /// Whether more of the decomposition graph could be listed for the sizes.
-    is_cut: bool,
 }
 
 /// The number of steps of a word.
@@ -33,46 +32,11 @@ fn steps_of(word: &[u64]) -> u64
     }
 }
 
-/// The nodes of a task, with sizes by what is listed of the decomposition graph.
-fn nodes_of(alloc: Global, task: &Task, graph: TaskGraph) -> Result<CallNodes, AllocError>
-    requires { IsGraph task.now graph }
-    ensures { IfOk result (AreNodes task.now) }
-{
-    let sizes = TreeSizes::of(alloc, graph)?;
-    CallNodes::new(alloc, task, sizes)
-}
-
-/// A search that is to begin, from nodes of which none is listed. Calls are in frames where all below the start was
-/// listed.
-fn trial_of(
-    alloc: Global,
-    task: &Task,
-    nodes: CallNodes,
-    is_cut: bool,
-    listed: u64,
-    bound: u64,
-) -> Result<Option<Trial>, AllocError>
-    requires { AreNodes task.now nodes }
-    ensures { IfOk result (λ o. IfSome o (λ trial. AreNodes task.now trial.nodes)) }
-{
-    let mut nodes = nodes;
-    let steps = u32::try_from(bound).unwrap_or(u32::MAX);
-    let most_nodes = if is_cut { 0 } else { listed as usize };
-    let Some(finder) = Finder::new(alloc, task, &mut nodes, steps, most_nodes)? else {
-        return Ok(None);
-    };
-    Ok(Some(Trial {
-        nodes,
-        finder,
-        is_cut,
-    }))
-}
-
 /// What the finder proposes, where it can read off a word of this number of steps.
 fn proposal_of(
     task: &Task,
     finder: Finder,
-    nodes: &mut CallNodes,
+    nodes: &mut CallNodes<'_>,
     steps: u32,
 ) -> Result<Option<(Frames, FramedProposal)>, AllocError>
     requires { AreNodes task.now nodes.old }
@@ -100,7 +64,7 @@ fn proposal_of(
 fn checked_word(
     alloc: Global,
     task: &Task,
-    nodes: &mut CallNodes,
+    nodes: &mut CallNodes<'_>,
     frames: &Frames,
     proposal: FramedProposal,
     bound: u64,
@@ -126,7 +90,7 @@ fn checked_word(
 fn word_of(
     alloc: Global,
     task: &Task,
-    nodes: &mut CallNodes,
+    nodes: &mut CallNodes<'_>,
     finder: Finder,
     steps: u32,
     bound: u64,
@@ -140,26 +104,26 @@ fn word_of(
     checked_word(alloc, task, nodes, &frames, proposal, bound)
 }
 
-impl Trial {
-    /// A search for a word of at most `bound` steps, with least sizes by `listed` ground tasks, instances and nodes of
-    /// the decomposition graph. None where an initial network is not totally ordered.
+impl<'a> Trial<'a> {
+    /// A search for a word of at most `bound` steps, with the least sizes of nodes. Calls are in frames where at most
+    /// `most_nodes` nodes are below the start, and else in whole states. None where an initial network is not totally
+    /// ordered.
     pub(crate) fn new(
         alloc: Global,
         task: &Task,
-        listed: u64,
+        sizes: &'a TreeSizes,
+        most_nodes: usize,
         bound: u64,
-    ) -> Result<Option<Trial>, AllocError>
+    ) -> Result<Option<Trial<'a>>, AllocError>
+        requires { IsLowerMeasure (problem_of task.now) (size_of sizes.now) }
         ensures { IfOk result (λ o. IfSome o (λ trial. AreNodes task.now trial.nodes)) }
     {
-        let graph = enumerate(alloc, task, listed)?;
-        let is_cut = graph.is_cut(task);
-        let nodes = nodes_of(alloc, task, graph)?;
-        trial_of(alloc, task, nodes, is_cut, listed, bound)
-    }
-
-    /// Whether a search with a greater limit would list more of the decomposition graph.
-    pub(crate) fn is_cut(&self) -> bool {
-        self.is_cut
+        let mut nodes = CallNodes::new(alloc, task, sizes)?;
+        let steps = u32::try_from(bound).unwrap_or(u32::MAX);
+        let Some(finder) = Finder::new(alloc, task, &mut nodes, steps, most_nodes)? else {
+            return Ok(None);
+        };
+        Ok(Some(Trial { nodes, finder }))
     }
 
     /// No word has fewer steps than these, as far as the search has come.

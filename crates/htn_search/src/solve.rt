@@ -58,6 +58,14 @@ const LAST_STAGE: Stage = Stage {
     kept: usize::MAX,
 };
 
+/// The limits of one search: no word finishes in fewer steps than `known`.
+#[derive(Clone, Copy)]
+struct Limits {
+    effort: Effort,
+    bounds: Bounds,
+    known: u64,
+}
+
 /// The ending of a search, and its tables.
 #[derive(Drop)]
 struct Searched<T> {
@@ -65,25 +73,23 @@ struct Searched<T> {
     tables: T,
 }
 
-/// The ending of the watched search of a machine, with its tables; no word finishes in fewer steps than `known`.
+/// The ending of the watched search of a machine, with its tables.
 fn search_by<M: Machine, G: Gate, W: Watch, R: Threads + Wait + Sync>(
     rt: &R,
     alloc: Global,
     machine: &M,
-    effort: Effort,
-    bounds: Bounds,
-    known: u64,
+    limits: Limits,
     gate: &G,
     watch: &mut W,
 ) -> Result<Searched<M::Tables>, SearchFault>
-    requires known { NoneFinishesBefore (M.words machine.now) known }
+    requires known { NoneFinishesBefore (M.words machine.now) limits.known }
     requires hears { (n : ℕ) → NoneFinishesBefore (M.words machine.now) n → W.may_hear watch.old n }
-    ensures ending { IfOk result (λ s. IsEnding (M.words machine.now) bounds.nodes s.ending) }
+    ensures ending { IfOk result (λ s. IsEnding (M.words machine.now) limits.bounds.nodes s.ending) }
     ensures own { IfOk result (λ s. M.owns machine.now s.tables) }
-    ensures given_up { IfOk result (λ s. (n : ℕ) → s.ending ≡ GivenUp n → effort.most_kept < 2 ^ 64 - 1) }
+    ensures given_up { IfOk result (λ s. (n : ℕ) → s.ending ≡ GivenUp n → limits.effort.most_kept < 2 ^ 64 - 1) }
     ensures stopped { IfOk result (λ s. (n : ℕ) → s.ending ≡ Stopped n → W.may_stop watch.old ≡ true) }
     ensures becomes { W.becomes watch.old watch.new }
-    ensures no_thread { IfErr result (λ e. e ≡ NoThread → 1 < bounds.workers) }
+    ensures no_thread { IfErr result (λ e. e ≡ NoThread → 1 < limits.bounds.workers) }
 {
     let mut tables = machine.new_tables()?;
     let ending = find_word_watched(
@@ -91,9 +97,9 @@ fn search_by<M: Machine, G: Gate, W: Watch, R: Threads + Wait + Sync>(
         alloc,
         machine,
         &mut tables,
-        bounds,
-        effort,
-        known,
+        limits.bounds,
+        limits.effort,
+        limits.known,
         gate,
         watch,
     )?;
@@ -120,6 +126,85 @@ fn effort_of(stage: Stage, is_cut: bool, bounds: Bounds) -> Effort
     }
 }
 
+/// The ending of the search of a task's machine, with its tables, or the word that the watch has found by calls.
+fn search_with_watch<G: Gate, W: Watch, R: Threads + Wait + Sync>(
+    rt: &R,
+    alloc: Global,
+    machine: &TaskMachine<'_>,
+    limits: Limits,
+    gate: &G,
+    watch: &mut CallWatch<'_, '_, W>,
+) -> Result<Searched<Tables>, SearchFault>
+    requires task { watch.old.calls.now.task.now ≡ machine.now.task.now }
+    requires bound { watch.old.calls.now.bound ≡ limits.bounds.nodes }
+    requires right { IsRight watch.old.calls.now }
+    requires stopped { watch.old.is_stopped ≡ false }
+    requires known { NoneFinishesBefore (listing_machine machine.now.task.now) limits.known }
+    requires hears { (n : ℕ) → NoneFinishesBefore (listing_machine machine.now.task.now) n → W.may_hear watch.old.watch.now n }
+    ensures ending { IfOk result (λ s. IsEnding (listing_machine machine.now.task.now) limits.bounds.nodes s.ending) }
+    ensures tables { IfOk result (λ s. AreTables machine.now.task.now s.tables) }
+    ensures given_up { IfOk result (λ s. (n : ℕ) → s.ending ≡ GivenUp n → limits.effort.most_kept < 2 ^ 64 - 1) }
+    ensures stopped { IfOk result (λ s. (n : ℕ) → s.ending ≡ Stopped n → W.may_stop watch.old.watch.now ≡ true) }
+    ensures same_reference { watch.new.watch.ghost_name ≡ watch.old.watch.ghost_name }
+    ensures becomes { W.becomes watch.old.watch.now watch.new.watch.now }
+    ensures no_thread { IfErr result (λ e. e ≡ NoThread → 1 < limits.bounds.workers) }
+{
+    let Searched { ending, tables } = search_by(rt, alloc, machine, limits, gate, watch)?;
+    let ending = watch.end(ending)?;
+    Ok(Searched { ending, tables })
+}
+
+/// The ending of the search of a task's machine, with its tables, beside a search by calls.
+fn search_beside<G: Gate, W: Watch, R: Threads + Wait + Sync>(
+    rt: &R,
+    alloc: Global,
+    machine: &TaskMachine<'_>,
+    calls: &mut Calls<'_>,
+    limits: Limits,
+    gate: &G,
+    watch: &mut W,
+) -> Result<Searched<Tables>, SearchFault>
+    requires task { calls.old.task.now ≡ machine.now.task.now }
+    requires bound { calls.old.bound ≡ limits.bounds.nodes }
+    requires right { IsRight calls.old }
+    requires known { NoneFinishesBefore (listing_machine machine.now.task.now) limits.known }
+    requires hears { (n : ℕ) → NoneFinishesBefore (listing_machine machine.now.task.now) n → W.may_hear watch.old n }
+    ensures ending { IfOk result (λ s. IsEnding (listing_machine machine.now.task.now) limits.bounds.nodes s.ending) }
+    ensures tables { IfOk result (λ s. AreTables machine.now.task.now s.tables) }
+    ensures given_up { IfOk result (λ s. (n : ℕ) → s.ending ≡ GivenUp n → limits.effort.most_kept < 2 ^ 64 - 1) }
+    ensures stopped { IfOk result (λ s. (n : ℕ) → s.ending ≡ Stopped n → W.may_stop watch.old ≡ true) }
+    ensures becomes { W.becomes watch.old watch.new }
+    ensures no_thread { IfErr result (λ e. e ≡ NoThread → 1 < limits.bounds.workers) }
+{
+    let mut watch = CallWatch::new(calls, watch);
+    search_with_watch(rt, alloc, machine, limits, gate, &mut watch)
+}
+
+/// The ending of the search of a task's machine, with its tables. The word is looked for by calls too: in frames where
+/// all of the decomposition graph is listed.
+fn search_machine<G: Gate, W: Watch, R: Threads + Wait + Sync>(
+    rt: &R,
+    alloc: Global,
+    machine: &TaskMachine<'_>,
+    is_cut: bool,
+    limits: Limits,
+    gate: &G,
+    watch: &mut W,
+) -> Result<Searched<Tables>, SearchFault>
+    requires known { NoneFinishesBefore (listing_machine machine.now.task.now) limits.known }
+    requires hears { (n : ℕ) → NoneFinishesBefore (listing_machine machine.now.task.now) n → W.may_hear watch.old n }
+    ensures ending { IfOk result (λ s. IsEnding (listing_machine machine.now.task.now) limits.bounds.nodes s.ending) }
+    ensures tables { IfOk result (λ s. AreTables machine.now.task.now s.tables) }
+    ensures given_up { IfOk result (λ s. (n : ℕ) → s.ending ≡ GivenUp n → limits.effort.most_kept < 2 ^ 64 - 1) }
+    ensures stopped { IfOk result (λ s. (n : ℕ) → s.ending ≡ Stopped n → W.may_stop watch.old ≡ true) }
+    ensures becomes { W.becomes watch.old watch.new }
+    ensures no_thread { IfErr result (λ e. e ≡ NoThread → 1 < limits.bounds.workers) }
+{
+    let nodes = limits.bounds.nodes;
+    let mut calls = Calls::new(alloc, machine.task, machine.sizes(), !is_cut, nodes);
+    search_beside(rt, alloc, machine, &mut calls, limits, gate, watch)
+}
+
 /// The ending of one stage of the search for a task's least finishing word of ranks, with its tables. The stage is
 /// given up only where a greater limit would list more.
 fn search_stage<G: Gate, W: Watch, R: Threads + Wait + Sync>(
@@ -142,9 +227,14 @@ fn search_stage<G: Gate, W: Watch, R: Threads + Wait + Sync>(
     ensures no_thread { IfErr result (λ e. e ≡ NoThread → 1 < bounds.workers) }
 {
     let listed = enumerate(alloc, task, stage.listed)?;
-    let effort = effort_of(stage, listed.is_cut(task), bounds);
+    let is_cut = listed.is_cut(task);
+    let limits = Limits {
+        effort: effort_of(stage, is_cut, bounds),
+        bounds,
+        known,
+    };
     let machine = TaskMachine::new(alloc, task, listed)?;
-    search_by(rt, alloc, &machine, effort, bounds, known, gate, watch)
+    search_machine(rt, alloc, &machine, is_cut, limits, gate, watch)
 }
 
 /// The number of steps below which no word finishes, where a search was given up.
@@ -188,82 +278,6 @@ fn find_in_stages<G: Gate, W: Watch, R: Threads + Wait + Sync>(
     search_stage(rt, alloc, task, LAST_STAGE, bounds, known, gate, watch)
 }
 
-/// The ending of the search for a task's least finishing word of ranks, with the tables of its last stage, or the word
-/// that the watch has found by calls.
-fn find_beside_calls<G: Gate, W: Watch, R: Threads + Wait + Sync>(
-    rt: &R,
-    alloc: Global,
-    task: &Task,
-    bounds: Bounds,
-    gate: &G,
-    watch: &mut CallWatch<'_, '_, W>,
-) -> Result<Searched<Tables>, SearchFault>
-    requires task { watch.old.calls.now.task.now ≡ task.now }
-    requires bound { watch.old.calls.now.bound ≡ bounds.nodes }
-    requires right { IsRight watch.old.calls.now }
-    requires stopped { watch.old.is_stopped ≡ false }
-    requires hears { (n : ℕ) → NoneFinishesBefore (listing_machine task.now) n → W.may_hear watch.old.watch.now n }
-    ensures ending { IfOk result (λ s. IsEnding (listing_machine task.now) bounds.nodes s.ending) }
-    ensures tables { IfOk result (λ s. AreTables task.now s.tables) }
-    ensures ended { IfOk result (λ s. (n : ℕ) → s.ending ≡ GivenUp n → ⊥) }
-    ensures stopped { IfOk result (λ s. (n : ℕ) → s.ending ≡ Stopped n → W.may_stop watch.old.watch.now ≡ true) }
-    ensures same_reference { watch.new.watch.ghost_name ≡ watch.old.watch.ghost_name }
-    ensures becomes { W.becomes watch.old.watch.now watch.new.watch.now }
-    ensures no_thread { IfErr result (λ e. e ≡ NoThread → 1 < bounds.workers) }
-{
-    let Searched { ending, tables } = find_in_stages(rt, alloc, task, bounds, gate, watch)?;
-    let ending = watch.end(ending)?;
-    Ok(Searched { ending, tables })
-}
-
-/// The ending of the search for a task's least finishing word of ranks, with the tables of its last stage, beside a
-/// search by calls.
-fn find_with_calls<G: Gate, W: Watch, R: Threads + Wait + Sync>(
-    rt: &R,
-    alloc: Global,
-    task: &Task,
-    bounds: Bounds,
-    gate: &G,
-    calls: &mut Calls<'_>,
-    watch: &mut W,
-) -> Result<Searched<Tables>, SearchFault>
-    requires task { calls.old.task.now ≡ task.now }
-    requires bound { calls.old.bound ≡ bounds.nodes }
-    requires right { IsRight calls.old }
-    requires hears { (n : ℕ) → NoneFinishesBefore (listing_machine task.now) n → W.may_hear watch.old n }
-    ensures ending { IfOk result (λ s. IsEnding (listing_machine task.now) bounds.nodes s.ending) }
-    ensures tables { IfOk result (λ s. AreTables task.now s.tables) }
-    ensures ended { IfOk result (λ s. (n : ℕ) → s.ending ≡ GivenUp n → ⊥) }
-    ensures stopped { IfOk result (λ s. (n : ℕ) → s.ending ≡ Stopped n → W.may_stop watch.old ≡ true) }
-    ensures becomes { W.becomes watch.old watch.new }
-    ensures no_thread { IfErr result (λ e. e ≡ NoThread → 1 < bounds.workers) }
-{
-    let mut watch = CallWatch::new(calls, watch);
-    find_beside_calls(rt, alloc, task, bounds, gate, &mut watch)
-}
-
-/// The ending of the search for a task's least finishing word of ranks, with the tables of its last stage. The word is
-/// looked for by calls too.
-fn find_ranks<G: Gate, W: Watch, R: Threads + Wait + Sync>(
-    rt: &R,
-    alloc: Global,
-    task: &Task,
-    bounds: Bounds,
-    gate: &G,
-    watch: &mut W,
-) -> Result<Searched<Tables>, SearchFault>
-    requires hears { (n : ℕ) → NoneFinishesBefore (listing_machine task.now) n → W.may_hear watch.old n }
-    ensures ending { IfOk result (λ s. IsEnding (listing_machine task.now) bounds.nodes s.ending) }
-    ensures tables { IfOk result (λ s. AreTables task.now s.tables) }
-    ensures ended { IfOk result (λ s. (n : ℕ) → s.ending ≡ GivenUp n → ⊥) }
-    ensures stopped { IfOk result (λ s. (n : ℕ) → s.ending ≡ Stopped n → W.may_stop watch.old ≡ true) }
-    ensures becomes { W.becomes watch.old watch.new }
-    ensures no_thread { IfErr result (λ e. e ≡ NoThread → 1 < bounds.workers) }
-{
-    let mut calls = Calls::new(alloc, task, bounds.nodes);
-    find_with_calls(rt, alloc, task, bounds, gate, &mut calls, watch)
-}
-
 /// The least finishing word of a task, by its steps and then by its numbers; or that no solution is
 /// within the bound, or none at all. `SearchFault::NoThread` never comes with one worker.
 /// `SearchFault::OutOfMemory` comes also where no memory was refused, but a number of the word itself is past 64 bits,
@@ -280,7 +294,14 @@ pub fn find_word<G: Gate, R: Threads + Wait + Sync>(
     ensures no_thread { IfErr result (λ e. e ≡ NoThread → 1 < bounds.workers) }
 {
     let _typed = task.objects();
-    let Searched { ending, tables: _ } = find_ranks(rt, alloc, task, bounds, gate, &mut NoWatch)?;
+    let Searched { ending, tables: _ } = find_in_stages(
+        rt,
+        alloc,
+        task,
+        bounds,
+        gate,
+        &mut NoWatch,
+    )?;
     let Ending::Answer(found) = ending else {
         // It is never given up, and that watch stops nothing.
         unreachable!()
@@ -358,7 +379,7 @@ pub fn search_watched<G: Gate, W: Watch, R: Threads + Wait + Sync>(
     ensures no_thread { IfErr result (λ e. e ≡ NoThread → 1 < bounds.workers) }
 {
     let _typed = task.objects();
-    let searched = find_ranks(rt, alloc, task, bounds, gate, watch)?;
+    let searched = find_in_stages(rt, alloc, task, bounds, gate, watch)?;
     let known = known_from(alloc, task, &searched, bounds.nodes)?;
     Ok((known, searched.tables))
 }

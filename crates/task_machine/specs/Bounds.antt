@@ -20,7 +20,7 @@ use Rattle.word_machine.specs.Answer.{IsBeyond, measure_of}
 use Rattle.word_machine.specs.declared.measure.Horizon.{Horizon}
 use Rattle.word_machine.specs.declared.measure.Measure.{Measure}
 use Rattle.word_machine.specs.Machine.{IsLawful, IsLowerBound, IsStep}
-use Rattle.tree_sizes.specs.Measure.{estimate}
+use Rattle.tree_sizes.specs.Measure.{IsLowerMeasure, estimate}
 use Rattle.tree_sizes.specs.Sizes.{out_of_reach, size_of}
 use Rattle.tree_sizes.specs.declared.tree_sizes.TreeSizes.{TreeSizes}
 use Rattle.tree_sizes.proofs.Lasting.{agreeing}
@@ -117,3 +117,7 @@ bounded t low law = record {
   done_zero = λ c done. law.consistent.done_zero c (done_from (problem_of t) c done);
   above_open = law.above_open;
 }
+
+-- that sizes are a lower measure has one proof at most
+pub measure-prop : (problem : Problem) (size : Child → ℕ) → IsProp (IsLowerMeasure problem size)
+measure-prop problem size = hlevel le_prop

@@ -5,8 +5,9 @@ ghost use Rattle.htn_model.specs.Problem.{IsGrounded};
 ghost use Rattle.htn_net.specs.Grounded.{grounded-prop};
 ghost use Rattle.htn_net.specs.Listed.{listing_machine};
 ghost use Rattle.needs_table.specs.Prospects.{ProspectsHold};
-ghost use Rattle.task_machine.specs.Bounds.{most_steps, prospects-prop};
+ghost use Rattle.task_machine.specs.Bounds.{measure-prop, most_steps, prospects-prop};
 ghost use Rattle.task_graph.specs.Graph.{IsGraph};
+ghost use Rattle.tree_sizes.specs.Measure.{IsLowerMeasure};
 ghost use Rattle.tree_sizes.specs.Sizes.{size_of};
 
 use crate::configuration::{Configuration, Reached};
@@ -28,6 +29,7 @@ pub struct TaskMachine<'a> {
     sizes: TreeSizes,
     prospects: Prospects,
     ghost grounded: { IsGrounded (problem_of task.now) } by { grounded-prop (problem_of task.now) },
+    ghost measured: { IsLowerMeasure (problem_of task.now) (size_of sizes) } by { measure-prop (problem_of task.now) (size_of sizes) },
     ghost known: { ProspectsHold (problem_of task.now) (listing_machine task.now).initials (size_of sizes) most_steps prospects } by { prospects-prop (problem_of task.now) (listing_machine task.now).initials (size_of sizes) prospects },
 }
 
@@ -61,6 +63,13 @@ impl<'a> TaskMachine<'a> {
             sizes,
             prospects,
         })
+    }
+
+    /// The least sizes of the task's nodes, by its graph.
+    pub fn sizes(&self) -> &TreeSizes
+        ensures { IsLowerMeasure (problem_of self.now.task.now) (size_of result.now) }
+    {
+        &self.sizes
     }
 }
 

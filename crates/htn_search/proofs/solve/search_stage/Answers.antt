@@ -1,13 +1,10 @@
-use denote.Param.Send.{arg_sync, param_sync, recorded_sync, shr_sync, struct_sync}
 use Rattle.std.proofs.Common.{◌≡◌, ℕ, Bool, true, false, ◌<◌, ◌^◌, ◌-◌, refl, sym, subst, arith}
 use Rattle.std.specs.Prelude.{IfOk}
 use Rattle.std.proofs.lemmas.Result.{IfOk-weaker}
 use Rattle.word_machine.specs.Answer.{IsEnding, NoneFinishesBefore}
 use Rattle.word_machine.specs.declared.found.Ending.TheVariants.{GivenUp}
 use Rattle.htn_net.specs.Listed.{listing_machine}
-use Rattle.task_machine.specs.Owned.{AreOwned}
 use Rattle.task_machine.specs.Tables.{AreTables}
-use Rattle.htn_search.proofs.Shared.{beside, both, task_sync}
 use Rattle.htn_search.proofs.solve.search_stage.Goals as goal
 
 -- a search that is given up past its limit is given up past the stage's
@@ -16,34 +13,25 @@ less : (is_cut : Bool) (most_kept kept : ℕ) → (is_cut ≡ true → most_kept
 less true most_kept kept cut whole l = omega (arith, cut refl)
 less false most_kept kept cut whole l = omega (arith, whole refl)
 
-pub search_by-requires-sync-M : goal.search_by-requires-sync-M
-search_by-requires-sync-M g c κs within = search (both, tt, param_sync, arg_sync, recorded_sync, struct_sync, shr_sync, task_sync, beside) depth 60 fits 20000
-
-pub search_by-requires-clause-known : goal.search_by-requires-clause-known
-search_by-requires-clause-known g c = λ _ _.
+pub search_machine-requires-clause-known : goal.search_machine-requires-clause-known
+search_machine-requires-clause-known g c =
     subst (λ t. NoneFinishesBefore (listing_machine t) c.args.known) (sym c.in_ok-machine.ensures) c.requires.known
 
-pub search_by-requires-clause-hears : goal.search_by-requires-clause-hears
-search_by-requires-clause-hears g c = λ _ _.
+pub search_machine-requires-clause-hears : goal.search_machine-requires-clause-hears
+search_machine-requires-clause-hears g c =
     λ n none. c.requires.hears n (subst (λ t. NoneFinishesBefore (listing_machine t) n) c.in_ok-machine.ensures none)
 
 pub returns-clause-ending : goal.returns-clause-ending
 returns-clause-ending g c =
-    subst (λ t. IfOk c.search_by.result (λ s. IsEnding (listing_machine t) c.args.bounds.nodes s.ending)) c.in_ok-machine.ensures c.search_by.ensures.ending
+    subst (λ t. IfOk c.search_machine.result (λ s. IsEnding (listing_machine t) c.args.bounds.nodes s.ending)) c.in_ok-machine.ensures c.search_machine.ensures.ending
 
 pub returns-clause-tables : goal.returns-clause-tables
 returns-clause-tables g c =
-    let machine = c.in_ok-machine.machine in
-    IfOk-weaker c.search_by.result (λ s. AreOwned machine.task.now machine.sizes machine.prospects s.tables) (λ s. AreTables c.args.task.now s.tables)
-    (λ s own. subst (λ t. AreTables t s.tables) c.in_ok-machine.ensures own.tables)
-    c.search_by.ensures.own
+    subst (λ t. IfOk c.search_machine.result (λ s. AreTables t s.tables)) c.in_ok-machine.ensures c.search_machine.ensures.tables
 
 pub returns-clause-given_up : goal.returns-clause-given_up
 returns-clause-given_up g c =
-    let limit = c.effort_of-effort.result.most_kept in
-    IfOk-weaker c.search_by.result (λ s. (n : ℕ) → s.ending ≡ GivenUp n → limit < 2 ^ 64 - 1) (λ s. (n : ℕ) → s.ending ≡ GivenUp n → c.args.stage.kept < 2 ^ 64 - 1)
-    (λ s h n is. less c.is_cut.result limit c.args.stage.kept c.effort_of-effort.ensures.cut c.effort_of-effort.ensures.whole (h n is))
-    c.search_by.ensures.given_up
-
-pub returns-clause-no_thread : goal.returns-clause-no_thread
-returns-clause-no_thread g c = c.search_by.ensures.no_thread
+    let limit = c.effort_of.result.most_kept in
+    IfOk-weaker c.search_machine.result (λ s. (n : ℕ) → s.ending ≡ GivenUp n → limit < 2 ^ 64 - 1) (λ s. (n : ℕ) → s.ending ≡ GivenUp n → c.args.stage.kept < 2 ^ 64 - 1)
+    (λ s h n is. less c.is_cut.result limit c.args.stage.kept c.effort_of.ensures.cut c.effort_of.ensures.whole (h n is))
+    c.search_machine.ensures.given_up

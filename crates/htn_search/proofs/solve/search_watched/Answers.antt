@@ -9,8 +9,8 @@ use Rattle.htn_search.proofs.solve.search_watched.Goals as goal
 is_other : {P : Type 0} → OutOfMemory ≡ NoThread → P
 is_other e = absurd (cc)
 
-pub find_ranks-requires-clause-hears : goal.find_ranks-requires-clause-hears
-find_ranks-requires-clause-hears g c = λ _ _.
+pub find_in_stages-requires-clause-hears : goal.find_in_stages-requires-clause-hears
+find_in_stages-requires-clause-hears g c = λ _ _.
     λ n none. c.requires.hears n (none_below c.args.task.now (tasks_are_grounded c.args.task.now c.objects-typed.ensures.typed) n none)
 
 pub returns-in_err-known-clause-no_thread : goal.returns-in_err-known-clause-no_thread

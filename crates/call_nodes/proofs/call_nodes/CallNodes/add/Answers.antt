@@ -21,11 +21,11 @@ keys_are c =
     ∙ node_last c.args.self.now.nodes.keys c.args.node.now c.requires.none
 
 -- and its size
-counts_are : (c : goal.In_ok-number) → c.add_node.new.self.counts ≡ c.args.self.now.lists.counts ++ size_of c.args.self.now.sizes (child_view c.args.node.now) ∷ []
+counts_are : (c : goal.In_ok-number) → c.add_node.new.self.counts ≡ c.args.self.now.lists.counts ++ size_of c.args.self.now.sizes.now (child_view c.args.node.now) ∷ []
 counts_are c =
     let is = c.from-size.ensures in
     let given = c.size.ensures in
-    let size : c.from-size.result ≡ size_of c.args.self.now.sizes (child_view c.args.node.now) = omega (arith, is, given) in
+    let size : c.from-size.result ≡ size_of c.args.self.now.sizes.now (child_view c.args.node.now) = omega (arith, is, given) in
     c.in_ok-number.ensures.counts ∙ ap (λ (s : ℕ). c.args.self.now.lists.counts ++ s ∷ []) size
 
 pub returns-clause-own : goal.returns-clause-own

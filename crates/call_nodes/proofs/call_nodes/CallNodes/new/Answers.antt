@@ -46,7 +46,7 @@ returns-clause-own c =
       nodes_apart = subst (λ (ks : List Node). IsWithoutRepeats (children_of ks)) (sym empty) tt;
       goal = subst (λ (l : List Literal). AreCompiled atoms c.in_ok-goal.goal l) (c.as_slice.ensures ∙ c.in_ok-literals.ensures) c.in_ok-goal.ensures.compiled;
       measure = c.requires;
-      sizes = c.new-4.ensures.counts ∙ ap (λ (ks : List Node). map (size_of c.args.sizes) (children_of ks)) (sym empty);
+      sizes = c.new-4.ensures.counts ∙ ap (λ (ks : List Node). map (size_of c.args.sizes.now) (children_of ks)) (sym empty);
       operators =
           subst (λ (ks : List Node). AllZip (IsOperator t atoms (children_of ks) c.new-4.result) (children_of ks) c.new-3.result.items) (sym empty)
           (subst (λ (os : List Operator). AllZip (IsOperator t atoms [] c.new-4.result) [] os) (sym c.new-3.ensures.items) tt);

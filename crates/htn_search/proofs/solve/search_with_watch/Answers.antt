@@ -1,16 +1,21 @@
+use denote.Param.Send.{arg_sync, param_sync, recorded_sync, shr_sync, struct_sync}
 use Rattle.std.proofs.Common.{◌≡◌, ◌∙◌, sym, subst}
 use Rattle.std.proofs.lemmas.Result.{err_from_is_err_and}
 use Rattle.word_machine.specs.Answer.{IsEnding}
 use Rattle.htn_net.specs.Listed.{listing_machine}
-use Rattle.htn_search.proofs.solve.find_beside_calls.Goals as goal
+use Rattle.htn_search.proofs.Shared.{beside, both, task_sync}
+use Rattle.htn_search.proofs.solve.search_with_watch.Goals as goal
+
+pub search_by-requires-sync-M : goal.search_by-requires-sync-M
+search_by-requires-sync-M g c κs within = search (both, tt, param_sync, arg_sync, recorded_sync, struct_sync, shr_sync, task_sync, beside) depth 60 fits 20000
 
 pub end-requires-clause-ending : goal.end-requires-clause-ending
 end-requires-clause-ending g c =
     let becomes = c.in_ok-ending.ensures.becomes in
-    let watched = c.find_in_stages.new.watch.calls.now in
+    let watched = c.search_by.new.watch.calls.now in
     let ending = c.in_ok-ending.field-0.ending in
     subst (λ b. IsEnding (listing_machine watched.task.now) b ending) (sym (becomes.2.1 ∙ c.requires.bound))
-    (subst (λ t. IsEnding (listing_machine t) c.args.bounds.nodes ending) (sym (becomes.2.0 ∙ c.requires.task)) c.in_ok-ending.ensures.ending)
+    (subst (λ t. IsEnding (listing_machine t) c.args.limits.bounds.nodes ending) (sym (becomes.2.0 ∙ c.requires.task)) c.in_ok-ending.ensures.ending)
 
 pub returns-in_err-ending-2-clause-no_thread : goal.returns-in_err-ending-2-clause-no_thread
 returns-in_err-ending-2-clause-no_thread g c =
@@ -20,12 +25,12 @@ returns-in_err-ending-2-clause-no_thread g c =
 pub returns-clause-ending : goal.returns-clause-ending
 returns-clause-ending g c =
     let becomes = c.in_ok-ending.ensures.becomes in
-    let watched = c.find_in_stages.new.watch.calls.now in
+    let watched = c.search_by.new.watch.calls.now in
     let ending = c.in_ok-ending-2.ending in
-    subst (λ b. IsEnding (listing_machine c.args.task.now) b ending) (becomes.2.1 ∙ c.requires.bound)
+    subst (λ b. IsEnding (listing_machine c.args.machine.now.task.now) b ending) (becomes.2.1 ∙ c.requires.bound)
     (subst (λ t. IsEnding (listing_machine t) watched.bound ending) (becomes.2.0 ∙ c.requires.task) c.in_ok-ending-2.ensures.ending)
 
 pub returns-clause-stopped : goal.returns-clause-stopped
 returns-clause-stopped g c =
     let becomes = c.in_ok-ending.ensures.becomes in
-    λ n is. sym (g.met.W.Watch.keeps c.args.watch.now.watch.now c.find_in_stages.new.watch.watch.now becomes.1) ∙ c.in_ok-ending-2.ensures.stopped n is
+    λ n is. sym (g.met.W.Watch.keeps c.args.watch.now.watch.now c.search_by.new.watch.watch.now becomes.1) ∙ c.in_ok-ending-2.ensures.stopped n is
