@@ -21,7 +21,8 @@ const FIRST: usize = 1_000;
 /// How many it has when one by calls on whole states begins. These rarely end before a long search does.
 const FIRST_WHOLE: usize = 10_000;
 
-/// For how many configurations a search by calls may meet one item. To meet one takes about as long as to store one.
+/// For how many configurations a search by calls may meet one item. To meet one takes a quarter to a half of the time of
+/// storing one.
 const SHARE: u64 = 8;
 
 /// How many times as many, where calls have shown that no word is within the bound of the other search: then calls find
