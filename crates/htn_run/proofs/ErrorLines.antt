@@ -18,7 +18,7 @@ use Rattle.htn_run.proofs.Reporting.{of_texts_never}
 
 -- a request that is refused a thread has more than one worker
 needs_threads : (files : List ℕ → File) (request : Request) → Refuses files request fault.NoThread → NeedsThreads request
-needs_threads files (Plan domain problem bounds seconds has_progress) h = h.4
+needs_threads files (Plan domain problem bounds seconds has_progress) h = h.4.0
 needs_threads files (Verify domain problem plan) h = absurd h.4.2
 needs_threads files (Explain domain problem plan format has_states colour) h = absurd h.4.2
 needs_threads files (Tree domain problem plan drawing has_details colour) h = absurd h.4.2

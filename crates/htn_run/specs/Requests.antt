@@ -25,6 +25,7 @@ use Rattle.htn_review.specs.Checking as checks
 use Rattle.htn_run.specs.Reading as reading
 use Rattle.htn_review.specs.Explaining as explaining
 use Rattle.htn_review.specs.Headline as plans
+use Rattle.htn_review.specs.Named.{IsNamedOf}
 use Rattle.htn_review.specs.Judgement as verdicts
 use Rattle.htn_review.specs.Laws.{IsOfTexts}
 use Rattle.htn_run.specs.Progress as progress
@@ -109,9 +110,10 @@ status_of (Drawn (Judged Valid)) = 0
 status_of (Drawn (Refused report)) = 3
 status_of _ = 1
 
--- why the request has no answer
+-- why the request has no answer; of the faults of the trees for a plan it is the one that a check lists first
 abbrev pub Refuses : (List ℕ → File) → Request → RunFault → Type 0
-Refuses files (Plan domain problem bounds seconds has_progress) fault = OfTexts files domain.now problem.now (λ d p. plans.Refuses d p bounds fault)
+Refuses files (Plan domain problem bounds seconds has_progress) fault =
+    OfTexts files domain.now problem.now (λ d p. plans.Refuses d p bounds fault × IsNamedOf d p fault)
 Refuses files (Verify domain problem plan) fault = OfThreeTexts files domain.now problem.now plan.now (λ d p f. verdicts.RefusesPlan d p f fault)
 Refuses files (Check domain problem format limit is_strict colour) fault =
     reading.OfTexts files domain.now (reading.name_of problem) (λ d p. checks.RefusesCheck d p fault)

@@ -3,6 +3,7 @@ ghost use Rattle.std.specs.Prelude.{◌≡◌, ◌≢◌, List, ℕ, true, is_so
 ghost use Rattle.std.specs.Io.KnownBytes.{Appends};
 ghost use Rattle.htn_run.specs.Files.{NotesBeginning};
 ghost use Rattle.htn_review.specs.Headline.{IsTextsCutShort, IsWant, IsWatchedCutShort, Refuses, SaysOfTexts, SaysWatched};
+ghost use Rattle.htn_review.specs.Named.{IsNamedOf};
 ghost use Rattle.htn_run.specs.Progress.{IsProgress, Shows, ShowsOfTexts};
 ghost use Rattle.htn_run.specs.Requests.{AddsAnswer, ShowsFor, names_of};
 ghost use Rattle.htn_run.specs.Stops.{Stops};
@@ -87,6 +88,7 @@ fn plan_texts<O: Out, E: Out, R: Threads + Wait + Clock + Sync>(
         × SaysOfTexts domain.now problem.now bounds.nodes (is_some watching.seconds ≡ true) watched text × Appends (O.contents out.old) (O.contents out.new) text) }
     ensures works { OnOk result (O.has_failed out.new ≡ O.has_failed out.old) }
     ensures refused { IfErr result (λ fault. fault ≢ Output → Refuses domain.now problem.now bounds fault × (out.new ≡ out.old)) }
+    ensures named { IfErr result (IsNamedOf domain.now problem.now) }
     ensures cut_short { IfErr result (λ fault. fault ≡ Output
         → IsTextsCutShort domain.now problem.now bounds.nodes (is_some watching.seconds ≡ true) (O.contents out.old) (O.contents out.new) × (O.has_failed out.new ≡ true)) }
     ensures shows { ShowsOfTexts E.contents E.has_failed domain.now problem.now watching.has_progress err.old err.new }

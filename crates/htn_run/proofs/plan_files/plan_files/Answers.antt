@@ -12,7 +12,7 @@ returns-in_err-watched-clause-stopped g c =
     rw (p.1, p.2)
     (stops_by g.O.Out.contents g.O.Out.has_failed (g.S.Source.files c.args.files.now) (Plan c.args.domain c.args.problem c.args.bounds c.args.watching.seconds c.args.watching.has_progress)
     c.args.out.now c.plan_texts.new.out c.in_err-watched.field-0.0 tt
-    (λ other. let h = c.in_err-watched.ensures.refused other in ((c.as_slice.result.now, c.as_slice-2.result.now, d, q, h.0), h.1))
+    (λ other. let h = c.in_err-watched.ensures.refused other in ((c.as_slice.result.now, c.as_slice-2.result.now, d, q, (h.0, c.in_err-watched.ensures.named)), h.1))
     (λ output. let h = c.in_err-watched.ensures.cut_short output in ((c.as_slice.result.now, c.as_slice-2.result.now, d, q, h.0), h.1)))
 
 pub returns-in_err-watched-clause-shows : goal.returns-in_err-watched-clause-shows
