@@ -12,4 +12,4 @@ mod shape;
 pub use hddl_meaning::{At, CheckFault, Source};
 pub use hddl_tree::{DomainText, ProblemText};
 pub use htn_task::Task;
-pub use pair::{all_faults, check};
+pub use pair::{all_faults, check, named_faults_are_unique};
