@@ -204,6 +204,20 @@ impl<'a> Calls<'a> {
         Ok(())
     }
 
+    /// Begins a search by calls, if the other search has as many configurations as that waits for.
+    fn begin_in_time(&mut self, configurations: usize) -> Result<(), AllocError>
+        requires { IsRight self.old }
+        ensures task { self.new.task.now ≡ self.old.task.now }
+        ensures bound { self.new.bound ≡ self.old.bound }
+        ensures right { IsRight self.new }
+    {
+        let is_wide = configurations as u64 > self.asked.saturating_mul(WIDE);
+        if configurations < self.first || (is_wide && !self.in_frames) {
+            return Ok(());
+        }
+        self.begin()
+    }
+
     /// Reads the word off a search by calls that knows its number of steps, and ends that search. Returns whether the
     /// other search is to continue.
     fn finish(&mut self, steps: u32) -> Result<bool, AllocError>
@@ -269,10 +283,7 @@ impl<'a> Calls<'a> {
             return Ok(true);
         }
         self.asked = self.asked.saturating_add(1);
-        let is_wide = !self.in_frames && configurations as u64 > self.asked.saturating_mul(WIDE);
-        if self.first <= configurations && !is_wide {
-            self.begin()?;
-        }
+        self.begin_in_time(configurations)?;
         self.allow(configurations, bound);
         self.advance()
     }

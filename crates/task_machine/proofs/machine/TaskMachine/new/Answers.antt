@@ -28,6 +28,7 @@ invariant_of-result c =
     let listed = c.requires in
     record {
       grounded = grounded;
+      measured = c.in_ok-sizes.ensures t listed;
       known = prospects_hold (problem_of t) (listing_machine t).initials (size_of c.in_ok-sizes.sizes) most_steps c.in_ok-prospects.prospects grounded (c.in_ok-sizes.ensures t listed)
           (subst (λ (starts : List Config). AreProspects (problem_of t) starts c.in_ok-prospects.prospects) (starts_are t) (c.in_ok-prospects.ensures listed));
     }
