@@ -14,11 +14,11 @@ less true most_kept kept cut whole l = omega (arith, cut refl)
 less false most_kept kept cut whole l = omega (arith, whole refl)
 
 pub search_machine-requires-clause-known : goal.search_machine-requires-clause-known
-search_machine-requires-clause-known g c =
+search_machine-requires-clause-known g c = λ _ _.
     subst (λ t. NoneFinishesBefore (listing_machine t) c.args.known) (sym c.in_ok-machine.ensures) c.requires.known
 
 pub search_machine-requires-clause-hears : goal.search_machine-requires-clause-hears
-search_machine-requires-clause-hears g c =
+search_machine-requires-clause-hears g c = λ _ _.
     λ n none. c.requires.hears n (subst (λ t. NoneFinishesBefore (listing_machine t) n) c.in_ok-machine.ensures none)
 
 pub returns-clause-ending : goal.returns-clause-ending
@@ -33,5 +33,5 @@ pub returns-clause-given_up : goal.returns-clause-given_up
 returns-clause-given_up g c =
     let limit = c.effort_of.result.most_kept in
     IfOk-weaker c.search_machine.result (λ s. (n : ℕ) → s.ending ≡ GivenUp n → limit < 2 ^ 64 - 1) (λ s. (n : ℕ) → s.ending ≡ GivenUp n → c.args.stage.kept < 2 ^ 64 - 1)
-    (λ s h n is. less c.is_cut.result limit c.args.stage.kept c.effort_of.ensures.cut c.effort_of.ensures.whole (h n is))
+    (λ s h n is. less c.is_cut-is_cut.result limit c.args.stage.kept c.effort_of.ensures.cut c.effort_of.ensures.whole (h n is))
     c.search_machine.ensures.given_up
