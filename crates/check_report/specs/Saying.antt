@@ -13,7 +13,7 @@ use Rattle.hddl_warnings.specs.Warnings.{IsOtherDomain, IsWarning}
 use Rattle.hddl_warnings.specs.declared.warning.Warning.{Warning}
 use Rattle.pair_messages.specs.Counts.{domain_counts, problem_counts}
 use Rattle.pair_messages.specs.Heads as pair
-use Rattle.pair_messages.specs.Notes.{IsNote}
+use Rattle.pair_messages.specs.Notes.{AreNotes}
 use Rattle.pair_messages.specs.Offers.{OffersMeant}
 use Rattle.pair_messages.specs.declared.texts.PairTexts.{PairTexts}
 use Rattle.text_messages.specs.Messages as text
@@ -43,7 +43,7 @@ pub record TellsPair (texts : PairTexts) (f : CheckFault) (d : Diagnostic) : Typ
   pub about : pair.IsAbout texts (pair.at_of f) d.about
   pub message : d.message.items ≢ []
   pub offers : OffersMeant texts f d.remarks.items
-  pub notes : All (IsNote texts f d.remarks.items) d.notes.items
+  pub notes : AreNotes texts f d.remarks.items d.notes.items
 
 -- the diagnostic of a warning of a pair, as it is made
 abbrev pub WarnsPair : PairTexts → Warning → Diagnostic → Type 0

@@ -18,7 +18,7 @@ use Rattle.diagnostics.specs.declared.diagnostic.Where.TheVariants.{Text, Place}
 use Rattle.hddl_warnings.specs.Told as warning
 use Rattle.hddl_warnings.specs.declared.warning.Warning.{Warning}
 use Rattle.pair_messages.specs.Heads as pair
-use Rattle.pair_messages.specs.Notes.{IsNote}
+use Rattle.pair_messages.specs.Notes.{AreNotes}
 use Rattle.pair_messages.specs.Offers.{OffersMeant}
 use Rattle.pair_messages.specs.declared.texts.PairTexts.{PairTexts}
 use Rattle.text_messages.specs.Messages as text
@@ -117,7 +117,7 @@ Helps domain None (of_problem f) d = ⊥
 Helps domain (Some problem) (of_problem f) d = HelpsText problem f d
 Helps domain problem (of_pair f) d =
     (texts : PairTexts) × AreTextsOf domain problem texts × (d.message.items ≢ []) × OffersMeant texts f d.remarks.items
-    × All (IsNote texts f d.remarks.items) d.notes.items
+    × AreNotes texts f d.remarks.items d.notes.items
 
 -- each fault has its diagnostic, in order
 abbrev pub AreTold : Named → Option Named → List Fault → List Diagnostic → Type 0

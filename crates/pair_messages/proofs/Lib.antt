@@ -8,3 +8,4 @@ pub mod Networks
 pub mod Bound
 pub mod FirstPlaces
 pub mod FirstOnes
+pub mod Cycles

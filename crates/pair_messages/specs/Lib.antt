@@ -6,3 +6,4 @@ pub mod Bindings
 pub mod Known
 pub mod Notes
 pub mod Firsts
+pub mod Orders

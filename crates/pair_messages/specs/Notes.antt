@@ -1,7 +1,8 @@
 -- Where the notes of a diagnostic stand: at the first declarations of the names that a fault has, or that are offered
 -- for them.
-use Rattle.std.specs.Prelude.{◌≡◌, ◌⊎◌, ℕ, List, ◌++◌, map, slice_get, Option, Some, None, option_map}
-use Rattle.std.specs.List.{find}
+use Rattle.std.specs.Prelude.{◌≡◌, ◌⊎◌, ℕ, ◌+◌, ◌<◌, true, List, [], ◌∷◌, ◌++◌, length, map, slice_get, Option, Some, None, option_map}
+use Rattle.std.specs.Borrow.{Bor}
+use Rattle.std.specs.List.{All, AllZip, find, flat_map}
 use Rattle.hddl_words.specs.Names.{Name}
 use Rattle.hddl_tree.specs.declared.term.Term.{Term}
 use Rattle.hddl_tree.specs.declared.term.Term.TheVariants as term
@@ -15,6 +16,7 @@ use Rattle.hddl_tree.specs.declared.problem.ProblemText.{ProblemText}
 use Rattle.hddl_locate.specs.Places.{term_place}
 use Rattle.hddl_meaning.specs.Mentions.{IsIn, Mention, Text, folded, mention_of, mentions_of, typed_variables}
 use Rattle.hddl_meaning.specs.Names.{is_same_text, type_mentions}
+use Rattle.hddl_meaning.specs.Networks.{labelled}
 use Rattle.hddl_meaning.specs.Items.{declaration_lists, declared_objects, label_mentions, networks_in, schemas_in, variable_mentions}
 use Rattle.hddl_meaning.specs.Uses.{Schema, Use, Variable, schema_of_action, schema_of_method, schema_of_network}
 use Rattle.hddl_meaning.specs.declared.fault.At.{At}
@@ -25,6 +27,7 @@ use Rattle.hddl_meaning.specs.declared.fault.Source.TheVariants as source
 use Rattle.diagnostics.specs.declared.diagnostic.Note.{Note}
 use Rattle.diagnostics.specs.declared.diagnostic.Remark.{Remark}
 use Rattle.near_names.specs.Offers.{offered}
+use Rattle.pair_messages.specs.declared.asked.Asked.{Asked}
 use Rattle.pair_messages.specs.declared.firsts.Sort.{Sort}
 use Rattle.pair_messages.specs.declared.firsts.Sort.TheVariants as sort
 use Rattle.pair_messages.specs.declared.stands.Kind.{Kind}
@@ -149,15 +152,42 @@ IsOfArgumentAt d p at note =
 
 -- ## Orders
 
--- a pair of the order of the network at a place
-abbrev pub IsPair : DomainText → ProblemText → At → At → Type 0
-IsPair d p at note =
-    (note.source ≡ at.source)
-    × ((n : ℕ × NetworkText) × IsIn n (networks_in d p at.source) × (n.0 ≡ at.place) × ((o : OrderingText) × IsIn o n.1.orderings × (o.before.place ≡ note.place)))
+-- a pair of the order of a network: one that a part of `:ordering` asks for, or two neighbours of an ordered list
+abbrev pub IsAsked : NetworkText → Asked → Type 0
+IsAsked n pair = by pair.ordering
+  where
+    by : Option (Bor OrderingText) → Type 0
+    by None = (n.is_ordered ≡ true) × (pair.before + 1 ≡ pair.after) × (pair.after < length n.subtasks)
+    by (Some o) = IsIn o.now n.orderings × (labelled n o.now.before ≡ Some pair.before) × (labelled n o.now.after ≡ Some pair.after)
+
+-- pairs that lead from one subtask to another: each begins where the one before it ends
+abbrev pub Leads : ℕ → List Asked → ℕ → Type 0
+Leads first [] last = first ≡ last
+Leads first (pair ∷ pairs) last = (pair.before ≡ first) × Leads pair.after pairs last
+
+-- a cycle of the order of a network: pairs of it that lead from a subtask back to itself
+abbrev pub IsCycle : NetworkText → List Asked → Type 0
+IsCycle n pairs = All (IsAsked n) pairs × ((first : ℕ) × Leads first pairs first)
+
+-- the part of `:ordering` that asks for a pair, if one does
+abbrev pub ordering_of : Asked → List OrderingText
+ordering_of pair = elim pair.ordering [ None ↦ [] | Some o ↦ o.now ∷ [] ]
+
+-- a note at a part of `:ordering`
+abbrev pub IsAtOrdering : PairTexts → Source → OrderingText → Note → Type 0
+IsAtOrdering t text o note = IsSpotAt (text_of t text) o.before.place note.spot
+
+-- one note after the other at the parts of `:ordering` that ask for the pairs of a cycle, in the network at a place
+pub record AreOfCycle (t : PairTexts) (at : At) (notes : List Note) : Type 0 where
+  pub network : NetworkText
+  pub is_there : IsIn (at.place, network) (networks_in t.domain_tree.now t.problem_tree.now at.source)
+  pub cycle : List Asked
+  pub is_cycle : IsCycle network cycle
+  pub noted : AllZip (IsAtOrdering t at.source) (flat_map ordering_of cycle) notes
 
 -- ## Notes
 
--- where a note of a fault may stand, beside what is offered
+-- where a note of a fault may stand, beside what is offered; the notes of a cycle are defined together
 abbrev pub IsNoteOf : PairTexts → CheckFault → List Remark → At → Type 0
 IsNoteOf t (fault.Duplicate at) remarks note = IsTwin t at note
 IsNoteOf t (fault.UnknownType at) remarks note = IsFirstOffered t.domain_tree.now t.problem_tree.now remarks sort.Type note
@@ -166,9 +196,13 @@ IsNoteOf t (fault.UnknownName at) remarks note =
     ⊎ (IsFirstOffered t.domain_tree.now t.problem_tree.now remarks sort.Object note ⊎ IsSectionAround t.domain_tree.now t.problem_tree.now at note)
 IsNoteOf t (fault.Arity at) remarks note = IsNamedThere t.domain_tree.now t.problem_tree.now at note
 IsNoteOf t (fault.TypeClash at) remarks note = IsOfArgumentAt t.domain_tree.now t.problem_tree.now at note
-IsNoteOf t (fault.OrderCycle at) remarks note = IsPair t.domain_tree.now t.problem_tree.now at note
 IsNoteOf t _ remarks note = ⊥
 
 -- a note at such a place
 abbrev pub IsNote : PairTexts → CheckFault → List Remark → Note → Type 0
 IsNote t f remarks note = (at : At) × IsNoteOf t f remarks at × IsSpotAt (text_of t at.source) at.place note.spot
+
+-- the notes of a fault: those of a cycle, or none; of any other fault each stands where one may
+abbrev pub AreNotes : PairTexts → CheckFault → List Remark → List Note → Type 0
+AreNotes t (fault.OrderCycle at) remarks notes = (notes ≡ []) ⊎ AreOfCycle t at notes
+AreNotes t f remarks notes = All (IsNote t f remarks) notes

@@ -1,24 +1,25 @@
 //! Notes at the sections around places, and at the pairs of their orders.
 
-ghost use Rattle.std.specs.Prelude.{true, ◌≡◌, ℕ, [], ◌∷◌, IfOk, IfSome, OnOk, map};
-ghost use Rattle.std.specs.List.{All};
+ghost use Rattle.std.specs.Prelude.{◌≡◌, ◌⊎◌, ℕ, List, [], ◌∷◌, ◌++◌, IfOk, IfSome, OnOk, map};
+ghost use Rattle.std.specs.List.{All, AllZip, flat_map};
 ghost use Rattle.hddl_tree.specs.declared.network.NetworkText.{NetworkText as NetworkTree};
 ghost use Rattle.hddl_tree.specs.declared.network.OrderingText.{OrderingText as OrderingTree};
 ghost use Rattle.hddl_meaning.specs.Items.{networks_in};
 ghost use Rattle.hddl_meaning.specs.Mentions.{IsIn};
 ghost use Rattle.hddl_meaning.specs.Uses.{schema_of_action, schema_of_method};
 ghost use Rattle.pair_messages.specs.declared.stands.Stand.{Stand as Found};
-ghost use Rattle.pair_messages.specs.Firsts.{IsNoteAt};
-ghost use Rattle.pair_messages.specs.Notes.{IsPair, IsSectionAround};
+ghost use Rattle.pair_messages.specs.Firsts.{listed as listed_notes, IsNoteAt};
+ghost use Rattle.pair_messages.specs.Notes.{ordering_of, AreOfCycle, IsAtOrdering, IsSectionAround};
 ghost use Rattle.pair_messages.specs.Stands.{StandsIn};
 
+use crate::asked::{Asked, cycle_of};
 use crate::index::PairIndex;
 use crate::notes::{listed, note_at};
-use crate::orders::{Asked, asked_message, cycle_of};
+use crate::orders::asked_message;
 use crate::phrases::{Section, push_typed, section_parts};
 use crate::stands::{in_action, in_method, in_network};
 use diagnostics::{Note, Part};
-use hddl_locate::{action_by, method_by, ordering_by};
+use hddl_locate::{action_by, method_by};
 use hddl_meaning::{At, Source as Side};
 use hddl_tree::{ActionText, DomainText, MethodText, NetworkText, ProblemText};
 use std::alloc::{AllocError, Global};
@@ -189,92 +190,75 @@ fn network_at<'a>(index: &PairIndex<'a>, at: At) -> Option<&'a NetworkText>
     }
 }
 
-/// Whether a pair of the order of a network is at a place.
-fn has_pair(network: &NetworkText, place: usize) -> bool
-    ensures { result ≡ true → (o : OrderingTree) × IsIn o network.now.orderings × (o.before.place ≡ place) }
-{
-    match ordering_by(network.orderings.as_slice(), place) {
-        Some(ordering) => ordering.before.place() == place,
-        None => false,
-    }
-}
-
-/// A note at a pair of an order.
+/// A note where a pair of a cycle is asked for, if that is in `:ordering`.
 fn pair_note<'a>(
     alloc: Global,
     index: &PairIndex<'a>,
-    at: At,
+    text: Side,
     network: &'a NetworkText,
     pair: Asked<'a>,
 ) -> Result<Option<Note<'a>>, AllocError>
-    ensures { IfOk result (λ found. IsIn (at.place, network.now) (networks_in index.now.texts.now.domain_tree.now index.now.texts.now.problem_tree.now at.source)
-        → IfSome found (IsNoteAt index.now.texts.now (IsPair index.now.texts.now.domain_tree.now index.now.texts.now.problem_tree.now at))) }
+    ensures { IfOk result (λ found. AllZip (IsAtOrdering index.now.texts.now text) (ordering_of pair.entry) (listed_notes found)) }
 {
     let Some(ordering) = pair.ordering else {
         return Ok(None);
     };
-    let place = ordering.before.place();
-    if !has_pair(network, place) {
-        return Ok(None);
-    }
     let message = asked_message(alloc, network, pair)?;
     let here = At {
-        source: at.source,
-        place,
+        source: text,
+        place: ordering.before.place(),
     };
     Ok(Some(note_at(index, here, message)))
 }
 
-/// Adds a note at a pair of an order.
+/// Adds a note where a pair of a cycle is asked for.
 fn add_pair_note<'a>(
     alloc: Global,
     index: &PairIndex<'a>,
-    at: At,
+    text: Side,
     network: &'a NetworkText,
     notes: &mut Vec<Note<'a>>,
     pair: Asked<'a>,
 ) -> Result<(), AllocError>
-    ensures { OnOk result (IsIn (at.place, network.now) (networks_in index.now.texts.now.domain_tree.now index.now.texts.now.problem_tree.now at.source)
-        → All (IsNoteAt index.now.texts.now (IsPair index.now.texts.now.domain_tree.now index.now.texts.now.problem_tree.now at)) notes.old.items
-        → All (IsNoteAt index.now.texts.now (IsPair index.now.texts.now.domain_tree.now index.now.texts.now.problem_tree.now at)) notes.new.items) }
+    ensures { OnOk result ((before : List OrderingTree) → AllZip (IsAtOrdering index.now.texts.now text) before notes.old.items
+        → AllZip (IsAtOrdering index.now.texts.now text) (before ++ ordering_of pair.entry) notes.new.items) }
 {
-    let found = pair_note(alloc, index, at, network, pair)?;
+    let found = pair_note(alloc, index, text, network, pair)?;
     if let Some(note) = found {
         notes.push(note)?;
     }
     Ok(())
 }
 
-/// Notes at the pairs of a cycle.
+/// Notes where the pairs of a cycle are asked for.
 fn pair_notes<'a>(
     alloc: Global,
     index: &PairIndex<'a>,
-    at: At,
+    text: Side,
     network: &'a NetworkText,
     cycle: &[Asked<'a>],
 ) -> Result<Vec<Note<'a>>, AllocError>
-    ensures { IfOk result (λ notes. IsIn (at.place, network.now) (networks_in index.now.texts.now.domain_tree.now index.now.texts.now.problem_tree.now at.source)
-        → All (IsNoteAt index.now.texts.now (IsPair index.now.texts.now.domain_tree.now index.now.texts.now.problem_tree.now at)) notes.items) }
+    ensures { IfOk result (λ notes. AllZip (IsAtOrdering index.now.texts.now text) (flat_map ordering_of cycle.now) notes.items) }
 {
     let mut notes = Vec::new(alloc);
     for pair in cycle {
-        add_pair_note(alloc, index, at, network, &mut notes, *pair)?;
+        add_pair_note(alloc, index, text, network, &mut notes, *pair)?;
     }
     Ok(notes)
 }
 
-/// Notes at the pairs that ask for a cycle of an order.
+/// Notes where the pairs of a cycle of an order are asked for.
 pub(crate) fn cycle_notes<'a>(
     alloc: Global,
     index: &PairIndex<'a>,
     at: At,
 ) -> Result<Vec<Note<'a>>, AllocError>
-    ensures { IfOk result (λ notes. All (IsNoteAt index.now.texts.now (IsPair index.now.texts.now.domain_tree.now index.now.texts.now.problem_tree.now at)) notes.items) }
+    ensures { IfOk result (λ notes. (notes.items ≡ []) ⊎ AreOfCycle index.now.texts.now at notes.items) }
 {
     let Some(network) = network_at(index, at) else {
         return Ok(Vec::new(alloc));
     };
     let cycle = cycle_of(alloc, network)?;
-    let notes = pair_notes(alloc, index, at, network, cycle.as_slice())?;
+    let notes = pair_notes(alloc, index, at.source, network, cycle.as_slice())?;
     Ok(notes)
 }

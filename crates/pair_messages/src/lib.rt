@@ -4,6 +4,7 @@
 mod advice;
 mod arguments;
 mod around;
+mod asked;
 mod clashes;
 mod compared;
 mod declared;

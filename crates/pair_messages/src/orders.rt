@@ -9,18 +9,16 @@ ghost use Rattle.near_names.specs.Offers.{begins_question, offered, offered_by};
 ghost use Rattle.pair_messages.specs.Offers.{label_text, label_texts, IsForLabel, IsForOrdering, IsNearest};
 ghost use Rattle.pair_messages.specs.Stands.{IsNetworkIn, IsNetworkOf, IsSectionOf};
 
+use crate::asked::{Asked, cycle_of};
 use crate::index::PairIndex;
 use crate::near::{may_offer, nearest_within};
 use crate::phrases::{Section, plain, section_parts};
 use crate::remarks::{fact, help};
 use crate::texts::word_of;
-use cycles::shortest_cycle;
 use diagnostics::{Part, Remark};
 use hddl_locate::{method_by, ordering_by};
 use hddl_meaning::{At, Source as Side};
-use hddl_names::fold_to_vec;
-use hddl_tree::{Name, NetworkText, OrderingText};
-use indexmap::IndexMap;
+use hddl_tree::{Name, NetworkText};
 use near_names::{did_you_mean, push_names};
 use std::alloc::{AllocError, Global};
 
@@ -60,80 +58,6 @@ pub(crate) fn network_by<'a>(index: &PairIndex<'a>, at: At) -> Option<&'a Networ
     Some(network)
 }
 
-/// Adds the position of a label, if it is the first of its name.
-fn add_label(
-    alloc: Global,
-    labels: &mut IndexMap<Vec<u8>, usize>,
-    label: &Name,
-    position: usize,
-) -> Result<(), AllocError> {
-    let key = fold_to_vec(alloc, label.text())?;
-    if !labels.contains_key(key.as_slice()) {
-        let _ = labels.insert(key, position)?;
-    }
-    Ok(())
-}
-
-/// The position of the subtask of each label.
-fn labels_of(alloc: Global, network: &NetworkText) -> Result<IndexMap<Vec<u8>, usize>, AllocError> {
-    let mut labels = IndexMap::new(alloc);
-    let mut position: usize = 0;
-    for subtask in network.subtasks.as_slice() {
-        if let Some(label) = &subtask.label {
-            add_label(alloc, &mut labels, label, position)?;
-        }
-        position = position.saturating_add(1);
-    }
-    Ok(labels)
-}
-
-/// A pair of the order, by positions, with the ordering that asks for it; none where the list does.
-#[derive(Clone, Copy, Drop)]
-pub(crate) struct Asked<'a> {
-    before: usize,
-    after: usize,
-    pub(crate) ordering: Option<&'a OrderingText>,
-}
-
-/// The pair of an ordering, if both labels are there.
-fn asked_by<'a>(
-    alloc: Global,
-    labels: &IndexMap<Vec<u8>, usize>,
-    ordering: &'a OrderingText,
-) -> Result<Option<Asked<'a>>, AllocError> {
-    let before = fold_to_vec(alloc, ordering.before.text())?;
-    let after = fold_to_vec(alloc, ordering.after.text())?;
-    match (labels.get(before.as_slice()), labels.get(after.as_slice())) {
-        (Some(before), Some(after)) => Ok(Some(Asked {
-            before: *before,
-            after: *after,
-            ordering: Some(ordering),
-        })),
-        _ => Ok(None),
-    }
-}
-
-/// The pairs of an order.
-fn pairs_of<'a>(alloc: Global, network: &'a NetworkText) -> Result<Vec<Asked<'a>>, AllocError> {
-    let labels = labels_of(alloc, network)?;
-    let mut pairs = Vec::new(alloc);
-    if network.is_ordered {
-        for after in 1..network.subtasks.len() {
-            pairs.push(Asked {
-                before: after - 1,
-                after,
-                ordering: None,
-            })?;
-        }
-    }
-    for ordering in network.orderings.as_slice() {
-        if let Some(pair) = asked_by(alloc, &labels, ordering)? {
-            pairs.push(pair)?;
-        }
-    }
-    Ok(pairs)
-}
-
 /// What a subtask is called: its label, or its task.
 fn called<'a>(network: &'a NetworkText, position: usize) -> &'a [u8] {
     match network.subtasks.as_slice().get(position) {
@@ -143,50 +67,6 @@ fn called<'a>(network: &'a NetworkText, position: usize) -> &'a [u8] {
         },
         None => b"?",
     }
-}
-
-/// The pairs by their positions alone.
-fn positions_of(alloc: Global, pairs: &[Asked<'_>]) -> Result<Vec<(usize, usize)>, AllocError> {
-    let mut positions = Vec::with_capacity(alloc, pairs.len())?;
-    for pair in pairs {
-        positions.push((pair.before, pair.after))?;
-    }
-    Ok(positions)
-}
-
-/// The numbers of the pairs of a cycle.
-fn cycle_in(
-    alloc: Global,
-    network: &NetworkText,
-    pairs: &[Asked<'_>],
-) -> Result<Vec<usize>, AllocError> {
-    let positions = positions_of(alloc, pairs)?;
-    shortest_cycle(alloc, network.subtasks.len(), positions.as_slice())
-}
-
-/// Some of the pairs, by their numbers.
-fn picked<'a>(
-    alloc: Global,
-    pairs: &[Asked<'a>],
-    numbers: &[usize],
-) -> Result<Vec<Asked<'a>>, AllocError> {
-    let mut found = Vec::new(alloc);
-    for number in numbers {
-        if let Some(pair) = pairs.get(*number) {
-            found.push(*pair)?;
-        }
-    }
-    Ok(found)
-}
-
-/// The pairs of a cycle of an order.
-pub(crate) fn cycle_of<'a>(
-    alloc: Global,
-    network: &'a NetworkText,
-) -> Result<Vec<Asked<'a>>, AllocError> {
-    let pairs = pairs_of(alloc, network)?;
-    let cycle = cycle_in(alloc, network, pairs.as_slice())?;
-    picked(alloc, pairs.as_slice(), cycle.as_slice())
 }
 
 /// The subtasks of a cycle, from one back to itself.

@@ -1,11 +1,10 @@
 //! The diagnostic of a fault of a pair.
 
 ghost use Rattle.std.specs.Prelude.{◌≡◌, ◌≢◌, [], IfOk};
-ghost use Rattle.std.specs.List.{All};
 ghost use Rattle.diagnostics.specs.declared.diagnostic.Severity.TheVariants.{Error};
 ghost use Rattle.pair_messages.specs.Heads as spec;
 ghost use Rattle.pair_messages.specs.Offers.{OffersMeant};
-ghost use Rattle.pair_messages.specs.Notes.{IsNote};
+ghost use Rattle.pair_messages.specs.Notes.{AreNotes};
 
 use crate::advice::remarks_of;
 use crate::index::PairIndex;
@@ -103,8 +102,8 @@ pub fn pair_diagnostic<'a>(
     // Each name that `did you mean` offers is declared and of the kind that is required there, and none is nearer.
     ensures offers { IfOk result (λ d. OffersMeant index.now.texts.now fault d.remarks.items) }
     // Each note is at the first declaration of a name that the fault has, or that is offered for it; at the section
-    // around a variable that isn't in force; or at a pair of an order that has a cycle.
-    ensures notes { IfOk result (λ d. All (IsNote index.now.texts.now fault d.remarks.items) d.notes.items) }
+    // around a variable that isn't in force; and those of an order with a cycle stand at pairs that are one.
+    ensures notes { IfOk result (λ d. AreNotes index.now.texts.now fault d.remarks.items d.notes.items) }
 {
     let remarks = remarks_of(alloc, index, rank, fault)?;
     let notes = notes_of(alloc, index, fault, remarks.as_slice())?;

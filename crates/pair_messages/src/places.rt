@@ -3,7 +3,7 @@
 ghost use Rattle.std.specs.Prelude.{IfOk};
 ghost use Rattle.std.specs.List.{All};
 ghost use Rattle.hddl_meaning.specs.declared.fault.CheckFault.TheVariants as fault_of;
-ghost use Rattle.pair_messages.specs.Notes.{IsNote};
+ghost use Rattle.pair_messages.specs.Notes.{AreNotes, IsNote};
 ghost use Rattle.pair_messages.specs.Stands.{StandsAt};
 
 use crate::around::{cycle_notes, section_notes};
@@ -182,7 +182,7 @@ pub(crate) fn notes_of<'a>(
     fault: CheckFault,
     remarks: &[Remark<'a>],
 ) -> Result<Vec<Note<'a>>, AllocError>
-    ensures { IfOk result (λ notes. All (IsNote index.now.texts.now fault remarks.now) notes.items) }
+    ensures { IfOk result (λ notes. AreNotes index.now.texts.now fault remarks.now notes.items) }
 {
     match fault {
         CheckFault::Duplicate(at) => twin_notes(alloc, index, at),

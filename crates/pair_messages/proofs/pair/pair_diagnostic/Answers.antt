@@ -1,8 +1,7 @@
 use Rattle.std.proofs.Common.{subst}
-use Rattle.std.specs.List.{All}
-use Rattle.pair_messages.specs.Notes.{IsNote}
+use Rattle.pair_messages.specs.Notes.{AreNotes}
 use Rattle.pair_messages.proofs.pair.pair_diagnostic.Goals as goal
 
 pub returns-clause-notes : goal.returns-clause-notes
 returns-clause-notes c =
-    subst (λ remarks. All (IsNote c.args.index.now.texts.now c.args.fault remarks) c.in_ok-notes.notes.items) c.as_slice.ensures.value c.in_ok-notes.ensures
+    subst (λ remarks. AreNotes c.args.index.now.texts.now c.args.fault remarks c.in_ok-notes.notes.items) c.as_slice.ensures.value c.in_ok-notes.ensures
