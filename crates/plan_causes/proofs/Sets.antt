@@ -1,6 +1,7 @@
 -- Sets of numbers that grow, and numbers that stand more than once.
-use Rattle.std.proofs.Common.{◌≡◌, ◌⊎◌, ◌↔◌, ℕ, ◌+◌, ◌<◌, Bool, true, false, not, List, [], ◌∷◌, ◌++◌, length, take, get_or, nat_eq, if◌then◌else◌, inl, inr, refl, sym, ap, ◌∙◌, subst, append-nil, append_assoc, arith}
+use Rattle.std.proofs.Common.{◌≡◌, ◌⊎◌, ◌↔◌, ℕ, zero, suc, ◌+◌, ◌<◌, Bool, true, false, not, List, [], ◌∷◌, ◌++◌, length, take, get_or, nat_eq, if◌then◌else◌, Result, Ok, Err, inl, inr, refl, sym, ap, ◌∙◌, subst, append-nil, append_assoc, arith}
 use Rattle.std.specs.List.{list_any}
+use Rattle.std.specs.Result.{OnOk}
 use Rattle.std.proofs.lemmas.Bool.{eqb-true, eq-eqb}
 use Rattle.std.proofs.lemmas.List.{take_more}
 use Rattle.indexmap.specs.IndexSet.{insert_key}
@@ -75,6 +76,11 @@ was_new x before b added is = not_found x before (by (list_any (nat_eq x) before
     by true h = absurd cc
     by false h = refl
 
+-- what is so is so where there is a value
+pub on_ok : {T E : Type 0} (r : Result T E) (P : Type 0) → P → OnOk r P
+on_ok (Ok x) P p = p
+on_ok (Err e) P p = tt
+
 -- ## One number more of a list
 
 -- the first numbers with the next
@@ -88,6 +94,11 @@ set_more xs set new x was more y = (
   (λ i. (in_push y x xs).1 (elim ((more y).0 i) [ inl there ↦ inl ((was y).0 there) | inr e ↦ inr e ])),
   (λ i. (more y).1 (elim ((in_push y x xs).0 i) [ inl there ↦ inl ((was y).1 there) | inr e ↦ inr e ])),
 )
+
+-- the same of a set that has each once
+pub met_more : (xs set new : List ℕ) (x : ℕ) → AreExactly (λ y. IsIn y xs) set → IsWithoutRepeats new → ((y : ℕ) → IsIn y new ↔ (IsIn y set ⊎ (y ≡ x)))
+    → AreExactly (λ y. IsIn y (xs ++ x ∷ [])) new
+met_more xs set new x was once more = record { once = once; exactly = set_more xs set new x was.exactly more }
 
 -- what stands more than once in a list with one more at its end
 repeated_push : (y x : ℕ) (xs : List ℕ) → IsRepeated (xs ++ x ∷ []) y ↔ (IsRepeated xs y ⊎ ((y ≡ x) × IsIn y xs))
@@ -133,27 +144,46 @@ present_more those xs missing x exact there = record {
   );
 }
 
--- one that is missing is added
-pub missing_more : (those xs missing new : List ℕ) (x : ℕ) → AreExactly (IsMissing those xs) missing → (IsIn x those → ⊥) → new ≡ insert_key nat_eq missing x
-    → AreExactly (IsMissing those (xs ++ x ∷ [])) new
-missing_more those xs missing new x exact lost keys = record {
-  once = once_after x missing new keys exact.once;
+-- one that is missing, and that was not looked at before, is added
+pub missing_more : (those xs missing : List ℕ) (x : ℕ) → AreExactly (IsMissing those xs) missing → (IsIn x those → ⊥) → (IsIn x xs → ⊥)
+    → AreExactly (IsMissing those (xs ++ x ∷ [])) (missing ++ x ∷ [])
+missing_more those xs missing x exact lost new = record {
+  once = distinct_with x missing [] (subst IsWithoutRepeats (sym (append-nil missing)) exact.once) (λ i. new (((exact.exactly x).0 (subst (IsIn x) (append-nil missing) i)).0));
   exactly = λ y. (
-    (λ i. elim ((in_after x missing new keys y).0 i) [
+    (λ i. elim ((in_push y x missing).0 i) [
       | inl old ↦ (let m = (exact.exactly y).0 old in ((in_push y x xs).1 (inl m.0), m.1))
       | inr e ↦ ((in_push y x xs).1 (inr e), (λ there. lost (subst (λ z. IsIn z those) e there)))
     ]),
-    (λ m. (in_after x missing new keys y).1 (elim ((in_push y x xs).0 m.0) [ inl old ↦ inl ((exact.exactly y).1 (old, m.1)) | inr e ↦ inr e ])),
+    (λ m. (in_push y x missing).1 (elim ((in_push y x xs).0 m.0) [ inl old ↦ inl ((exact.exactly y).1 (old, m.1)) | inr e ↦ inr e ])),
   );
 }
 
--- no number is missing of none
-pub none_missing : (those : List ℕ) → AreExactly (IsMissing those []) []
-none_missing those = record { once = tt; exactly = λ y. ((λ i. absurd i), (λ m. m.0)) }
+-- a number of a list without repeats is not among those before it
+pub number_in : (xs : List ℕ) (i : ℕ) → i < length xs → IsIn (get_or xs i 0) xs
+number_in [] i low = absurd (omega arith)
+number_in (x ∷ xs) zero low = inl refl
+number_in (x ∷ xs) (suc i) low = inr (number_in xs i (omega arith))
 
--- and none repeated
-pub none_repeated : AreExactly (IsRepeated []) []
-none_repeated = record { once = tt; exactly = λ y. ((λ i. absurd i), (λ r. absurd r)) }
+pub number_new : (xs : List ℕ) (i : ℕ) → IsWithoutRepeats xs → i < length xs → IsIn (get_or xs i 0) (take i xs) → ⊥
+number_new [] i once low there = absurd (omega arith)
+number_new (x ∷ xs) zero once low there = there
+number_new (x ∷ xs) (suc i) once low (inl e) = once.0 (subst (λ z. IsIn z xs) e (number_in xs i (omega arith)))
+number_new (x ∷ xs) (suc i) once low (inr there) = number_new xs i once.1 (omega arith) there
+
+-- what is missing of the numbers of lists is missing of the lists
+pub missing_of : (those these keys others ids : List ℕ) → AreExactly (λ id. IsIn id those) keys → AreExactly (λ id. IsIn id these) others → AreExactly (IsMissing keys others) ids
+    → AreExactly (IsMissing those these) ids
+missing_of those these keys others ids same same_too exact = record {
+  once = exact.once;
+  exactly = λ y. (
+    (λ i. let m = (exact.exactly y).0 i in ((same_too.exactly y).0 m.0, (λ there. m.1 ((same.exactly y).1 there)))),
+    (λ m. (exact.exactly y).1 ((same_too.exactly y).1 m.0, (λ there. m.1 ((same.exactly y).0 there)))),
+  );
+}
+
+-- no number is in none
+pub none_met : AreExactly (λ y. IsIn y []) []
+none_met = record { once = tt; exactly = λ y. ((λ i. i), (λ i. i)) }
 
 -- ## Numbers of lines
 

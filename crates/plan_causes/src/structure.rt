@@ -1,6 +1,6 @@
 //! Why the lines of a plan file are no forest: numbers of lines with which something is wrong.
 
-ghost use Rattle.std.specs.Prelude.{◌≡◌, ◌⊎◌, ◌↔◌, ℕ, IfOk, OnOk};
+ghost use Rattle.std.specs.Prelude.{◌≡◌, ◌⊎◌, ◌↔◌, ℕ, [], IfOk, OnOk};
 ghost use Rattle.htn_model.specs.PlanFile.{IsIn, IsWithoutRepeats, defined_ids, listed_ids};
 ghost use Rattle.plan_causes.specs.Structure.{AreExactly, AreWrong, IsMissing, IsRepeated};
 
@@ -59,8 +59,10 @@ fn listed(alloc: Global, file: &PlanFile) -> Result<Vec<u64>, AllocError>
 
 /// Adds a number to those that were met, or to those that were met again.
 fn meet(met: &mut IndexSet<u64>, again: &mut IndexSet<u64>, id: u64) -> Result<(), AllocError>
-    requires { IsWithoutRepeats again.old.keys }
+    requires met { IsWithoutRepeats met.old.keys }
+    requires again { IsWithoutRepeats again.old.keys }
     ensures met { OnOk result ((x : ℕ) → IsIn x met.new.keys ↔ (IsIn x met.old.keys ⊎ (x ≡ id))) }
+    ensures met_once { OnOk result (IsWithoutRepeats met.new.keys) }
     ensures again { OnOk result ((x : ℕ) → IsIn x again.new.keys ↔ (IsIn x again.old.keys ⊎ ((x ≡ id) × IsIn x met.old.keys))) }
     ensures once { OnOk result (IsWithoutRepeats again.new.keys) }
 {
@@ -79,54 +81,75 @@ fn listed_of(alloc: Global, ids: &IndexSet<u64>) -> Result<Vec<u64>, AllocError>
     Ok(list)
 }
 
-/// The numbers that stand more than once in a list.
-fn repeated(alloc: Global, ids: &[u64]) -> Result<Vec<u64>, AllocError>
-    ensures { IfOk result (λ v. AreExactly (IsRepeated ids.now) v.items) }
+/// Adds the numbers of a list to a set that has none, and returns those that stand more than once in the list.
+fn repeated(alloc: Global, ids: &[u64], met: &mut IndexSet<u64>) -> Result<Vec<u64>, AllocError>
+    requires { met.old.keys ≡ [] }
+    ensures met { OnOk result (AreExactly (λ id. IsIn id ids.now) met.new.keys) }
+    ensures repeated { IfOk result (λ v. AreExactly (IsRepeated ids.now) v.items) }
 {
-    let mut met = IndexSet::new(alloc);
     let mut again = IndexSet::new(alloc);
     for id in ids {
-        meet(&mut met, &mut again, *id)?;
+        meet(met, &mut again, *id)?;
     }
     listed_of(alloc, &again)
 }
 
-/// The set of some numbers.
-fn set_of(alloc: Global, ids: &[u64]) -> Result<IndexSet<u64>, AllocError>
-    ensures { IfOk result (λ set. (x : ℕ) → IsIn x set.keys ↔ IsIn x ids.now) }
+/// The numbers that two lines have. The numbers of all lines are added to a set that has none.
+fn defined_twice(
+    alloc: Global,
+    file: &PlanFile,
+    met: &mut IndexSet<u64>,
+) -> Result<Vec<u64>, AllocError>
+    requires { met.old.keys ≡ [] }
+    ensures met { OnOk result (AreExactly (λ id. IsIn id (defined_ids file.now)) met.new.keys) }
+    ensures repeated { IfOk result (λ v. AreExactly (IsRepeated (defined_ids file.now)) v.items) }
 {
-    let mut set = IndexSet::new(alloc);
-    for id in ids {
-        let _ = set.insert(*id)?;
-    }
-    Ok(set)
+    let ids = defined(alloc, file)?;
+    let found = repeated(alloc, ids.as_slice(), met)?;
+    Ok(found)
 }
 
-/// The numbers of one list that aren't in the other.
-fn missing(alloc: Global, those: &[u64], these: &[u64]) -> Result<Vec<u64>, AllocError>
-    ensures { IfOk result (λ v. AreExactly (IsMissing those.now these.now) v.items) }
+/// The numbers that are listed twice. The numbers that are listed are added to a set that has none.
+fn listed_twice(
+    alloc: Global,
+    file: &PlanFile,
+    met: &mut IndexSet<u64>,
+) -> Result<Vec<u64>, AllocError>
+    requires { met.old.keys ≡ [] }
+    ensures met { OnOk result (AreExactly (λ id. IsIn id (listed_ids file.now)) met.new.keys) }
+    ensures repeated { IfOk result (λ v. AreExactly (IsRepeated (listed_ids file.now)) v.items) }
 {
-    let known = set_of(alloc, those)?;
-    let mut missing = IndexSet::new(alloc);
+    let ids = listed(alloc, file)?;
+    let found = repeated(alloc, ids.as_slice(), met)?;
+    Ok(found)
+}
+
+/// The numbers of a list without repeats that aren't in a set.
+fn missing(alloc: Global, those: &IndexSet<u64>, these: &[u64]) -> Result<Vec<u64>, AllocError>
+    requires { IsWithoutRepeats these.now }
+    ensures { IfOk result (λ v. AreExactly (IsMissing those.now.keys these.now) v.items) }
+{
+    let mut missing = Vec::new(alloc);
     for id in these {
-        if !known.contains(id) {
-            let _ = missing.insert(*id)?;
+        if !those.contains(id) {
+            missing.push(*id)?;
         }
     }
-    let found = listed_of(alloc, &missing)?;
-    Ok(found)
+    Ok(missing)
 }
 
 /// The numbers of lines with which something is wrong. An error where memory was refused.
 pub fn wrong_ids(alloc: Global, file: &PlanFile) -> Result<WrongIds, AllocError>
     ensures { IfOk result (AreWrong file.now) }
 {
-    let defined = defined(alloc, file)?;
-    let listed = listed(alloc, file)?;
+    let mut defined = IndexSet::new(alloc);
+    let mut listed = IndexSet::new(alloc);
+    let defined_twice = defined_twice(alloc, file, &mut defined)?;
+    let listed_twice = listed_twice(alloc, file, &mut listed)?;
     Ok(WrongIds {
-        defined_twice: repeated(alloc, defined.as_slice())?,
-        listed_twice: repeated(alloc, listed.as_slice())?,
-        undefined: missing(alloc, defined.as_slice(), listed.as_slice())?,
-        unlisted: missing(alloc, listed.as_slice(), defined.as_slice())?,
+        defined_twice,
+        listed_twice,
+        undefined: missing(alloc, &defined, listed.as_slice())?,
+        unlisted: missing(alloc, &listed, defined.as_slice())?,
     })
 }

@@ -6,6 +6,9 @@ use Rattle.plan_causes.proofs.structure.meet.Goals as goal
 pub returns-in_ok-insert-2-clause-met : goal.returns-in_ok-insert-2-clause-met
 returns-in_ok-insert-2-clause-met c = in_after c.args.id c.args.met.now.keys c.insert.new.self.keys c.in_ok-insert.ensures.keys
 
+pub returns-in_ok-insert-2-clause-met_once : goal.returns-in_ok-insert-2-clause-met_once
+returns-in_ok-insert-2-clause-met_once c = once_after c.args.id c.args.met.now.keys c.insert.new.self.keys c.in_ok-insert.ensures.keys c.requires.met
+
 pub returns-in_ok-insert-2-clause-again : goal.returns-in_ok-insert-2-clause-again
 returns-in_ok-insert-2-clause-again c x =
     let after = in_after c.args.id c.args.again.now.keys c.insert-then-not-branch.new.self.keys c.in_ok-insert-2.ensures.keys x in
@@ -15,10 +18,13 @@ returns-in_ok-insert-2-clause-again c x =
     )
 
 pub returns-in_ok-insert-2-clause-once : goal.returns-in_ok-insert-2-clause-once
-returns-in_ok-insert-2-clause-once c = once_after c.args.id c.args.again.now.keys c.insert-then-not-branch.new.self.keys c.in_ok-insert-2.ensures.keys c.requires
+returns-in_ok-insert-2-clause-once c = once_after c.args.id c.args.again.now.keys c.insert-then-not-branch.new.self.keys c.in_ok-insert-2.ensures.keys c.requires.again
 
 pub returns-else-not-branch-clause-met : goal.returns-else-not-branch-clause-met
 returns-else-not-branch-clause-met c = in_after c.args.id c.args.met.now.keys c.insert.new.self.keys c.in_ok-insert.ensures.keys
+
+pub returns-else-not-branch-clause-met_once : goal.returns-else-not-branch-clause-met_once
+returns-else-not-branch-clause-met_once c = once_after c.args.id c.args.met.now.keys c.insert.new.self.keys c.in_ok-insert.ensures.keys c.requires.met
 
 pub returns-else-not-branch-clause-again : goal.returns-else-not-branch-clause-again
 returns-else-not-branch-clause-again c x = (
