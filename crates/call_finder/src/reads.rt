@@ -1,8 +1,7 @@
 //! What nodes themselves read or write, as masks.
 
 use htn_ground::{Child, action_of};
-use htn_state::{Atom, Literal};
-use htn_task::Task;
+use htn_task::{Atom, Literal, Task};
 use state_table::{AtomTable, BitState};
 use std::alloc::{AllocError, Global};
 

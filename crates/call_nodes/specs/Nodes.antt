@@ -18,7 +18,7 @@ use Rattle.state_table.specs.Table.{Table, IsLater, IsSetOf, IsTable, is_changed
 use Rattle.tree_sizes.specs.Measure.{IsLowerMeasure}
 use Rattle.tree_sizes.specs.Sizes.{size_of}
 use Rattle.call_table.specs.Lists.{Lists, list_at}
-use Rattle.htn_blocks.specs.Ordered.{ordered}
+use Rattle.htn_calls.specs.Ordered.{ordered}
 use Rattle.call_nodes.specs.declared.operator.Operator.{Operator}
 use Rattle.call_nodes.specs.declared.operator.Operator.TheVariants.{Unlisted, Task as Listed, Partly, Step, Action as Acts, Never}
 use Rattle.call_nodes.specs.declared.call_nodes.CallNodes.{CallNodes}

@@ -2,7 +2,7 @@
 ghost use Rattle.std.specs.Prelude.{◌≡◌, ◌<◌, ◌++◌, ℕ, [], IfNone, IfOk, IfSome, IsTrue, List, None, OnOk, Some, length, option_map, slice_get};
 ghost use Rattle.call_nodes.specs.Nodes.{AreListsOf, AreMore, AreNodes, AreNumbersOf, IsOperator, LeadsTo, children, state_at};
 ghost use Rattle.call_table.specs.Lists.{list_at};
-ghost use Rattle.htn_blocks.specs.Ordered.{ordered};
+ghost use Rattle.htn_calls.specs.Ordered.{ordered};
 ghost use Rattle.htn_ground.specs.Distinct.{distinct, live_methods};
 ghost use Rattle.htn_ground.specs.Views.{child_view, children_of};
 ghost use Rattle.htn_model.specs.Grounding.{problem_of};

@@ -7,9 +7,9 @@ use Rattle.htn_calls.specs.Calls as model
 use Rattle.htn_calls.specs.Calls.{Covers}
 use Rattle.htn_calls.specs.Numbered.{exit_of}
 use Rattle.htn_calls.proofs.Numbered.{mapped_in, in_mapped}
-use Rattle.call_frames.specs.Frame.{IsInside, lift}
-use Rattle.call_frames.specs.Framed.{lifted_exit}
-use Rattle.call_frames.specs.Closed.{IsClosedIn, IsMetIn}
+use Rattle.call_rules.specs.Frame.{IsInside, lift}
+use Rattle.call_rules.specs.Framed.{lifted_exit}
+use Rattle.call_rules.specs.Closed.{IsClosedIn, IsMetIn}
 use Rattle.call_table.specs.Lists.{list_at, nodes_of}
 use Rattle.call_table.specs.Sites.{site_eq-decides}
 use Rattle.call_table.specs.Views.{call_at, exit_view, listing, numbers, place_view, places_view, rule_view, summary_view, IsMetAt}

@@ -7,11 +7,11 @@ use Rattle.std.proofs.lemmas.Option.{get_or_from_slice_get, slice_get-map}
 use Rattle.std.proofs.lemmas.Simd.{map-map}
 use Rattle.htn_calls.specs.Calls as model
 use Rattle.htn_calls.specs.Numbered.{exit_of}
-use Rattle.call_frames.specs.Frame.{IsInside, within, lift}
+use Rattle.call_rules.specs.Frame.{IsInside, within, lift}
 use Rattle.state_table.specs.Table.{Table, state_of}
 use Rattle.call_proof.specs.Masks.{frame_of}
-use Rattle.call_frames.specs.Framed.{IsPart, lifted_exit}
-use Rattle.call_frames.specs.Lifted.{IsLiftedCall}
+use Rattle.call_rules.specs.Framed.{IsPart, lifted_exit}
+use Rattle.call_rules.specs.Lifted.{IsLiftedCall}
 use Rattle.call_table.specs.Sites.{site_eq-decides}
 use Rattle.call_table.specs.Views.{call_at, exit_view, listing, summary_view}
 use Rattle.call_table.specs.declared.call.Call.{Call}

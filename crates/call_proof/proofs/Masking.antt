@@ -3,8 +3,8 @@ use Rattle.std.proofs.Common.{◌≡◌, ℕ, Bool, true, false, not, cond, ◌|
 use Rattle.htn_model.specs.Atom.{Atom}
 use Rattle.htn_model.specs.AtomOrder.{same_state}
 use Rattle.htn_model.specs.State.{contains}
-use Rattle.call_frames.specs.Frame.{IsInside, within, lift}
-use Rattle.call_frames.proofs.Parts.{contains-within, contains-lift}
+use Rattle.call_rules.specs.Frame.{IsInside, within, lift}
+use Rattle.call_rules.proofs.Parts.{contains-within, contains-lift}
 use Rattle.state_table.specs.Bits.{has}
 use Rattle.state_table.specs.Table.{Table, IsTable, is_fluent, state_of}
 use Rattle.state_table.proofs.States.{numbered, numbered_is, unnumbered_is}

@@ -10,8 +10,8 @@ use Rattle.htn_model.specs.Atom.{Atom}
 use Rattle.htn_model.specs.Problem.{Child, Problem}
 use Rattle.htn_model.specs.State.{State, contains, atoms_of}
 use Rattle.htn_model.proofs.Sets.{is_same, same_as}
-use Rattle.call_frames.specs.Frame.{Frame}
-use Rattle.call_frames.specs.Local.{AreIn, IsFrameOf}
+use Rattle.call_rules.specs.Frame.{Frame}
+use Rattle.call_rules.specs.Local.{AreIn, IsFrameOf}
 use Rattle.htn_ground.specs.Views.{child_view}
 use Rattle.htn_ground.specs.declared.child.Child.{Child as Node}
 use Rattle.state_table.specs.Table.{Table, IsTable, is_fluent, state_of}

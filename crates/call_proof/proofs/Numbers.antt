@@ -8,7 +8,7 @@ use Rattle.indexmap.specs.IndexMap.{IndexMap}
 use Rattle.htn_model.specs.Choice.{child_of}
 use Rattle.htn_model.specs.PlanFile.{IsWithoutRepeats}
 use Rattle.htn_model.specs.Problem.{Child, precondition, Network}
-use Rattle.htn_blocks.specs.Ordered.{lone}
+use Rattle.htn_calls.specs.Ordered.{lone}
 use Rattle.state_table.specs.Table.{IsTable, Table, state_of}
 use Rattle.state_table.proofs.Keys.{one_place}
 use Rattle.state_table.proofs.States.{told_apart}

@@ -21,7 +21,7 @@ use Rattle.state_table.specs.Table.{state_of}
 use Rattle.htn_calls.specs.Calls as model
 use Rattle.htn_calls.specs.Numbered.{rule_of}
 use Rattle.htn_calls.proofs.Numbered.{mapped_in, in_mapped}
-use Rattle.htn_blocks.specs.Ordered.{ordered, lone}
+use Rattle.htn_calls.specs.Ordered.{ordered, lone}
 use Rattle.call_table.specs.Lists.{list_at}
 use Rattle.call_table.specs.Sites.{site_eq-decides}
 use Rattle.call_table.specs.Views.{call_at, listing, numbers, rule_view, summary_view}

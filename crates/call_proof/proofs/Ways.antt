@@ -12,11 +12,11 @@ use Rattle.htn_model.specs.Machine.{Config}
 use Rattle.htn_model.specs.Problem.{Child, Network}
 use Rattle.htn_model.specs.State.{State}
 use Rattle.htn_model.specs.Task.{Task}
-use Rattle.word_certificate.specs.Certificate.{IsLeastWay, LesserTakeMore}
+use Rattle.word_machine.specs.Certificate.{IsLeastWay, LesserTakeMore}
 use Rattle.htn_calls.specs.Calls as model
 use Rattle.htn_calls.specs.Numbered.{rule_of}
 use Rattle.htn_calls.specs.Series.{opened, opened_series}
-use Rattle.htn_blocks.specs.Ordered.{ordered, lone}
+use Rattle.htn_calls.specs.Ordered.{ordered, lone}
 use Rattle.htn_net.specs.Listed.{listing_machine}
 use Rattle.call_rules.specs.Bounds.{IsKept}
 use Rattle.call_rules.specs.Listing.{listed_step}

@@ -16,19 +16,19 @@ use Rattle.htn_model.proofs.Grounded.{tasks_are_grounded}
 use Rattle.htn_ground.specs.Distinct.{distinct}
 use Rattle.word_machine.specs.Answer.{IsLeastFinishing}
 use Rattle.word_machine.specs.Words.{step_count}
-use Rattle.word_certificate.specs.Certificate.{IsCertificate}
-use Rattle.word_certificate.proofs.Certified.{certified}
+use Rattle.word_machine.specs.Certificate.{IsCertificate}
+use Rattle.word_machine.proofs.Certified.{certified}
 use Rattle.htn_calls.specs.Calls as model
 use Rattle.htn_calls.specs.Series.{opened}
 use Rattle.htn_calls.proofs.Numbered.{in_mapped}
-use Rattle.htn_blocks.specs.Ordered.{ordered}
+use Rattle.htn_calls.specs.Ordered.{ordered}
 use Rattle.htn_net.specs.Listed.{listing_machine}
-use Rattle.call_frames.specs.Frame.{Frame}
-use Rattle.call_frames.specs.Local.{are_literals_in, IsFrameOf}
+use Rattle.call_rules.specs.Frame.{Frame}
+use Rattle.call_rules.specs.Local.{are_literals_in, IsFrameOf}
 use Rattle.state_table.specs.Table.{state_of}
 use Rattle.tree_sizes.specs.Measure.{is_as_at_first}
 use Rattle.tree_sizes.specs.Sizes.{size_of}
-use Rattle.call_frames.specs.Framed.{AreFramedSites}
+use Rattle.call_rules.specs.Framed.{AreFramedSites}
 use Rattle.call_rules.specs.Measures.{AreMeasuredAtFirst}
 use Rattle.call_rules.proofs.Measured.{measures_are_sizes}
 use Rattle.call_rules.proofs.Walks.{starts_are_ranked}
@@ -46,8 +46,8 @@ use Rattle.call_proof.proofs.Numbers.{ends_below, ends_hold, one_node, one_state
 use Rattle.call_proof.proofs.Ruled.{at_sites, nodes_are, ruled, rules_are, sites}
 use Rattle.call_proof.proofs.Ways.{among_first, least_way, left_below}
 use Rattle.call_proof.specs.Parts.{frame_at}
-use Rattle.call_frames.specs.Numbers.{AreFramedNumbersChecked, HaveFramedBound, bound_by_framed}
-use Rattle.call_frames.proofs.Numbers.{have_framed_bound}
+use Rattle.call_rules.specs.FramedNumbers.{AreFramedNumbersChecked, HaveFramedBound, bound_by_framed}
+use Rattle.call_rules.proofs.FramedNumbers.{have_framed_bound}
 use Rattle.call_proof.specs.Checked.{AreFramed}
 
 -- what is so of each in a list is so at a place

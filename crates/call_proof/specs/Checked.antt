@@ -3,7 +3,7 @@ use Rattle.std.specs.Prelude.{◌≡◌, ℕ, List, Some, slice_get}
 use Rattle.htn_model.specs.Grounding.{problem_of}
 use Rattle.htn_model.specs.Problem.{Child}
 use Rattle.htn_model.specs.Task.{Task}
-use Rattle.call_frames.specs.Local.{IsFrameOf}
+use Rattle.call_rules.specs.Local.{IsFrameOf}
 use Rattle.call_table.specs.declared.call.CallTable.{CallTable}
 use Rattle.call_nodes.specs.Nodes.{children}
 use Rattle.call_nodes.specs.declared.call_nodes.CallNodes.{CallNodes}

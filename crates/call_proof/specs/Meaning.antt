@@ -10,7 +10,7 @@ use Rattle.htn_model.specs.Task.{Task}
 use Rattle.htn_calls.specs.Calls as model
 use Rattle.htn_calls.specs.Numbered.{rule_of}
 use Rattle.htn_calls.specs.Series.{opened}
-use Rattle.htn_blocks.specs.Ordered.{ordered, lone}
+use Rattle.htn_calls.specs.Ordered.{ordered, lone}
 use Rattle.call_table.specs.Lists.{Lists, list_at}
 use Rattle.call_table.specs.Views.{rule_view}
 use Rattle.call_table.specs.declared.call.Call.{Call}

@@ -4,12 +4,12 @@ use Rattle.htn_model.specs.Choice.{child_of}
 use Rattle.htn_model.specs.Problem.{Network}
 use Rattle.htn_model.specs.State.{State}
 use Rattle.htn_calls.specs.Calls as model
-use Rattle.htn_blocks.specs.Ordered.{lone}
-use Rattle.call_frames.specs.Frame.{Frame, lift}
+use Rattle.htn_calls.specs.Ordered.{lone}
+use Rattle.call_rules.specs.Frame.{Frame, lift}
 use Rattle.state_table.specs.Table.{state_of}
 use Rattle.call_proof.specs.Masks.{frame_of}
-use Rattle.call_frames.specs.Closed.{AreClosedIn, IsClosedIn, IsFollowedIn}
-use Rattle.call_frames.specs.Lifted.{AreLifted, IsLiftedCall}
+use Rattle.call_rules.specs.Closed.{AreClosedIn, IsClosedIn, IsFollowedIn}
+use Rattle.call_rules.specs.Lifted.{AreLifted, IsLiftedCall}
 use Rattle.call_table.specs.Lists.{nodes_of}
 use Rattle.call_table.specs.Views.{listing, numbers, places_view, summary_view}
 use Rattle.call_table.specs.declared.call.Call.{Call}

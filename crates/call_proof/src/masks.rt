@@ -1,7 +1,7 @@
 //! Frames as masks, which are sets of atom numbers: the part of a state in one, and a state with another one's part in
 //! its place. The frame of a mask has the fluent atoms of its numbers, and all static atoms.
 ghost use Rattle.std.specs.Prelude.{◌≡◌, ◌&&◌, ◌||◌, ℕ, cond, true, IfOk, IsTrue};
-ghost use Rattle.call_frames.specs.Frame as frames;
+ghost use Rattle.call_rules.specs.Frame as frames;
 ghost use Rattle.htn_model.specs.Atom.{Atom};
 ghost use Rattle.call_proof.specs.Masks.{frame_of};
 ghost use Rattle.state_table.specs.Bits.{has};

@@ -1,10 +1,10 @@
 //! The frames of nodes, and the numbers of parts of states.
 ghost use Rattle.std.specs.Prelude.{◌≡◌, IfOk, IfSome, IsTrue, Some, slice_get};
 ghost use Rattle.call_nodes.specs.Nodes.{state_at};
-ghost use Rattle.call_frames.specs.Framed.{IsPart};
+ghost use Rattle.call_rules.specs.Framed.{IsPart};
 ghost use Rattle.call_proof.specs.Masks.{frame_of};
 ghost use Rattle.call_proof.specs.Parts.{frame_at, masks_of};
-ghost use Rattle.call_frames.specs.Frame as model;
+ghost use Rattle.call_rules.specs.Frame as model;
 ghost use Rattle.state_table.specs.Table.{IsTable, state_of};
 
 use crate::frames::Frames;

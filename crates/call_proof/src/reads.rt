@@ -4,17 +4,16 @@ ghost use Rattle.std.specs.List.{list_all};
 ghost use Rattle.call_nodes.specs.Nodes.{children};
 ghost use Rattle.call_proof.specs.Masks.{frame_of};
 ghost use Rattle.call_proof.specs.Parts.{frame_at, masks_of};
-ghost use Rattle.call_frames.specs.Local as model;
+ghost use Rattle.call_rules.specs.Local as model;
 ghost use Rattle.htn_ground.specs.Views.{child_view};
 ghost use Rattle.htn_model.specs.Grounding.{problem_of};
 ghost use Rattle.htn_model.specs.Problem.{Child as ModelChild};
-ghost use Rattle.htn_state.specs.Views.{literal_of};
+ghost use Rattle.htn_task.specs.Literals.{literal_of};
 
 use crate::frames::Frames;
 use call_nodes::CallNodes;
 use htn_ground::{Child, action_of};
-use htn_state::{Action, Atom, Literal};
-use htn_task::Task;
+use htn_task::{Action, Atom, Literal, Task};
 use state_table::{AtomTable, BitState};
 use std::alloc::{AllocError, Global};
 

@@ -7,3 +7,11 @@ pub mod Tables
 pub mod Values
 pub mod Measured
 pub mod Numbers
+pub mod Parts
+pub mod Local
+pub mod Framed
+pub mod Closed
+pub mod FramedValues
+pub mod Lifted
+pub mod Rules
+pub mod FramedNumbers

@@ -20,8 +20,8 @@ use Rattle.htn_calls.specs.Series.{series_of, opened, opened_series, with_behind
 use Rattle.htn_calls.proofs.Words.{nothing_square}
 use Rattle.htn_calls.proofs.Blocks.{one_block, series_join}
 use Rattle.htn_calls.proofs.Cuts.{cuts_split}
-use Rattle.htn_blocks.specs.Ordered.{ordered, lone}
-use Rattle.htn_blocks.proofs.Ordered.{ordered_split, lone_replaced}
+use Rattle.htn_calls.specs.Ordered.{ordered, lone}
+use Rattle.htn_calls.proofs.Ordered.{ordered_split, lone_replaced}
 use Rattle.htn_net.specs.Listed.{listed_methods}
 use Rattle.htn_net.proofs.Listed.{listed_instances}
 use Rattle.call_rules.specs.Listing.{listed_step, listed_problem}

@@ -11,7 +11,7 @@ use Rattle.htn_calls.specs.Numbered.{IsNumbering}
 use Rattle.htn_calls.specs.Series.{opened}
 use Rattle.htn_calls.specs.Bounds.{is_goal}
 use Rattle.htn_calls.proofs.Numbered.{numbers_close}
-use Rattle.htn_blocks.specs.Ordered.{ordered, lone}
+use Rattle.htn_calls.specs.Ordered.{ordered, lone}
 use Rattle.call_rules.specs.Lone.{lone_rules}
 use Rattle.call_rules.specs.Bounds.{IsKept, IsStepSize, size_sum, IsSound, estimate_by}
 use Rattle.call_rules.specs.Tables.{table_of}

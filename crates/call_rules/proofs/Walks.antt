@@ -13,7 +13,7 @@ use Rattle.htn_model.specs.Task.{Task}
 use Rattle.htn_ground.specs.Distinct.{distinct, live_methods}
 use Rattle.htn_calls.specs.Calls.{Rule}
 use Rattle.htn_calls.specs.Series.{opened, opened_series}
-use Rattle.htn_blocks.specs.Ordered.{ordered, lone}
+use Rattle.htn_calls.specs.Ordered.{ordered, lone}
 use Rattle.htn_net.specs.Listed.{listed_initials, listing_machine}
 use Rattle.htn_net.proofs.Listed.{distinct_initials}
 use Rattle.call_rules.specs.Listing.{listed_step}

@@ -23,8 +23,8 @@ use Rattle.htn_calls.proofs.Blocks.{blocks_in_series, rules_lift}
 use Rattle.htn_calls.proofs.Calls.{claims_hold, estimate_below}
 use Rattle.htn_calls.proofs.Closed.{closed_checked}
 use Rattle.htn_calls.proofs.Cuts.{cuts_split}
-use Rattle.htn_blocks.specs.Ordered.{ordered}
-use Rattle.htn_blocks.proofs.Ordered.{ordered_split}
+use Rattle.htn_calls.specs.Ordered.{ordered}
+use Rattle.htn_calls.proofs.Ordered.{ordered_split}
 use Rattle.htn_net.specs.Listed.{listing_machine}
 use Rattle.call_rules.specs.Listing.{listed_step, listed_problem}
 use Rattle.call_rules.specs.Lone.{lone_rules}

@@ -8,14 +8,14 @@ use Rattle.htn_model.specs.Problem.{Child, Network}
 use Rattle.htn_model.specs.State.{State}
 use Rattle.htn_model.specs.Task.{Task}
 use Rattle.word_machine.specs.Machine.{IsStep}
-use Rattle.word_certificate.specs.Certificate.{IsBelow}
+use Rattle.word_machine.specs.Certificate.{IsBelow}
 use Rattle.htn_calls.specs.Calls.{Table, Claims, AreBounds, AreChecked, estimate}
 use Rattle.htn_calls.specs.Closed.{AreClosed}
 use Rattle.htn_calls.specs.Cuts.{split}
 use Rattle.htn_calls.specs.Series.{series_of, opened, opened_series}
 use Rattle.htn_calls.specs.Split.{network_of}
 use Rattle.htn_calls.specs.Bounds.{is_goal}
-use Rattle.htn_blocks.specs.Ordered.{ordered, lone}
+use Rattle.htn_calls.specs.Ordered.{ordered, lone}
 use Rattle.htn_net.specs.Listed.{listing_machine}
 use Rattle.call_rules.specs.Listing.{listed_step}
 use Rattle.call_rules.specs.Lone.{lone_rules}

@@ -6,3 +6,11 @@ pub mod Tables
 pub mod Values
 pub mod Measures
 pub mod Numbers
+pub mod Frame
+pub mod Local
+pub mod Framed
+pub mod Closed
+pub mod FramedValues
+pub mod Lifted
+pub mod Rules
+pub mod FramedNumbers

@@ -11,7 +11,7 @@ use Rattle.htn_order.specs.Shapes.{chain}
 use Rattle.htn_ground.specs.Distinct.{distinct, live_methods}
 use Rattle.htn_calls.specs.Calls.{Rule, Rules}
 use Rattle.htn_calls.specs.Series.{opened, opened_series}
-use Rattle.htn_blocks.specs.Ordered.{ordered, lone}
+use Rattle.htn_calls.specs.Ordered.{ordered, lone}
 use Rattle.call_rules.specs.Listing.{listed_step}
 
 -- whether a network is totally ordered, as its nodes are listed

@@ -6,13 +6,13 @@ use Rattle.htn_model.specs.Machine.{Config}
 use Rattle.htn_model.specs.Problem.{Child, Network}
 use Rattle.htn_model.specs.State.{State}
 use Rattle.htn_model.specs.Task.{Task}
-use Rattle.word_certificate.specs.Certificate.{IsBelow}
+use Rattle.word_machine.specs.Certificate.{IsBelow}
 use Rattle.htn_calls.specs.Calls.{Rule, Rules, Table}
 use Rattle.htn_calls.specs.Closed.{AreClosed}
 use Rattle.htn_calls.specs.Numbered.{rule_of}
 use Rattle.htn_calls.specs.Series.{opened}
 use Rattle.htn_calls.specs.Bounds.{is_goal}
-use Rattle.htn_blocks.specs.Ordered.{ordered, lone}
+use Rattle.htn_calls.specs.Ordered.{ordered, lone}
 use Rattle.htn_net.specs.Listed.{listing_machine}
 use Rattle.call_rules.specs.Lone.{node_rules}
 use Rattle.call_rules.specs.Bounds.{IsKept, IsStepSize, size_sum, bound_by}

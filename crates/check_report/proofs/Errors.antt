@@ -13,8 +13,8 @@ use Rattle.hddl_meaning.specs.declared.fault.CheckFault.{CheckFault}
 use Rattle.hddl_meaning.specs.declared.fault.CheckFault.TheVariants as fault
 use Rattle.hddl_meaning.specs.declared.fault.Source.{Source as Side}
 use Rattle.hddl_meaning.specs.declared.fault.Source.TheVariants as side
-use Rattle.hddl_tree.specs.declared.domain.DomainText.{DomainText}
-use Rattle.hddl_tree.specs.declared.problem.ProblemText.{ProblemText}
+use Rattle.hddl_words.specs.declared.domain.DomainText.{DomainText}
+use Rattle.hddl_words.specs.declared.problem.ProblemText.{ProblemText}
 use Rattle.pair_messages.specs.Heads as pair
 use Rattle.pair_messages.specs.declared.texts.PairTexts.{PairTexts}
 use Rattle.hddl_warnings.specs.Told as warning

@@ -1,3 +1,4 @@
+mod Steps
 pub mod Refused
 mod Places
 mod Kept

@@ -11,8 +11,8 @@ use Rattle.hddl_meaning.specs.declared.fault.CheckFault.TheVariants as fault
 use Rattle.hddl_meaning.specs.declared.fault.Source.{Source}
 use Rattle.hddl_meaning.specs.declared.fault.Source.TheVariants as source
 use Rattle.hddl_scope.specs.Ranks.{AreInOrder}
-use Rattle.hddl_tree.specs.declared.domain.DomainText.{DomainText}
-use Rattle.hddl_tree.specs.declared.problem.ProblemText.{ProblemText}
+use Rattle.hddl_words.specs.declared.domain.DomainText.{DomainText}
+use Rattle.hddl_words.specs.declared.problem.ProblemText.{ProblemText}
 use Rattle.pair_messages.specs.Heads.{at_of}
 use Rattle.check_report.specs.Alone.{AreArguments, IsInDomain, IsOpenObject, Text, is_of_domain, is_open_object, is_own, stands_in_domain}
 use Rattle.check_report.specs.Texts.{AreOwnFaults}

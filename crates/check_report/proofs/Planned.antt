@@ -6,15 +6,15 @@ use Rattle.diagnostics.specs.declared.diagnostic.Diagnostic.{Diagnostic}
 use Rattle.diagnostics.specs.declared.diagnostic.Source.{Source}
 use Rattle.hddl_meaning.specs.declared.fault.CheckFault.{CheckFault}
 use Rattle.hddl_meaning.specs.declared.fault.Source.TheVariants as side
-use Rattle.hddl_tree.specs.declared.domain.DomainText.{DomainText}
-use Rattle.hddl_tree.specs.declared.problem.ProblemText.{ProblemText}
+use Rattle.hddl_words.specs.declared.domain.DomainText.{DomainText}
+use Rattle.hddl_words.specs.declared.problem.ProblemText.{ProblemText}
 use Rattle.hddl_warnings.specs.Warnings.{IsWarning}
 use Rattle.hddl_warnings.specs.declared.warning.Warning.{Warning}
 use Rattle.never_applied.specs.declared.answer.Findings.{Findings}
 use Rattle.never_applied.specs.declared.answer.NoPlan.{NoPlan}
 use Rattle.pair_messages.specs.Heads as pair
 use Rattle.pair_messages.specs.declared.texts.PairTexts.{PairTexts}
-use Rattle.reach_messages.specs.Reach.{AreNoPlanWarnings, IsNeverAppliedWarning, IsNoPlanWarning, action_places, causes, method_places, never_applied_code, no_plan_code}
+use Rattle.check_report.specs.ReachWarnings.{AreNoPlanWarnings, IsNeverAppliedWarning, IsNoPlanWarning, action_places, causes, method_places, never_applied_code, no_plan_code}
 use Rattle.check_report.specs.Asked.{AreToldOf, IsReachOf, findings_of}
 use Rattle.check_report.specs.Reach.{AreOfProblem, AreReached, AreUnplanned, Unplanned, found_in, never_applied, no_plan}
 use Rattle.check_report.specs.Texts.{AllWarnings, AreExactly, AreWarnings}

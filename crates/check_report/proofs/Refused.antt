@@ -16,8 +16,8 @@ use Rattle.hddl_scope.proofs.Least.{neither_before}
 use Rattle.hddl_text.specs.Grammar.{DerivesDomain, DerivesProblem}
 use Rattle.hddl_text.specs.Spelling.{Spells}
 use Rattle.hddl_text.proofs.Laws.{domain_laws, problem_laws}
-use Rattle.hddl_tree.specs.declared.domain.DomainText.{DomainText}
-use Rattle.hddl_tree.specs.declared.problem.ProblemText.{ProblemText}
+use Rattle.hddl_words.specs.declared.domain.DomainText.{DomainText}
+use Rattle.hddl_words.specs.declared.problem.ProblemText.{ProblemText}
 use Rattle.hddl_warnings.specs.declared.warning.Warning.{Warning}
 use Rattle.check_report.specs.Alone.{IsOwnFault, Text, no_problem}
 use Rattle.check_report.specs.Checks.{AreRefused, Checks, bytes_of}

@@ -15,8 +15,8 @@ use Rattle.hddl_meaning.specs.declared.fault.CheckFault.{CheckFault}
 use Rattle.hddl_meaning.specs.declared.fault.Source.TheVariants as side
 use Rattle.hddl_text.specs.Grammar.{DerivesDomain, DerivesProblem}
 use Rattle.hddl_text.specs.Spelling.{Spells}
-use Rattle.hddl_tree.specs.declared.domain.DomainText.{DomainText}
-use Rattle.hddl_tree.specs.declared.problem.ProblemText.{ProblemText}
+use Rattle.hddl_words.specs.declared.domain.DomainText.{DomainText}
+use Rattle.hddl_words.specs.declared.problem.ProblemText.{ProblemText}
 use Rattle.hddl_warnings.specs.declared.warning.Warning.{Warning}
 use Rattle.hddl_words.specs.declared.fault.TextFault.{TextFault}
 use Rattle.hddl_words.specs.declared.fault.TextFault.TheVariants as spelling

@@ -4,8 +4,8 @@ use Rattle.std.specs.List.{AllZip, Contains}
 use Rattle.std.specs.List.Sorted.{IsStrictlySortedBy}
 use Rattle.diagnostics.specs.declared.diagnostic.Diagnostic.{Diagnostic}
 use Rattle.hddl_meaning.specs.declared.fault.CheckFault.{CheckFault}
-use Rattle.hddl_tree.specs.declared.domain.DomainText.{DomainText}
-use Rattle.hddl_tree.specs.declared.problem.ProblemText.{ProblemText}
+use Rattle.hddl_words.specs.declared.domain.DomainText.{DomainText}
+use Rattle.hddl_words.specs.declared.problem.ProblemText.{ProblemText}
 use Rattle.hddl_warnings.specs.Warnings.{IsOtherDomain, IsWarning}
 use Rattle.hddl_warnings.specs.declared.warning.Warning.{Warning}
 use Rattle.pair_messages.specs.declared.texts.PairTexts.{PairTexts}

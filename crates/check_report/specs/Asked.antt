@@ -2,12 +2,12 @@
 use Rattle.std.specs.Prelude.{◌≡◌, List, [], Option, Some, None, option_map, IfSome}
 use Rattle.diagnostics.specs.declared.diagnostic.Diagnostic.{Diagnostic}
 use Rattle.hddl_meaning.specs.Building.{IsTaskOf}
-use Rattle.hddl_tree.specs.declared.domain.DomainText.{DomainText}
-use Rattle.hddl_tree.specs.declared.problem.ProblemText.{ProblemText}
+use Rattle.hddl_words.specs.declared.domain.DomainText.{DomainText}
+use Rattle.hddl_words.specs.declared.problem.ProblemText.{ProblemText}
 use Rattle.never_applied.specs.Never.{AreFindings}
 use Rattle.never_applied.specs.declared.answer.Findings.{Findings}
 use Rattle.pair_messages.specs.declared.texts.PairTexts.{PairTexts}
-use Rattle.reach_messages.specs.Reach.{AreReachWarnings}
+use Rattle.check_report.specs.ReachWarnings.{AreReachWarnings}
 use Rattle.check_report.specs.Reach.{found_in}
 use Rattle.check_report.specs.declared.reach.Reach.{Reach}
 

@@ -1,3 +1,5 @@
+pub mod ReachWarnings
+pub mod Schemas
 pub mod Texts
 pub mod Told
 pub mod Alone

@@ -3,13 +3,13 @@ use Rattle.std.specs.Prelude.{◌≡◌, ℕ, is_some, List, [], ◌∷◌, ◌+
 use Rattle.diagnostics.specs.declared.reached.Reached.{Reached}
 use Rattle.hddl_meaning.specs.Building.{IsTaskOf}
 use Rattle.hddl_meaning.specs.declared.fault.CheckFault.{CheckFault}
-use Rattle.hddl_tree.specs.declared.domain.DomainText.{DomainText}
-use Rattle.hddl_tree.specs.declared.problem.ProblemText.{ProblemText}
+use Rattle.hddl_words.specs.declared.domain.DomainText.{DomainText}
+use Rattle.hddl_words.specs.declared.problem.ProblemText.{ProblemText}
 use Rattle.htn_model.specs.Task.{Task}
 use Rattle.never_applied.specs.Never.{AreFindings}
 use Rattle.never_applied.specs.declared.answer.Findings.{Findings}
 use Rattle.never_applied.specs.declared.answer.NoPlan.{NoPlan}
-use Rattle.reach_messages.specs.Reach.{action_places, causes, method_places, reach_counts}
+use Rattle.check_report.specs.ReachWarnings.{action_places, causes, method_places, reach_counts}
 
 -- ## Findings
 

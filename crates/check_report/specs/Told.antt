@@ -24,7 +24,7 @@ use Rattle.pair_messages.specs.declared.texts.PairTexts.{PairTexts}
 use Rattle.text_messages.specs.Messages as text
 use Rattle.text_messages.specs.Following as text_offers
 use Rattle.text_messages.specs.Notes as text_notes
-use Rattle.reach_messages.specs.Reach.{never_applied_code, no_plan_code}
+use Rattle.check_report.specs.ReachWarnings.{never_applied_code, no_plan_code}
 use Rattle.check_report.specs.Alone.{Text as Bytes, no_problem}
 use Rattle.check_report.specs.Order.{AreByPlace}
 use Rattle.check_report.specs.Reach.{Unplanned, never_applied, no_plan}

@@ -17,7 +17,7 @@ use crate::warnings::warn_unless;
 use diagnostics::{Diagnostic, Source};
 use hddl_check::all_faults;
 use hddl_meaning::CheckFault;
-use hddl_tree::{DomainText, ProblemText};
+use hddl_words::{DomainText, ProblemText};
 use pair_messages::PairTexts;
 use std::alloc::{AllocError, Global};
 

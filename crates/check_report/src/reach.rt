@@ -4,13 +4,13 @@ ghost use Rattle.hddl_meaning.specs.Building.{IsTaskOf};
 ghost use Rattle.check_report.specs.Reach as spec;
 ghost use Rattle.check_report.specs.Asked.{AreReachTold, IsReachOf, findings_of};
 
+use crate::reach_warnings::reach_warnings;
 use diagnostics::{Diagnostic, Reached};
 use hddl_check::check;
-use hddl_tree::{DomainText, ProblemText};
+use hddl_words::{DomainText, ProblemText};
 use htn_task::Task;
 use never_applied::{Findings, find_unused};
 use pair_messages::PairTexts;
-use reach_messages::reach_warnings;
 use std::alloc::{AllocError, Global};
 
 /// What no plan uses of a domain and a problem that fit together.

@@ -6,8 +6,7 @@ ghost use Rattle.check_report.specs.Alone.{no_problem};
 ghost use Rattle.check_report.specs.Texts.{IsFaulty};
 
 use hddl_text::{read_domain, read_problem};
-use hddl_tree::{DomainText, ProblemText};
-use hddl_words::TextFault;
+use hddl_words::{DomainText, ProblemText, TextFault};
 use std::alloc::{AllocError, Global};
 
 /// The tree of a domain's text, or its fault. An error where memory was refused.

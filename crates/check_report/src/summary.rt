@@ -1,17 +1,17 @@
 //! The lines of a summary.
 ghost use Rattle.std.specs.Prelude.{◌≡◌, ◌∷◌, ◌++◌, [], IfOk};
 ghost use Rattle.pair_messages.specs.Counts.{domain_counts, problem_counts};
-ghost use Rattle.reach_messages.specs.Reach.{reach_counts};
+ghost use Rattle.check_report.specs.ReachWarnings.{reach_counts};
 ghost use Rattle.check_report.specs.Asked.{findings_of};
 ghost use Rattle.check_report.specs.Reach.{counts_of};
 ghost use Rattle.check_report.specs.Report.{counts_in};
 
 use crate::reach::Reach;
+use crate::reach_summary::reach_summary;
 use diagnostics::Part;
-use hddl_tree::{DomainText, ProblemText};
+use hddl_words::{DomainText, ProblemText};
 use never_applied::Findings;
 use pair_messages::{domain_summary, problem_summary};
-use reach_messages::reach_summary;
 use std::alloc::{AllocError, Global};
 
 /// The line of a domain.

@@ -7,9 +7,8 @@ ghost use Rattle.check_report.specs.Told.{named};
 use crate::alone::check_domain;
 use crate::pair::check_pair;
 use crate::report::{Checked, Finding, Options};
-use diagnostics::{Role, Source};
+use diagnostics::{Lines, Role, Source};
 use std::alloc::{AllocError, Global};
-use text_places::Lines;
 
 /// A text with the name of its file, as the command line gives it.
 #[derive(Clone, Copy)]

@@ -6,8 +6,8 @@ ghost use Rattle.check_report.specs.Texts.{AreExactly};
 ghost use Rattle.check_report.specs.Saying.{TellsExactly, WarnsPair};
 
 use diagnostics::Diagnostic;
-use hddl_tree::ProblemText;
 use hddl_warnings::{Warning, other_domain, warning_diagnostics, warnings_of};
+use hddl_words::ProblemText;
 use pair_messages::PairTexts;
 use std::alloc::{AllocError, Global};
 

@@ -3,7 +3,7 @@ use Rattle.std.proofs.Common.{◌≡◌, ℕ, suc, ◌||◌, ◌&&◌, Bool, tru
 use Rattle.std.proofs.lemmas.Bool.{cases_Bool}
 use Rattle.std.proofs.lemmas.Bool.Decides.{nat_tests}
 use Rattle.std.specs.List.{AllPass}
-use Rattle.text_places.specs.Shown.{shown}
+use Rattle.diagnostics.specs.Shown.{shown}
 use Rattle.diagnostics.specs.declared.ink.Style.{Style}
 use Rattle.diagnostics.specs.declared.ink.Style.TheVariants as style
 use Rattle.diagnostics.specs.Ink.{Ink, begin, end, words, file, feed, sequence, written}

@@ -1,5 +1,13 @@
+pub mod Feeds
+pub mod Ends
+pub mod Parts
 pub mod Adds
 pub mod Dress
 pub mod Joins
 pub mod Objects
 pub mod Seen
+pub mod Apart
+pub mod Leasts
+pub mod Lowered
+pub mod FirstThree
+pub mod Asking

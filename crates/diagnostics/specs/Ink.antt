@@ -1,7 +1,7 @@
 -- The parts of an output, and its bytes with and without colour.
 use Rattle.std.specs.Prelude.{ℕ, Bool, if◌then◌else◌, List, [], ◌∷◌, ◌++◌, map, codes}
 use Rattle.std.specs.List.{flat_map}
-use Rattle.text_places.specs.Shown.{shown}
+use Rattle.diagnostics.specs.Shown.{shown}
 use Rattle.diagnostics.specs.declared.ink.Style.{Style}
 use Rattle.diagnostics.specs.declared.ink.Style.TheVariants as style
 

@@ -1,7 +1,7 @@
 -- Reports as JSON.
 use Rattle.std.specs.Prelude.{◌≡◌, ℕ, ◌-◌, nat_le, Option, Some, None, Bool, true, false, not, List, [], ◌∷◌, ◌++◌, length, map, filter, fold, count_by, codes}
 use Rattle.std.specs.List.{list_all}
-use Rattle.text_places.specs.Places.{position}
+use Rattle.diagnostics.specs.Places.{position}
 use Rattle.serde_json.specs.Data.{Data, null, boolean, number, string, array, object, unsigned, Members, no_members, put}
 use Rattle.serde_json.specs.Read.{read}
 use Rattle.serde_json.specs.View.{items_of}

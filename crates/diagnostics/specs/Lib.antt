@@ -1,3 +1,5 @@
+pub mod Places
+pub mod Shown
 pub mod Groups
 pub mod Ink
 pub mod Json
@@ -5,3 +7,5 @@ pub mod Parts
 pub mod Tame
 pub mod Written
 pub mod Verdicts
+pub mod Near
+pub mod Offers

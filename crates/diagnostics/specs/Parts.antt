@@ -2,8 +2,8 @@
 use Rattle.std.specs.Prelude.{ℕ, ◌-◌, List, [], ◌∷◌, ◌++◌, length, replicate, codes}
 use Rattle.std.specs.List.{flat_map}
 use Rattle.std.specs.Fmt.{decimal}
-use Rattle.text_places.specs.Places.{position}
-use Rattle.text_places.specs.Shown.{excerpt, row, padding, carets}
+use Rattle.diagnostics.specs.Places.{position}
+use Rattle.diagnostics.specs.Shown.{excerpt, row, padding, carets}
 use Rattle.diagnostics.specs.declared.diagnostic.Part.{Part}
 use Rattle.diagnostics.specs.declared.diagnostic.Part.TheVariants.{Words, Name, Number}
 use Rattle.diagnostics.specs.declared.diagnostic.Spot.{Spot}

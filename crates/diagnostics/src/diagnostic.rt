@@ -2,7 +2,7 @@
 
 ghost use Rattle.std.specs.Prelude.{◌≤◌, length};
 
-use text_places::Lines;
+use crate::text_lines::Lines;
 
 /// Which text of a run this is.
 #[derive(Clone, Copy, Debug, PartialEq, Eq)]

@@ -2,13 +2,13 @@
 
 ghost use Rattle.std.specs.Prelude.{◌≡◌, [], ◌++◌, OnOk, map};
 ghost use Rattle.std.specs.Fmt.{decimal};
-ghost use Rattle.text_places.specs.Shown as shown_spec;
+ghost use Rattle.diagnostics.specs.Shown as shown_spec;
 ghost use Rattle.diagnostics.specs.Ink as spec;
 ghost use Rattle.diagnostics.specs.Ink.{written, said, opened, closed, named, ended, styled};
 
+use crate::excerpt::shown;
 use itoa::Buffer;
 use std::alloc::AllocError;
-use text_places::shown;
 
 /// How words look in colour.
 #[derive(Clone, Copy, Debug, PartialEq, Eq)]

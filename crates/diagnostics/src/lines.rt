@@ -6,10 +6,10 @@ ghost use Rattle.diagnostics.specs.Ink.{written, said};
 ghost use Rattle.diagnostics.specs.Parts as spec;
 
 use crate::diagnostic::{Note, Part, Remark, RemarkKind, Spot};
+use crate::excerpt::shown;
 use crate::ink::{Style, close, end_line, open, say, say_in, say_name, say_number};
 use itoa::Buffer;
 use std::alloc::{AllocError, Global};
-use text_places::shown;
 
 /// A part of a message; words of a text stand in backticks.
 fn say_part(out: &mut Vec<u8>, colour: bool, part: &Part<'_>) -> Result<(), AllocError>

@@ -7,10 +7,10 @@ use borrow.Author.Tests.{leb-true}
 use Rattle.htn_model.specs.Schema as model
 use Rattle.htn_task.specs.declared.formula.Formula.{Formula, ForAll, the_lemmas}
 use Rattle.htn_task.specs.Formulas as task
-use Rattle.hddl_tree.specs.declared.term.VariableGroup.{VariableGroup}
-use Rattle.hddl_tree.specs.declared.condition.Condition.{Condition, fold-Condition, Forall}
-use Rattle.hddl_tree.specs.declared.condition.Condition as condition
-use Rattle.hddl_tree.specs.declared.condition.Condition.TheOpen.{Condition-F}
+use Rattle.hddl_words.specs.declared.term.VariableGroup.{VariableGroup}
+use Rattle.hddl_words.specs.declared.condition.Condition.{Condition, fold-Condition, Forall}
+use Rattle.hddl_words.specs.declared.condition.Condition as condition
+use Rattle.hddl_words.specs.declared.condition.Condition.TheOpen.{Condition-F}
 use Rattle.hddl_meaning.specs.Mentions.{Text}
 use Rattle.hddl_meaning.specs.Building.{Vocabulary, types_of, variables_of, formula_of, formula_step}
 use Rattle.hddl_build.specs.InForce.{fits, fits_step, most_in_force}

@@ -2,8 +2,8 @@
 use Rattle.std.proofs.Common.{◌≡◌, sym, subst, arith, get_or}
 use Rattle.std.specs.List.{All}
 use Rattle.htn_order.specs.Closure.{IsAcyclic}
-use Rattle.hddl_tree.specs.declared.domain.DomainText.{DomainText}
-use Rattle.hddl_tree.specs.declared.problem.ProblemText.{ProblemText}
+use Rattle.hddl_words.specs.declared.domain.DomainText.{DomainText}
+use Rattle.hddl_words.specs.declared.problem.ProblemText.{ProblemText}
 use Rattle.hddl_meaning.specs.Items.{IsWellTypedPair}
 use Rattle.hddl_meaning.specs.Building.{Vocabulary, vocabulary_of}
 use Rattle.hddl_meaning.specs.Networks.{order_pairs}

@@ -4,8 +4,8 @@ use borrow.Author.Tests.{ltb-true}
 use Rattle.std.specs.List.{All, flat_map, position, position_or_len}
 use Rattle.std.proofs.lemmas.List.Elements.{All-append}
 use Rattle.htn_order.specs.Closure.{AreBelow}
-use Rattle.hddl_tree.specs.declared.network.NetworkText.{NetworkText}
-use Rattle.hddl_tree.specs.declared.network.SubtaskText.{SubtaskText}
+use Rattle.hddl_words.specs.declared.network.NetworkText.{NetworkText}
+use Rattle.hddl_words.specs.declared.network.SubtaskText.{SubtaskText}
 use Rattle.hddl_meaning.specs.Mentions.{folded}
 use Rattle.hddl_meaning.specs.Networks.{is_text, labelled, order_pairs, pair_of, written_pairs}
 use Rattle.htn_order.specs.Closure.{successors}

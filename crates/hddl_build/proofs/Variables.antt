@@ -2,7 +2,7 @@
 use Rattle.std.proofs.Common.{◌≡◌, ℕ, ◌+◌, ◌++◌, Bool, true, false, not, zero, suc, List, [], ◌∷◌, map, Some, None, refl, sym, ap, ap₂, ◌∙◌, cond, nat_lt, take}
 use Rattle.std.specs.List.{position, position_or_len}
 use Rattle.std.proofs.lemmas.List.{map-append, length-map}
-use Rattle.hddl_tree.specs.declared.term.VariableGroup.{VariableGroup}
+use Rattle.hddl_words.specs.declared.term.VariableGroup.{VariableGroup}
 use Rattle.hddl_meaning.specs.Mentions.{Text, Typed, mentions_of, texts, typed_variables}
 use Rattle.hddl_meaning.specs.Names.{is_same_text, number_in, number_or_zero}
 use Rattle.hddl_meaning.specs.Building.{variables_of}

@@ -1,9 +1,9 @@
 -- How many variables are in force at once.
 use Rattle.std.specs.Prelude.{◌≡◌, ℕ, ◌+◌, ◌≤◌, ◌&&◌, Bool, true, nat_le, List, length}
 use Rattle.std.specs.List.{list_all}
-use Rattle.hddl_tree.specs.declared.term.VariableGroup.{VariableGroup}
-use Rattle.hddl_tree.specs.declared.condition.Condition.{Condition, fold-Condition}
-use Rattle.hddl_tree.specs.declared.condition.Condition.TheOpen.{Condition-F}
+use Rattle.hddl_words.specs.declared.term.VariableGroup.{VariableGroup}
+use Rattle.hddl_words.specs.declared.condition.Condition.{Condition, fold-Condition}
+use Rattle.hddl_words.specs.declared.condition.Condition.TheOpen.{Condition-F}
 use Rattle.hddl_meaning.specs.Building.{variables_of}
 
 -- the most variables whose places fit sixteen bits

@@ -1,7 +1,7 @@
 -- The initial network of a problem.
 use Rattle.std.specs.Prelude.{◌≡◌, map}
 use Rattle.htn_model.specs.Task.{InitialSchema}
-use Rattle.hddl_tree.specs.declared.problem.HtnText.{HtnText}
+use Rattle.hddl_words.specs.declared.problem.HtnText.{HtnText}
 use Rattle.hddl_meaning.specs.Building.{Vocabulary, IsNetworkOf, equality_of, types_of, variables_of}
 
 -- the initial network as the task has it: parameters by type, constraints and subtasks by number

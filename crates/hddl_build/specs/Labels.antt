@@ -2,7 +2,7 @@
 use Rattle.std.specs.Prelude.{◌≡◌, ℕ, List, Option, Some, None}
 use Rattle.std.specs.List.{position}
 use Rattle.std.specs.Map.{lookup}
-use Rattle.hddl_tree.specs.declared.network.SubtaskText.{SubtaskText}
+use Rattle.hddl_words.specs.declared.network.SubtaskText.{SubtaskText}
 use Rattle.hddl_meaning.specs.Mentions.{Text}
 use Rattle.hddl_meaning.specs.Names.{is_same_text}
 use Rattle.hddl_meaning.specs.Networks.{is_text}

@@ -9,7 +9,7 @@ use crate::scope::Scope;
 use crate::term::{atom_of, equality_of};
 use crate::types::types_of;
 use hddl_names::Vocabulary;
-use hddl_tree::{Condition, LiteralText};
+use hddl_words::{Condition, LiteralText};
 use htn_task::{AtomSchema, Formula, FormulaList};
 use std::alloc::{AllocError, Global};
 

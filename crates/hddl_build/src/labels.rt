@@ -6,7 +6,7 @@ ghost use Rattle.hddl_meaning.specs.Networks.{is_text};
 ghost use Rattle.hddl_build.specs.Labels.{AreLabelsOf, first_of, position_in};
 
 use hddl_names::{fold, fold_to_vec};
-use hddl_tree::{Name, SubtaskText};
+use hddl_words::{Name, SubtaskText};
 use indexmap::IndexMap;
 use std::alloc::{AllocError, Global};
 

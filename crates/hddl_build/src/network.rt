@@ -11,7 +11,7 @@ use crate::labels::Labels;
 use crate::scope::Scope;
 use crate::term::{equality_of, subtask_of};
 use hddl_names::Vocabulary;
-use hddl_tree::{EqualityText, NetworkText, SubtaskText};
+use hddl_words::{EqualityText, NetworkText, SubtaskText};
 use htn_order::{Order, OrderFault, close, close_chain};
 use htn_task::{EqualitySchema, NetworkSchema, TaskSchema};
 use std::alloc::{AllocError, Global};

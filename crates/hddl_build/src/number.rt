@@ -7,7 +7,7 @@ ghost use Rattle.hddl_meaning.specs.Names.{is_same_text, number_in, number_or_ze
 ghost use Rattle.hddl_meaning.specs.Types.{text_or_object};
 
 use hddl_names::{Names, fold};
-use hddl_tree::Name;
+use hddl_words::Name;
 use std::alloc::{AllocError, Global};
 
 /// The number of a text in lower case, or 0 where no name has it.

@@ -6,7 +6,7 @@ ghost use Rattle.hddl_names.specs.Members.{AreNamedMembersOf, AreTyped};
 ghost use Rattle.hddl_names.specs.Rows.{lists_of};
 
 use hddl_names::{Names, ObjectsByType, TypeHierarchy, Vocabulary};
-use hddl_tree::ProblemText;
+use hddl_words::ProblemText;
 use htn_task::{Name, ObjectType};
 use std::alloc::{AllocError, Global};
 

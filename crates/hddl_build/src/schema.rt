@@ -16,7 +16,7 @@ use crate::scope::Scope;
 use crate::term::subtask_of;
 use crate::types::types_of;
 use hddl_names::{Vocabulary, fold};
-use hddl_tree::{
+use hddl_words::{
     ActionText, HtnText, MethodText, NetworkText, PredicateText, TaskText, VariableGroup,
 };
 use htn_task::{
@@ -25,7 +25,7 @@ use htn_task::{
 use std::alloc::{AllocError, Global};
 
 /// A name in lower case.
-pub(crate) fn name_of(alloc: Global, name: &hddl_tree::Name) -> Result<Name, AllocError>
+pub(crate) fn name_of(alloc: Global, name: &hddl_words::Name) -> Result<Name, AllocError>
     ensures { IfOk result (λ n. n ≡ folded name.now.text) }
 {
     let text = fold(alloc, name.text())?;
@@ -63,7 +63,7 @@ fn compound_of(
 fn head_of(
     alloc: Global,
     vocabulary: &Vocabulary,
-    name: &hddl_tree::Name,
+    name: &hddl_words::Name,
     groups: &[VariableGroup],
 ) -> Result<(Name, Vec<u16>), AllocError>
     requires { IsNumbered vocabulary.now }

@@ -6,7 +6,7 @@ ghost use Rattle.hddl_meaning.specs.Building.{variables_of};
 ghost use Rattle.hddl_build.specs.InForce.{most_in_force};
 
 use hddl_names::fold;
-use hddl_tree::{Variable, VariableGroup};
+use hddl_words::{Variable, VariableGroup};
 use std::alloc::{AllocError, Global};
 use std::marker::Model;
 

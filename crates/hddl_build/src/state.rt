@@ -7,8 +7,8 @@ ghost use Rattle.hddl_build.specs.Vocabularies.{IsNumbered};
 
 use crate::number::number_of;
 use hddl_names::Vocabulary;
-use hddl_tree::{AtomText, Term};
-use htn_state::{Atom, State};
+use hddl_words::{AtomText, Term};
+use htn_task::{Atom, State};
 use std::alloc::{AllocError, Global};
 
 /// The number of an object, or 0 for a variable, which no initial atom of a pair that fits together has.

@@ -21,11 +21,10 @@ use crate::schema::{actions_of, compounds_of, initial_of, methods_of, predicates
 use crate::state::state_of;
 use hddl_meaning::tasks_are_well_typed;
 use hddl_names::{TypeHierarchy, Vocabulary};
-use hddl_tree::{DomainText, ProblemText};
-use htn_state::State;
+use hddl_words::{DomainText, ProblemText};
 use htn_task::{
-    ActionSchema, Declaration, FormulaList, InitialSchema, MethodSchema, Name, ObjectType, Task,
-    TaskParts, named_types,
+    ActionSchema, Declaration, FormulaList, InitialSchema, MethodSchema, Name, ObjectType, State,
+    Task, TaskParts, named_types,
 };
 use std::alloc::{AllocError, Global};
 

@@ -7,7 +7,7 @@ ghost use Rattle.htn_task.specs.Views as views;
 use crate::number::{number_of, number_of_task};
 use crate::scope::Scope;
 use hddl_names::Vocabulary;
-use hddl_tree::{AtomText, EqualityText, Term};
+use hddl_words::{AtomText, EqualityText, Term};
 use htn_task::{AtomSchema, EqualitySchema, TaskSchema, TermList};
 use std::alloc::{AllocError, Global};
 

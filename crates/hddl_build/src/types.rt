@@ -9,7 +9,7 @@ ghost use Rattle.hddl_build.specs.Vocabularies.{IsNumbered};
 
 use crate::number::number_of_type;
 use hddl_names::{Names, Vocabulary};
-use hddl_tree::VariableGroup;
+use hddl_words::VariableGroup;
 use std::alloc::{AllocError, Global};
 
 /// Adds the type of each variable of a group.

@@ -2,8 +2,8 @@
 use Rattle.std.proofs.Common.{◌≡◌, ◌⊎◌, ◌∙◌, ◌<◌, ℕ, length, get_or, List, [], ◌∷◌, map, Option, Some, None, ap, inl, inr, refl, sym, subst}
 use Rattle.std.specs.List.{fold}
 use Rattle.hddl_words.specs.Names.{Name}
-use Rattle.hddl_tree.specs.declared.term.NameGroup.{NameGroup}
-use Rattle.hddl_tree.specs.declared.domain.DomainText.{DomainText}
+use Rattle.hddl_words.specs.declared.term.NameGroup.{NameGroup}
+use Rattle.hddl_words.specs.declared.domain.DomainText.{DomainText}
 use Rattle.hddl_meaning.specs.Mentions.{IsIn, Mention, Typed, mention_of, typed_names}
 use Rattle.hddl_meaning.specs.Names.{optional_mention}
 use Rattle.hddl_meaning.specs.Types.{IsOnCycle}

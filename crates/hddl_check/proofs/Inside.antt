@@ -1,6 +1,6 @@
 -- The faults of a schema: of its parameters, and then of what stands inside.
 use Rattle.std.proofs.Common.{◌⊎◌, List, ◌∷◌, ◌++◌, inl, subst}
-use Rattle.hddl_tree.specs.declared.term.VariableGroup.{VariableGroup}
+use Rattle.hddl_words.specs.declared.term.VariableGroup.{VariableGroup}
 use Rattle.hddl_meaning.specs.Items.{most_parameters}
 use Rattle.hddl_meaning.specs.Mentions.{mentions_of, typed_variables}
 use Rattle.hddl_meaning.specs.Uses.{parameters_of}

@@ -3,12 +3,12 @@ use Rattle.std.proofs.Common.{◌≡◌, List, [], ◌∷◌, ◌++◌, map, inl
 use Rattle.std.specs.List.{flat_map}
 use Rattle.std.proofs.lemmas.List.{map-append}
 use Rattle.std.proofs.lemmas.List.Elements.{Contains-append_cases}
-use Rattle.hddl_tree.specs.declared.domain.MethodText.{MethodText}
-use Rattle.hddl_tree.specs.declared.domain.ActionText.{ActionText}
-use Rattle.hddl_tree.specs.declared.problem.ProblemText.{ProblemText}
+use Rattle.hddl_words.specs.declared.domain.MethodText.{MethodText}
+use Rattle.hddl_words.specs.declared.domain.ActionText.{ActionText}
+use Rattle.hddl_words.specs.declared.problem.ProblemText.{ProblemText}
 use Rattle.hddl_meaning.specs.Mentions.{IsIn, mentions_of, typed_variables}
 use Rattle.hddl_meaning.specs.Items.{most_parameters}
-use Rattle.hddl_tree.specs.declared.term.VariableGroup.{VariableGroup}
+use Rattle.hddl_words.specs.declared.term.VariableGroup.{VariableGroup}
 use Rattle.hddl_meaning.specs.Uses.{Variable, Use, parameters_of, atoms_in, quantifiers_in, sides_in, subtasks_in, constraints_in, schema_of_method, schema_of_action, schema_of_states}
 use Rattle.hddl_meaning.proofs.Listed.{at_head, at_tail, in_left, in_right}
 use Rattle.hddl_uses.specs.Parts.{Part, Different, Limited, Atom, Decomposed, Subtask, Side, quantifier_parts, conditions_parts, type_parts}

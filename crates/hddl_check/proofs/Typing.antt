@@ -4,8 +4,8 @@ use Rattle.std.specs.List.{flat_map, list_any, position}
 use Rattle.std.proofs.lemmas.Bool.{cases_order}
 use Rattle.std.proofs.lemmas.List.{length_push, map-append}
 use Rattle.std.proofs.lemmas.List.Elements.{Contains-append_cases}
-use Rattle.hddl_tree.specs.declared.domain.DomainText.{DomainText}
-use Rattle.hddl_tree.specs.declared.problem.ProblemText.{ProblemText}
+use Rattle.hddl_words.specs.declared.domain.DomainText.{DomainText}
+use Rattle.hddl_words.specs.declared.problem.ProblemText.{ProblemText}
 use Rattle.hddl_meaning.specs.Mentions.{Text, Mention, Typed, IsIn, mentions_of, texts, typed_names, typed_variables}
 use Rattle.hddl_meaning.specs.Names.{distinct, is_same_text, object_names, type_names, with_name}
 use Rattle.hddl_meaning.specs.Types.{text_or_object}

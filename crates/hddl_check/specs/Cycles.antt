@@ -1,6 +1,6 @@
 -- Cycles of types as faults.
 use Rattle.std.specs.Prelude.{◌≡◌, ◌∷◌}
-use Rattle.hddl_tree.specs.declared.domain.DomainText.{DomainText}
+use Rattle.hddl_words.specs.declared.domain.DomainText.{DomainText}
 use Rattle.hddl_meaning.specs.Mentions.{IsIn, Mention, Typed}
 use Rattle.hddl_meaning.specs.Types.{IsOnCycle}
 use Rattle.hddl_meaning.specs.Items.{IsTypeCycle, type_of}

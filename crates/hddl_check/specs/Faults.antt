@@ -1,9 +1,9 @@
 -- All faults of a pair, those that aren't looked for, the first, and the one that is named.
 use Rattle.std.specs.Prelude.{◌≡◌, ◌⊎◌, true, List}
 use Rattle.hddl_words.specs.Names.{Name}
-use Rattle.hddl_tree.specs.declared.domain.DomainText.{DomainText}
-use Rattle.hddl_tree.specs.declared.problem.ProblemText.{ProblemText}
-use Rattle.hddl_tree.specs.declared.term.Term.TheVariants as term
+use Rattle.hddl_words.specs.declared.domain.DomainText.{DomainText}
+use Rattle.hddl_words.specs.declared.problem.ProblemText.{ProblemText}
+use Rattle.hddl_words.specs.declared.term.Term.TheVariants as term
 use Rattle.hddl_meaning.specs.Mentions.{IsIn, Mention, Typed}
 use Rattle.hddl_meaning.specs.Items.{FailsAt, IsClash, groups}
 use Rattle.hddl_meaning.specs.Uses.{Variable}

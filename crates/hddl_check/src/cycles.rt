@@ -10,7 +10,7 @@ ghost use Rattle.hddl_scope.specs.Findings.{Adds, AddsAny, keep};
 use hddl_meaning::{At, CheckFault, Source};
 use hddl_names::TypeHierarchy;
 use hddl_scope::Findings;
-use hddl_tree::{Name, NameGroup};
+use hddl_words::{Name, NameGroup};
 use std::alloc::{AllocError, Global};
 
 /// A type that is below itself, at one of its names.

@@ -9,8 +9,8 @@ ghost use Rattle.hddl_scope.specs.Findings.{Adds, AddsAny};
 ghost use Rattle.hddl_check.specs.TextParts.{name_parts, predicate_parts, task_name_parts, task_parts};
 
 use hddl_scope::{Findings, MOST_DECLARATIONS, MOST_PARAMETERS, Mention, task_names, variables_in};
-use hddl_tree::{DomainText, PredicateText, TaskText};
 use hddl_uses::{Context, check_different, check_limit, check_variable_types};
+use hddl_words::{DomainText, PredicateText, TaskText};
 use std::alloc::AllocError;
 
 /// Faults of the names of declarations of one kind.

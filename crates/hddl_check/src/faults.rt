@@ -11,8 +11,8 @@ use crate::shape::{check_domain, check_problem};
 use hddl_meaning::Source;
 use hddl_names::{DeclaredTypes, TypeHierarchy, Vocabulary};
 use hddl_scope::Findings;
-use hddl_tree::{DomainText, ProblemText};
 use hddl_uses::{Context, Declarations};
+use hddl_words::{DomainText, ProblemText};
 use std::alloc::{AllocError, Global};
 
 /// Faults of the two texts, other than cycles of types.

@@ -10,6 +10,6 @@ mod schemas;
 mod shape;
 
 pub use hddl_meaning::{At, CheckFault, Source};
-pub use hddl_tree::{DomainText, ProblemText};
+pub use hddl_words::{DomainText, ProblemText};
 pub use htn_task::Task;
 pub use pair::{all_faults, check, named_faults_are_unique};

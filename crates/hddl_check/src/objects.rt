@@ -6,7 +6,7 @@ ghost use Rattle.hddl_names.specs.Members.{AreDeclaredTypes};
 ghost use Rattle.hddl_uses.specs.Known.{AllTyped, AreKnown};
 
 use hddl_names::{DeclaredTypes, TypeHierarchy, Vocabulary};
-use hddl_tree::{NameGroup, ProblemText};
+use hddl_words::{NameGroup, ProblemText};
 use std::alloc::{AllocError, Global};
 
 /// As many as sixteen bits number.

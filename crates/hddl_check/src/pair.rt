@@ -18,8 +18,8 @@ use hddl_build::build;
 use hddl_meaning::CheckFault;
 use hddl_names::{DeclaredTypes, TypeHierarchy, Vocabulary};
 use hddl_scope::{Findings, in_order};
-use hddl_tree::{DomainText, ProblemText};
 use hddl_uses::Declarations;
+use hddl_words::{DomainText, ProblemText};
 use htn_task::Task;
 use std::alloc::{AllocError, Global};
 

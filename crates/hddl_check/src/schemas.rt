@@ -7,11 +7,11 @@ ghost use Rattle.hddl_scope.specs.Findings.{AddsAny};
 ghost use Rattle.hddl_check.specs.TextParts.{action_parts, method_network_parts, method_parts, parameter_parts, schema_parts};
 
 use hddl_scope::{Findings, MOST_PARAMETERS, Scope};
-use hddl_tree::{ActionText, MethodText, ProblemText, VariableGroup};
 use hddl_uses::{
     Context, check_atoms, check_conditions, check_constraints, check_count, check_decomposed,
     check_effects, check_network, check_repeats, check_tasks_used, check_variable_types,
 };
+use hddl_words::{ActionText, MethodText, ProblemText, VariableGroup};
 use std::alloc::AllocError;
 
 /// Faults of parameters, which are the variables in force.

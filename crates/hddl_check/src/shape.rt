@@ -13,8 +13,8 @@ use crate::schemas::{
 };
 use hddl_meaning::CheckFault;
 use hddl_scope::{Findings, method_names, names_in, past_distinct, predicate_names, types_in};
-use hddl_tree::DomainText;
 use hddl_uses::{Context, check_name_types, check_network};
+use hddl_words::DomainText;
 use std::alloc::AllocError;
 
 /// Too many types.

@@ -3,10 +3,10 @@
 //! other order an item may be missed, and none is found that isn't there.
 
 ghost use Rattle.std.specs.Prelude.{◌≡◌, ◌⊎◌, Contains, IfSome, Some, slice_get};
-ghost use Rattle.hddl_tree.specs.declared.term.Term.{Term};
+ghost use Rattle.hddl_words.specs.declared.term.Term.{Term};
 ghost use Rattle.hddl_locate.specs.Places.{DeclaresName, DeclaresVariable, WritesType, term_place as place_of_term};
 
-use hddl_tree::{
+use hddl_words::{
     ActionText, AtomText, Condition, EqualityText, LiteralText, MethodText, Name, NameGroup,
     OrderingText, PredicateText, SubtaskText, TaskText, Term, Variable, VariableGroup,
 };

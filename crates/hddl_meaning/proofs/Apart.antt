@@ -8,9 +8,9 @@ use Rattle.htn_model.specs.PlanFile as file
 use Rattle.htn_model.specs.PlanFile.{IsWithoutRepeats}
 use Rattle.htn_model.specs.Task as model
 use Rattle.htn_model.specs.Task.{HasDistinctNames, Task}
-use Rattle.hddl_tree.specs.declared.domain.MethodText.{MethodText}
-use Rattle.hddl_tree.specs.declared.domain.DomainText.{DomainText}
-use Rattle.hddl_tree.specs.declared.problem.ProblemText.{ProblemText}
+use Rattle.hddl_words.specs.declared.domain.MethodText.{MethodText}
+use Rattle.hddl_words.specs.declared.domain.DomainText.{DomainText}
+use Rattle.hddl_words.specs.declared.problem.ProblemText.{ProblemText}
 use Rattle.hddl_meaning.specs.Mentions.{IsIn, Text, folded, mentions_of, texts}
 use Rattle.hddl_meaning.specs.Names as names
 use Rattle.hddl_meaning.specs.Names.{distinct, is_same_text, object, object_declarations, type_mentions, with_name}

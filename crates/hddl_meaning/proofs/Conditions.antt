@@ -4,10 +4,10 @@ use Rattle.std.specs.List.{flat_map}
 use Rattle.std.proofs.lemmas.List.{length-map, map-append}
 use Rattle.htn_model.specs.Schema as model
 use Rattle.htn_model.specs.Task.{AreFormulas, AreTypes, IsAtomSchema, IsFormula, IsTerm, Task}
-use Rattle.hddl_tree.specs.declared.term.VariableGroup.{VariableGroup}
-use Rattle.hddl_tree.specs.declared.condition.Condition.{Condition, fold-Condition, map-Condition, roll-Condition}
-use Rattle.hddl_tree.specs.declared.condition.Condition.TheOpen.{Condition-F}
-use Rattle.hddl_tree.specs.declared.condition.Condition.TheFolds.{fold-roll-Condition, ind-Condition}
+use Rattle.hddl_words.specs.declared.term.VariableGroup.{VariableGroup}
+use Rattle.hddl_words.specs.declared.condition.Condition.{Condition, fold-Condition, map-Condition, roll-Condition}
+use Rattle.hddl_words.specs.declared.condition.Condition.TheOpen.{Condition-F}
+use Rattle.hddl_words.specs.declared.condition.Condition.TheFolds.{fold-roll-Condition, ind-Condition}
 use Rattle.hddl_meaning.specs.Mentions.{IsIn, Text, Typed, mentions_of, texts, typed_variables}
 use Rattle.hddl_meaning.specs.Uses.{TermUse, Use, Variable, atoms_step, parameters_of, quantified_of, sides_step}
 use Rattle.hddl_meaning.specs.Building.{Vocabulary, atom_of, formula_of, formula_step, term_of, types_of, variables_of}

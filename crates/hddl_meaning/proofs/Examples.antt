@@ -1,11 +1,11 @@
 -- What the examples come to.
 use Rattle.std.proofs.Common.{◌≡◌, ℕ, true, false, map, replicate, Some, List, [], ◌∷◌, ◌++◌, codes, inl, inr, refl, sym, ap, ◌∙◌, subst, arith}
-use Rattle.hddl_tree.specs.declared.term.Term.TheVariants as term
-use Rattle.hddl_tree.specs.declared.term.AtomText.{AtomText}
-use Rattle.hddl_tree.specs.declared.term.VariableGroup.{VariableGroup}
-use Rattle.hddl_tree.specs.declared.condition.Condition.{Condition, roll-Condition}
-use Rattle.hddl_tree.specs.declared.condition.Condition.TheOpen.{Condition-F}
-use Rattle.hddl_tree.specs.declared.condition.Condition.TheFolds.{fold-roll-Condition}
+use Rattle.hddl_words.specs.declared.term.Term.TheVariants as term
+use Rattle.hddl_words.specs.declared.term.AtomText.{AtomText}
+use Rattle.hddl_words.specs.declared.term.VariableGroup.{VariableGroup}
+use Rattle.hddl_words.specs.declared.condition.Condition.{Condition, roll-Condition}
+use Rattle.hddl_words.specs.declared.condition.Condition.TheOpen.{Condition-F}
+use Rattle.hddl_words.specs.declared.condition.Condition.TheFolds.{fold-roll-Condition}
 use Rattle.htn_model.specs.Schema as model
 use Rattle.std.specs.List.{list_any}
 use Rattle.std.proofs.lemmas.Bool.{both_ways}

@@ -3,13 +3,13 @@ use Rattle.std.proofs.Common.{◌≡◌, ℕ, zero, suc, ◌+◌, ◌<◌, ◌�
 use Rattle.std.specs.List.{flat_map, list_any}
 use Rattle.std.proofs.lemmas.Bool.{both_ways, cases_order}
 use Rattle.std.proofs.lemmas.List.{length-map, length_push, map-append}
-use Rattle.hddl_tree.specs.Places.{place_of}
-use Rattle.hddl_tree.specs.declared.network.NetworkText.{NetworkText}
-use Rattle.hddl_tree.specs.declared.domain.PredicateText.{PredicateText}
-use Rattle.hddl_tree.specs.declared.domain.MethodText.{MethodText}
-use Rattle.hddl_tree.specs.declared.domain.ActionText.{ActionText}
-use Rattle.hddl_tree.specs.declared.domain.DomainText.{DomainText}
-use Rattle.hddl_tree.specs.declared.problem.ProblemText.{ProblemText}
+use Rattle.hddl_words.specs.Places.{place_of}
+use Rattle.hddl_words.specs.declared.network.NetworkText.{NetworkText}
+use Rattle.hddl_words.specs.declared.domain.PredicateText.{PredicateText}
+use Rattle.hddl_words.specs.declared.domain.MethodText.{MethodText}
+use Rattle.hddl_words.specs.declared.domain.ActionText.{ActionText}
+use Rattle.hddl_words.specs.declared.domain.DomainText.{DomainText}
+use Rattle.hddl_words.specs.declared.problem.ProblemText.{ProblemText}
 use Rattle.htn_order.specs.Closure.{IsAcyclic}
 use Rattle.hddl_meaning.specs.Mentions.{Text, IsIn, Mention, folded, mention_of, mentions_of, Typed, texts, typed_names, typed_variables}
 use Rattle.hddl_meaning.specs.Names.{compound_names, predicate_names, task_names, distinct, is_same_text, object, object_declarations, object_names, type_mentions, type_names, with_name}

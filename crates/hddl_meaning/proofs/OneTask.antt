@@ -13,10 +13,10 @@ use Rattle.htn_model.specs.Problem.{Order, is_before}
 use Rattle.htn_model.specs.Schema as model
 use Rattle.htn_model.specs.Task.{MethodSchema, ObjectType, Task, has_type, named_types, objects_of}
 use Rattle.htn_model.proofs.Splices.{same_order}
-use Rattle.hddl_tree.specs.declared.network.NetworkText.{NetworkText}
-use Rattle.hddl_tree.specs.declared.domain.MethodText.{MethodText}
-use Rattle.hddl_tree.specs.declared.domain.DomainText.{DomainText}
-use Rattle.hddl_tree.specs.declared.problem.ProblemText.{ProblemText}
+use Rattle.hddl_words.specs.declared.network.NetworkText.{NetworkText}
+use Rattle.hddl_words.specs.declared.domain.MethodText.{MethodText}
+use Rattle.hddl_words.specs.declared.domain.DomainText.{DomainText}
+use Rattle.hddl_words.specs.declared.problem.ProblemText.{ProblemText}
 use Rattle.hddl_meaning.specs.Mentions.{Text}
 use Rattle.hddl_meaning.specs.Types.{HasType}
 use Rattle.hddl_meaning.specs.Networks.{IsOrderOf}

@@ -1,9 +1,9 @@
 -- Where types are on no cycle, and clash with none.
 use Rattle.std.proofs.Common.{◌≡◌, ℕ, Some, None, List, [], ◌∷◌, codes, map, inl, inr, refl, arith, true≢false}
 use Rattle.std.specs.List.{AllByRecursion, zip}
-use Rattle.hddl_tree.specs.declared.term.Term.{Term}
-use Rattle.hddl_tree.specs.declared.term.Term.TheVariants as term
-use Rattle.hddl_tree.specs.declared.domain.DomainText.{DomainText}
+use Rattle.hddl_words.specs.declared.term.Term.{Term}
+use Rattle.hddl_words.specs.declared.term.Term.TheVariants as term
+use Rattle.hddl_words.specs.declared.domain.DomainText.{DomainText}
 use Rattle.hddl_meaning.specs.Mentions.{IsIn, Mention, Text, Typed, mention_of, typed_names, variable_mention}
 use Rattle.hddl_meaning.specs.Names.{object}
 use Rattle.hddl_meaning.specs.Types.{Direct, IsBelow, IsOnCycle, parent_pairs}

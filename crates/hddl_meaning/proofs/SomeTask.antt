@@ -22,12 +22,12 @@ use Rattle.htn_model.specs.Instances.{ground_atom}
 use Rattle.htn_model.proofs.Splices.{table_past_left, table_past_right, table_square, table_within}
 use Rattle.htn_order.specs.Closure as closure
 use Rattle.htn_order.specs.Closure.{Precedes, successors}
-use Rattle.hddl_tree.specs.declared.network.NetworkText.{NetworkText}
-use Rattle.hddl_tree.specs.declared.network.OrderingText.{OrderingText}
-use Rattle.hddl_tree.specs.declared.network.SubtaskText.{SubtaskText}
-use Rattle.hddl_tree.specs.declared.domain.MethodText.{MethodText}
-use Rattle.hddl_tree.specs.declared.domain.DomainText.{DomainText}
-use Rattle.hddl_tree.specs.declared.problem.ProblemText.{ProblemText}
+use Rattle.hddl_words.specs.declared.network.NetworkText.{NetworkText}
+use Rattle.hddl_words.specs.declared.network.OrderingText.{OrderingText}
+use Rattle.hddl_words.specs.declared.network.SubtaskText.{SubtaskText}
+use Rattle.hddl_words.specs.declared.domain.MethodText.{MethodText}
+use Rattle.hddl_words.specs.declared.domain.DomainText.{DomainText}
+use Rattle.hddl_words.specs.declared.problem.ProblemText.{ProblemText}
 use Rattle.hddl_words.specs.Names.{Name}
 use Rattle.hddl_meaning.specs.Mentions.{IsIn, Text, Typed, folded}
 use Rattle.hddl_meaning.specs.Names.{is_same_text, object_declarations, object_names, type_names}

@@ -17,18 +17,18 @@ use Rattle.htn_model.specs.Task.{AreTypes, IsActionSchema, IsAtomSchema, IsEqual
 use Rattle.htn_model.specs.Instances.{ground_atom, value_of}
 use Rattle.htn_model.proofs.Sets.{set_of-Contains}
 use Rattle.htn_order.specs.Closure.{Direct, IsAcyclic, IsClosureOf, Precedes, Through}
-use Rattle.hddl_tree.specs.declared.term.Term.{Term}
-use Rattle.hddl_tree.specs.declared.term.Term.TheVariants as term
-use Rattle.hddl_tree.specs.declared.term.AtomText.{AtomText}
-use Rattle.hddl_tree.specs.declared.term.VariableGroup.{VariableGroup}
-use Rattle.hddl_tree.specs.declared.condition.LiteralText.{LiteralText}
-use Rattle.hddl_tree.specs.declared.condition.EqualityText.{EqualityText}
-use Rattle.hddl_tree.specs.declared.condition.Condition.{Condition}
-use Rattle.hddl_tree.specs.declared.network.NetworkText.{NetworkText}
-use Rattle.hddl_tree.specs.declared.domain.MethodText.{MethodText}
-use Rattle.hddl_tree.specs.declared.domain.ActionText.{ActionText}
-use Rattle.hddl_tree.specs.declared.domain.DomainText.{DomainText}
-use Rattle.hddl_tree.specs.declared.problem.ProblemText.{ProblemText}
+use Rattle.hddl_words.specs.declared.term.Term.{Term}
+use Rattle.hddl_words.specs.declared.term.Term.TheVariants as term
+use Rattle.hddl_words.specs.declared.term.AtomText.{AtomText}
+use Rattle.hddl_words.specs.declared.term.VariableGroup.{VariableGroup}
+use Rattle.hddl_words.specs.declared.condition.LiteralText.{LiteralText}
+use Rattle.hddl_words.specs.declared.condition.EqualityText.{EqualityText}
+use Rattle.hddl_words.specs.declared.condition.Condition.{Condition}
+use Rattle.hddl_words.specs.declared.network.NetworkText.{NetworkText}
+use Rattle.hddl_words.specs.declared.domain.MethodText.{MethodText}
+use Rattle.hddl_words.specs.declared.domain.ActionText.{ActionText}
+use Rattle.hddl_words.specs.declared.domain.DomainText.{DomainText}
+use Rattle.hddl_words.specs.declared.problem.ProblemText.{ProblemText}
 use Rattle.hddl_meaning.specs.Mentions.{IsIn, Text, folded, texts, typed_variables}
 use Rattle.hddl_meaning.specs.Names.{compound_names, distinct, is_same_text, number_in, object, object_names, predicate_names, task_names, type_mentions, type_names}
 use Rattle.hddl_meaning.specs.Types.{text_or_object}

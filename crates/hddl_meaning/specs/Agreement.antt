@@ -1,7 +1,7 @@
 -- What follows from the definitions: a pair has one task, and the task of a pair that fits together is well typed.
 use Rattle.std.specs.Prelude.{◌≡◌}
-use Rattle.hddl_tree.specs.declared.domain.DomainText.{DomainText}
-use Rattle.hddl_tree.specs.declared.problem.ProblemText.{ProblemText}
+use Rattle.hddl_words.specs.declared.domain.DomainText.{DomainText}
+use Rattle.hddl_words.specs.declared.problem.ProblemText.{ProblemText}
 use Rattle.htn_model.specs.Task.{Task, IsWellTyped}
 use Rattle.hddl_meaning.specs.Items.{IsWellTypedPair}
 use Rattle.hddl_meaning.specs.Building.{IsTaskOf}

@@ -4,18 +4,18 @@ use Rattle.htn_model.specs.State.{set_of}
 use Rattle.htn_model.specs.Schema as model
 use Rattle.htn_model.specs.Task.{Task}
 use Rattle.hddl_words.specs.Names.{Name, Variable}
-use Rattle.hddl_tree.specs.declared.term.Term.{Term}
-use Rattle.hddl_tree.specs.declared.term.Term.TheVariants as term
-use Rattle.hddl_tree.specs.declared.term.AtomText.{AtomText}
-use Rattle.hddl_tree.specs.declared.term.VariableGroup.{VariableGroup}
-use Rattle.hddl_tree.specs.declared.condition.Condition.{Condition, roll-Condition}
-use Rattle.hddl_tree.specs.declared.condition.Condition.TheOpen.{Condition-F}
-use Rattle.hddl_tree.specs.declared.network.SubtaskText.{SubtaskText}
-use Rattle.hddl_tree.specs.declared.network.NetworkText.{NetworkText}
-use Rattle.hddl_tree.specs.declared.domain.PredicateText.{PredicateText}
-use Rattle.hddl_tree.specs.declared.domain.ActionText.{ActionText}
-use Rattle.hddl_tree.specs.declared.domain.DomainText.{DomainText}
-use Rattle.hddl_tree.specs.declared.problem.ProblemText.{ProblemText}
+use Rattle.hddl_words.specs.declared.term.Term.{Term}
+use Rattle.hddl_words.specs.declared.term.Term.TheVariants as term
+use Rattle.hddl_words.specs.declared.term.AtomText.{AtomText}
+use Rattle.hddl_words.specs.declared.term.VariableGroup.{VariableGroup}
+use Rattle.hddl_words.specs.declared.condition.Condition.{Condition, roll-Condition}
+use Rattle.hddl_words.specs.declared.condition.Condition.TheOpen.{Condition-F}
+use Rattle.hddl_words.specs.declared.network.SubtaskText.{SubtaskText}
+use Rattle.hddl_words.specs.declared.network.NetworkText.{NetworkText}
+use Rattle.hddl_words.specs.declared.domain.PredicateText.{PredicateText}
+use Rattle.hddl_words.specs.declared.domain.ActionText.{ActionText}
+use Rattle.hddl_words.specs.declared.domain.DomainText.{DomainText}
+use Rattle.hddl_words.specs.declared.problem.ProblemText.{ProblemText}
 use Rattle.hddl_meaning.specs.Names.{type_names}
 use Rattle.hddl_meaning.specs.Networks.{order_pairs}
 use Rattle.hddl_meaning.specs.Building.{IsTaskOf, formula_of, vocabulary_of}

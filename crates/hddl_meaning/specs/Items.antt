@@ -2,13 +2,13 @@
 use Rattle.std.specs.Prelude.{◌≡◌, ℕ, max, ◌⊎◌, Bool, true, false, List, [], ◌∷◌, ◌++◌, map, length, Option, Some, None}
 use Rattle.std.specs.List.{flat_map, find, zip}
 use Rattle.hddl_words.specs.Names.{Name}
-use Rattle.hddl_tree.specs.Places.{place_of}
-use Rattle.hddl_tree.specs.declared.term.Term.{Term}
-use Rattle.hddl_tree.specs.declared.term.Term.TheVariants as term
-use Rattle.hddl_tree.specs.declared.term.VariableGroup.{VariableGroup}
-use Rattle.hddl_tree.specs.declared.network.NetworkText.{NetworkText}
-use Rattle.hddl_tree.specs.declared.domain.DomainText.{DomainText}
-use Rattle.hddl_tree.specs.declared.problem.ProblemText.{ProblemText}
+use Rattle.hddl_words.specs.Places.{place_of}
+use Rattle.hddl_words.specs.declared.term.Term.{Term}
+use Rattle.hddl_words.specs.declared.term.Term.TheVariants as term
+use Rattle.hddl_words.specs.declared.term.VariableGroup.{VariableGroup}
+use Rattle.hddl_words.specs.declared.network.NetworkText.{NetworkText}
+use Rattle.hddl_words.specs.declared.domain.DomainText.{DomainText}
+use Rattle.hddl_words.specs.declared.problem.ProblemText.{ProblemText}
 use Rattle.hddl_meaning.specs.Mentions.{Text, Mention, Typed, IsIn, folded, mention_of, mentions_of, texts, typed_names, typed_variables}
 use Rattle.hddl_meaning.specs.Names.{is_same_text, object, type_mentions, optional_mention, object_declarations, object_names, predicate_names, compound_names, task_names, distinct}
 use Rattle.hddl_meaning.specs.Types.{text_or_object, IsBelow, IsOnCycle, HasType}

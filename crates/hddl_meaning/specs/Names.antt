@@ -2,8 +2,8 @@
 use Rattle.std.specs.Prelude.{ℕ, Bool, cond, nat_eq, List, [], ◌∷◌, ◌++◌, map, codes, Option, Some, None}
 use Rattle.std.specs.List.{flat_map, fold, list_any, position}
 use Rattle.std.specs.Cmp.Lexicographic.{pointwise}
-use Rattle.hddl_tree.specs.declared.domain.DomainText.{DomainText}
-use Rattle.hddl_tree.specs.declared.problem.ProblemText.{ProblemText}
+use Rattle.hddl_words.specs.declared.domain.DomainText.{DomainText}
+use Rattle.hddl_words.specs.declared.problem.ProblemText.{ProblemText}
 use Rattle.hddl_words.specs.Names.{Name}
 use Rattle.hddl_meaning.specs.Mentions.{Text, Mention, Typed, folded, mention_of, mentions_of, texts, typed_names}
 

@@ -2,7 +2,7 @@
 use Rattle.std.specs.Prelude.{ℕ, Bool, false, cond, List, [], ◌∷◌, ◌++◌, length, Option, Some, None}
 use Rattle.std.specs.List.{flat_map, position}
 use Rattle.hddl_words.specs.Names.{Name}
-use Rattle.hddl_tree.specs.declared.network.NetworkText.{NetworkText}
+use Rattle.hddl_words.specs.declared.network.NetworkText.{NetworkText}
 use Rattle.htn_model.specs.Problem.{Order, IsSquare}
 use Rattle.htn_order.specs.Closure.{IsClosureOf, successors}
 use Rattle.hddl_meaning.specs.Mentions.{Text, folded}

@@ -1,7 +1,7 @@
 -- Which types are below which, and the types of objects.
 use Rattle.std.specs.Prelude.{◌≡◌, ◌⊎◌, Bool, false, not, ◌&&◌, List, ◌++◌, map, filter, Option, Some, None, Contains}
-use Rattle.hddl_tree.specs.declared.domain.DomainText.{DomainText}
-use Rattle.hddl_tree.specs.declared.problem.ProblemText.{ProblemText}
+use Rattle.hddl_words.specs.declared.domain.DomainText.{DomainText}
+use Rattle.hddl_words.specs.declared.problem.ProblemText.{ProblemText}
 use Rattle.hddl_meaning.specs.Mentions.{Text, Mention, Typed, typed_names, texts}
 use Rattle.hddl_meaning.specs.Names.{is_same_text, object, type_mentions, object_declarations}
 

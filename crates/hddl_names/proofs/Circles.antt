@@ -3,7 +3,7 @@ use Rattle.std.proofs.Common.{◌≡◌, ℕ, ◌<◌, ◌↔◌, Bool, true, fa
 use Rattle.std.specs.List.{Contains}
 use Rattle.std.proofs.lemmas.Bool.{true≢false}
 use Rattle.std.proofs.lemmas.List.Elements.{Contains-append_left}
-use Rattle.hddl_tree.specs.declared.domain.DomainText.{DomainText}
+use Rattle.hddl_words.specs.declared.domain.DomainText.{DomainText}
 use Rattle.hddl_meaning.specs.Mentions.{Text, Typed, texts, typed_names}
 use Rattle.hddl_meaning.specs.Names.{number_in, object, type_mentions, type_names}
 use Rattle.hddl_meaning.specs.Types.{IsBelow, IsOnCycle, declared_pair, declared_pairs, is_object_pair, text_or_object}

@@ -2,8 +2,8 @@
 use Rattle.std.proofs.Common.{◌≡◌, ℕ, ◌++◌, List, not, sym, ap, ap₂, subst, ◌∙◌, length}
 use Rattle.std.specs.List.{filter}
 use Rattle.htn_order.specs.Closure.{AreBelow}
-use Rattle.hddl_tree.specs.declared.term.NameGroup.{NameGroup}
-use Rattle.hddl_tree.specs.declared.domain.DomainText.{DomainText}
+use Rattle.hddl_words.specs.declared.term.NameGroup.{NameGroup}
+use Rattle.hddl_words.specs.declared.domain.DomainText.{DomainText}
 use Rattle.hddl_meaning.specs.Mentions.{Text}
 use Rattle.hddl_meaning.specs.Names.{type_names}
 use Rattle.hddl_names.specs.Rows.{AreRows, turned, HasSame}

@@ -5,7 +5,7 @@ use Rattle.std.proofs.lemmas.Bool.{eqb-true, true≢false}
 use Rattle.std.proofs.lemmas.List.{get_or_default}
 use Rattle.std.proofs.lemmas.Cmp.{nat_eq_equiv}
 use Rattle.std.proofs.lemmas.Map.Views.{list_any-from_Contains, Contains-from_any}
-use Rattle.hddl_tree.specs.declared.domain.DomainText.{DomainText}
+use Rattle.hddl_words.specs.declared.domain.DomainText.{DomainText}
 use Rattle.hddl_meaning.specs.Mentions.{Text}
 use Rattle.hddl_meaning.specs.Names.{type_names}
 use Rattle.hddl_meaning.specs.Types.{IsBelow}

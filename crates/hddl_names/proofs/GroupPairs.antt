@@ -1,7 +1,7 @@
 -- The pairs of one group of types.
 use Rattle.std.proofs.Common.{◌≡◌, ℕ, List, [], ◌∷◌, ◌++◌, map, option_map, refl, ap, ◌∙◌}
 use Rattle.hddl_words.specs.Names.{Name}
-use Rattle.hddl_tree.specs.declared.term.NameGroup.{NameGroup}
+use Rattle.hddl_words.specs.declared.term.NameGroup.{NameGroup}
 use Rattle.hddl_meaning.specs.Mentions.{Text, Mention, folded, mention_of}
 use Rattle.hddl_meaning.specs.Names.{number_in, object, optional_mention}
 use Rattle.hddl_meaning.specs.Types.{text_or_object}

@@ -6,8 +6,8 @@ use Rattle.std.proofs.lemmas.List.{map-append}
 use Rattle.std.proofs.lemmas.List.Elements.{Contains-append_left, Contains-append_right, Contains-append_cases, Contains-get_or, All-from_get_or, All-contains}
 use Rattle.htn_order.specs.Closure.{Precedes, Direct, Through, AreBelow}
 use Rattle.hddl_words.specs.Names.{Name}
-use Rattle.hddl_tree.specs.declared.term.NameGroup.{NameGroup}
-use Rattle.hddl_tree.specs.declared.domain.DomainText.{DomainText}
+use Rattle.hddl_words.specs.declared.term.NameGroup.{NameGroup}
+use Rattle.hddl_words.specs.declared.domain.DomainText.{DomainText}
 use Rattle.hddl_meaning.specs.Mentions.{Text, Mention, Typed, mention_of, texts, typed_names}
 use Rattle.hddl_meaning.specs.Names.{is_same_text, object, optional_mention, type_mentions, type_names, number_in}
 use Rattle.hddl_meaning.specs.Types.{Leads, text_or_object, declared_pairs, is_object_pair, parent_pairs, IsBelow}

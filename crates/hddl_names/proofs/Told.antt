@@ -1,6 +1,6 @@
 -- What the closure of a domain's types tells.
 use Rattle.std.proofs.Common.{◌≡◌, ℕ, ◌<◌, ◌↔◌, Option, Some, IfSome, List, ap, arith, subst, length}
-use Rattle.hddl_tree.specs.declared.domain.DomainText.{DomainText}
+use Rattle.hddl_words.specs.declared.domain.DomainText.{DomainText}
 use Rattle.hddl_meaning.specs.Mentions.{Text}
 use Rattle.hddl_meaning.specs.Names.{type_names}
 use Rattle.hddl_meaning.specs.Types.{IsBelow}

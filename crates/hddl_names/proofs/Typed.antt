@@ -7,9 +7,9 @@ use Rattle.std.proofs.lemmas.List.{get_or_past, map-append}
 use Rattle.std.proofs.lemmas.Map.Views.{list_any-from_Contains, Contains-from_any}
 use Rattle.std.proofs.lemmas.List.Elements.{Contains-get_or, All-contains, All-get_or, All-from_get_or}
 use Rattle.htn_order.specs.Closure.{Precedes, Direct, Through, AreBelow}
-use Rattle.hddl_tree.specs.declared.term.NameGroup.{NameGroup}
-use Rattle.hddl_tree.specs.declared.domain.DomainText.{DomainText}
-use Rattle.hddl_tree.specs.declared.problem.ProblemText.{ProblemText}
+use Rattle.hddl_words.specs.declared.term.NameGroup.{NameGroup}
+use Rattle.hddl_words.specs.declared.domain.DomainText.{DomainText}
+use Rattle.hddl_words.specs.declared.problem.ProblemText.{ProblemText}
 use Rattle.hddl_meaning.specs.Mentions.{Typed, typed_names, mentions_of, texts}
 use Rattle.hddl_meaning.specs.Names.{number_in, type_names, object_names, object_declarations}
 use Rattle.hddl_meaning.specs.Types.{text_or_object, HasType, IsBelow}

@@ -1,7 +1,7 @@
 -- Heads: of numbers that lead to one another one, so that cycles are gone where heads stand for numbers.
 use Rattle.std.specs.Prelude.{◌≡◌, ◌<◌, ◌↔◌, ◌⊎◌, ℕ, Bool, not, nat_eq, Option, IfSome, List, map, length, get_or}
 use Rattle.std.specs.List.{filter}
-use Rattle.hddl_tree.specs.declared.domain.DomainText.{DomainText}
+use Rattle.hddl_words.specs.declared.domain.DomainText.{DomainText}
 use Rattle.hddl_meaning.specs.Mentions.{Text}
 use Rattle.hddl_names.specs.Closures.{Closure, LeadsTo, Meet}
 use Rattle.hddl_names.specs.Reach.{Reaches}

@@ -2,7 +2,7 @@
 use Rattle.std.specs.Prelude.{ℕ, List, ◌++◌, map, Vec}
 use Rattle.std.specs.List.{All, flat_map}
 use Rattle.htn_model.specs.PlanWord.{IsName}
-use Rattle.hddl_tree.specs.declared.term.NameGroup.{NameGroup}
+use Rattle.hddl_words.specs.declared.term.NameGroup.{NameGroup}
 use Rattle.hddl_meaning.specs.Mentions.{Text, Mention, mention_of}
 use Rattle.hddl_meaning.specs.Names.{optional_mention}
 

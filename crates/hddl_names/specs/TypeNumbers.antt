@@ -1,7 +1,7 @@
 -- Types and their parents by number.
 use Rattle.std.specs.Prelude.{◌≡◌, ℕ, Bool, ◌&&◌, nat_eq, List, [], map, length, get_or}
-use Rattle.hddl_tree.specs.declared.term.NameGroup.{NameGroup}
-use Rattle.hddl_tree.specs.declared.domain.DomainText.{DomainText}
+use Rattle.hddl_words.specs.declared.term.NameGroup.{NameGroup}
+use Rattle.hddl_words.specs.declared.domain.DomainText.{DomainText}
 use Rattle.hddl_meaning.specs.Mentions.{Text, Mention, Typed, texts, typed_names}
 use Rattle.hddl_meaning.specs.Names.{object, number_in, type_names}
 use Rattle.hddl_meaning.specs.Types.{text_or_object, parent_pairs}

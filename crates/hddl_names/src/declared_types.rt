@@ -12,7 +12,7 @@ use crate::names::Names;
 use crate::pairs::{parent_number, push_pairs};
 use crate::rows::Rows;
 use crate::vocabulary::Vocabulary;
-use hddl_tree::{NameGroup, ProblemText};
+use hddl_words::{NameGroup, ProblemText};
 use std::alloc::{AllocError, Global};
 use std::marker::Model;
 

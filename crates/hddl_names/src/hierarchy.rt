@@ -16,7 +16,7 @@ use crate::pairs::{parent_number, parent_pairs};
 use crate::reach::{all_reached, reached};
 use crate::rows::Rows;
 use crate::vocabulary::Vocabulary;
-use hddl_tree::{DomainText, Name};
+use hddl_words::{DomainText, Name};
 use indexmap::IndexSet;
 use std::alloc::{AllocError, Global};
 use std::marker::Model;
@@ -46,8 +46,8 @@ impl Drop for TypeHierarchy<'_> {
 }
 
 impl<'a> Model for TypeHierarchy<'a> {
-    ghost use Rattle.hddl_tree.specs.declared.domain.DomainText.{DomainText as Domain};
-    ghost use Rattle.hddl_tree.specs.contracts.condition.Condition as condition;
+    ghost use Rattle.hddl_words.specs.declared.domain.DomainText.{DomainText as Domain};
+    ghost use Rattle.hddl_words.specs.contracts.condition.Condition as condition;
     ghost use Rattle.std.specs.Coded.{codes};
     ghost use Rattle.hddl_names.specs.Heads.{AreHierarchyOf};
 

@@ -10,7 +10,7 @@ ghost use Rattle.hddl_names.specs.Rows.{lists_of};
 use crate::declared_types::DeclaredTypes;
 use crate::hierarchy::TypeHierarchy;
 use crate::vocabulary::Vocabulary;
-use hddl_tree::ProblemText;
+use hddl_words::ProblemText;
 use indexmap::IndexSet;
 use std::alloc::{AllocError, Global};
 use std::marker::Model;

@@ -7,7 +7,7 @@ ghost use Rattle.hddl_meaning.specs.Types.{text_or_object};
 ghost use Rattle.hddl_names.specs.TypeNumbers.{pairs_in, object_pairs_in, is_root};
 
 use crate::names::Names;
-use hddl_tree::{Name, NameGroup};
+use hddl_words::{Name, NameGroup};
 use std::alloc::{AllocError, Global};
 
 /// The number of a type as it is written, or that of `object` where none is.

@@ -7,7 +7,7 @@ ghost use Rattle.hddl_names.specs.Texts.{mentions_in};
 
 use crate::names::Names;
 use crate::text::fold_to_vec;
-use hddl_tree::{ActionText, DomainText, Name, NameGroup, PredicateText, ProblemText, TaskText};
+use hddl_words::{ActionText, DomainText, Name, NameGroup, PredicateText, ProblemText, TaskText};
 use std::alloc::{AllocError, Global};
 use std::marker::Model;
 

@@ -4,7 +4,7 @@ use Rattle.std.specs.List.{flat_map}
 use Rattle.std.proofs.lemmas.List.{map-append}
 use Rattle.std.proofs.lemmas.Simd.{map-map}
 use Rattle.hddl_words.specs.Names as words
-use Rattle.hddl_tree.specs.declared.term.VariableGroup.{VariableGroup}
+use Rattle.hddl_words.specs.declared.term.VariableGroup.{VariableGroup}
 use Rattle.hddl_meaning.specs.Mentions.{Typed, mention_of, mentions_of, typed_variables, variable_mention}
 use Rattle.hddl_meaning.specs.Uses.{Variable, parameters_of, quantified_of}
 use Rattle.hddl_meaning.specs.Items.{variable_mentions}

@@ -1,6 +1,6 @@
 -- The variables that a typed list puts in force.
 use Rattle.std.specs.Prelude.{Bool, List, map, option_map}
-use Rattle.hddl_tree.specs.declared.term.VariableGroup.{VariableGroup}
+use Rattle.hddl_words.specs.declared.term.VariableGroup.{VariableGroup}
 use Rattle.hddl_meaning.specs.Mentions.{Text, mention_of, variable_mention}
 use Rattle.hddl_meaning.specs.Names.{is_same_text}
 use Rattle.hddl_meaning.specs.Uses.{Variable}

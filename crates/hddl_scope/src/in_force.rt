@@ -14,7 +14,7 @@ ghost use Rattle.hddl_scope.specs.Scopes.{group_variables, has_text};
 use crate::numbers::Numbers;
 use crate::repeated::{later, least};
 use crate::scope::Declared;
-use hddl_tree::VariableGroup;
+use hddl_words::VariableGroup;
 use std::alloc::{AllocError, Global};
 use std::marker::Model;
 

@@ -5,7 +5,7 @@ ghost use Rattle.hddl_meaning.specs.Names.{optional_mention};
 ghost use Rattle.hddl_meaning.specs.Mentions.{mention_of, mentions_of, typed_names, typed_variables, variable_mention};
 
 use crate::mention::Mention;
-use hddl_tree::{
+use hddl_words::{
     ActionText, MethodText, Name, NameGroup, PredicateText, TaskText, Variable, VariableGroup,
 };
 use std::alloc::{AllocError, Global};

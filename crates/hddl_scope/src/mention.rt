@@ -3,7 +3,7 @@ ghost use Rattle.std.specs.Prelude.{◌≡◌, IfOk};
 ghost use Rattle.hddl_meaning.specs.Mentions.{mention_of, variable_mention};
 
 use hddl_names::{Folded, fold};
-use hddl_tree::{Name, Variable};
+use hddl_words::{Name, Variable};
 use std::alloc::{AllocError, Global};
 use std::marker::Model;
 

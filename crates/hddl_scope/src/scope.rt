@@ -5,7 +5,7 @@ ghost use Rattle.hddl_meaning.specs.Uses.{parameters_of};
 ghost use Rattle.hddl_scope.specs.Scopes.{group_variables};
 
 use crate::mention::Mention;
-use hddl_tree::{Name, Variable, VariableGroup};
+use hddl_words::{Name, Variable, VariableGroup};
 use std::alloc::{AllocError, Global};
 use std::marker::Model;
 

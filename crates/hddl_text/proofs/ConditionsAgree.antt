@@ -8,10 +8,10 @@ use Rattle.hddl_words.specs.Reading as reading
 use Rattle.hddl_words.specs.Phrase.{Phrase}
 use Rattle.hddl_words.proofs.Agree.{Agrees, ItemAgrees, reads, nothing, agrees_seq, agrees_map}
 use Rattle.hddl_words.proofs.AgreeMore.{agrees_at, agrees_word}
-use Rattle.hddl_tree.specs.declared.condition.LiteralText.{LiteralText}
-use Rattle.hddl_tree.specs.declared.condition.EqualityText.{EqualityText}
-use Rattle.hddl_tree.specs.declared.condition.Condition.{Condition}
-use Rattle.hddl_tree.specs.declared.condition.Condition.TheVariants as condition
+use Rattle.hddl_words.specs.declared.condition.LiteralText.{LiteralText}
+use Rattle.hddl_words.specs.declared.condition.EqualityText.{EqualityText}
+use Rattle.hddl_words.specs.declared.condition.Condition.{Condition}
+use Rattle.hddl_words.specs.declared.condition.Condition.TheVariants as condition
 use Rattle.hddl_words.specs.Names.{name_of}
 use Rattle.hddl_text.specs.Grammar.{IsNegated, IsConditionPart, IsEffectPart, IsConstraintPart, IsRest, IsRestWithin, IsCondition, IsEffect, IsConstraint}
 use Rattle.hddl_text.specs.Readers.{opening, closing, parameters, negated_part, negated_condition, forall_rest, condition_part, effect_part, constraint_part, condition_rest, effect_rest, constraint_rest, whole_condition, whole_effect, whole_constraint, body}

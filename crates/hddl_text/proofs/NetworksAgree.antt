@@ -6,7 +6,7 @@ use Rattle.hddl_words.specs.Phrase.{Gives, Next, Until, Adds, ◌>>=◌}
 use Rattle.hddl_words.proofs.Agree.{Agrees, ItemAgrees, reads, gives, nothing, agrees_seq, agrees_map}
 use Rattle.hddl_words.proofs.AgreeMore.{agrees_at, agrees_word, agrees_items, agrees_list, agrees_opened, step_map, step_absent}
 use Rattle.hddl_words.specs.Names.{name_of, Name}
-use Rattle.hddl_tree.specs.declared.term.Term.{Term}
+use Rattle.hddl_words.specs.declared.term.Term.{Term}
 use Rattle.hddl_text.specs.declared.parts.NetworkParts.{NetworkParts}
 use Rattle.hddl_text.specs.Grammar.{subtask_of, IsTerm, IsSubtaskTail, IsSubtaskRest, IsNetBody, IsNet, IsPairBody, IsOrderingsBody, IsOrderings, IsNetworkPart}
 use Rattle.hddl_text.specs.Readers.{labelled_subtask, unlabelled, subtask_tail, named_subtask, subtask_rest, net_body, net, prefix_pair, infix_pair, pair_body, pair_rest, orderings_body, orderings, network_part}

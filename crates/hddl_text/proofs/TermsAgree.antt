@@ -8,8 +8,8 @@ use Rattle.hddl_words.specs.Phrase.{Phrase, Gives, Next, Named}
 use Rattle.hddl_words.proofs.Agree.{Agrees, StepAgrees, ItemAgrees, agrees_gives, reads, gives, nothing, agrees_seq, agrees_map, step_holds}
 use Rattle.hddl_words.proofs.AgreeMore.{agrees_at, agrees_word, agrees_items, agrees_list, agrees_opened, agrees_closed, agrees_named}
 use Rattle.hddl_words.specs.Names.{name_of, Name, Variable}
-use Rattle.hddl_tree.specs.declared.term.NameGroup.{NameGroup}
-use Rattle.hddl_tree.specs.declared.term.VariableGroup.{VariableGroup}
+use Rattle.hddl_words.specs.declared.term.NameGroup.{NameGroup}
+use Rattle.hddl_words.specs.declared.term.VariableGroup.{VariableGroup}
 use Rattle.hddl_text.specs.declared.parts.NameParts.{NameParts}
 use Rattle.hddl_text.specs.declared.parts.VariableParts.{VariableParts}
 use Rattle.hddl_text.specs.Drafts.{no_name_parts, no_variable_parts}

@@ -7,25 +7,25 @@ use Rattle.hddl_words.specs.declared.class.Class.TheVariants as class
 use Rattle.hddl_words.specs.Words.{Word}
 use Rattle.hddl_words.specs.Phrase.{Phrase, ItemPhrase, Nothing, Gives, ◌>>=◌, ◌>>◌, Next, Ended, Until, Adds, ListOf, Opened, Closed, Named, IfAbsent, IfHolds}
 use Rattle.hddl_words.specs.Names.{Name, Variable, name_of, variable_of}
-use Rattle.hddl_tree.specs.declared.requirement.Requirement.{Requirement}
-use Rattle.hddl_tree.specs.declared.term.Term.{Term}
-use Rattle.hddl_tree.specs.declared.term.Term.TheVariants as term
-use Rattle.hddl_tree.specs.declared.term.AtomText.{AtomText}
-use Rattle.hddl_tree.specs.declared.term.NameGroup.{NameGroup}
-use Rattle.hddl_tree.specs.declared.term.VariableGroup.{VariableGroup}
-use Rattle.hddl_tree.specs.declared.condition.LiteralText.{LiteralText}
-use Rattle.hddl_tree.specs.declared.condition.EqualityText.{EqualityText}
-use Rattle.hddl_tree.specs.declared.condition.Condition.{Condition}
-use Rattle.hddl_tree.specs.declared.condition.Condition.TheVariants as condition
-use Rattle.hddl_tree.specs.declared.network.SubtaskText.{SubtaskText}
-use Rattle.hddl_tree.specs.declared.network.OrderingText.{OrderingText}
-use Rattle.hddl_tree.specs.declared.domain.PredicateText.{PredicateText}
-use Rattle.hddl_tree.specs.declared.domain.TaskText.{TaskText}
-use Rattle.hddl_tree.specs.declared.domain.ActionText.{ActionText}
-use Rattle.hddl_tree.specs.declared.domain.MethodText.{MethodText}
-use Rattle.hddl_tree.specs.declared.domain.DomainText.{DomainText}
-use Rattle.hddl_tree.specs.declared.problem.HtnText.{HtnText}
-use Rattle.hddl_tree.specs.declared.problem.ProblemText.{ProblemText}
+use Rattle.hddl_words.specs.declared.requirement.Requirement.{Requirement}
+use Rattle.hddl_words.specs.declared.term.Term.{Term}
+use Rattle.hddl_words.specs.declared.term.Term.TheVariants as term
+use Rattle.hddl_words.specs.declared.term.AtomText.{AtomText}
+use Rattle.hddl_words.specs.declared.term.NameGroup.{NameGroup}
+use Rattle.hddl_words.specs.declared.term.VariableGroup.{VariableGroup}
+use Rattle.hddl_words.specs.declared.condition.LiteralText.{LiteralText}
+use Rattle.hddl_words.specs.declared.condition.EqualityText.{EqualityText}
+use Rattle.hddl_words.specs.declared.condition.Condition.{Condition}
+use Rattle.hddl_words.specs.declared.condition.Condition.TheVariants as condition
+use Rattle.hddl_words.specs.declared.network.SubtaskText.{SubtaskText}
+use Rattle.hddl_words.specs.declared.network.OrderingText.{OrderingText}
+use Rattle.hddl_words.specs.declared.domain.PredicateText.{PredicateText}
+use Rattle.hddl_words.specs.declared.domain.TaskText.{TaskText}
+use Rattle.hddl_words.specs.declared.domain.ActionText.{ActionText}
+use Rattle.hddl_words.specs.declared.domain.MethodText.{MethodText}
+use Rattle.hddl_words.specs.declared.domain.DomainText.{DomainText}
+use Rattle.hddl_words.specs.declared.problem.HtnText.{HtnText}
+use Rattle.hddl_words.specs.declared.problem.ProblemText.{ProblemText}
 use Rattle.hddl_text.specs.declared.parts.NameParts.{NameParts}
 use Rattle.hddl_text.specs.declared.parts.VariableParts.{VariableParts}
 use Rattle.hddl_text.specs.declared.parts.NetworkParts.{NetworkParts}

@@ -9,8 +9,9 @@ ghost use Rattle.hddl_text.specs.Readers as spec;
 use crate::lists::parameters;
 use crate::terms::{atom_rest, equality, equality_rest, literal};
 use crate::words::{closing, is_close, opening};
-use hddl_tree::{Condition, EqualityText, LiteralText};
-use hddl_words::{Class, Cursor, Items, Name, Stop, Token, class_of};
+use hddl_words::{
+    Class, Condition, Cursor, EqualityText, Items, LiteralText, Name, Stop, Token, class_of,
+};
 use std::alloc::Global;
 
 /// What is negated in a condition, from its head on.

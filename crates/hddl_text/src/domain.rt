@@ -11,8 +11,7 @@ use crate::lists::names;
 use crate::parts::{DomainParts, no_domain_parts};
 use crate::sections::{action, items_or_none, method, predicates, requirements, task};
 use crate::words::{head_rest, is_close, once, opening};
-use hddl_tree::DomainText;
-use hddl_words::{Class, Cursor, Keyword, Name, Stop, Token, class_of};
+use hddl_words::{Class, Cursor, DomainText, Keyword, Name, Stop, Token, class_of};
 use std::alloc::Global;
 
 /// A section after its opening bracket, whose place is given.

@@ -13,10 +13,9 @@ mod terms;
 mod text;
 mod words;
 
-pub use hddl_tree::{
-    ActionText, AtomText, Condition, DomainText, EqualityText, HtnText, Items, LiteralText,
+pub use hddl_words::{
+    ActionText, AtomText, Condition, DomainText, EqualityText, HtnText, Items, Kind, LiteralText,
     MethodText, Name, NameGroup, NetworkText, OrderingText, PredicateText, ProblemText,
-    Requirement, SubtaskText, TaskText, Term, Variable, VariableGroup,
+    Requirement, SubtaskText, TaskText, Term, TextFault, Token, Variable, VariableGroup, lex,
 };
-pub use hddl_words::{Kind, TextFault, Token, lex};
 pub use text::{read_domain, read_problem, texts_spell_one_tree};

@@ -9,8 +9,9 @@ ghost use Rattle.hddl_text.specs.Readers as spec;
 
 use crate::parts::{NameParts, VariableParts, no_name_parts, no_variable_parts};
 use crate::words::{is_close, opening};
-use hddl_tree::{NameGroup, VariableGroup};
-use hddl_words::{Class, Cursor, Items, Name, Stop, Token, Variable, class_of};
+use hddl_words::{
+    Class, Cursor, Items, Name, NameGroup, Stop, Token, Variable, VariableGroup, class_of,
+};
 use std::alloc::{AllocError, Global};
 
 /// A type's name.

@@ -10,8 +10,10 @@ use crate::conditions::constraint;
 use crate::parts::NetworkParts;
 use crate::terms::{atom_rest, terms_after};
 use crate::words::{any_name, closing, is_close, less_sign, once, opening};
-use hddl_tree::{AtomText, OrderingText, SubtaskText, Term};
-use hddl_words::{Class, Cursor, Items, Keyword, Name, Stop, Token, Variable, class_of};
+use hddl_words::{
+    AtomText, Class, Cursor, Items, Keyword, Name, OrderingText, Stop, SubtaskText, Term, Token,
+    Variable, class_of,
+};
 use std::alloc::{AllocError, Global};
 
 /// A list of one item.

@@ -3,12 +3,11 @@
 ghost use Rattle.std.specs.Prelude.{◌≡◌};
 ghost use Rattle.hddl_text.specs.Drafts as spec;
 
-use hddl_tree::{
-    ActionText, AtomText, Condition, EqualityText, HtnText, LiteralText, MethodText, Name,
+use hddl_words::{
+    ActionText, AtomText, Condition, EqualityText, HtnText, Items, LiteralText, MethodText, Name,
     NameGroup, OrderingText, PredicateText, Requirement, SubtaskText, TaskText, Variable,
     VariableGroup,
 };
-use hddl_words::Items;
 use std::alloc::Global;
 
 /// Names so far: groups with their types, and the names that no type has followed.

@@ -14,8 +14,10 @@ use crate::parts::{HtnParts, ProblemParts, no_htn_parts, no_problem_parts};
 use crate::sections::{items_or_none, network_of, requirements};
 use crate::terms::atom_rest;
 use crate::words::{any_name, closing, head_rest, is_close, once, opening};
-use hddl_tree::{AtomText, Condition, HtnText, ProblemText};
-use hddl_words::{Class, Cursor, Items, Keyword, Name, Stop, Token, class_of};
+use hddl_words::{
+    AtomText, Class, Condition, Cursor, HtnText, Items, Keyword, Name, ProblemText, Stop, Token,
+    class_of,
+};
 use std::alloc::Global;
 
 /// A part of `:htn`, which stands at most once.

@@ -16,8 +16,10 @@ use crate::parts::{
 };
 use crate::terms::atom;
 use crate::words::{any_name, empty, is_close, once};
-use hddl_tree::{ActionText, MethodText, NetworkText, PredicateText, Requirement, TaskText};
-use hddl_words::{Class, Cursor, Items, Keyword, Name, Stop, Token, class_of};
+use hddl_words::{
+    ActionText, Class, Cursor, Items, Keyword, MethodText, Name, NetworkText, PredicateText,
+    Requirement, Stop, TaskText, Token, class_of,
+};
 use std::alloc::Global;
 
 /// The items, or none where they aren't written.

@@ -7,8 +7,10 @@ ghost use Rattle.hddl_words.specs.Words.{word_of};
 ghost use Rattle.hddl_text.specs.Readers as spec;
 
 use crate::words::{any_name, closing, equal_sign, is_close, opening};
-use hddl_tree::{AtomText, EqualityText, LiteralText, Term};
-use hddl_words::{Class, Cursor, Items, Name, Stop, Token, Variable, class_of};
+use hddl_words::{
+    AtomText, Class, Cursor, EqualityText, Items, LiteralText, Name, Stop, Term, Token, Variable,
+    class_of,
+};
 use std::alloc::Global;
 
 /// A term from its first word on.

@@ -3,16 +3,17 @@
 ghost use Rattle.std.specs.Prelude.{◌≡◌, ◌≢◌, ℕ, List, map, IfOk, IfErr};
 ghost use Rattle.hddl_words.specs.Class.{class_of as class};
 ghost use Rattle.hddl_words.specs.Words.{word_of};
-ghost use Rattle.hddl_tree.specs.declared.domain.DomainText.{DomainText as Domain};
-ghost use Rattle.hddl_tree.specs.declared.problem.ProblemText.{ProblemText as Problem};
+ghost use Rattle.hddl_words.specs.declared.domain.DomainText.{DomainText as Domain};
+ghost use Rattle.hddl_words.specs.declared.problem.ProblemText.{ProblemText as Problem};
 ghost use Rattle.hddl_text.specs.Grammar.{DerivesDomain, DerivesProblem};
 ghost use Rattle.hddl_text.specs.Spelling as spec;
 ghost use Rattle.hddl_text.specs.Spelling.{Spells, FaultAt, AreNested, HasNoNested, EarlyFaultAt};
 
 use crate::domain::whole_domain;
 use crate::problem::whole_problem;
-use hddl_tree::{DomainText, ProblemText};
-use hddl_words::{Class, Cursor, Stop, TextFault, Token, check_brackets, class_of, lex};
+use hddl_words::{
+    Class, Cursor, DomainText, ProblemText, Stop, TextFault, Token, check_brackets, class_of, lex,
+};
 use std::alloc::Global;
 
 /// The tree of a domain's text.

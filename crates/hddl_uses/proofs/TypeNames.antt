@@ -1,13 +1,13 @@
 -- Types that are named, group by group.
 use Rattle.std.proofs.Common.{◌≡◌, ◌↔◌, true, List, [], ◌∷◌, ◌++◌, map, Option, Some, None, refl, sym, ap, subst, ◌∙◌, inl, inr, option_map, is_some, append-nil}
 use Rattle.std.specs.List.{flat_map, position}
-use Rattle.hddl_tree.specs.declared.domain.DomainText.{DomainText}
+use Rattle.hddl_words.specs.declared.domain.DomainText.{DomainText}
 use Rattle.std.proofs.lemmas.Grind.{flat_map-append}
 use Rattle.std.proofs.lemmas.List.{map-append}
 use Rattle.hddl_words.specs.Names.{Name}
 use Rattle.hddl_words.specs.Names as words
-use Rattle.hddl_tree.specs.declared.term.NameGroup.{NameGroup}
-use Rattle.hddl_tree.specs.declared.term.VariableGroup.{VariableGroup}
+use Rattle.hddl_words.specs.declared.term.NameGroup.{NameGroup}
+use Rattle.hddl_words.specs.declared.term.VariableGroup.{VariableGroup}
 use Rattle.hddl_meaning.specs.Mentions.{Text, Mention, Typed, IsIn, mention_of, texts, typed_names, typed_variables, variable_mention}
 use Rattle.hddl_meaning.specs.Names.{optional_mention, is_same_text, object, type_mentions, type_names}
 use Rattle.hddl_meaning.specs.Items.{type_of, IsDeclaredType}

@@ -1,7 +1,7 @@
 -- What one part of a condition uses and declares.
 use Rattle.std.specs.Prelude.{List, ◌++◌, map}
 use Rattle.std.specs.List.{flat_map}
-use Rattle.hddl_tree.specs.declared.condition.Condition.{Condition, fold-Condition}
+use Rattle.hddl_words.specs.declared.condition.Condition.{Condition, fold-Condition}
 use Rattle.hddl_meaning.specs.Uses.{Variable, Use, TermUse, Quantifier, quantifiers_step, atoms_step, sides_step}
 use Rattle.hddl_uses.specs.Parts.{Part, Atom, Side, quantifier_parts}
 

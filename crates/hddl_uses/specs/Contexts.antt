@@ -2,9 +2,9 @@
 use Rattle.std.specs.Prelude.{◌⊎◌, ℕ, List, [], length, take, ◌≡◌}
 use Rattle.std.specs.List.{zip}
 use Rattle.hddl_words.specs.Names.{Name}
-use Rattle.hddl_tree.specs.declared.term.Term.{Term}
-use Rattle.hddl_tree.specs.declared.term.Term.TheVariants as term
-use Rattle.hddl_tree.specs.declared.term.AtomText.{AtomText}
+use Rattle.hddl_words.specs.declared.term.Term.{Term}
+use Rattle.hddl_words.specs.declared.term.Term.TheVariants as term
+use Rattle.hddl_words.specs.declared.term.AtomText.{AtomText}
 use Rattle.hddl_meaning.specs.Items.{variable_mentions}
 use Rattle.hddl_meaning.specs.Uses.{Variable}
 use Rattle.hddl_meaning.specs.declared.fault.Source.{Source}

@@ -1,5 +1,5 @@
 -- The declarations of a domain.
-use Rattle.hddl_tree.specs.declared.domain.DomainText.{DomainText}
+use Rattle.hddl_words.specs.declared.domain.DomainText.{DomainText}
 use Rattle.hddl_meaning.specs.Items.{predicate_signatures, task_signatures}
 use Rattle.hddl_uses.specs.Tables.{IsTableOf}
 use Rattle.hddl_uses.specs.declared.declared.Declarations.{Declarations}

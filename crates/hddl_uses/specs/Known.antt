@@ -1,9 +1,9 @@
 -- The conditions under which it is known whether an argument fits its place.
 use Rattle.std.specs.Prelude.{◌≤◌, ℕ, List, length}
-use Rattle.hddl_tree.specs.declared.term.Term.{Term}
-use Rattle.hddl_tree.specs.declared.term.Term.TheVariants as term
-use Rattle.hddl_tree.specs.declared.domain.DomainText.{DomainText}
-use Rattle.hddl_tree.specs.declared.problem.ProblemText.{ProblemText}
+use Rattle.hddl_words.specs.declared.term.Term.{Term}
+use Rattle.hddl_words.specs.declared.term.Term.TheVariants as term
+use Rattle.hddl_words.specs.declared.domain.DomainText.{DomainText}
+use Rattle.hddl_words.specs.declared.problem.ProblemText.{ProblemText}
 use Rattle.hddl_meaning.specs.Mentions.{Typed, IsIn}
 use Rattle.hddl_meaning.specs.Names.{object_names}
 use Rattle.hddl_meaning.specs.Types.{text_or_object}

@@ -2,13 +2,13 @@
 use Rattle.std.specs.Prelude.{◌≡◌, ℕ, List, [], ◌∷◌, None}
 use Rattle.std.specs.List.{position}
 use Rattle.hddl_words.specs.Names.{Name}
-use Rattle.hddl_tree.specs.declared.network.NetworkText.{NetworkText}
+use Rattle.hddl_words.specs.declared.network.NetworkText.{NetworkText}
 use Rattle.htn_order.specs.Closure.{Precedes}
 use Rattle.hddl_meaning.specs.declared.fault.Source.{Source}
 use Rattle.hddl_meaning.specs.declared.fault.CheckFault.{CheckFault}
 use Rattle.hddl_meaning.specs.declared.fault.CheckFault.TheVariants.{UnknownSubtask}
 use Rattle.hddl_scope.specs.Findings.{Faulted}
-use Rattle.hddl_tree.specs.declared.network.OrderingText.{OrderingText}
+use Rattle.hddl_words.specs.declared.network.OrderingText.{OrderingText}
 use Rattle.hddl_meaning.specs.Mentions.{Text, folded}
 use Rattle.hddl_meaning.specs.Networks.{pair_of, is_text}
 use Rattle.hddl_scope.specs.Numbers.{Entries, number_at}

@@ -1,7 +1,7 @@
 //! Terms where they are used.
 ghost use Rattle.std.specs.Prelude.{◌≡◌, ◌↔◌, List, Some, IfOk, IsTrue, OnOk};
 ghost use Rattle.std.specs.List.{position};
-ghost use Rattle.hddl_tree.specs.declared.term.Term.TheVariants as term;
+ghost use Rattle.hddl_words.specs.declared.term.Term.TheVariants as term;
 ghost use Rattle.hddl_meaning.specs.Mentions.{IsIn, Text};
 ghost use Rattle.hddl_meaning.specs.Names.{is_same_text, object_names, type_names};
 ghost use Rattle.hddl_meaning.specs.Types.{text_or_object, HasType};
@@ -16,7 +16,7 @@ use crate::context::Context;
 use hddl_meaning::CheckFault;
 use hddl_names::fold;
 use hddl_scope::{Declared, Findings, Scope};
-use hddl_tree::{Name, Term, Variable};
+use hddl_words::{Name, Term, Variable};
 use std::alloc::AllocError;
 
 /// A variable that isn't in force.

@@ -9,7 +9,7 @@ use crate::context::Context;
 use crate::quantifiers::enter;
 use crate::uses::{check_atom, check_equality};
 use hddl_scope::{Findings, Scope};
-use hddl_tree::Condition;
+use hddl_words::Condition;
 use std::alloc::AllocError;
 
 /// Faults of a condition. The variables in force afterwards are those before.

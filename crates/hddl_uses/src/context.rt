@@ -8,7 +8,7 @@ ghost use Rattle.hddl_uses.specs.Declarations.{AreDeclarationsOf};
 use crate::declared::Declarations;
 use hddl_meaning::{At, Source};
 use hddl_names::{DeclaredTypes, TypeHierarchy, Vocabulary};
-use hddl_tree::{DomainText, ProblemText};
+use hddl_words::{DomainText, ProblemText};
 use std::alloc::Global;
 
 /// The text that is checked, with what both texts declare.

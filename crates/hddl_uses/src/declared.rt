@@ -5,7 +5,7 @@ ghost use Rattle.hddl_uses.specs.Declarations.{AreDeclarationsOf};
 ghost use Rattle.hddl_uses.specs.Tables.{IsTableOf};
 
 use crate::signatures::Signatures;
-use hddl_tree::DomainText;
+use hddl_words::DomainText;
 use std::alloc::{AllocError, Global};
 
 /// The declarations of a domain, by name.

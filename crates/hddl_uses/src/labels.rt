@@ -9,7 +9,7 @@ ghost use Rattle.hddl_scope.specs.Numbers.{number_at};
 
 use hddl_names::fold;
 use hddl_scope::{Mention, Numbers};
-use hddl_tree::{Name, OrderingText, SubtaskText};
+use hddl_words::{Name, OrderingText, SubtaskText};
 use std::alloc::{AllocError, Global};
 
 fn push_label<'a>(

@@ -17,7 +17,7 @@ use crate::mentions::check_different;
 use hddl_meaning::CheckFault;
 use hddl_names::fold;
 use hddl_scope::{Findings, MOST_SUBTASKS, Numbers};
-use hddl_tree::{Name, NetworkText, OrderingText};
+use hddl_words::{Name, NetworkText, OrderingText};
 use htn_order::close_chain;
 use std::alloc::{AllocError, Global};
 

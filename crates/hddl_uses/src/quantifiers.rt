@@ -11,7 +11,7 @@ use crate::mentions::{check_limit, push_repeats};
 use crate::types::check_variable_types;
 use hddl_meaning::CheckFault;
 use hddl_scope::{Findings, MOST_DECLARATIONS, MOST_PARAMETERS, Scope, variables_in};
-use hddl_tree::VariableGroup;
+use hddl_words::VariableGroup;
 use std::alloc::AllocError;
 
 /// Variables in force whose texts stood before: those past the first `start`, and the one that comes first of all.

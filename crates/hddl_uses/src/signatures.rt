@@ -5,7 +5,7 @@ ghost use Rattle.hddl_uses.specs.Tables.{HasPlaces, IsAmong, IsTableOf};
 
 use hddl_names::fold;
 use hddl_scope::{Declared, Numbers, parameters};
-use hddl_tree::{ActionText, Name, PredicateText, TaskText, VariableGroup};
+use hddl_words::{ActionText, Name, PredicateText, TaskText, VariableGroup};
 use std::alloc::{AllocError, Global};
 
 /// The places of declarations, and for each name the number of the first one.

@@ -11,7 +11,7 @@ use crate::context::Context;
 use hddl_meaning::CheckFault;
 use hddl_names::fold;
 use hddl_scope::Findings;
-use hddl_tree::{Name, NameGroup, VariableGroup};
+use hddl_words::{Name, NameGroup, VariableGroup};
 use std::alloc::AllocError;
 
 /// Whether `:types` names the type, or it is `object`.

@@ -15,7 +15,7 @@ use crate::signatures::Signatures;
 use hddl_meaning::CheckFault;
 use hddl_names::fold;
 use hddl_scope::{Declared, Findings, Scope};
-use hddl_tree::{AtomText, EqualityText, LiteralText, SubtaskText};
+use hddl_words::{AtomText, EqualityText, LiteralText, SubtaskText};
 use std::alloc::AllocError;
 
 /// A number of arguments other than the number of places.

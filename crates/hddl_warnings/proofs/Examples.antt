@@ -1,6 +1,6 @@
 -- What the examples come to.
 use Rattle.std.proofs.Common.{ℕ, List, [], codes, inl, inr, refl, Some}
-use Rattle.hddl_tree.specs.declared.domain.ActionText.{ActionText}
+use Rattle.hddl_words.specs.declared.domain.ActionText.{ActionText}
 use Rattle.hddl_meaning.specs.Mentions.{Mention}
 use Rattle.hddl_meaning.specs.Uses.{schema_of_action}
 use Rattle.hddl_meaning.specs.Examples.{action, called, empty_domain, empty_problem, untyped, variable}

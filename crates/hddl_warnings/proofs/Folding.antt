@@ -4,11 +4,11 @@ use Rattle.std.specs.List.{flat_map}
 use Rattle.std.proofs.lemmas.Grind.{flat_map-append}
 use Rattle.std.proofs.lemmas.List.Folds.{flat_map-map}
 use Rattle.std.proofs.lemmas.List.{map-append}
-use Rattle.hddl_tree.specs.declared.condition.EqualityText.{EqualityText}
-use Rattle.hddl_tree.specs.declared.condition.LiteralText.{LiteralText}
-use Rattle.hddl_tree.specs.declared.term.VariableGroup.{VariableGroup}
-use Rattle.hddl_tree.specs.declared.condition.Condition.{Condition, fold-Condition, Literal, Equality, Forall, the_lemmas}
-use Rattle.hddl_tree.specs.declared.condition.Condition.TheOpen.{Condition-F}
+use Rattle.hddl_words.specs.declared.condition.EqualityText.{EqualityText}
+use Rattle.hddl_words.specs.declared.condition.LiteralText.{LiteralText}
+use Rattle.hddl_words.specs.declared.term.VariableGroup.{VariableGroup}
+use Rattle.hddl_words.specs.declared.condition.Condition.{Condition, fold-Condition, Literal, Equality, Forall, the_lemmas}
+use Rattle.hddl_words.specs.declared.condition.Condition.TheOpen.{Condition-F}
 use Rattle.hddl_meaning.specs.Uses.{Variable, Use, TermUse, Quantifier, quantified_of, quantifiers_step, atoms_step, sides_step}
 use Rattle.hddl_warnings.specs.declared.parts.Parts.{Parts}
 use Rattle.hddl_warnings.specs.Parts.{AddsConditions, AddsEach, AddsParts, atoms, condition_atoms, condition_groups, condition_sides, groups, sides}

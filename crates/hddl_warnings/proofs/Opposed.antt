@@ -1,7 +1,7 @@
 -- Warnings of effects, effect by effect.
 use Rattle.std.proofs.Common.{◌≡◌, ◌⊎◌, ℕ, ◌+◌, ◌<◌, Bool, true, false, not, List, [], ◌∷◌, ◌++◌, map, is_some, cond, inl, inr, refl, arith, sym, ap, ◌∙◌, subst, take, get_or, length}
-use Rattle.hddl_tree.specs.declared.condition.LiteralText.{LiteralText}
-use Rattle.hddl_tree.specs.declared.domain.ActionText.{ActionText}
+use Rattle.hddl_words.specs.declared.condition.LiteralText.{LiteralText}
+use Rattle.hddl_words.specs.declared.domain.ActionText.{ActionText}
 use Rattle.hddl_meaning.specs.Mentions.{Text, IsIn}
 use Rattle.hddl_meaning.proofs.Listed.{in_map}
 use Rattle.hddl_scope.specs.Numbers.{Entries, number_at}

@@ -4,13 +4,13 @@ use Rattle.std.specs.List.{flat_map}
 use Rattle.std.proofs.lemmas.List.{map-append}
 use Rattle.std.proofs.lemmas.List.Elements.{Contains-append_cases}
 use Rattle.std.proofs.lemmas.Simd.{map-map}
-use Rattle.hddl_tree.specs.declared.term.Term.{Term}
-use Rattle.hddl_tree.specs.declared.term.AtomText.{AtomText}
-use Rattle.hddl_tree.specs.declared.domain.ActionText.{ActionText}
-use Rattle.hddl_tree.specs.declared.domain.DomainText.{DomainText}
-use Rattle.hddl_tree.specs.declared.domain.MethodText.{MethodText}
+use Rattle.hddl_words.specs.declared.term.Term.{Term}
+use Rattle.hddl_words.specs.declared.term.AtomText.{AtomText}
+use Rattle.hddl_words.specs.declared.domain.ActionText.{ActionText}
+use Rattle.hddl_words.specs.declared.domain.DomainText.{DomainText}
+use Rattle.hddl_words.specs.declared.domain.MethodText.{MethodText}
 use Rattle.hddl_meaning.specs.Mentions.{mentions_of, typed_variables}
-use Rattle.hddl_tree.specs.declared.condition.Condition.{Condition}
+use Rattle.hddl_words.specs.declared.condition.Condition.{Condition}
 use Rattle.hddl_meaning.specs.Uses.{Schema, Use, TermUse, atoms_in, constraints_in, parameters_of, schema_of_action, schema_of_method, sides_in}
 use Rattle.hddl_meaning.specs.Uses.{sides as sides_of_equality}
 use Rattle.hddl_warnings.specs.declared.parts.Parts.{Parts}

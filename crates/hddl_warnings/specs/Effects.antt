@@ -1,8 +1,8 @@
 -- Atoms of effects as texts.
 use Rattle.std.specs.Prelude.{Bool, cond, ◌∷◌, ◌++◌}
 use Rattle.std.specs.List.{flat_map}
-use Rattle.hddl_tree.specs.declared.term.Term.{Term}
-use Rattle.hddl_tree.specs.declared.term.AtomText.{AtomText}
+use Rattle.hddl_words.specs.declared.term.Term.{Term}
+use Rattle.hddl_words.specs.declared.term.AtomText.{AtomText}
 use Rattle.hddl_meaning.specs.Mentions.{Text}
 use Rattle.hddl_warnings.specs.Used.{name_text, term_text}
 

@@ -1,6 +1,6 @@
 -- Small trees and what they warn of.
 use Rattle.std.specs.Prelude.{[], ◌∷◌, codes, Some, None}
-use Rattle.hddl_tree.specs.declared.domain.DomainText.{DomainText}
+use Rattle.hddl_words.specs.declared.domain.DomainText.{DomainText}
 use Rattle.hddl_meaning.specs.Examples.{action, called, empty_domain, empty_problem, no_predicate, no_type, untyped, variable}
 use Rattle.hddl_warnings.specs.Warnings.{IsWarning, in_domain}
 use Rattle.hddl_warnings.specs.declared.warning.WarningKind.TheVariants as kind

@@ -1,9 +1,9 @@
 -- When a domain and a problem have a warning: two lines for each kind, over flat lists of what is used and declared.
 use Rattle.std.specs.Prelude.{◌≡◌, ◌⊎◌, ℕ, not, List, [], ◌∷◌, ◌++◌, map, Option, Some, IsSomeAnd}
-use Rattle.hddl_tree.specs.declared.condition.LiteralText.{LiteralText}
-use Rattle.hddl_tree.specs.declared.domain.ActionText.{ActionText}
-use Rattle.hddl_tree.specs.declared.domain.DomainText.{DomainText}
-use Rattle.hddl_tree.specs.declared.problem.ProblemText.{ProblemText}
+use Rattle.hddl_words.specs.declared.condition.LiteralText.{LiteralText}
+use Rattle.hddl_words.specs.declared.domain.ActionText.{ActionText}
+use Rattle.hddl_words.specs.declared.domain.DomainText.{DomainText}
+use Rattle.hddl_words.specs.declared.problem.ProblemText.{ProblemText}
 use Rattle.hddl_meaning.specs.Mentions.{Text, Mention, IsIn, folded, mention_of, mentions_of, texts, typed_names, typed_variables}
 use Rattle.hddl_meaning.specs.Names.{object}
 use Rattle.hddl_meaning.specs.Uses.{Schema, domain_schemas}

@@ -11,7 +11,7 @@ use crate::known::learn;
 use crate::tell::{in_domain, tell_if};
 use crate::warning::{Warning, WarningKind};
 use hddl_scope::Numbers;
-use hddl_tree::{ActionText, AtomText, DomainText, LiteralText, Term};
+use hddl_words::{ActionText, AtomText, DomainText, LiteralText, Term};
 use std::alloc::{AllocError, Global};
 
 /// Adds bytes in lower case.

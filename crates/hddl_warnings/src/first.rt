@@ -3,7 +3,7 @@
 use hddl_meaning::{At, Source};
 use hddl_names::fold;
 use hddl_scope::{Mention, Numbers, names_in};
-use hddl_tree::{DomainText, NameGroup, NetworkText, ProblemText};
+use hddl_words::{DomainText, NameGroup, NetworkText, ProblemText};
 use std::alloc::{AllocError, Global};
 
 /// The first subtask of each name, and the first declaration of each object, by their places in the two texts.

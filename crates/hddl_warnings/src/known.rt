@@ -6,7 +6,7 @@ ghost use Rattle.hddl_warnings.specs.Used.{name_text, term_text};
 
 use hddl_names::fold;
 use hddl_scope::Numbers;
-use hddl_tree::{AtomText, Name, Term};
+use hddl_words::{AtomText, Name, Term};
 use std::alloc::{AllocError, Global};
 
 /// Adds a text, unless it is known.

@@ -12,7 +12,7 @@ use crate::spots::{atom_at, spot_at, where_at, word_at};
 use crate::warning::{Warning, WarningKind};
 use diagnostics::{Diagnostic, Note, Part, Remark, RemarkKind, Severity, Source, Where};
 use hddl_meaning::At;
-use hddl_tree::{ActionText, DomainText, MethodText, Name, ProblemText};
+use hddl_words::{ActionText, DomainText, MethodText, Name, ProblemText};
 use std::alloc::{AllocError, Global};
 
 /// The texts that warnings speak of, and their trees.

@@ -12,7 +12,7 @@ use crate::tell::tell_if;
 use crate::warning::{Warning, WarningKind};
 use hddl_meaning::{At, Source};
 use hddl_scope::{Mention, Numbers, names_in};
-use hddl_tree::{DomainText, ProblemText};
+use hddl_words::{DomainText, ProblemText};
 use std::alloc::{AllocError, Global};
 
 /// Warns of each name that is known or stands before, and adds the names to those that are known.

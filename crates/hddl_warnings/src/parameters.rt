@@ -16,7 +16,7 @@ use crate::predicates::push_effects;
 use crate::tell::tell_unlisted;
 use crate::warning::{Warning, WarningKind};
 use hddl_scope::{Numbers, variables_in};
-use hddl_tree::{
+use hddl_words::{
     ActionText, AtomText, DomainText, EqualityText, MethodText, SubtaskText, Term, VariableGroup,
 };
 use std::alloc::{AllocError, Global};

@@ -2,7 +2,7 @@
 ghost use Rattle.std.specs.Prelude.{◌≡◌, [], OnOk, IfOk};
 ghost use Rattle.hddl_warnings.specs.Parts.{AddsParts, AddsConditions, HasParts};
 
-use hddl_tree::{AtomText, Condition, Term, VariableGroup};
+use hddl_words::{AtomText, Condition, Term, VariableGroup};
 use std::alloc::{AllocError, Global};
 
 /// The parts of conditions, in the order of the text.

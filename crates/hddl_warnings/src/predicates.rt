@@ -12,7 +12,7 @@ use crate::parts::{Parts, push_conditions};
 use crate::tell::{tell_listed_but, tell_unlisted};
 use crate::warning::{Warning, WarningKind};
 use hddl_scope::{Numbers, predicate_names};
-use hddl_tree::{ActionText, AtomText, DomainText, ProblemText};
+use hddl_words::{ActionText, AtomText, DomainText, ProblemText};
 use std::alloc::{AllocError, Global};
 
 /// The parts of all preconditions and of the goal.

@@ -17,7 +17,7 @@ use crate::types::tell_types;
 use crate::warning::{Warning, WarningKind};
 use hddl_meaning::{At, Source};
 use hddl_names::fold;
-use hddl_tree::{DomainText, ProblemText};
+use hddl_words::{DomainText, ProblemText};
 use std::alloc::{AllocError, Global};
 
 /// Whether a problem names the domain.

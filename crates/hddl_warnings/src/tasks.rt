@@ -11,7 +11,7 @@ use crate::known::known_names;
 use crate::tell::{tell_listed_but, tell_unlisted};
 use crate::warning::{Warning, WarningKind};
 use hddl_scope::{Mention, Numbers};
-use hddl_tree::{ActionText, DomainText, MethodText, Name, NetworkText, ProblemText, TaskText};
+use hddl_words::{ActionText, DomainText, MethodText, Name, NetworkText, ProblemText, TaskText};
 use std::alloc::{AllocError, Global};
 
 /// Adds the names of the subtasks of a network.

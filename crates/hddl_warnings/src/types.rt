@@ -11,7 +11,7 @@ use crate::known::{known_names, learn};
 use crate::tell::tell_unlisted;
 use crate::warning::{Warning, WarningKind};
 use hddl_scope::{Numbers, names_in};
-use hddl_tree::{DomainText, Name, NameGroup, ProblemText, VariableGroup};
+use hddl_words::{DomainText, Name, NameGroup, ProblemText, VariableGroup};
 use std::alloc::{AllocError, Global};
 
 /// Adds the type of a group, if one is written.

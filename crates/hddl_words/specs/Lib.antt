@@ -8,3 +8,4 @@ pub mod Reading
 pub mod Phrase
 pub mod Brackets
 pub mod Faults
+pub mod Places

@@ -23,3 +23,5 @@ pub mod Covered
 pub mod AtNumber
 pub mod NarrowedBy
 pub mod Marked
+pub mod TreeSizes
+pub mod Numbers

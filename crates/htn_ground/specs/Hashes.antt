@@ -6,7 +6,7 @@ use Rattle.std.specs.Hash as fed
 use Rattle.std.specs.Hash.{HashWrites, Alike, items_Alike, same_Alike}
 use Rattle.htn_model.specs.Problem.{GroundTask, Child, precondition, action, task, child_eq, ground_task_eq}
 use Rattle.htn_model.specs.Equality.{child_eq-decides, child_eq-laws, ground_task_eq-decides}
-use Rattle.htn_state.specs.Views.{literals_hash}
+use Rattle.htn_task.specs.Literals.{literals_hash}
 
 -- the writes by which a ground task feeds a hasher
 abbrev pub ground_task_hash : GroundTask → HashWrites

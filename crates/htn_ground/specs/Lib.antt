@@ -11,3 +11,4 @@ pub mod Distinct
 pub mod Shown
 pub mod Narrow
 pub mod Naming
+pub mod Trees

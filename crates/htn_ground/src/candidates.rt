@@ -12,8 +12,7 @@ use crate::counts::count_assignments;
 use crate::fixed::FixedLiteral;
 use crate::literals::ground_arguments;
 use crate::object_list::ObjectList;
-use htn_state::{Atom, State};
-use htn_task::Term;
+use htn_task::{Atom, State, Term};
 use std::alloc::{AllocError, Global};
 
 /// The objects that a literal leaves to the parameter at `depth`, once those before it have values.

@@ -5,7 +5,7 @@ ghost use Rattle.htn_ground.specs.Views.{child_view, children_of};
 
 use crate::ground_task::GroundTask;
 use crate::object_list::ObjectList;
-use htn_state::LiteralList;
+use htn_task::LiteralList;
 use smallvec::SmallVec;
 use std::alloc::{AllocError, Global};
 use std::default::MadeWith;

@@ -17,7 +17,7 @@ use crate::fixed::{FixedLiteral, is_ruled_out};
 use crate::object_list::ObjectList;
 use crate::relation::Relation;
 use crate::shown::{hidden_from, is_hidden};
-use htn_state::State;
+use htn_task::State;
 use std::alloc::{AllocError, Global};
 
 /// Whether one object stands for all others at the next parameter: that is hidden and in no relation to a

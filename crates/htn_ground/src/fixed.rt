@@ -4,8 +4,7 @@ ghost use Rattle.htn_ground.specs.Search.{fixed_holds, is_bound, is_ruled_out_so
 
 use crate::conditions::is_among;
 use crate::literals::ground_arguments;
-use htn_state::{Atom, State};
-use htn_task::Term;
+use htn_task::{Atom, State, Term};
 use std::alloc::AllocError;
 
 /// A literal of a schema whose predicate no effect names.

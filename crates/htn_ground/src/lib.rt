@@ -1,4 +1,5 @@
-//! The instances of a planning task's schemas, in their order and with their numbers.
+//! The instances of a planning task's schemas, in their order and with their numbers, and the decomposition trees over
+//! them.
 #![tactic(auto)]
 
 mod at_number;
@@ -18,6 +19,7 @@ mod literals;
 mod methods;
 mod narrowed;
 mod network;
+mod node;
 mod object_list;
 mod relation;
 mod search;
@@ -37,5 +39,6 @@ pub use methods::{
     action_of, counted_live_methods_of, initial_instance, initials, live_methods_of,
     method_instance, methods_of,
 };
+pub use node::{Node, Solution};
 pub use object_list::ObjectList;
 pub use shown::{is_hidden, shown_parameters};

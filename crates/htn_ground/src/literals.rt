@@ -3,15 +3,17 @@ ghost use Rattle.std.specs.Prelude.{◌≡◌, ◌++◌, ◌∷◌, [], IfOk, On
 ghost use Rattle.std.specs.List.{flat_map};
 ghost use Rattle.htn_model.specs.Instances as model;
 ghost use Rattle.htn_model.specs.Literal as literals;
-ghost use Rattle.htn_state.specs.Views.{literal_of, literals_of};
+ghost use Rattle.htn_task.specs.Literals.{literal_of, literals_of};
 ghost use Rattle.htn_task.specs.Formulas.{formula_of, formulas_view};
 ghost use Rattle.htn_task.specs.Views.{term_of, terms_of};
 ghost use Rattle.htn_ground.specs.Assigned.{lengthened};
 
 use crate::ground_task::GroundTask;
 use crate::object_list::ObjectList;
-use htn_state::{Atom, Literal, LiteralList};
-use htn_task::{AtomSchema, EqualitySchema, Formula, FormulaList, Task, TaskSchema, Term};
+use htn_task::{
+    Atom, AtomSchema, EqualitySchema, Formula, FormulaList, Literal, LiteralList, Task, TaskSchema,
+    Term,
+};
 use std::alloc::{AllocError, Global};
 
 /// The object that a term stands for.

@@ -19,8 +19,9 @@ use crate::instances::{is_instance, live_values};
 use crate::literals::{ground_atom, state_literals};
 use crate::network::{children_for, order_for};
 use crate::object_list::ObjectList;
-use htn_state::{Action, Atom, State};
-use htn_task::{ActionSchema, AtomSchema, FormulaList, MethodSchema, Task, TaskSchema};
+use htn_task::{
+    Action, ActionSchema, Atom, AtomSchema, FormulaList, MethodSchema, State, Task, TaskSchema,
+};
 use std::alloc::{AllocError, Global};
 
 /// The place of an element of a list as a 16-bit number. A task that is checked from texts has at most 65,535 methods,

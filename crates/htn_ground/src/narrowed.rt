@@ -12,8 +12,7 @@ ghost use Rattle.htn_ground.specs.Narrow.{Narrows, is_choice};
 use crate::candidates::last_place;
 use crate::fixed::FixedLiteral;
 use crate::object_list::ObjectList;
-use htn_state::{Atom, State};
-use htn_task::Term;
+use htn_task::{Atom, State, Term};
 use std::alloc::{AllocError, Global};
 
 /// The most atoms of a predicate to be read for each object of the domain that they narrow.

@@ -13,7 +13,7 @@ use crate::counts::{bound_relations_hold_of, count_completions, count_run, sum};
 use crate::fixed::{FixedLiteral, is_ruled_out};
 use crate::object_list::ObjectList;
 use crate::relation::Relation;
-use htn_state::State;
+use htn_task::State;
 use std::alloc::{AllocError, Global};
 
 /// Appends the live completions of `values` to `found`, with their numbers from `number` on, so far as

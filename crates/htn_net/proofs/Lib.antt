@@ -1,3 +1,7 @@
+pub mod Words
+pub mod Lawful
+pub mod Answers
+pub mod Fewer
 pub mod Chosen
 pub mod Distinct
 pub mod First

@@ -17,9 +17,9 @@ use Rattle.htn_model.proofs.Steps.{Decomposes, Executes, chosen, step_choice}
 use Rattle.htn_ground.specs.Distinct as ground
 use Rattle.htn_ground.specs.Distinct.{same_network}
 use Rattle.word_machine.specs.Machine.{IsStep, IsLiveStep, IsLiveNumbers}
-use Rattle.htn_answer.specs.Machine.{machine_of, is_dead_choice}
-use Rattle.htn_answer.specs.Fewer.{HasEnough}
-use Rattle.htn_answer.proofs.Words.{slice_get-map_back}
+use Rattle.htn_net.specs.Machine.{machine_of, is_dead_choice}
+use Rattle.htn_net.specs.Fewer.{HasEnough}
+use Rattle.htn_net.proofs.Words.{slice_get-map_back}
 use Rattle.htn_net.specs.Listed.{listed_methods, listed_initials, listed_for, number_by, number_at, choose_listed, listing_machine, number_of, initial_of}
 use Rattle.htn_net.specs.Live.{live_methods, live_numbers}
 use Rattle.htn_net.proofs.Distinct.{IsKept, kept_first, seconds_kept, rises_at, rises_numbered, rises_filter}

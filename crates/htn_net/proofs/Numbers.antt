@@ -20,7 +20,7 @@ use Rattle.htn_model.specs.Task.{Task}
 use Rattle.htn_model.proofs.Passing.{passes, found}
 use Rattle.htn_model.proofs.Steps.{Decomposes, Executes, chosen, step_choice}
 use Rattle.word_machine.specs.Machine.{IsLiveNumbers, IsLiveStep}
-use Rattle.htn_answer.specs.Machine.{machine_of, is_dead_choice}
+use Rattle.htn_net.specs.Machine.{machine_of, is_dead_choice}
 use Rattle.htn_net.specs.Live.{is_live_choice, live_methods, live_numbers, numbers}
 
 -- whether a number chooses and is not dead

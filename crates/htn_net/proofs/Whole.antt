@@ -6,7 +6,7 @@ use Rattle.htn_model.specs.Instance.{Instance}
 use Rattle.htn_model.specs.Instances.{initials}
 use Rattle.htn_model.specs.Task.{Task, IsWellTyped}
 use Rattle.htn_model.proofs.Grounded.{tasks_are_grounded}
-use Rattle.htn_answer.proofs.Words.{slice_get-map_back}
+use Rattle.htn_net.proofs.Words.{slice_get-map_back}
 use Rattle.htn_net.specs.Listed.{listed_initials}
 use Rattle.htn_net.proofs.Listed.{listed_initial}
 

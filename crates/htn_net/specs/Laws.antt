@@ -9,8 +9,8 @@ use Rattle.htn_model.specs.Instance.{Instance}
 use Rattle.htn_model.specs.Problem.{IsGrounded}
 use Rattle.htn_model.specs.Task.{Task}
 use Rattle.word_machine.specs.Machine.{IsLawful, IsStep}
-use Rattle.htn_answer.specs.Machine.{IsOwn}
-use Rattle.htn_answer.proofs.Lawful as laws
+use Rattle.htn_net.specs.Machine.{IsOwn}
+use Rattle.htn_net.proofs.Lawful as laws
 use Rattle.htn_net.specs.Listed.{listed_initials, listing_machine, number_at}
 
 module _ (t : Task) where

@@ -1,3 +1,6 @@
+pub mod Machine
+pub mod Answered
+pub mod Fewer
 pub mod Choices
 pub mod Grounded
 pub mod Hashes

@@ -4,7 +4,7 @@ ghost use Rattle.std.specs.Prelude.{◌≡◌};
 ghost use Rattle.htn_net.specs.declared.choice.Change.TheVariants.{Performed};
 
 use htn_ground::Instance;
-use htn_state::State;
+use htn_task::State;
 use std::sync::Arc;
 
 /// The change that a step makes at the node that its number chooses.

@@ -13,7 +13,7 @@ ghost use Rattle.htn_ground.specs.Views.{child_view};
 use crate::splice::splice;
 use htn_ground::{Child, ChildList, GroundTask, Instance};
 use htn_order::Order;
-use htn_state::{LiteralList, State};
+use htn_task::{LiteralList, State};
 use std::alloc::{AllocError, Global};
 use std::hash::{Hash, Hasher};
 use std::marker::Model;

@@ -1,6 +1,8 @@
-//! Configurations of the word machine of a planning task, and their steps.
+//! The word machine of a planning task: its configurations and their steps, and why a search over it answers the
+//! problem.
 #![tactic(auto)]
 
+mod answer;
 mod choice;
 mod choices;
 mod config;
@@ -9,5 +11,6 @@ mod splice;
 mod start;
 mod step;
 
+pub use answer::{fewer_numbers_suffice, found_answers, machine_is_lawful};
 pub use choice::{Change, Choice};
 pub use config::Config;

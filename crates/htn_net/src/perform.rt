@@ -15,8 +15,7 @@ ghost use Rattle.htn_net.specs.Live.{live_numbers, numbers};
 use crate::choice::Performance;
 use crate::config::Config;
 use htn_ground::{Child, GroundTask, action_of};
-use htn_state::{LiteralList, State};
-use htn_task::Task;
+use htn_task::{LiteralList, State, Task};
 use std::alloc::{AllocError, Global};
 use std::sync::Arc;
 

@@ -8,8 +8,7 @@ ghost use Rattle.htn_model.specs.Task.{IsWellTyped};
 
 use crate::config::Config;
 use htn_ground::Instance;
-use htn_state::State;
-use htn_task::Task;
+use htn_task::{State, Task};
 use std::alloc::{AllocError, Global};
 use std::sync::Arc;
 

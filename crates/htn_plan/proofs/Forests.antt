@@ -1,10 +1,10 @@
 -- Lists of the program's nodes, as forests.
 use Rattle.std.proofs.Common.{◌≡◌, ℕ, zero, suc, ◌<◌, ◌≤◌, List, [], ◌∷◌, length, drop, Option, Some, None, slice_get, slice_index_or, IfSome, MatchOption, Bor, Vec, Global, rules, refl, ap, sym, ◌∙◌, arith}
-use Rattle.htn_tree.specs.declared.node.Node.{Node as RustNode, Compound, Leaf, Step, the_lemmas}
+use Rattle.htn_ground.specs.declared.node.Node.{Node as RustNode, Compound, Leaf, Step, the_lemmas}
 use Rattle.htn_model.specs.Instance.{Instance}
 use Rattle.htn_model.specs.Literal.{Literal}
 use Rattle.htn_model.specs.Problem.{GroundTask}
-use Rattle.htn_tree.specs.Trees.{Numbering, node_of, nodes_view}
+use Rattle.htn_ground.specs.Trees.{Numbering, node_of, nodes_view}
 use Rattle.htn_model.specs.Tree.{Node, compound, leaf, step, Nodes, nodes_of, list_of, child_at, children_of, Place, node_at, node_below}
 use Rattle.htn_plan.proofs.Lists.{drop_at}
 

@@ -11,8 +11,8 @@ use Rattle.htn_model.specs.Problem.{GroundTask}
 use Rattle.htn_model.specs.Task.{Task}
 use Rattle.htn_model.specs.Tree.{AreTrees, IsTree, Node, leaf, step, compound, Nodes, no_nodes, node, Place}
 use Rattle.htn_ground.specs.Naming.{numbered_method_name}
-use Rattle.htn_tree.specs.Trees.{number_of}
-use Rattle.htn_tree.proofs.Numbers.{stands_within}
+use Rattle.htn_ground.specs.Trees.{number_of}
+use Rattle.htn_ground.proofs.Numbers.{stands_within}
 use Rattle.htn_plan.specs.Gathered.{Gathered, by_instance, by_number, gather_all, line_of, nothing, somes}
 use Rattle.htn_plan.specs.Items.{numbered_item}
 use Rattle.htn_plan.specs.Preorder.{Item, action, step_item, task, compound_count, items, items_from}

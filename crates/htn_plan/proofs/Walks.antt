@@ -1,7 +1,7 @@
 -- Steps of a walk through a forest.
 use Rattle.std.proofs.Common.{◌≡◌, ℕ, zero, suc, ◌+◌, ◌-◌, ◌<◌, ◌≤◌, List, [], ◌∷◌, ◌++◌, length, map, drop, reverse, slice_index_or, Option, refl, ap, ap₂, sym, ◌∙◌, append_assoc, arith}
-use Rattle.htn_tree.specs.declared.node.Node.{Node as RustNode}
-use Rattle.htn_tree.specs.Trees.{Numbering, node_of, nodes_view}
+use Rattle.htn_ground.specs.declared.node.Node.{Node as RustNode}
+use Rattle.htn_ground.specs.Trees.{Numbering, node_of, nodes_view}
 use Rattle.htn_model.specs.Problem.{GroundTask}
 use Rattle.htn_model.specs.Tree.{Node, compound, Nodes, no_nodes, node, nodes_of, Place, size, total_size}
 use Rattle.htn_plan.specs.declared.preorder.Frame.{Frame}

@@ -1,7 +1,7 @@
 -- Nodes in preorder and frames of a walk, without where they lie in memory.
 use Rattle.std.specs.Prelude.{ℕ, List, map, reverse}
 use Rattle.htn_model.specs.Instance.{Instance}
-use Rattle.htn_tree.specs.Trees.{Numbering}
+use Rattle.htn_ground.specs.Trees.{Numbering}
 use Rattle.htn_plan.specs.Preorder as spec
 use Rattle.htn_plan.specs.Walk.{Level, level_of}
 use Rattle.htn_plan.specs.declared.preorder.Frame.{Frame}

@@ -1,7 +1,7 @@
 -- A walk through a forest that is under way.
 use Rattle.std.specs.Prelude.{ℕ, suc, ◌+◌, ◌-◌, List, [], ◌∷◌, ◌++◌, drop, Option}
 use Rattle.htn_model.specs.Tree.{Nodes, nodes_of, Place, total_size}
-use Rattle.htn_tree.specs.Trees.{Numbering, nodes_view}
+use Rattle.htn_ground.specs.Trees.{Numbering, nodes_view}
 use Rattle.htn_plan.specs.declared.preorder.Frame.{Frame}
 use Rattle.htn_plan.specs.Preorder.{Item, items_from}
 

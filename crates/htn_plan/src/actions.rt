@@ -1,15 +1,14 @@
 //! The actions of a solution, numbered in order of execution.
 ghost use Rattle.std.specs.Prelude.{◌≡◌, ◌+◌, ◌<◌, false, length, IfOk, OnOk, MatchOption, Some, None};
-ghost use Rattle.htn_tree.specs.Trees.{Numbering, node_of, nodes_view, solution_of};
+ghost use Rattle.htn_ground.specs.Trees.{Numbering, node_of, nodes_view, solution_of};
 ghost use Rattle.htn_model.specs.Numbered.{is_leaf};
 ghost use Rattle.htn_model.specs.Tree as tree;
 ghost use Rattle.htn_plan.specs.Ids.{AreNumbered};
 
 use crate::ids::ActionIds;
 use crate::lines::action_line;
-use htn_ground::GroundTask;
+use htn_ground::{GroundTask, Node, Solution};
 use htn_task::Task;
-use htn_tree::{Node, Solution};
 use plan_text::ActionLine;
 use std::alloc::{AllocError, Global};
 

@@ -1,7 +1,7 @@
 //! The plan file of a solution.
 ghost use Rattle.std.specs.Prelude.{◌≡◌, ◌+◌, IfOk};
 ghost use Rattle.std.specs.List.{AllByRecursion};
-ghost use Rattle.htn_tree.specs.Trees.{solution_of};
+ghost use Rattle.htn_ground.specs.Trees.{solution_of};
 ghost use Rattle.htn_model.specs.Numbered.{numbered};
 ghost use Rattle.plan_text.specs.PlanFile.{IsActionLine, IsDecompositionLine};
 ghost use Rattle.htn_model.specs.Grounding.{problem_of};
@@ -12,8 +12,8 @@ ghost use Rattle.htn_ground.specs.Naming.{naming_of};
 use crate::actions::number_actions;
 use crate::compounds::{count_compounds, number_compounds};
 use crate::preorder::preorder;
+use htn_ground::Solution;
 use htn_task::Task;
-use htn_tree::Solution;
 use plan_text::{ActionLine, DecompositionLine, PlanFile};
 use std::alloc::{AllocError, Global};
 

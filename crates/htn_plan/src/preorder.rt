@@ -1,6 +1,6 @@
 //! The nodes of a forest in preorder.
 ghost use Rattle.std.specs.Prelude.{◌≡◌, ◌<◌, ◌+◌, ◌++◌, [], IfOk, OnOk};
-ghost use Rattle.htn_tree.specs.Trees.{Numbering, node_of, nodes_view};
+ghost use Rattle.htn_ground.specs.Trees.{Numbering, node_of, nodes_view};
 ghost use Rattle.htn_model.specs.Tree as tree;
 ghost use Rattle.htn_plan.specs.Ids.{id_of};
 ghost use Rattle.htn_plan.specs.Items.{levels_of, numbered_items};
@@ -8,8 +8,7 @@ ghost use Rattle.htn_plan.specs.Preorder as spec;
 ghost use Rattle.htn_plan.specs.Walk.{pending, place_of as level_place, steps_left};
 
 use crate::ids::ActionIds;
-use htn_ground::{GroundTask, Instance};
-use htn_tree::Node;
+use htn_ground::{GroundTask, Instance, Node};
 use std::alloc::{AllocError, Global};
 
 /// A node, without those below it.

@@ -1,7 +1,7 @@
 -- The parameters of a method one by one, and what entries say of the lines of a file.
 use Rattle.std.proofs.Common.{◌≡◌, ℕ, suc, ◌+◌, ◌<◌, ◌++◌, ◌∙◌, true, false, if◌then◌else◌, List, [], ◌∷◌, length, map, take, get_or, Some, slice_get, slice_index, refl, sym, ap, append-nil, arith}
 use Rattle.std.specs.List.{AllZip, enumerate_from, flat_map, list_any}
-use Rattle.hddl_tree.specs.declared.domain.DomainText.{DomainText}
+use Rattle.hddl_words.specs.declared.domain.DomainText.{DomainText}
 use Rattle.htn_ground.specs.Naming.{object_name}
 use Rattle.htn_ground.proofs.Numbered.{method_more}
 use Rattle.htn_model.specs.PlanFile.{DecompositionLine}
@@ -12,7 +12,7 @@ use Rattle.line_details.specs.Entries.{spans_of}
 use Rattle.line_details.specs.Found.{IsFoundFor}
 use Rattle.line_details.specs.declared.entry.Entry.{Entry}
 use Rattle.picture_text.specs.declared.detail.Detail.{Detail}
-use Rattle.plan_details.specs.Details.{Details}
+use Rattle.line_details.specs.Details.{Details}
 use Rattle.plan_findings.specs.Words.{literal_text}
 use Rattle.htn_review.specs.Sights.{ShowEntries}
 use Rattle.htn_review.specs.Details.{ShowsInstance, ShowsLine, condition_in, is_parameter, setting_if}

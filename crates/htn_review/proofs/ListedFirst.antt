@@ -11,7 +11,7 @@ use Rattle.htn_review.specs.Named.{IsSameFault}
 use Rattle.htn_review.specs.declared.outcome.RunFault.TheVariants as fault
 use Rattle.hddl_text.specs.Grammar.{DerivesDomain, DerivesProblem}
 use Rattle.hddl_text.specs.Spelling.{Spells}
-use Rattle.hddl_tree.specs.declared.domain.DomainText.{DomainText}
+use Rattle.hddl_words.specs.declared.domain.DomainText.{DomainText}
 use Rattle.hddl_words.specs.declared.fault.TextFault.{TextFault}
 
 -- a fault of the domain's text

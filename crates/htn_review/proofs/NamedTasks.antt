@@ -6,10 +6,10 @@ use Rattle.htn_model.specs.Problem.{GroundTask}
 use Rattle.htn_model.specs.Task.{Task, MethodSchema, task_names, method_names}
 use Rattle.htn_ground.specs.Methods.{method_of}
 use Rattle.htn_ground.specs.Naming.{unnamed, object_name, task_name, method_name, numbered_method_name}
-use Rattle.hddl_tree.specs.declared.term.NameGroup.{NameGroup}
-use Rattle.hddl_tree.specs.declared.domain.TaskText.{TaskText}
-use Rattle.hddl_tree.specs.declared.domain.ActionText.{ActionText}
-use Rattle.hddl_tree.specs.declared.domain.MethodText.{MethodText}
+use Rattle.hddl_words.specs.declared.term.NameGroup.{NameGroup}
+use Rattle.hddl_words.specs.declared.domain.TaskText.{TaskText}
+use Rattle.hddl_words.specs.declared.domain.ActionText.{ActionText}
+use Rattle.hddl_words.specs.declared.domain.MethodText.{MethodText}
 use Rattle.hddl_words.specs.Names.{Name}
 use Rattle.hddl_meaning.specs.Building.{Vocabulary, vocabulary_of, compound_of, action_of, IsMethodOf}
 use Rattle.hddl_meaning.specs.Mentions.{Text, Typed, mention_of, mentions_of, texts, typed_names}

@@ -4,7 +4,7 @@ use Rattle.std.proofs.lemmas.Bool.{cases_Bool}
 use Rattle.std.proofs.lemmas.Bool.Decides.{nat_tests}
 use Rattle.std.proofs.lemmas.Str.{IsUtf8-from_ascii}
 use Rattle.std.specs.Str.{IsAscii, IsUtf8}
-use Rattle.text_places.specs.Shown.{shown}
+use Rattle.diagnostics.specs.Shown.{shown}
 
 shown_ascii : (b : ℕ) → shown b < 128
 shown_ascii b = ⊎_elim (λ as_is. rw as_is (grind (arith, nat_tests, as_is))) (λ hidden. rw hidden (omega arith)) (cases_Bool (nat_eq b 9 || (nat_le 32 b && nat_le b 126)))

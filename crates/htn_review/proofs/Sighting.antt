@@ -3,7 +3,7 @@ use Rattle.std.proofs.Common.{◌≡◌, ◌≢◌, ◌⊎◌, inl, inr, true, f
 use Rattle.std.specs.Prelude.{IfSome, MatchOption, option_map}
 use Rattle.std.specs.declared.alloc.Global.{Global}
 use Rattle.std.specs.declared.vec.Vec.{Vec}
-use Rattle.hddl_tree.specs.declared.domain.DomainText.{DomainText}
+use Rattle.hddl_words.specs.declared.domain.DomainText.{DomainText}
 use Rattle.htn_model.specs.PlanFile.{PlanFile, IsForest}
 use Rattle.htn_model.specs.Task.{Task}
 use Rattle.htn_model.specs.Grounding.{problem_of}

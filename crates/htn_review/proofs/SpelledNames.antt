@@ -9,15 +9,15 @@ use Rattle.hddl_words.specs.Class.{class_of}
 use Rattle.hddl_words.specs.Words.{Word}
 use Rattle.hddl_words.specs.Names.{Name, Variable, is_name, name_of}
 use Rattle.hddl_words.specs.Phrase.{Phrase, ItemPhrase, Nothing, Gives, ◌>>=◌, ◌>>◌, Next, Ended, closed, more, Until, Adds, ListOf, Opened, Closed, Named, IfAbsent, IfHolds}
-use Rattle.hddl_tree.specs.declared.term.AtomText.{AtomText}
-use Rattle.hddl_tree.specs.declared.term.NameGroup.{NameGroup}
-use Rattle.hddl_tree.specs.declared.term.VariableGroup.{VariableGroup}
-use Rattle.hddl_tree.specs.declared.domain.TaskText.{TaskText}
-use Rattle.hddl_tree.specs.declared.domain.ActionText.{ActionText}
-use Rattle.hddl_tree.specs.declared.domain.MethodText.{MethodText}
-use Rattle.hddl_tree.specs.declared.domain.DomainText.{DomainText}
-use Rattle.hddl_tree.specs.declared.problem.HtnText.{HtnText}
-use Rattle.hddl_tree.specs.declared.problem.ProblemText.{ProblemText}
+use Rattle.hddl_words.specs.declared.term.AtomText.{AtomText}
+use Rattle.hddl_words.specs.declared.term.NameGroup.{NameGroup}
+use Rattle.hddl_words.specs.declared.term.VariableGroup.{VariableGroup}
+use Rattle.hddl_words.specs.declared.domain.TaskText.{TaskText}
+use Rattle.hddl_words.specs.declared.domain.ActionText.{ActionText}
+use Rattle.hddl_words.specs.declared.domain.MethodText.{MethodText}
+use Rattle.hddl_words.specs.declared.domain.DomainText.{DomainText}
+use Rattle.hddl_words.specs.declared.problem.HtnText.{HtnText}
+use Rattle.hddl_words.specs.declared.problem.ProblemText.{ProblemText}
 use Rattle.hddl_text.specs.declared.parts.NameParts.{NameParts}
 use Rattle.hddl_text.specs.declared.parts.NetworkParts.{NetworkParts}
 use Rattle.hddl_text.specs.declared.parts.TaskParts.{TaskParts}

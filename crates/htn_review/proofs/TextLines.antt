@@ -2,7 +2,7 @@
 use Rattle.std.proofs.Common.{◌≡◌, ℕ, ◌+◌, ◌<◌, ◌++◌, ◌∙◌, List, [], ◌∷◌, append_assoc, ap, get_or, length, map, min, sym, take}
 use Rattle.std.specs.Prelude.{count_by}
 use Rattle.std.proofs.lemmas.List.{map-append, take_min, take_more}
-use Rattle.text_places.specs.Places.{is_line_feed, position}
+use Rattle.diagnostics.specs.Places.{is_line_feed, position}
 
 -- the line of a place; past the end of the text that of the end
 pub same_line : (text : List ℕ) (place : ℕ) → (position text (min place (length text))).line ≡ (position text place).line

@@ -2,9 +2,9 @@
 -- that the tasks don't show, and when the methods' preconditions are tested.
 use Rattle.std.specs.Prelude.{◌≡◌, ℕ, Bool, false, if◌then◌else◌, nat_eq, List, [], ◌∷◌, map, option_map, Option, Some, None, slice_get, slice_index}
 use Rattle.std.specs.List.{AllZip, enumerate_from, flat_map, list_any}
-use Rattle.hddl_tree.specs.declared.domain.DomainText.{DomainText}
-use Rattle.hddl_tree.specs.declared.domain.MethodText.{MethodText}
-use Rattle.hddl_tree.specs.declared.term.VariableGroup.{VariableGroup}
+use Rattle.hddl_words.specs.declared.domain.DomainText.{DomainText}
+use Rattle.hddl_words.specs.declared.domain.MethodText.{MethodText}
+use Rattle.hddl_words.specs.declared.term.VariableGroup.{VariableGroup}
 use Rattle.htn_ground.specs.Naming.{naming_of, object_name, task_named}
 use Rattle.htn_model.specs.Grounding.{problem_of}
 use Rattle.htn_model.specs.Instance.{Instance}
@@ -17,9 +17,9 @@ use Rattle.htn_model.specs.Task.{MethodSchema, Task}
 use Rattle.picture_text.specs.declared.detail.Condition.{Condition}
 use Rattle.picture_text.specs.declared.detail.Detail.{Detail}
 use Rattle.picture_text.specs.declared.detail.Setting.{Setting}
-use Rattle.plan_details.specs.Details.{AreDetails, Details}
+use Rattle.line_details.specs.Details.{AreDetails, Details}
 use Rattle.plan_findings.specs.Words.{literal_text}
-use Rattle.plan_forest.specs.Forest.{lists_of}
+use Rattle.plan_text.specs.Forest.{lists_of}
 
 -- the parameters of a method as they are written
 abbrev pub names_of : List VariableGroup → List (List ℕ)

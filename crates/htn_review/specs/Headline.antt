@@ -4,8 +4,8 @@ use Rattle.std.specs.Fmt.{decimal}
 use Rattle.hddl_words.specs.Words.{Word}
 use Rattle.hddl_words.specs.declared.fault.TextFault.{TextFault}
 use Rattle.hddl_words.specs.declared.fault.TextFault.TheVariants as spelling
-use Rattle.hddl_tree.specs.declared.domain.DomainText.{DomainText}
-use Rattle.hddl_tree.specs.declared.problem.ProblemText.{ProblemText}
+use Rattle.hddl_words.specs.declared.domain.DomainText.{DomainText}
+use Rattle.hddl_words.specs.declared.problem.ProblemText.{ProblemText}
 use Rattle.hddl_text.specs.Grammar.{DerivesDomain, DerivesProblem}
 use Rattle.hddl_text.specs.Spelling.{Spells, FaultAt}
 use Rattle.hddl_meaning.specs.Items.{IsWellTypedPair, FailsAt}

@@ -1,8 +1,8 @@
 -- The answer of the verifier for a domain's text, a problem's text and a plan's text, and the text that it writes.
 use Rattle.std.specs.Prelude.{◌≡◌, ◌≢◌, ℕ, List, ◌++◌, Option, Some, None, codes, ⊤}
 use Rattle.std.specs.Fmt.{decimal}
-use Rattle.hddl_tree.specs.declared.domain.DomainText.{DomainText}
-use Rattle.hddl_tree.specs.declared.problem.ProblemText.{ProblemText}
+use Rattle.hddl_words.specs.declared.domain.DomainText.{DomainText}
+use Rattle.hddl_words.specs.declared.problem.ProblemText.{ProblemText}
 use Rattle.hddl_text.specs.Grammar.{DerivesDomain, DerivesProblem}
 use Rattle.hddl_text.specs.Spelling.{Spells}
 use Rattle.hddl_meaning.specs.Items.{FailsAt}

@@ -9,7 +9,7 @@ use Rattle.htn_model.specs.Grounding.{problem_of}
 use Rattle.htn_model.specs.Verdict.{IsVerdict}
 use Rattle.htn_ground.specs.Naming.{naming_of}
 use Rattle.htn_verify.specs.Verdicts.{verdict_of}
-use Rattle.hddl_tree.specs.declared.domain.DomainText.{DomainText}
+use Rattle.hddl_words.specs.declared.domain.DomainText.{DomainText}
 use Rattle.htn_model.specs.Task.{Task}
 use Rattle.line_details.specs.Entries.{spans_of}
 use Rattle.line_details.specs.declared.entry.Entry.{Entry}

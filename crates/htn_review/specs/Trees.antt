@@ -1,8 +1,8 @@
 -- The answer of a run that draws a tree, for a domain's, a problem's and a plan's text, and the text that it writes.
 use Rattle.std.specs.Prelude.{◌≡◌, ℕ, Bool, true, false, nat_le, List, [], ◌++◌, drop, length, Option, Some, None, codes, map, option_map, ⊤}
 use Rattle.std.specs.Option.{option_copied}
-use Rattle.hddl_tree.specs.declared.domain.DomainText.{DomainText}
-use Rattle.hddl_tree.specs.declared.problem.ProblemText.{ProblemText}
+use Rattle.hddl_words.specs.declared.domain.DomainText.{DomainText}
+use Rattle.hddl_words.specs.declared.problem.ProblemText.{ProblemText}
 use Rattle.htn_model.specs.PlanFile.{PlanFile}
 use Rattle.htn_model.specs.Task.{Task}
 use Rattle.htn_model.specs.Grounding.{problem_of}
@@ -15,8 +15,8 @@ use Rattle.plan_text.specs.FileText.{FileText}
 use Rattle.plan_text.specs.Places.{ArePlaces}
 use Rattle.plan_text.specs.declared.places.LinePlaces.{LinePlaces}
 use Rattle.plan_text.specs.Out.{TakesBeginning}
-use Rattle.text_places.specs.Places.{position}
-use Rattle.text_places.specs.Shown.{shown}
+use Rattle.diagnostics.specs.Places.{position}
+use Rattle.diagnostics.specs.Shown.{shown}
 use Rattle.plan_picture.specs.Picture.{IsPictureOf}
 use Rattle.plan_picture.specs.declared.picture.Picture.{Picture}
 use Rattle.picture_text.specs.Dot.{dot_bytes}
@@ -27,7 +27,7 @@ use Rattle.picture_html.specs.Page.{IsHtmlOf, max_run}
 use Rattle.picture_html.specs.declared.remarks.Remarks.{Remarks}
 use Rattle.plan_findings.specs.Causes.{tasks_of}
 use Rattle.plan_findings.specs.Runs.{IsRunOf}
-use Rattle.plan_reasons.specs.declared.run.Run.{Run}
+use Rattle.plan_causes.specs.declared.run.Run.{Run}
 use Rattle.plan_report.specs.declared.report.ReportStyle.{ReportStyle}
 use Rattle.picture_text.specs.declared.as_text.Glyphs.TheVariants.{Unicode, Ascii}
 use Rattle.picture_text.specs.declared.caption.Caption.{Caption}

@@ -1,15 +1,15 @@
 //! The caption of the picture of a plan.
 ghost use Rattle.std.specs.Prelude.{◌≡◌, ◌++◌, IfOk, codes, map, option_map, string_bytes};
 ghost use Rattle.std.specs.Fmt.{decimal};
-ghost use Rattle.text_places.specs.Shown as shown_spec;
+ghost use Rattle.diagnostics.specs.Shown as shown_spec;
 ghost use Rattle.htn_review.specs.Judgement.{verdict_text};
 ghost use Rattle.htn_review.specs.Trees as spec;
 
+use diagnostics::shown;
 use htn_plan::Verdict;
 use itoa::Buffer;
 use picture_text::Mark;
 use std::alloc::{AllocError, Global};
-use text_places::shown;
 
 /// A word of a text, of which each byte is as it is shown.
 pub(crate) fn shown_word(alloc: Global, word: &[u8]) -> Result<String, AllocError>

@@ -3,21 +3,20 @@ ghost use Rattle.std.specs.Prelude.{◌≡◌, ◌++◌, IfOk, IfSome, OnOk, map
 ghost use Rattle.std.specs.List.{enumerate_from, flat_map, list_any};
 ghost use Rattle.htn_ground.specs.Naming as naming;
 ghost use Rattle.htn_ground.specs.Views.{child_view, children_of};
-ghost use Rattle.htn_state.specs.Views.{literals_of};
+ghost use Rattle.htn_task.specs.Literals.{literals_of};
 ghost use Rattle.htn_task.specs.Views.{term_of, terms_of};
 ghost use Rattle.htn_review.specs.Details as spec;
 ghost use Rattle.htn_review.specs.Sights as sights;
 ghost use Rattle.htn_review.specs.Details.{ShowSolution, ShowsInstance, seen_condition, seen_setting};
 ghost use Rattle.line_details.specs.Entries.{spans_of};
 ghost use Rattle.plan_findings.specs.Words as words;
-ghost use Rattle.plan_forest.specs.Forest.{lists_of};
+ghost use Rattle.plan_text.specs.Forest.{lists_of};
 
 use hddl_text::DomainText;
-use hddl_tree::{Variable, VariableGroup};
+use hddl_words::{Variable, VariableGroup};
 use htn_ground::Child;
 use htn_plan::PlanFile;
-use htn_state::{Literal, LiteralList};
-use htn_task::{Task, Term};
+use htn_task::{Literal, LiteralList, Task, Term};
 use htn_verify::file_details;
 use line_details::Entry;
 use picture_text::{Condition, Detail, Setting};

@@ -23,12 +23,11 @@ use crate::outcome::RunFault;
 use crate::texts::{Pair, pair_of};
 use crate::tree::{is_of_pair, report_of};
 use check_report::Input;
-use diagnostics::{Role, Source};
+use diagnostics::{Lines, Role, Source};
 use htn_plan::{PlanFault, PlanFile, Verdict, verify};
 use plan_report::{PairTexts, PlacedPlan, ReportStyle, explain, explain_fault};
 use plan_text::line_places;
 use std::alloc::{AllocError, Global};
-use text_places::Lines;
 
 /// The result of an explanation, and its text.
 #[derive(Drop)]

@@ -21,9 +21,9 @@ use htn_plan::{PlanFile, Verdict};
 use htn_task::Task;
 use picture_html::{MAX_RUN, Remarks, html};
 use picture_text::{Caption, Detail};
+use plan_causes::Run;
 use plan_findings::run_of;
 use plan_picture::Picture;
-use plan_reasons::Run;
 use plan_report::ReportStyle;
 use std::alloc::{AllocError, Global};
 

@@ -2,12 +2,12 @@
 ghost use Rattle.std.specs.Prelude.{◌≡◌, ◌++◌, List, ℕ, IfOk, OnOk, map};
 ghost use Rattle.htn_model.specs.PlanFile.{PlanFile};
 ghost use Rattle.plan_text.specs.FileText.{FileText};
-ghost use Rattle.text_places.specs.Places.{position};
+ghost use Rattle.diagnostics.specs.Places.{position};
 ghost use Rattle.htn_review.specs.Trees.{AreLinesIn};
 
+use diagnostics::Lines;
 use plan_text::line_places;
 use std::alloc::{AllocError, Global};
-use text_places::Lines;
 
 // Adds the lines on which places stand.
 fn push_lines(text: &Lines<'_>, places: &[usize], lines: &mut Vec<usize>) -> Result<(), AllocError>

@@ -4,7 +4,7 @@ ghost use Rattle.hddl_meaning.specs.Building.{IsTaskOf};
 ghost use Rattle.hddl_meaning.specs.Items.{IsWellTypedPair};
 ghost use Rattle.hddl_text.specs.Grammar.{DerivesDomain, DerivesProblem};
 ghost use Rattle.hddl_text.specs.Spelling.{Spells};
-ghost use Rattle.hddl_tree.specs.declared.domain.DomainText.{DomainText};
+ghost use Rattle.hddl_words.specs.declared.domain.DomainText.{DomainText};
 ghost use Rattle.word_machine.specs.declared.bounds.Bounds.{Bounds};
 ghost use Rattle.htn_review.specs.Headline.{IsTaskOfTexts, Refuses};
 ghost use Rattle.htn_review.specs.Named.{IsNamedOf};

@@ -5,8 +5,8 @@ use Rattle.htn_model.specs.PlanFile.{PlanFile}
 use Rattle.htn_model.specs.Grounding.{problem_of}
 use Rattle.htn_model.specs.Numbered.{numbered}
 use Rattle.htn_model.specs.Tree.{AreTrees}
-use Rattle.htn_tree.specs.declared.node.Solution.{Solution}
-use Rattle.htn_tree.specs.Trees.{solution_of}
+use Rattle.htn_ground.specs.declared.node.Solution.{Solution}
+use Rattle.htn_ground.specs.Trees.{solution_of}
 use Rattle.htn_ground.specs.Naming.{naming_of}
 use Rattle.plan_text.specs.Written.{written}
 use Rattle.plan_text.specs.Out.{TakesBeginning}

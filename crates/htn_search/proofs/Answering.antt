@@ -8,8 +8,8 @@ use Rattle.htn_model.specs.Tree as tree
 use Rattle.htn_model.specs.Answer.{IsAnswer}
 use Rattle.htn_model.specs.Exhaustion.{IsMet, IsUnsolvable}
 use Rattle.htn_model.proofs.Answers.{least_word_answers}
-use Rattle.htn_tree.specs.declared.node.Solution.{Solution}
-use Rattle.htn_tree.specs.Trees.{solution_of}
+use Rattle.htn_ground.specs.declared.node.Solution.{Solution}
+use Rattle.htn_ground.specs.Trees.{solution_of}
 use Rattle.htn_search.specs.declared.answer.Answer.TheVariants.{Plan, None as NoPlan, Unsolvable}
 use Rattle.htn_search.specs.Answer.{Answers}
 

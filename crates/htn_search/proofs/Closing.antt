@@ -7,8 +7,8 @@ use Rattle.htn_model.specs.Machine.{Config}
 use Rattle.htn_model.specs.Problem.{Child, precondition, action, task, GroundTask, is_compound}
 use Rattle.htn_model.specs.Task.{Task, IsWellTyped}
 use Rattle.htn_model.specs.Tree.{compound, no_nodes}
-use Rattle.htn_tree.specs.Trees.{initial_number_of, number_of}
-use Rattle.htn_tree.proofs.Numbers.{stands_at_place}
+use Rattle.htn_ground.specs.Trees.{initial_number_of, number_of}
+use Rattle.htn_ground.proofs.Numbers.{stands_at_place}
 use Rattle.htn_net.specs.Choices.{IsNumberOf}
 use Rattle.htn_net.specs.declared.choice.Change.{Change}
 use Rattle.htn_net.specs.declared.choice.Change.TheVariants.{Decomposed, Performed}

@@ -9,7 +9,7 @@ use Rattle.htn_model.specs.Machine.{Choice, Config, choose, choose_from, no_netw
 use Rattle.htn_model.specs.Problem.{GroundTask, Problem, is_before, perform, task}
 use Rattle.htn_model.specs.State.{State}
 use Rattle.htn_model.specs.Task.{Task}
-use Rattle.htn_answer.proofs.Words.{slice_get-map_back}
+use Rattle.htn_net.proofs.Words.{slice_get-map_back}
 use Rattle.htn_net.specs.Listed.{choose_listed, listed_methods, number_at}
 use Rattle.htn_net.proofs.Listed.{at_task, listed_instances}
 

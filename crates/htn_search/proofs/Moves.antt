@@ -3,8 +3,8 @@ use Rattle.std.proofs.Common.{◌≡◌, ℕ, ◌+◌, ◌-◌, ◌≤◌, List,
 use Rattle.std.proofs.lemmas.List.{length-append, length-drop, length-reverse, map-append, take-map, drop-map, take_at, drop_at, length-take-le}
 use Rattle.std.specs.List.{insert}
 use Rattle.htn_model.specs.Tree as tree
-use Rattle.htn_tree.specs.declared.node.Node.{Node}
-use Rattle.htn_tree.specs.Trees.{Numbering, node_of, nodes_view, over}
+use Rattle.htn_ground.specs.declared.node.Node.{Node}
+use Rattle.htn_ground.specs.Trees.{Numbering, node_of, nodes_view, over}
 use Rattle.htn_search.specs.declared.trail.Move.{Move}
 use Rattle.htn_search.specs.Trail.{before_move, before_moves, count_before, count_before_all, AreWithin}
 use Rattle.htn_search.proofs.Reversed.{inserted}

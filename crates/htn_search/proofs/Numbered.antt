@@ -13,9 +13,9 @@ use Rattle.htn_model.specs.Problem.{GroundTask, is_compound, task}
 use Rattle.htn_model.specs.Task.{Task, IsWellTyped}
 use Rattle.htn_model.proofs.Steps.{chosen}
 use Rattle.word_machine.specs.Machine.{IsStep}
-use Rattle.htn_answer.specs.Fewer.{numbers_from}
-use Rattle.htn_answer.specs.Machine.{machine_of}
-use Rattle.htn_answer.proofs.Words.{slice_get-map_back}
+use Rattle.htn_net.specs.Fewer.{numbers_from}
+use Rattle.htn_net.specs.Machine.{machine_of}
+use Rattle.htn_net.proofs.Words.{slice_get-map_back}
 use Rattle.htn_ground.specs.Counted.{counted}
 use Rattle.htn_ground.proofs.Fitting.{fitting_some}
 use Rattle.htn_net.specs.Choices.{IsChosen, IsNumberOf, chosen_of, network_of}

@@ -1,6 +1,6 @@
 -- A task may be shared by threads. The check finds this of its parts; of the whole it is one step more than it tries.
 use denote.Param.Send.{IsSync, sendable}
-use Rattle.htn_state.proofs.state.State.TheSendSync as StateShared
+use Rattle.htn_task.proofs.state.State.TheSendSync as StateShared
 use Rattle.htn_task.proofs.formula.Formula.TheLaws.TheKnot as FormulaKnot
 use Rattle.htn_task.proofs.name.Name.TheSendSync as NameShared
 use Rattle.htn_task.proofs.schema.InitialSchema.TheSendSync as InitialShared

@@ -9,7 +9,7 @@ use Rattle.htn_model.specs.Machine.{Config, start, Finishes}
 use Rattle.htn_model.proofs.Regrown.{rebuild}
 use Rattle.htn_model.proofs.Rebuild.{route}
 use Rattle.htn_model.proofs.OneToOne.{one_to_one, rebuilds, rebuilt_solution}
-use Rattle.htn_tree.specs.Trees.{Numbering}
+use Rattle.htn_ground.specs.Trees.{Numbering}
 use Rattle.htn_search.specs.declared.trail.Move.{Move}
 use Rattle.htn_search.specs.Trail.{before_moves}
 use Rattle.htn_search.specs.Places.{child_places}

@@ -17,12 +17,12 @@ use Rattle.word_machine.specs.Machine.{IsStep, IsFinishing}
 use Rattle.word_machine.specs.Answer.{IsAnswer, IsLeastFinishing, NoneFinishes, NoneFinishesBefore}
 use Rattle.word_machine.specs.declared.found.Found.{Found}
 use Rattle.word_machine.proofs.Answering.{live_finishes}
-use Rattle.htn_answer.specs.Machine.{IsOwn, machine_of}
-use Rattle.htn_answer.specs.Fewer.{FinishesLive, IsToldBy, numbers_from}
-use Rattle.htn_answer.proofs.Answers.{least_word, none_answered}
-use Rattle.htn_answer.proofs.Fewer.{answer_told, least_told, none_told}
-use Rattle.htn_answer.proofs.Lawful.{lawful}
-use Rattle.htn_answer.proofs.Words.{done_from, slice_get-map_back}
+use Rattle.htn_net.specs.Machine.{IsOwn, machine_of}
+use Rattle.htn_net.specs.Fewer.{FinishesLive, IsToldBy, numbers_from}
+use Rattle.htn_net.proofs.Answers.{least_word, none_answered}
+use Rattle.htn_net.proofs.Fewer.{answer_told, least_told, none_told}
+use Rattle.htn_net.proofs.Lawful.{lawful}
+use Rattle.htn_net.proofs.Words.{done_from, slice_get-map_back}
 use Rattle.htn_net.specs.Listed.{choose_listed, initial_of, listed_initials, listing_machine, number_of}
 use Rattle.htn_net.proofs.Listed.{distinct_initials, enough, listed_initial}
 use Rattle.htn_search.specs.Answer.{HasNoneBelow}

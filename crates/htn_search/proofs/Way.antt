@@ -12,7 +12,7 @@ use Rattle.htn_model.proofs.Onward.{visited}
 use Rattle.htn_model.proofs.Regrown.{make, graft, regrown, rebuild, regrows, choice_within}
 use Rattle.htn_model.proofs.Rebuild.{routed, route}
 use Rattle.htn_model.proofs.Rebuild as theory
-use Rattle.htn_tree.specs.Trees.{Numbering, node_of, over}
+use Rattle.htn_ground.specs.Trees.{Numbering, node_of, over}
 use Rattle.htn_search.specs.declared.trail.Move.{Move}
 use Rattle.htn_search.specs.Trail.{bare, before_move, before_moves, AreWithin, IsMove}
 use Rattle.htn_search.specs.Places.{child_places, open_places, own_place, places_view}

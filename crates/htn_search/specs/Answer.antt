@@ -5,8 +5,8 @@ use Rattle.htn_model.specs.Task.{Task}
 use Rattle.htn_model.specs.Tree as tree
 use Rattle.htn_model.specs.Answer.{IsAnswer}
 use Rattle.htn_model.specs.Exhaustion.{IsMet, IsUnsolvable}
-use Rattle.htn_tree.specs.declared.node.Solution.{Solution}
-use Rattle.htn_tree.specs.Trees.{solution_of}
+use Rattle.htn_ground.specs.declared.node.Solution.{Solution}
+use Rattle.htn_ground.specs.Trees.{solution_of}
 use Rattle.htn_search.specs.declared.answer.Answer.{Answer}
 use Rattle.htn_search.specs.declared.answer.Known.{Known}
 use Rattle.htn_search.specs.declared.answer.Known.TheVariants as known

@@ -6,8 +6,8 @@ use Rattle.htn_model.specs.Machine.{Config}
 use Rattle.htn_model.specs.Task.{Task}
 use Rattle.word_machine.specs.Words.{Leads}
 use Rattle.word_machine.specs.Machine.{IsStep}
-use Rattle.htn_answer.specs.Machine.{machine_of}
-use Rattle.htn_answer.specs.Fewer.{numbers_from, numbers_of}
+use Rattle.htn_net.specs.Machine.{machine_of}
+use Rattle.htn_net.specs.Fewer.{numbers_from, numbers_of}
 use Rattle.htn_net.specs.Listed.{initial_of, listing_machine, number_of}
 
 -- the numbers of a sequence of ranks, from a configuration on

@@ -7,7 +7,7 @@ use Rattle.htn_model.specs.Instance.{Instance}
 use Rattle.htn_model.specs.Machine.{Config, Choice}
 use Rattle.htn_net.specs.declared.choice.Change.{Change}
 use Rattle.htn_net.specs.declared.choice.Change.TheVariants.{Decomposed, Performed}
-use Rattle.htn_tree.specs.Trees.{Numbering, node_of, over}
+use Rattle.htn_ground.specs.Trees.{Numbering, node_of, over}
 use Rattle.htn_search.specs.declared.trail.Move.{Move}
 
 -- an open node without children, where a compound task is decomposed by the instance of a number

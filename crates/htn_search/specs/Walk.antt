@@ -6,7 +6,7 @@ use Rattle.htn_model.specs.Task.{Task}
 use Rattle.htn_model.specs.Tree.{Solution, nodes_of}
 use Rattle.htn_model.specs.Choice.{splice, child_of}
 use Rattle.htn_model.specs.Machine.{Choice, choose, result_of, start}
-use Rattle.htn_tree.specs.Trees.{number_of}
+use Rattle.htn_ground.specs.Trees.{number_of}
 use Rattle.htn_search.specs.declared.trail.Move.{Move}
 use Rattle.htn_search.specs.declared.walk.Walk.{Walk}
 use Rattle.htn_search.specs.Trail.{IsMove, before_moves}

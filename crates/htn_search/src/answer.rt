@@ -1,6 +1,6 @@
 //! The answers of a search.
 
-use htn_tree::Solution;
+use htn_ground::Solution;
 
 /// The answer of a search with a bound on the nodes.
 #[derive(Drop)]

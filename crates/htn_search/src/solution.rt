@@ -1,6 +1,6 @@
 //! The solution of a word that finishes.
 ghost use Rattle.std.specs.Prelude.{IfOk};
-ghost use Rattle.htn_tree.specs.Trees.{solution_of};
+ghost use Rattle.htn_ground.specs.Trees.{solution_of};
 ghost use Rattle.htn_model.specs.Grounding.{problem_of};
 ghost use Rattle.htn_model.specs.Machine.{Finishes};
 ghost use Rattle.htn_net.specs.Listed.{listing_machine};
@@ -11,9 +11,8 @@ ghost use Rattle.word_machine.specs.Machine.{IsFinishing};
 
 use crate::trail::grow_back;
 use crate::walk::{walk_along, walk_listed};
-use htn_ground::{distinct_initials, initial_at};
+use htn_ground::{Solution, distinct_initials, initial_at};
 use htn_task::Task;
-use htn_tree::Solution;
 use std::alloc::{AllocError, Global};
 use task_machine::Tables;
 

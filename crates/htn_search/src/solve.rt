@@ -1,7 +1,7 @@
 //! The search of a task.
 ghost use Rattle.std.specs.Prelude.{◌≡◌, ℕ, ◌-◌, ◌^◌, ◌<◌, ◌↔◌, IfErr, IfNone, IfOk, IfSome, IsTrue, Option, false, true};
 ghost use Rattle.call_search.specs.Right.{IsRight};
-ghost use Rattle.htn_answer.specs.Answered.{IsAnswered, IsExact};
+ghost use Rattle.htn_net.specs.Answered.{IsAnswered, IsExact};
 ghost use Rattle.htn_model.specs.Grounding.{problem_of};
 ghost use Rattle.htn_model.specs.Machine.{Finishes};
 ghost use Rattle.htn_net.specs.Listed.{listing_machine};

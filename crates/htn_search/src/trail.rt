@@ -1,9 +1,9 @@
 //! The moves of a word, and the trees that are built from them backwards.
 ghost use Rattle.std.specs.Prelude.{◌≡◌, ◌+◌, ◌≤◌, ◌++◌, [], IfOk, OnOk, drop, length, reverse, take};
-ghost use Rattle.htn_tree.specs.Trees.{Numbering, nodes_view};
+ghost use Rattle.htn_ground.specs.Trees.{Numbering, nodes_view};
 ghost use Rattle.htn_search.specs.Trail.{AreWithin, before_move, before_moves};
 
-use htn_tree::Node;
+use htn_ground::Node;
 use std::alloc::{AllocError, Global};
 
 /// The choice of one number of a word: an open node, which its children replaced.

@@ -1,3 +1,6 @@
+pub mod Laws
+pub mod Merge
+pub mod Literals
 pub mod Views
 pub mod Formulas
 pub mod Numbers

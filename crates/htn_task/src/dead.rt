@@ -3,10 +3,10 @@ ghost use Rattle.std.specs.Prelude.{◌≡◌};
 ghost use Rattle.std.specs.List.{list_any};
 ghost use Rattle.htn_model.specs.Exhaustion.{is_dead_literal};
 ghost use Rattle.htn_model.specs.Grounding.{problem_of};
-ghost use Rattle.htn_state.specs.Views.{literal_of, literals_of};
+ghost use Rattle.htn_task.specs.Literals.{literal_of, literals_of};
 
+use crate::literal::Literal;
 use crate::task::Task;
-use htn_state::Literal;
 
 impl Task {
     /// Whether a literal is dead. An equality is so where it is false.

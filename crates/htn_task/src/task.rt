@@ -13,8 +13,8 @@ use crate::fluents::fluents_of;
 use crate::formula::FormulaList;
 use crate::name::Name;
 use crate::schema::{ActionSchema, InitialSchema, MethodSchema};
+use crate::state::State;
 use crate::task_numbers::TaskNumbers;
-use htn_state::State;
 use std::alloc::{AllocError, Global};
 use std::marker::Model;
 

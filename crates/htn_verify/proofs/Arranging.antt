@@ -18,15 +18,15 @@ use Rattle.htn_model.specs.Task.{Task}
 use Rattle.htn_model.specs.Verdict.{Ends, perform_line, run_lines}
 use Rattle.htn_model.proofs.Between.{lines_run, states_from}
 use Rattle.htn_model.proofs.Rooms.{fit_is_acceptance}
-use Rattle.plan_forest.specs.Forest.{Forest, IsForestOf}
-use Rattle.plan_forest.specs.Plans.{AreTasks, AreTrees, method_at, tree_at, trees_of}
-use Rattle.plan_forest.specs.Reached.{children_at}
-use Rattle.plan_forest.proofs.Bridged.{line_count}
-use Rattle.plan_forest.proofs.Listed.{lists_within, numbers_within}
-use Rattle.plan_forest.proofs.Planting.{forests_are_trees}
+use Rattle.plan_text.specs.Forest.{Forest, IsForestOf}
+use Rattle.plan_text.specs.Plans.{AreTasks, AreTrees, method_at, tree_at, trees_of}
+use Rattle.plan_text.specs.Reached.{children_at}
+use Rattle.plan_text.proofs.Bridged.{line_count}
+use Rattle.plan_text.proofs.Listed.{lists_within, numbers_within}
+use Rattle.plan_text.proofs.Planting.{forests_are_trees}
 use Rattle.plan_room.specs.Lines.{AreLines, FileFits, plans_of}
-use Rattle.plan_run.specs.Run.{IsHistoryOf}
-use Rattle.plan_run.specs.Turns.{History}
+use Rattle.plan_lines.specs.Run.{IsHistoryOf}
+use Rattle.plan_lines.specs.Turns.{History}
 use Rattle.line_details.specs.Found.{AreLinesOf}
 use Rattle.htn_verify.specs.Placed.{ArePlaced, placed_lines, state_after}
 use Rattle.htn_verify.specs.Runs.{AreTasksOf}

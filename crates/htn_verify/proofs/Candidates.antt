@@ -10,15 +10,15 @@ use Rattle.htn_model.specs.Literal.{Literal}
 use Rattle.htn_model.specs.PlanFile.{ActionLine, DecompositionLine, IsIn, PlanFile, Word}
 use Rattle.htn_model.specs.Problem.{GroundTask, Network}
 use Rattle.htn_model.specs.Task.{Task}
-use Rattle.plan_forest.specs.Forest.{Forest}
-use Rattle.plan_forest.specs.Plans.{method_at, tree_at, tree_within, trees_of}
-use Rattle.plan_forest.specs.Reached.{children_at}
+use Rattle.plan_text.specs.Forest.{Forest}
+use Rattle.plan_text.specs.Plans.{method_at, tree_at, tree_within, trees_of}
+use Rattle.plan_text.specs.Reached.{children_at}
 use Rattle.plan_lines.specs.Fitting.{AreToFit}
 use Rattle.plan_lines.specs.Lines.{HasSubtasks, IsNamedInstance}
 use Rattle.plan_lines.specs.Lines.{IsInitial as IsInitialOf}
 use Rattle.plan_room.specs.Lines.{AreCandidates, IsInitial, IsNetworkOf, IsNextGap, Lines, plans_of, task_of}
-use Rattle.plan_run.specs.Turns
-use Rattle.plan_run.specs.Turns.{History, literals_truth}
+use Rattle.plan_lines.specs.Turns
+use Rattle.plan_lines.specs.Turns.{History, literals_truth}
 use Rattle.htn_verify.specs.Placed.{ArePlaced, placed_lines}
 use Rattle.htn_verify.specs.Tasks.{task_at}
 use Rattle.htn_verify.proofs.Fitting.{has_subtasks, steps_may_hold}

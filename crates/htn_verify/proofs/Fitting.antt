@@ -13,7 +13,7 @@ use Rattle.htn_model.proofs.Rearranged.{map_rearranged}
 use Rattle.plan_lines.specs.Fitting.{MayHold, StepsMayHold}
 use Rattle.plan_lines.specs.Lines.{HasSubtasks}
 use Rattle.plan_room.specs.Lines.{Lines, plans_of, task_of}
-use Rattle.plan_run.specs.Turns.{History, literal_truth, literals_truth}
+use Rattle.plan_lines.specs.Turns.{History, literal_truth, literals_truth}
 
 -- the task of a child that is no step
 task_in : Child → GroundTask

@@ -6,9 +6,9 @@ use Rattle.htn_model.specs.Problem.{GroundTask}
 use Rattle.htn_model.specs.PlanFile.{ActionLine, PlanFile, Naming, IsWithoutRepeats, defined_ids, decomposition_ids}
 use Rattle.htn_model.specs.Verdict.{Names, an_action, a_task, AreNamed}
 use Rattle.htn_model.proofs.Ascending.{in_at, at_in}
-use Rattle.plan_forest.specs.Numbers.{AreNumbersOf}
-use Rattle.plan_forest.proofs.Bridged.{line_count}
-use Rattle.plan_forest.proofs.Listed.{action_id_at, decomposition_id_at, line_there, one_number, past_actions}
+use Rattle.plan_text.specs.Numbers.{AreNumbersOf}
+use Rattle.plan_text.proofs.Bridged.{line_count}
+use Rattle.plan_text.proofs.Listed.{action_id_at, decomposition_id_at, line_there, one_number, past_actions}
 use Rattle.htn_verify.specs.Tasks.{AreNamedAs, HaveTasks}
 
 -- an action line stands at each place below the count

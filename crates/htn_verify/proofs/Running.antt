@@ -6,9 +6,9 @@ use Rattle.htn_model.specs.Literal.{holds}
 use Rattle.htn_model.specs.Problem.{GroundTask, Problem, perform_action}
 use Rattle.htn_model.specs.PlanFile.{ActionLine, Naming}
 use Rattle.htn_model.specs.Verdict.{perform_line, run_lines}
-use Rattle.plan_run.specs.Run.{run_tasks}
-use Rattle.plan_run.specs.Turns.{literals_truth}
-use Rattle.plan_run.proofs.Going.{same_literals}
+use Rattle.plan_lines.specs.Run.{run_tasks}
+use Rattle.plan_lines.specs.Turns.{literals_truth}
+use Rattle.plan_lines.proofs.Going.{same_literals}
 use Rattle.htn_verify.specs.Runs.{AreTasksOf, RunsAreOfLines}
 
 -- a list around one of its places

@@ -3,7 +3,7 @@ use Rattle.std.proofs.Common.{◌≡◌, ℕ, List, [], ◌∷◌, ◌++◌, get
 use Rattle.htn_model.specs.Problem.{GroundTask, Problem}
 use Rattle.htn_model.specs.PlanFile.{PlanFile, Naming, IsRearrangementOf}
 use Rattle.htn_model.specs.Verdict.{AreNamed, subtasks}
-use Rattle.plan_forest.proofs.Listed.{children_numbers}
+use Rattle.plan_text.proofs.Listed.{children_numbers}
 use Rattle.htn_verify.specs.Instances.{InstancesByTasks}
 use Rattle.htn_verify.proofs.Naming.{all_by_number, all_by_id}
 

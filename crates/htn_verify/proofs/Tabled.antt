@@ -7,7 +7,7 @@ use Rattle.std.proofs.lemmas.Option.{slice_get_within}
 use Rattle.htn_model.specs.Problem.{GroundTask, Problem}
 use Rattle.htn_model.specs.PlanFile.{ActionLine, DecompositionLine, PlanFile, Naming}
 use Rattle.htn_model.specs.Verdict.{HasInstance, AllHave, action_lines, decomposition_lines, root_line}
-use Rattle.plan_forest.specs.Plans.{AreTasks}
+use Rattle.plan_text.specs.Plans.{AreTasks}
 use Rattle.htn_verify.specs.Named.{action_task, decomposition_task, named_tasks, named_at}
 use Rattle.htn_verify.specs.Runs.{AreTasksOf}
 use Rattle.htn_verify.specs.Tasks.{AreNamedAs, task_at}

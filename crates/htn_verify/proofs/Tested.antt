@@ -6,9 +6,9 @@ use Rattle.htn_model.specs.Literal.{Literal}
 use Rattle.htn_model.specs.Problem.{GroundTask, Problem}
 use Rattle.htn_model.specs.PlanFile.{Word, ActionLine, DecompositionLine, PlanFile, Naming}
 use Rattle.htn_model.specs.Verdict.{Line, action_line, decomposition_line, root_line, action_lines, decomposition_lines, HasInstance, IsFirstFailing, Ends}
-use Rattle.plan_forest.specs.Forest.{Forest, IsForestOf}
-use Rattle.plan_run.specs.Run.{IsFailing, IsHistoryOf}
-use Rattle.plan_run.specs.Turns.{History, literals_truth}
+use Rattle.plan_text.specs.Forest.{Forest, IsForestOf}
+use Rattle.plan_lines.specs.Run.{IsFailing, IsHistoryOf}
+use Rattle.plan_lines.specs.Turns.{History, literals_truth}
 use Rattle.htn_verify.specs.Faults.{NamesAction, NamesInitial, NamesInstance}
 use Rattle.htn_verify.specs.Named.{named_tasks, named_at}
 use Rattle.htn_verify.specs.Tasks.{AreNamedAs}

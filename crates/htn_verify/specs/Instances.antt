@@ -4,7 +4,7 @@ use Rattle.htn_model.specs.Literal.{Action}
 use Rattle.htn_model.specs.Problem.{GroundTask, Problem, Network}
 use Rattle.htn_model.specs.PlanFile.{Word, ActionLine, DecompositionLine, PlanFile, Naming, IsRearrangementOf}
 use Rattle.htn_model.specs.Verdict.{action_line, decomposition_line, root_line, subtasks, HasInstance}
-use Rattle.plan_forest.specs.Forest.{Forest, IsForestOf}
+use Rattle.plan_text.specs.Forest.{Forest, IsForestOf}
 use Rattle.htn_verify.specs.Tasks.{AreNamedAs, HaveTasks}
 
 -- an instance of the method with this name

@@ -9,11 +9,11 @@ use Rattle.htn_model.specs.Problem.{GroundTask, Problem}
 use Rattle.htn_model.specs.State.{State}
 use Rattle.htn_model.specs.Task.{Task}
 use Rattle.htn_model.specs.Verdict.{run_lines}
-use Rattle.plan_forest.specs.Forest.{Forest}
-use Rattle.plan_forest.specs.Plans.{tree_at}
-use Rattle.plan_forest.specs.Reached.{children_at}
+use Rattle.plan_text.specs.Forest.{Forest}
+use Rattle.plan_text.specs.Plans.{tree_at}
+use Rattle.plan_text.specs.Reached.{children_at}
 use Rattle.plan_room.specs.Lines.{Lines}
-use Rattle.plan_run.specs.Turns.{History, IsHistory, literals_truth}
+use Rattle.plan_lines.specs.Turns.{History, IsHistory, literals_truth}
 use Rattle.htn_verify.specs.Tasks.{task_at}
 
 -- the state after the first `k` action lines, if they can be carried out

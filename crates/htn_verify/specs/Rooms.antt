@@ -6,7 +6,7 @@ use Rattle.htn_model.specs.Problem.{GroundTask}
 use Rattle.htn_model.specs.Task.{Task}
 use Rattle.htn_verify.specs.Named.{named_tasks}
 use Rattle.htn_verify.specs.Placed.{placed_lines}
-use Rattle.plan_forest.specs.Forest.{Forest, IsForestOf}
+use Rattle.plan_text.specs.Forest.{Forest, IsForestOf}
 use Rattle.room_causes.specs.Conflicts.{IsRoomCause}
 use Rattle.room_causes.specs.declared.cause.RoomCause.{RoomCause}
 

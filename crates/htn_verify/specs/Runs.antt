@@ -6,8 +6,8 @@ use Rattle.htn_model.specs.Problem.{GroundTask, Problem}
 use Rattle.htn_model.specs.PlanFile.{ActionLine, PlanFile, Naming}
 use Rattle.htn_model.specs.Shown.{LinesRun}
 use Rattle.htn_model.specs.Verdict.{IsFirstFailing, Ends}
-use Rattle.plan_run.specs.Run.{IsFailing, IsHistoryOf}
-use Rattle.plan_run.specs.Turns.{History, literals_truth}
+use Rattle.plan_lines.specs.Run.{IsFailing, IsHistoryOf}
+use Rattle.plan_lines.specs.Turns.{History, literals_truth}
 
 -- the words of the lines name these tasks, in turn
 abbrev pub AreTasksOf : Naming → List ActionLine → List GroundTask → Type 0

@@ -5,17 +5,16 @@ ghost use Rattle.htn_model.specs.Grounding.{problem_of};
 ghost use Rattle.htn_model.specs.Shadow.{IsAccepted};
 ghost use Rattle.htn_model.specs.Verdict.{AllHave, Ends};
 ghost use Rattle.htn_verify.specs.Tasks.{task_at};
-ghost use Rattle.plan_forest.specs.Forest.{IsForestOf};
-ghost use Rattle.plan_forest.specs.Plans.{AreTasks};
-ghost use Rattle.plan_run.specs.Run.{IsHistoryOf};
+ghost use Rattle.plan_text.specs.Forest.{IsForestOf};
+ghost use Rattle.plan_text.specs.Plans.{AreTasks};
+ghost use Rattle.plan_lines.specs.Run.{IsHistoryOf};
 
 use crate::placed_lines::PlacedLines;
 use htn_ground::GroundTask;
 use htn_task::Task;
-use plan_forest::Forest;
+use plan_lines::{EverTrue, Turns};
 use plan_room::forest_fits;
-use plan_run::{EverTrue, Turns};
-use plan_text::PlanFile;
+use plan_text::{Forest, PlanFile};
 use std::alloc::{AllocError, Global};
 
 /// Whether the lines of a file that run to the goal can be arranged so that the file is that of a solution.

@@ -6,9 +6,9 @@ ghost use Rattle.htn_model.specs.Verdict.{AllHave, Ends};
 ghost use Rattle.htn_verify.specs.Named as spec;
 ghost use Rattle.htn_verify.specs.Tasks.{task_at};
 ghost use Rattle.line_details.specs.Found.{AreFound};
-ghost use Rattle.plan_forest.specs.Forest.{IsForestOf};
-ghost use Rattle.plan_forest.specs.Plans.{AreTasks};
-ghost use Rattle.plan_run.specs.Run.{IsHistoryOf};
+ghost use Rattle.plan_text.specs.Forest.{IsForestOf};
+ghost use Rattle.plan_text.specs.Plans.{AreTasks};
+ghost use Rattle.plan_lines.specs.Run.{IsHistoryOf};
 
 use crate::faults::fault_of;
 use crate::named::{named_tasks, tasks_alone};
@@ -16,10 +16,8 @@ use crate::placed_lines::PlacedLines;
 use htn_ground::{GroundTask, goal_literals};
 use htn_task::Task;
 use line_details::{Entries, find_details};
-use plan_forest::{Forest, forest_of};
-use plan_lines::Names;
-use plan_run::{EverTrue, Outcome, Turns, run};
-use plan_text::PlanFile;
+use plan_lines::{EverTrue, Names, Outcome, Turns, run};
+use plan_text::{Forest, PlanFile, forest_of};
 use std::alloc::{AllocError, Global};
 
 /// Details of the lines of a file that run to the goal, if some are found.

@@ -8,13 +8,12 @@ ghost use Rattle.htn_verify.specs.Faults.{IsFaultIn, NamesAction, NamesInitial, 
 ghost use Rattle.htn_verify.specs.Named.{named_at, named_tasks};
 ghost use Rattle.htn_verify.specs.Tasks.{HaveTasks};
 ghost use Rattle.htn_verify.specs.Verdicts.{verdict_of};
-ghost use Rattle.plan_forest.specs.Forest.{IsForestOf};
+ghost use Rattle.plan_text.specs.Forest.{IsForestOf};
 
 use crate::verdict::Verdict;
 use htn_ground::{GroundTask, action_of};
-use plan_forest::Forest;
 use plan_lines::{Names, has_initial, has_instance};
-use plan_text::{PlanFile, Word};
+use plan_text::{Forest, PlanFile, Word};
 use std::alloc::{AllocError, Global};
 
 /// The task that the words of a line name, if they name one.

@@ -4,13 +4,10 @@ ghost use Rattle.htn_verify.specs.Placed.{ArePlaced};
 ghost use Rattle.htn_verify.specs.Tasks.{task_at};
 
 use htn_ground::{GroundTask, Instance};
-use htn_state::LiteralList;
-use htn_task::Task;
-use plan_forest::Forest;
-use plan_lines::{Names, initials_to_fit, instances_to_fit};
+use htn_task::{LiteralList, Task};
+use plan_lines::{EverTrue, Names, Turns, initials_to_fit, instances_to_fit};
 use plan_room::PlanLines;
-use plan_run::{EverTrue, Turns};
-use plan_text::PlanFile;
+use plan_text::{Forest, PlanFile};
 use std::alloc::{AllocError, Global};
 use std::borrow::CowSlice;
 

@@ -7,9 +7,9 @@ ghost use Rattle.htn_verify.specs.Named as spec;
 ghost use Rattle.htn_verify.specs.Placed.{placed_lines};
 ghost use Rattle.htn_verify.specs.Rooms.{IsCauseOf};
 ghost use Rattle.htn_verify.specs.Tasks.{task_at};
-ghost use Rattle.plan_forest.specs.Forest.{IsForestOf};
-ghost use Rattle.plan_forest.specs.Plans.{AreTasks};
-ghost use Rattle.plan_run.specs.Run.{IsHistoryOf};
+ghost use Rattle.plan_text.specs.Forest.{IsForestOf};
+ghost use Rattle.plan_text.specs.Plans.{AreTasks};
+ghost use Rattle.plan_lines.specs.Run.{IsHistoryOf};
 ghost use Rattle.room_causes.specs.Conflicts.{IsRoomCause};
 
 use crate::faults::fault_of;
@@ -17,10 +17,8 @@ use crate::named::{named_tasks, tasks_alone};
 use crate::placed_lines::PlacedLines;
 use htn_ground::{GroundTask, goal_literals};
 use htn_task::Task;
-use plan_forest::{Forest, forest_of};
-use plan_lines::Names;
-use plan_run::{EverTrue, Outcome, Turns, run};
-use plan_text::PlanFile;
+use plan_lines::{EverTrue, Names, Outcome, Turns, run};
+use plan_text::{Forest, PlanFile, forest_of};
 use room_causes::{RoomCause, room_cause_of};
 use std::alloc::{AllocError, Global};
 

@@ -5,7 +5,7 @@ ghost use Rattle.htn_model.specs.Grounding.{problem_of};
 ghost use Rattle.htn_model.specs.Verdict.{AllHave, IsVerdict};
 ghost use Rattle.htn_verify.specs.Named as spec;
 ghost use Rattle.htn_verify.specs.Verdicts.{verdict_of};
-ghost use Rattle.plan_forest.specs.Forest.{IsForestOf};
+ghost use Rattle.plan_text.specs.Forest.{IsForestOf};
 
 use crate::arrangement::is_arranged;
 use crate::faults::fault_of;
@@ -13,10 +13,8 @@ use crate::named::{named_tasks, tasks_alone};
 use crate::verdict::Verdict;
 use htn_ground::{GroundTask, goal_literals};
 use htn_task::Task;
-use plan_forest::{Forest, forest_of};
-use plan_lines::Names;
-use plan_run::{Outcome, run};
-use plan_text::PlanFile;
+use plan_lines::{Names, Outcome, run};
+use plan_text::{Forest, PlanFile, forest_of};
 use std::alloc::{AllocError, Global};
 
 /// The verdict on a forest of lines that have instances, with the lines' tasks.

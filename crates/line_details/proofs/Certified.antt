@@ -15,17 +15,17 @@ use Rattle.htn_model.specs.State.{State}
 use Rattle.htn_model.specs.Task.{Task}
 use Rattle.htn_model.proofs.Ascending.{at_in, in_at}
 use Rattle.htn_model.proofs.Marked.{decompositions_distinct}
-use Rattle.plan_details.specs.Certificate.{AllSpans, ArePlaced, HasRoomBy, IsCertificate, IsPlaced, LineHasRoomBy, Spans}
-use Rattle.plan_details.specs.Details.{Details}
-use Rattle.plan_details.proofs.Certified.{certificates_decide}
-use Rattle.plan_details.proofs.Picked.{pick}
-use Rattle.plan_forest.specs.Forest.{Forest, IsForestOf}
-use Rattle.plan_forest.specs.Numbers.{AreNumbersOf}
-use Rattle.plan_forest.specs.Plans.{AreTasks, AreTrees}
-use Rattle.plan_forest.specs.Reached.{children_at}
-use Rattle.plan_forest.proofs.Listed.{action_id_at, children_numbers, decomposition_id_at, line_there, one_number, past_actions}
-use Rattle.plan_forest.proofs.Bridged.{line_count}
-use Rattle.plan_forest.proofs.Planting.{forests_are_trees}
+use Rattle.line_details.specs.Certificate.{AllSpans, ArePlaced, HasRoomBy, IsCertificate, IsPlaced, LineHasRoomBy, Spans}
+use Rattle.line_details.specs.Details.{Details}
+use Rattle.line_details.proofs.Decided.{certificates_decide}
+use Rattle.line_details.proofs.Picked.{pick}
+use Rattle.plan_text.specs.Forest.{Forest, IsForestOf}
+use Rattle.plan_text.specs.Numbers.{AreNumbersOf}
+use Rattle.plan_text.specs.Plans.{AreTasks, AreTrees}
+use Rattle.plan_text.specs.Reached.{children_at}
+use Rattle.plan_text.proofs.Listed.{action_id_at, children_numbers, decomposition_id_at, line_there, one_number, past_actions}
+use Rattle.plan_text.proofs.Bridged.{line_count}
+use Rattle.plan_text.proofs.Planting.{forests_are_trees}
 use Rattle.plan_room.specs.Lines.{AreLines, Lines, task_of}
 use Rattle.line_details.specs.Entries.{AllHaveRoom, HasRoomIn, IsPlacedIn, IsSeatedAt, no_spans, spans_of}
 use Rattle.line_details.specs.Found.{AreFound, AreLinesOf, HaveInstances, IsNumbered, forest_lines}

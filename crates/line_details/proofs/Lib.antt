@@ -1,3 +1,12 @@
+pub mod Grown
+pub mod Timely
+pub mod Solved
+pub mod Detailed
+pub mod Picked
+pub mod Accepted
+pub mod Spread
+pub mod Decided
+pub mod Worked
 pub mod Seen
 pub mod Certified
 pub mod Numbered

@@ -10,8 +10,8 @@ use Rattle.htn_model.specs.PlanFile.{IsIn, IsRearrangementOf}
 use Rattle.htn_model.specs.Problem.{Child, precondition, action, task, Order, is_before}
 use Rattle.htn_model.proofs.Laid.{IsSubtask, in_subtasks, subtask_at, subtasks_distinct}
 use Rattle.htn_model.proofs.Proper.{same_members}
-use Rattle.plan_forest.specs.Reached.{AreMet}
-use Rattle.plan_forest.proofs.Walked.{one_met}
+use Rattle.plan_text.specs.Reached.{AreMet}
+use Rattle.plan_text.proofs.Walked.{one_met}
 use Rattle.plan_room.specs.Seats.{is_step_at}
 use Rattle.plan_room.proofs.Windowed.{node_at}
 use Rattle.line_details.specs.Entries.{AreSubtasksMarked}

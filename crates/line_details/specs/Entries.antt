@@ -4,7 +4,7 @@ use Rattle.htn_model.specs.Fits.{subtask_positions, child_of, AreSpans}
 use Rattle.htn_model.specs.Literal.{holds}
 use Rattle.htn_model.specs.PlanFile.{IsRearrangementOf}
 use Rattle.htn_model.specs.Problem.{Child, precondition, action, task}
-use Rattle.plan_details.specs.Certificate.{Spans}
+use Rattle.line_details.specs.Certificate.{Spans}
 use Rattle.plan_room.specs.Lines.{Lines}
 use Rattle.plan_room.specs.Seats.{is_step_at}
 use Rattle.line_details.specs.declared.entry.Entry.{Entry}

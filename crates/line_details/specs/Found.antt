@@ -11,10 +11,10 @@ use Rattle.htn_model.specs.Problem.{GroundTask, Problem, precondition}
 use Rattle.htn_model.specs.Shown.{LinesRun}
 use Rattle.htn_model.specs.State.{State}
 use Rattle.htn_model.specs.Task.{Task}
-use Rattle.plan_details.specs.Details.{AreDetails, Details}
-use Rattle.plan_forest.specs.Forest.{Forest, IsForestOf}
-use Rattle.plan_forest.specs.Plans.{AreTasks, tree_at}
-use Rattle.plan_forest.specs.Reached.{children_at}
+use Rattle.line_details.specs.Details.{AreDetails, Details}
+use Rattle.plan_text.specs.Forest.{Forest, IsForestOf}
+use Rattle.plan_text.specs.Plans.{AreTasks, tree_at}
+use Rattle.plan_text.specs.Reached.{children_at}
 use Rattle.plan_room.specs.Lines.{Lines, task_of}
 use Rattle.line_details.specs.Entries.{spans_of}
 use Rattle.line_details.specs.declared.entry.Entry.{Entry}

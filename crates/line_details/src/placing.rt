@@ -4,14 +4,14 @@ ghost use Rattle.htn_ground.specs.Views.{child_view, children_of};
 ghost use Rattle.htn_model.specs.Literal.{holds};
 ghost use Rattle.htn_model.specs.Problem.{is_before};
 ghost use Rattle.line_details.specs.Entries.{AreSeated, AreWithinSpans, IsHeld, IsPlacedIn, IsSeatedAt, AreHeld, AreSubtasksMarked, spans_of};
-ghost use Rattle.plan_forest.specs.Reached.{AreMet};
+ghost use Rattle.plan_text.specs.Reached.{AreMet};
 ghost use Rattle.plan_room.specs.Lines.{AreLines};
 ghost use Rattle.plan_room.specs.Seats.{is_step_at};
 
 use crate::entry::Entry;
 use htn_ground::Child;
 use htn_order::Order;
-use htn_state::LiteralList;
+use htn_task::LiteralList;
 use plan_room::{PlanLines, takes_line};
 use std::alloc::{AllocError, Global};
 

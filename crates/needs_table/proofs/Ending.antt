@@ -9,8 +9,8 @@ use Rattle.htn_model.specs.Machine.{Config, IsDone}
 use Rattle.htn_model.specs.Problem.{Child, IsGrounded, Problem}
 use Rattle.tree_sizes.specs.Measure.{is_as_at_first}
 use Rattle.tree_sizes.specs.Sizes.{out_of_reach}
-use Rattle.heuristic.specs.Heuristic.{dead_end_bound}
-use Rattle.heuristic.proofs.Bounds.{dead_ends_are_consistent, greater_is_estimate}
+use Rattle.tree_sizes.specs.Heuristic.{dead_end_bound}
+use Rattle.tree_sizes.proofs.Bounds.{dead_ends_are_consistent, greater_is_estimate}
 use Rattle.tree_sizes.proofs.Bounded.{dead_ends}
 use Rattle.network_needs.specs.Bounds.{needs_bound}
 use Rattle.network_needs.specs.Needs.{may_end, needed, needed_goal, network_of}

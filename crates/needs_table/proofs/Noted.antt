@@ -7,8 +7,8 @@ use Rattle.htn_ground.specs.Views.{child_view}
 use Rattle.htn_model.specs.Choice.{child_of}
 use Rattle.htn_model.specs.Literal.{Literal, literal_holds}
 use Rattle.htn_model.specs.Problem.{Child, precondition}
-use Rattle.htn_state.specs.Views.{literal_of, literals_of}
-use Rattle.htn_state.specs.declared.literal.Literal.{Literal as Written}
+use Rattle.htn_task.specs.Literals.{literal_of, literals_of}
+use Rattle.htn_task.specs.declared.literal.Literal.{Literal as Written}
 use Rattle.network_needs.specs.Rows.{literal_number, row_of, wants_by}
 use Rattle.network_needs.specs.declared.needs.Needs.{Needs}
 use Rattle.network_table.specs.Networks.{children, IsGrown}

@@ -6,7 +6,7 @@ use Rattle.htn_model.specs.Machine.{Config}
 use Rattle.htn_model.specs.Problem.{Child, IsGrounded, Problem}
 use Rattle.tree_sizes.specs.Measure.{IsLowerMeasure, is_as_at_first}
 use Rattle.tree_sizes.specs.Sizes.{out_of_reach}
-use Rattle.heuristic.specs.Heuristic.{IsEstimate}
+use Rattle.tree_sizes.specs.Heuristic.{IsEstimate}
 use Rattle.network_needs.specs.Bounds.{needs_bound}
 use Rattle.network_needs.specs.Needs.{IsOutlook, Outlook, may_end}
 use Rattle.network_needs.specs.Rows.{blocks, outlook_of}

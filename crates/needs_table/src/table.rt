@@ -16,7 +16,7 @@ use crate::node::{Node, has_lost, places_of};
 use crate::prospects::Prospects;
 use crate::want_table::WantTable;
 use crate::wants::{Want, wants_of};
-use htn_state::LiteralList;
+use htn_task::LiteralList;
 use network_needs::Needs;
 use network_table::{Entry, Network, NetworkTable};
 use state_table::{AtomTable, BitState, CompiledLiterals};

@@ -1,10 +1,10 @@
 //! Wanted literals, compiled.
 ghost use Rattle.std.specs.Prelude.{◌≡◌, IfOk, OnOk};
-ghost use Rattle.htn_state.specs.Views.{literals_of};
+ghost use Rattle.htn_task.specs.Literals.{literals_of};
 ghost use Rattle.state_table.specs.Table.{IsLater};
 ghost use Rattle.needs_table.specs.Kept.{AreWants};
 
-use htn_state::Literal;
+use htn_task::Literal;
 use network_needs::Needs;
 use state_table::{AtomTable, CompiledLiteral};
 use std::alloc::{AllocError, Global};

@@ -1,8 +1,8 @@
 -- The bounds that see what a configuration lacks are bounds from below.
 use Rattle.std.proofs.Common.{ℕ}
 use Rattle.htn_model.specs.Problem.{IsGrounded, Problem}
-use Rattle.heuristic.specs.Heuristic.{AreDeadEnds, dead_end_bound}
-use Rattle.heuristic.proofs.Bounds.{dead_ends_are_consistent, greater_is_estimate}
+use Rattle.tree_sizes.specs.Heuristic.{AreDeadEnds, dead_end_bound}
+use Rattle.tree_sizes.proofs.Bounds.{dead_ends_are_consistent, greater_is_estimate}
 use Rattle.tree_sizes.specs.Measure.{lower_bound}
 use Rattle.tree_sizes.specs.Sizes.{out_of_reach}
 use Rattle.tree_sizes.proofs.Bounded.{dead_ends, measures_are_bounds}

@@ -16,7 +16,7 @@ use Rattle.htn_model.proofs.Steps.{Decomposes, Executes, chosen}
 use Rattle.htn_model.proofs.Regrown.{choice_within}
 use Rattle.task_graph.specs.Barred.{is_barred, is_barred_by}
 use Rattle.tree_sizes.specs.Measure.{is_as_at_first}
-use Rattle.heuristic.proofs.Bounds.{live_choice}
+use Rattle.tree_sizes.proofs.Bounds.{live_choice}
 use Rattle.tree_sizes.proofs.Lasting.{agreed, alive_literals}
 use Rattle.network_needs.specs.Needs.{Outlook, IsNeededAt, IsOutlook, IsWithin, NeedsStay, may_give, is_ungiven, needed_at, needed, needed_goal, has_blocked, network_of, may_end}
 use Rattle.network_needs.proofs.Lists.{all_from, contains_none, each_passes, filtered, in_range, join, joined, kept, none_from, none_passes, range_has}

@@ -14,8 +14,8 @@ use Rattle.htn_model.proofs.Sets.{set_of-Contains, set_of-atoms_of}
 use Rattle.htn_model.specs.Literal.{Literal, Action, atom, literal_eq}
 use Rattle.htn_model.specs.Equality.{ground_task_eq-decides, literal_eq-decides}
 use Rattle.htn_model.specs.Problem.{Child, precondition, GroundTask, ground_task_eq, Network, Order}
-use Rattle.htn_state.specs.Views.{literal_of, literals_of}
-use Rattle.htn_state.specs.declared.literal.Literal.{Literal as Written}
+use Rattle.htn_task.specs.Literals.{literal_of, literals_of}
+use Rattle.htn_task.specs.declared.literal.Literal.{Literal as Written}
 use Rattle.htn_ground.specs.Views.{child_view, children_of}
 use Rattle.htn_ground.specs.declared.child.Child.{Child as Node}
 use Rattle.task_graph.specs.Graph.{network_of, task_at}

@@ -2,7 +2,7 @@
 use Rattle.std.specs.Prelude.{ℕ, Bool, not, ◌&&◌, cond, max}
 use Rattle.htn_model.specs.Problem.{Child, IsGrounded, Problem}
 use Rattle.htn_model.specs.Machine.{Config}
-use Rattle.heuristic.specs.Heuristic.{IsEstimate}
+use Rattle.tree_sizes.specs.Heuristic.{IsEstimate}
 use Rattle.tree_sizes.specs.Measure.{IsLowerMeasure, is_as_at_first, lower_bound}
 use Rattle.tree_sizes.specs.Sizes.{out_of_reach}
 use Rattle.network_needs.specs.Needs.{IsOutlook, Outlook, may_end}

@@ -6,7 +6,7 @@ use Rattle.htn_model.specs.Literal.{Literal, atom, Action}
 use Rattle.htn_model.specs.Problem.{Child, precondition, action, task, GroundTask, Network}
 use Rattle.htn_model.specs.State.{contains}
 use Rattle.htn_model.specs.Task.{Task}
-use Rattle.htn_state.specs.Views.{literals_of}
+use Rattle.htn_task.specs.Literals.{literals_of}
 use Rattle.htn_ground.specs.Views.{child_view}
 use Rattle.htn_ground.specs.declared.child.Child.{Child as Node}
 use Rattle.task_graph.specs.Graph.{AreBarredActions, IsGraph, is_task_listed, network_of, task_at}

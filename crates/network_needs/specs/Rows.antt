@@ -4,7 +4,7 @@ use Rattle.std.specs.List.{list_any, position}
 use Rattle.htn_model.specs.Literal.{Literal as ModelLiteral, literal_eq}
 use Rattle.htn_model.specs.Problem.{Child, precondition, action, task, GroundTask, child_eq, ground_task_eq}
 use Rattle.htn_order.specs.BitRows.{is_set}
-use Rattle.htn_state.specs.Views.{literal_of, literals_of}
+use Rattle.htn_task.specs.Literals.{literal_of, literals_of}
 use Rattle.htn_ground.specs.Views.{child_view}
 use Rattle.network_needs.specs.Needs.{Outlook}
 use Rattle.network_needs.specs.declared.needs.Needs.{Needs}

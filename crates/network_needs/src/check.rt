@@ -6,7 +6,7 @@ ghost use Rattle.htn_model.specs.Literal as model;
 ghost use Rattle.htn_model.specs.Literal.{literal_eq};
 ghost use Rattle.htn_model.specs.State.{contains};
 ghost use Rattle.htn_ground.specs.Views.{child_view, children_of};
-ghost use Rattle.htn_state.specs.Views.{literal_of, literals_of};
+ghost use Rattle.htn_task.specs.Literals.{literal_of, literals_of};
 ghost use Rattle.htn_model.specs.Task as tasks;
 ghost use Rattle.task_graph.specs.Graph.{IsGraph};
 ghost use Rattle.network_needs.specs.Checked.{AreAllowed, AreLeavesRight, GivesWithin};
@@ -19,7 +19,7 @@ use crate::needs::Needs;
 use crate::rows::Row;
 use htn_ground::{Child, GroundTask};
 use htn_order::Order;
-use htn_state::{Action, Atom, Literal};
+use htn_task::{Action, Atom, Literal};
 use std::alloc::AllocError;
 use task_graph::TaskGraph;
 

@@ -2,8 +2,7 @@
 //! since [`Needs::of`] checks what it makes of them.
 
 use htn_ground::Child;
-use htn_state::{Action, Atom, Literal};
-use htn_task::Task;
+use htn_task::{Action, Atom, Literal, Task};
 use indexmap::IndexSet;
 use std::alloc::{AllocError, Global};
 use task_graph::TaskGraph;

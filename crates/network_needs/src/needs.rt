@@ -2,13 +2,13 @@
 ghost use Rattle.std.specs.Prelude.{◌≡◌};
 ghost use Rattle.std.specs.Option.{option_map};
 ghost use Rattle.htn_ground.specs.Views.{child_view};
-ghost use Rattle.htn_state.specs.Views.{literal_of, literals_of};
+ghost use Rattle.htn_task.specs.Literals.{literal_of, literals_of};
 ghost use Rattle.network_needs.specs.Rows.{leaf_row, outlook_of, row_of, task_row};
 
 use crate::marks::is_marked;
 use crate::rows::{Row, Rows};
 use htn_ground::{Child, GroundTask};
-use htn_state::Literal;
+use htn_task::Literal;
 use indexmap::IndexSet;
 
 /// The literals that the nodes of networks want and give. A node without a row wants none and gives all.

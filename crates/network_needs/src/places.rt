@@ -2,7 +2,7 @@
 ghost use Rattle.std.specs.Prelude.{◌≡◌};
 ghost use Rattle.std.specs.Option.{option_map};
 ghost use Rattle.htn_ground.specs.Views.{child_view};
-ghost use Rattle.htn_state.specs.Views.{literal_of, literals_of};
+ghost use Rattle.htn_task.specs.Literals.{literal_of, literals_of};
 ghost use Rattle.network_needs.specs.Places.{row_at};
 ghost use Rattle.network_needs.specs.Rows.{blocks, gives_by, leaf_row, literal_number, row_of, task_row, wants_by};
 
@@ -10,7 +10,7 @@ use crate::marks::is_marked;
 use crate::needs::Needs;
 use crate::rows::Row;
 use htn_ground::{Child, GroundTask};
-use htn_state::Literal;
+use htn_task::Literal;
 
 /// The place of a node's row, if it has one.
 #[derive(Clone, Copy, Drop)]

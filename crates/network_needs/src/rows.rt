@@ -2,7 +2,7 @@
 ghost use Rattle.std.specs.Prelude.{◌≡◌, []};
 
 use htn_ground::Child;
-use htn_state::Literal;
+use htn_task::Literal;
 use indexmap::IndexSet;
 use std::alloc::Global;
 

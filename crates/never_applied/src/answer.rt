@@ -1,7 +1,7 @@
 //! The findings about a task.
 
 use crate::usable::Usable;
-use htn_state::Literal;
+use htn_task::Literal;
 
 /// Why a task has no plan of any size.
 #[derive(Drop)]

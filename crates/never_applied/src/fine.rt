@@ -6,7 +6,7 @@ ghost use Rattle.never_applied.specs.Fine.{is_barred_node, is_fine, is_known_fin
 
 use crate::facts::Facts;
 use htn_ground::{Child, GroundTask};
-use htn_state::State;
+use htn_task::State;
 use indexmap::IndexSet;
 use std::alloc::{AllocError, Global};
 

@@ -4,7 +4,7 @@ ghost use Rattle.std.specs.List.{All, list_all};
 ghost use Rattle.htn_ground.specs.Distinct.{distinct};
 ghost use Rattle.htn_model.specs.Exhaustion.{IsUnsolvable};
 ghost use Rattle.htn_model.specs.Grounding.{problem_of};
-ghost use Rattle.htn_state.specs.Views.{literals_of};
+ghost use Rattle.htn_task.specs.Literals.{literals_of};
 ghost use Rattle.relaxed_reach.specs.Facts.{are_possible};
 ghost use Rattle.never_applied.specs.Fine.{AreFine, facts_of, is_fine};
 
@@ -12,8 +12,7 @@ use crate::answer::NoPlan;
 use crate::facts::Facts;
 use crate::fine::Fine;
 use htn_ground::{Instance, distinct_initials, goal_literals};
-use htn_state::Literal;
-use htn_task::{Task, Term};
+use htn_task::{Literal, Task, Term};
 use std::alloc::{AllocError, Global};
 
 /// The first of some literals that is never so.

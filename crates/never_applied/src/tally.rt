@@ -3,8 +3,7 @@
 use crate::answer::Cause;
 use crate::facts::Facts;
 use htn_ground::ObjectList;
-use htn_state::{Atom, Literal};
-use htn_task::{AtomSchema, Formula, Term};
+use htn_task::{Atom, AtomSchema, Formula, Literal, Term};
 use std::alloc::{AllocError, Global};
 
 /// What was seen of the instances of a method or an action.

@@ -3,7 +3,7 @@ use Rattle.std.proofs.Common.{◌≡◌, ◌∙◌, List, map, option_map, subst
 use Rattle.std.specs.Borrow.{Bor}
 use Rattle.std.specs.List.{flat_map}
 use Rattle.std.proofs.lemmas.List.{map-append}
-use Rattle.hddl_tree.specs.declared.term.VariableGroup.{VariableGroup}
+use Rattle.hddl_words.specs.declared.term.VariableGroup.{VariableGroup}
 use Rattle.hddl_meaning.specs.Mentions.{IsIn, Text, Typed, folded, mention_of, mentions_of, typed_variables, variable_mention}
 use Rattle.hddl_meaning.specs.Uses.{Variable, parameters_of, quantified_of}
 use Rattle.hddl_meaning.proofs.Listed.{in_flat_map, in_left, in_map, in_right}

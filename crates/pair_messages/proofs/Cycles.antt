@@ -9,7 +9,7 @@ use Rattle.diagnostics.specs.declared.diagnostic.Remark.{Remark}
 use Rattle.hddl_meaning.specs.declared.fault.CheckFault.{CheckFault}
 use Rattle.hddl_meaning.specs.declared.fault.CheckFault.TheVariants as fault
 use Rattle.hddl_scope.proofs.Positions.{push_from}
-use Rattle.hddl_tree.specs.declared.network.OrderingText.{OrderingText}
+use Rattle.hddl_words.specs.declared.network.OrderingText.{OrderingText}
 use Rattle.pair_messages.specs.declared.asked.Asked.{Asked}
 use Rattle.pair_messages.specs.declared.texts.PairTexts.{PairTexts}
 use Rattle.pair_messages.specs.Notes.{AreNotes, IsNote, Leads, ordering_of}

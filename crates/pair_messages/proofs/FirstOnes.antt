@@ -1,9 +1,9 @@
 -- Where the first of some names is.
 use Rattle.std.proofs.Common.{◌≡◌, ◌∙◌, ℕ, Option, Some, None, IfSome, List, [], ◌∷◌, ◌++◌, map, subst, sym}
-use Rattle.hddl_tree.specs.declared.domain.DomainText.{DomainText}
-use Rattle.hddl_tree.specs.declared.network.NetworkText.{NetworkText}
-use Rattle.hddl_tree.specs.declared.problem.HtnText.{HtnText}
-use Rattle.hddl_tree.specs.declared.problem.ProblemText.{ProblemText}
+use Rattle.hddl_words.specs.declared.domain.DomainText.{DomainText}
+use Rattle.hddl_words.specs.declared.network.NetworkText.{NetworkText}
+use Rattle.hddl_words.specs.declared.problem.HtnText.{HtnText}
+use Rattle.hddl_words.specs.declared.problem.ProblemText.{ProblemText}
 use Rattle.hddl_meaning.specs.Mentions.{IsIn, Mention, Text, mention_of, mentions_of, typed_variables}
 use Rattle.hddl_meaning.specs.Items.{declaration_lists, label_mentions, networks_in, schemas_in}
 use Rattle.hddl_meaning.specs.Uses.{Schema, schema_of_action, schema_of_method, schema_of_network, schema_of_states}

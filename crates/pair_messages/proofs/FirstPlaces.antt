@@ -5,12 +5,12 @@ use Rattle.std.specs.List.{find, flat_map}
 use Rattle.std.proofs.lemmas.List.{map-append}
 use Rattle.std.proofs.Math.Seq.{drop-cons}
 use Rattle.hddl_words.specs.Names.{Name}
-use Rattle.hddl_tree.specs.declared.network.SubtaskText.{SubtaskText}
-use Rattle.hddl_tree.specs.declared.domain.ActionText.{ActionText}
-use Rattle.hddl_tree.specs.declared.domain.DomainText.{DomainText}
-use Rattle.hddl_tree.specs.declared.domain.PredicateText.{PredicateText}
-use Rattle.hddl_tree.specs.declared.domain.TaskText.{TaskText}
-use Rattle.hddl_tree.specs.declared.term.VariableGroup.{VariableGroup}
+use Rattle.hddl_words.specs.declared.network.SubtaskText.{SubtaskText}
+use Rattle.hddl_words.specs.declared.domain.ActionText.{ActionText}
+use Rattle.hddl_words.specs.declared.domain.DomainText.{DomainText}
+use Rattle.hddl_words.specs.declared.domain.PredicateText.{PredicateText}
+use Rattle.hddl_words.specs.declared.domain.TaskText.{TaskText}
+use Rattle.hddl_words.specs.declared.term.VariableGroup.{VariableGroup}
 use Rattle.hddl_meaning.specs.Mentions.{Mention, Text, Typed, mention_of, mentions_of, typed_variables}
 use Rattle.hddl_meaning.specs.Names.{is_same_text, optional_mention}
 use Rattle.hddl_meaning.specs.Items.{variable_mentions}

@@ -2,8 +2,8 @@
 use Rattle.std.proofs.Common.{◌≡◌, ℕ, ◌⊎◌, inl, inr, List, [], ◌∷◌, ◌++◌, get_or, refl, sym, subst}
 use Rattle.std.specs.List.{All}
 use Rattle.std.proofs.lemmas.List.Elements.{All-contains, Contains-append_cases}
-use Rattle.hddl_tree.specs.declared.domain.DomainText.{DomainText}
-use Rattle.hddl_tree.specs.declared.problem.ProblemText.{ProblemText}
+use Rattle.hddl_words.specs.declared.domain.DomainText.{DomainText}
+use Rattle.hddl_words.specs.declared.problem.ProblemText.{ProblemText}
 use Rattle.hddl_meaning.specs.Mentions.{IsIn, Text, folded, texts}
 use Rattle.hddl_meaning.specs.Names.{distinct, object, type_mentions, type_names}
 use Rattle.hddl_meaning.specs.Uses as uses

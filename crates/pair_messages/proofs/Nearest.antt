@@ -7,7 +7,7 @@ use Rattle.std.proofs.lemmas.Bool.{and_parts, not-true}
 use Rattle.std.proofs.lemmas.Bool.Decides.{nat_tests}
 use Rattle.std.proofs.lemmas.Option.{same_Some}
 use Rattle.std.proofs.lemmas.List.Elements.{All-nil, All-cons, All-head, All-tail, All-take}
-use Rattle.near_names.specs.Near.{alignment, distance_of, indices_from, is_nearer, is_nearest, may_be_meant, nearest_of, slip_len}
+use Rattle.diagnostics.specs.Near.{alignment, distance_of, indices_from, is_nearer, is_nearest, may_be_meant, nearest_of, slip_len}
 use Rattle.hddl_meaning.specs.Mentions.{IsIn, Text, folded}
 use Rattle.hddl_meaning.proofs.Listed.{at_head, at_tail, in_cases, in_nothing, in_map}
 use Rattle.pair_messages.specs.Offers.{IsNearest, nearest_in}

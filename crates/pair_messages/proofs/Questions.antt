@@ -9,8 +9,8 @@ use Rattle.std.proofs.lemmas.List.Elements.{All-cons, All-nil, All-push, All-sam
 use Rattle.diagnostics.specs.declared.diagnostic.Remark.{Remark}
 use Rattle.hddl_meaning.specs.Mentions.{IsIn, Text, folded}
 use Rattle.hddl_meaning.proofs.Listed.{in_map}
-use Rattle.near_names.specs.Near.{names_of}
-use Rattle.near_names.specs.Offers.{messages, offered, offered_by}
+use Rattle.diagnostics.specs.Near.{names_of}
+use Rattle.diagnostics.specs.Offers.{messages, offered, offered_by}
 use Rattle.diagnostics.specs.declared.diagnostic.Note.{Note}
 use Rattle.pair_messages.specs.Firsts.{listed}
 use Rattle.pair_messages.specs.Offers.{AreWritten}

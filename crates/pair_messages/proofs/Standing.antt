@@ -4,17 +4,17 @@ use Rattle.std.specs.Borrow.{Bor}
 use Rattle.std.specs.List.{flat_map}
 use Rattle.std.proofs.lemmas.Grind.{flat_map-append}
 use Rattle.std.proofs.lemmas.List.Folds.{flat_map-map}
-use Rattle.hddl_tree.specs.declared.term.AtomText.{AtomText}
-use Rattle.hddl_tree.specs.declared.term.VariableGroup.{VariableGroup}
-use Rattle.hddl_tree.specs.declared.condition.EqualityText.{EqualityText}
-use Rattle.hddl_tree.specs.declared.condition.LiteralText.{LiteralText}
-use Rattle.hddl_tree.specs.declared.condition.Condition.{Condition, fold-Condition, Literal, Equality, Forall, the_lemmas}
-use Rattle.hddl_tree.specs.declared.condition.Condition.TheOpen.{Condition-F}
-use Rattle.hddl_tree.specs.declared.network.NetworkText.{NetworkText}
-use Rattle.hddl_tree.specs.declared.network.SubtaskText.{SubtaskText}
-use Rattle.hddl_tree.specs.declared.domain.ActionText.{ActionText}
-use Rattle.hddl_tree.specs.declared.domain.MethodText.{MethodText}
-use Rattle.hddl_tree.specs.declared.problem.ProblemText.{ProblemText}
+use Rattle.hddl_words.specs.declared.term.AtomText.{AtomText}
+use Rattle.hddl_words.specs.declared.term.VariableGroup.{VariableGroup}
+use Rattle.hddl_words.specs.declared.condition.EqualityText.{EqualityText}
+use Rattle.hddl_words.specs.declared.condition.LiteralText.{LiteralText}
+use Rattle.hddl_words.specs.declared.condition.Condition.{Condition, fold-Condition, Literal, Equality, Forall, the_lemmas}
+use Rattle.hddl_words.specs.declared.condition.Condition.TheOpen.{Condition-F}
+use Rattle.hddl_words.specs.declared.network.NetworkText.{NetworkText}
+use Rattle.hddl_words.specs.declared.network.SubtaskText.{SubtaskText}
+use Rattle.hddl_words.specs.declared.domain.ActionText.{ActionText}
+use Rattle.hddl_words.specs.declared.domain.MethodText.{MethodText}
+use Rattle.hddl_words.specs.declared.problem.ProblemText.{ProblemText}
 use Rattle.hddl_meaning.specs.Mentions.{IsIn}
 use Rattle.hddl_meaning.specs.Uses as uses
 use Rattle.hddl_meaning.specs.Uses.{Schema, TermUse, Variable, atoms_in, atoms_step, constraints_in, parameters_of, quantified_of, schema_of_action, schema_of_method, schema_of_network, schema_of_states, sides, sides_in, sides_step, subtasks_in, under}

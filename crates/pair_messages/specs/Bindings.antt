@@ -1,7 +1,7 @@
 -- The variables that are looked at.
 use Rattle.std.specs.Prelude.{ℕ, List, map}
 use Rattle.std.specs.List.{flat_map}
-use Rattle.hddl_tree.specs.declared.term.VariableGroup.{VariableGroup}
+use Rattle.hddl_words.specs.declared.term.VariableGroup.{VariableGroup}
 use Rattle.hddl_meaning.specs.Mentions.{IsIn, Text, folded, mentions_of, texts, typed_variables}
 use Rattle.pair_messages.specs.declared.variables.Binding.{Binding}
 

@@ -1,10 +1,10 @@
 -- The numbers that a summary gives.
 use Rattle.std.specs.Prelude.{ℕ, ◌-◌, ◌^◌, min, List, [], ◌∷◌, length}
 use Rattle.std.specs.List.{flat_map, sum, sum_by}
-use Rattle.hddl_tree.specs.declared.condition.Condition.{Condition, fold-Condition}
-use Rattle.hddl_tree.specs.declared.condition.Condition.TheOpen.{Condition-F}
-use Rattle.hddl_tree.specs.declared.domain.DomainText.{DomainText}
-use Rattle.hddl_tree.specs.declared.problem.ProblemText.{ProblemText}
+use Rattle.hddl_words.specs.declared.condition.Condition.{Condition, fold-Condition}
+use Rattle.hddl_words.specs.declared.condition.Condition.TheOpen.{Condition-F}
+use Rattle.hddl_words.specs.declared.domain.DomainText.{DomainText}
+use Rattle.hddl_words.specs.declared.problem.ProblemText.{ProblemText}
 use Rattle.diagnostics.specs.declared.diagnostic.Part.{Part}
 use Rattle.diagnostics.specs.declared.diagnostic.Part.TheVariants.{Words, Name, Number}
 use Rattle.hddl_meaning.specs.Mentions.{mentions_of, texts, typed_names}

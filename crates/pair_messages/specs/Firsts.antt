@@ -1,7 +1,7 @@
 -- The places of first declarations, as tables have them, and notes by what they stand at.
 use Rattle.std.specs.Prelude.{◌≡◌, ℕ, List, [], ◌∷◌, map, Option, Some, None}
-use Rattle.hddl_tree.specs.declared.domain.DomainText.{DomainText}
-use Rattle.hddl_tree.specs.declared.problem.ProblemText.{ProblemText}
+use Rattle.hddl_words.specs.declared.domain.DomainText.{DomainText}
+use Rattle.hddl_words.specs.declared.problem.ProblemText.{ProblemText}
 use Rattle.hddl_meaning.specs.Mentions.{IsIn, Mention, Text, folded, mention_of}
 use Rattle.hddl_meaning.specs.Names.{type_mentions}
 use Rattle.hddl_meaning.specs.declared.fault.At.{At}

@@ -1,6 +1,6 @@
 -- The types that may be named.
 use Rattle.std.specs.Prelude.{List}
-use Rattle.hddl_tree.specs.declared.domain.DomainText.{DomainText}
+use Rattle.hddl_words.specs.declared.domain.DomainText.{DomainText}
 use Rattle.hddl_meaning.specs.Mentions.{Text, texts}
 use Rattle.hddl_meaning.specs.Names.{distinct, object, type_mentions, with_name}
 

@@ -4,15 +4,15 @@ use Rattle.std.specs.Prelude.{◌≡◌, ◌⊎◌, ℕ, ◌+◌, ◌<◌, true,
 use Rattle.std.specs.Borrow.{Bor}
 use Rattle.std.specs.List.{All, AllZip, find, flat_map}
 use Rattle.hddl_words.specs.Names.{Name}
-use Rattle.hddl_tree.specs.declared.term.Term.{Term}
-use Rattle.hddl_tree.specs.declared.term.Term.TheVariants as term
-use Rattle.hddl_tree.specs.declared.term.VariableGroup.{VariableGroup}
-use Rattle.hddl_tree.specs.declared.network.NetworkText.{NetworkText}
-use Rattle.hddl_tree.specs.declared.network.OrderingText.{OrderingText}
-use Rattle.hddl_tree.specs.declared.domain.ActionText.{ActionText}
-use Rattle.hddl_tree.specs.declared.domain.DomainText.{DomainText}
-use Rattle.hddl_tree.specs.declared.domain.MethodText.{MethodText}
-use Rattle.hddl_tree.specs.declared.problem.ProblemText.{ProblemText}
+use Rattle.hddl_words.specs.declared.term.Term.{Term}
+use Rattle.hddl_words.specs.declared.term.Term.TheVariants as term
+use Rattle.hddl_words.specs.declared.term.VariableGroup.{VariableGroup}
+use Rattle.hddl_words.specs.declared.network.NetworkText.{NetworkText}
+use Rattle.hddl_words.specs.declared.network.OrderingText.{OrderingText}
+use Rattle.hddl_words.specs.declared.domain.ActionText.{ActionText}
+use Rattle.hddl_words.specs.declared.domain.DomainText.{DomainText}
+use Rattle.hddl_words.specs.declared.domain.MethodText.{MethodText}
+use Rattle.hddl_words.specs.declared.problem.ProblemText.{ProblemText}
 use Rattle.hddl_locate.specs.Places.{term_place}
 use Rattle.hddl_meaning.specs.Mentions.{IsIn, Mention, Text, folded, mention_of, mentions_of, typed_variables}
 use Rattle.hddl_meaning.specs.Names.{is_same_text, type_mentions}
@@ -26,7 +26,7 @@ use Rattle.hddl_meaning.specs.declared.fault.Source.{Source}
 use Rattle.hddl_meaning.specs.declared.fault.Source.TheVariants as source
 use Rattle.diagnostics.specs.declared.diagnostic.Note.{Note}
 use Rattle.diagnostics.specs.declared.diagnostic.Remark.{Remark}
-use Rattle.near_names.specs.Offers.{offered}
+use Rattle.diagnostics.specs.Offers.{offered}
 use Rattle.pair_messages.specs.declared.asked.Asked.{Asked}
 use Rattle.pair_messages.specs.declared.firsts.Sort.{Sort}
 use Rattle.pair_messages.specs.declared.firsts.Sort.TheVariants as sort

@@ -2,11 +2,11 @@
 use Rattle.std.specs.Prelude.{◌≡◌, ◌⊎◌, ℕ, false, true, List, [], ◌∷◌, ◌++◌, map, filter_map, slice_get, Option, Some, None}
 use Rattle.std.specs.List.{All, flat_map}
 use Rattle.hddl_words.specs.Names.{Name}
-use Rattle.hddl_tree.specs.declared.term.Term.{Term}
-use Rattle.hddl_tree.specs.declared.term.Term.TheVariants as term
-use Rattle.hddl_tree.specs.declared.domain.DomainText.{DomainText}
-use Rattle.hddl_tree.specs.declared.network.NetworkText.{NetworkText}
-use Rattle.hddl_tree.specs.declared.problem.ProblemText.{ProblemText}
+use Rattle.hddl_words.specs.declared.term.Term.{Term}
+use Rattle.hddl_words.specs.declared.term.Term.TheVariants as term
+use Rattle.hddl_words.specs.declared.domain.DomainText.{DomainText}
+use Rattle.hddl_words.specs.declared.network.NetworkText.{NetworkText}
+use Rattle.hddl_words.specs.declared.problem.ProblemText.{ProblemText}
 use Rattle.hddl_meaning.specs.Mentions.{IsIn, Text, folded, texts}
 use Rattle.hddl_meaning.specs.Names.{compound_names, object_names, predicate_names, task_names, type_names}
 use Rattle.hddl_meaning.specs.Uses.{Schema, TermUse, Use, Variable}
@@ -14,8 +14,8 @@ use Rattle.hddl_meaning.specs.Items.{label_mentions, networks_in, ordering_names
 use Rattle.hddl_meaning.specs.declared.fault.At.{At}
 use Rattle.hddl_meaning.specs.declared.fault.CheckFault.{CheckFault}
 use Rattle.hddl_meaning.specs.declared.fault.CheckFault.TheVariants as fault
-use Rattle.near_names.specs.Near.{distance_of, is_nearer, may_be_meant, nearest_of}
-use Rattle.near_names.specs.Offers.{offered}
+use Rattle.diagnostics.specs.Near.{distance_of, is_nearer, may_be_meant, nearest_of}
+use Rattle.diagnostics.specs.Offers.{offered}
 use Rattle.diagnostics.specs.declared.diagnostic.Remark.{Remark}
 use Rattle.pair_messages.specs.declared.stands.Kind.{Kind}
 use Rattle.pair_messages.specs.declared.stands.Kind.TheVariants as kind

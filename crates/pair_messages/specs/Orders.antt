@@ -4,7 +4,7 @@ use Rattle.std.specs.List.{position}
 use Rattle.hddl_meaning.specs.Mentions.{Text}
 use Rattle.hddl_meaning.specs.Networks.{is_text}
 use Rattle.hddl_scope.specs.Numbers.{Entries, number_at}
-use Rattle.hddl_tree.specs.declared.network.NetworkText.{NetworkText}
+use Rattle.hddl_words.specs.declared.network.NetworkText.{NetworkText}
 
 -- each label has the position of the first subtask that has it
 abbrev pub AreNumbers : NetworkText → Entries → Type 0

@@ -1,13 +1,13 @@
 -- The item at a place of a text: the name of a use, an argument of one, or a side of an equality.
 use Rattle.std.specs.Prelude.{◌≡◌, ℕ, List, [], ◌∷◌, ◌++◌, slice_get, Some}
 use Rattle.std.specs.List.{flat_map}
-use Rattle.hddl_tree.specs.declared.term.Term.{Term}
-use Rattle.hddl_tree.specs.declared.term.VariableGroup.{VariableGroup}
-use Rattle.hddl_tree.specs.declared.condition.Condition.{Condition}
-use Rattle.hddl_tree.specs.declared.condition.EqualityText.{EqualityText}
-use Rattle.hddl_tree.specs.declared.network.NetworkText.{NetworkText}
-use Rattle.hddl_tree.specs.declared.domain.DomainText.{DomainText}
-use Rattle.hddl_tree.specs.declared.problem.ProblemText.{ProblemText}
+use Rattle.hddl_words.specs.declared.term.Term.{Term}
+use Rattle.hddl_words.specs.declared.term.VariableGroup.{VariableGroup}
+use Rattle.hddl_words.specs.declared.condition.Condition.{Condition}
+use Rattle.hddl_words.specs.declared.condition.EqualityText.{EqualityText}
+use Rattle.hddl_words.specs.declared.network.NetworkText.{NetworkText}
+use Rattle.hddl_words.specs.declared.domain.DomainText.{DomainText}
+use Rattle.hddl_words.specs.declared.problem.ProblemText.{ProblemText}
 use Rattle.hddl_locate.specs.Places.{term_place}
 use Rattle.hddl_meaning.specs.Mentions.{IsIn}
 use Rattle.hddl_meaning.specs.Uses as uses

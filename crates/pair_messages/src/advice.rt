@@ -3,7 +3,7 @@
 ghost use Rattle.std.specs.Prelude.{◌≡◌, [], IfOk};
 ghost use Rattle.std.specs.List.{All};
 ghost use Rattle.hddl_meaning.specs.declared.fault.CheckFault.TheVariants as fault_of;
-ghost use Rattle.near_names.specs.Offers.{offered};
+ghost use Rattle.diagnostics.specs.Offers.{offered};
 ghost use Rattle.pair_messages.specs.Offers.{IsForStand, IsForTermUse, MayBeMeant, OffersMeant};
 ghost use Rattle.pair_messages.specs.Stands.{in_force};
 ghost use Rattle.pair_messages.specs.declared.stands.Stand.TheVariants as stand_of_use;
@@ -19,7 +19,7 @@ use crate::texts::word_of;
 use crate::types::type_remarks;
 use diagnostics::Remark;
 use hddl_meaning::{At, CheckFault};
-use hddl_tree::Term;
+use hddl_words::Term;
 use std::alloc::{AllocError, Global};
 
 /// What is remarked of a term that isn't declared.

@@ -2,8 +2,8 @@
 
 ghost use Rattle.std.specs.Prelude.{◌≡◌, ◌⊎◌, ℕ, List, [], ◌∷◌, ◌++◌, IfOk, IfSome, OnOk, map};
 ghost use Rattle.std.specs.List.{All, AllZip, flat_map};
-ghost use Rattle.hddl_tree.specs.declared.network.NetworkText.{NetworkText as NetworkTree};
-ghost use Rattle.hddl_tree.specs.declared.network.OrderingText.{OrderingText as OrderingTree};
+ghost use Rattle.hddl_words.specs.declared.network.NetworkText.{NetworkText as NetworkTree};
+ghost use Rattle.hddl_words.specs.declared.network.OrderingText.{OrderingText as OrderingTree};
 ghost use Rattle.hddl_meaning.specs.Items.{networks_in};
 ghost use Rattle.hddl_meaning.specs.Mentions.{IsIn};
 ghost use Rattle.hddl_meaning.specs.Uses.{schema_of_action, schema_of_method};
@@ -21,7 +21,7 @@ use crate::stands::{in_action, in_method, in_network};
 use diagnostics::{Note, Part};
 use hddl_locate::{action_by, method_by};
 use hddl_meaning::{At, Source as Side};
-use hddl_tree::{ActionText, DomainText, MethodText, NetworkText, ProblemText};
+use hddl_words::{ActionText, DomainText, MethodText, NetworkText, ProblemText};
 use std::alloc::{AllocError, Global};
 
 /// The method around what stands at a place.

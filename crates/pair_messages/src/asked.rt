@@ -2,17 +2,17 @@
 
 ghost use Rattle.std.specs.Prelude.{◌≡◌, ℕ, cond, is_some, Some, None, true, IfOk, IfSome, OnOk};
 ghost use Rattle.std.specs.List.{All, position};
-ghost use Rattle.hddl_tree.specs.declared.network.NetworkText.{NetworkText as NetworkTree};
+ghost use Rattle.hddl_words.specs.declared.network.NetworkText.{NetworkText as NetworkTree};
 ghost use Rattle.hddl_meaning.specs.Mentions.{IsIn, Text};
 ghost use Rattle.hddl_meaning.specs.Networks.{is_text};
 ghost use Rattle.hddl_scope.specs.Numbers.{number_at};
 ghost use Rattle.pair_messages.specs.Notes.{IsAsked, IsCycle, Leads};
 ghost use Rattle.pair_messages.specs.Orders.{AreNumbers};
 
-use cycles::shortest_cycle;
+use crate::cycle::shortest_cycle;
 use hddl_names::fold;
 use hddl_scope::Numbers;
-use hddl_tree::{Name, NetworkText, OrderingText, SubtaskText};
+use hddl_words::{Name, NetworkText, OrderingText, SubtaskText};
 use std::alloc::{AllocError, Global};
 
 /// A pair of the order, by positions, with the ordering that asks for it; none where the list does.

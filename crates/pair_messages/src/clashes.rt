@@ -1,7 +1,7 @@
 //! Arguments that can't have the type of their place.
 
 ghost use Rattle.std.specs.Prelude.{◌≡◌, [], IfOk};
-ghost use Rattle.near_names.specs.Offers.{offered, offered_by};
+ghost use Rattle.diagnostics.specs.Offers.{offered, offered_by};
 
 use crate::firsts::declaration_of;
 use crate::fits::fits;
@@ -10,10 +10,9 @@ use crate::phrases::written_type;
 use crate::remarks::help;
 use crate::stands::Use;
 use crate::variables::{Binding, binding_in, bindings_of, places_of};
-use diagnostics::{Part, Remark};
+use diagnostics::{Part, Remark, push_names};
 use hddl_names::fold;
-use hddl_tree::{Name, Term};
-use near_names::push_names;
+use hddl_words::{Name, Term};
 use std::alloc::{AllocError, Global};
 
 /// The most declared types of an object that are listed.

@@ -20,7 +20,7 @@ use diagnostics::{Note, Part};
 use hddl_meaning::{At, Source as Side};
 use hddl_names::fold;
 use hddl_scope::Mention;
-use hddl_tree::{Name, Term, Variable};
+use hddl_words::{Name, Term, Variable};
 use std::alloc::{AllocError, Global};
 
 /// Where the first variable in force of a name is declared.

@@ -6,7 +6,7 @@ use hddl_locate::{
     typed_or_type_at, typed_variable_at,
 };
 use hddl_meaning::{At, Source as Side};
-use hddl_tree::{Condition, DomainText, NetworkText, ProblemText, VariableGroup};
+use hddl_words::{Condition, DomainText, NetworkText, ProblemText, VariableGroup};
 
 /// As deep as brackets are open in a text, at most.
 const MOST_DEPTH: usize = 64;

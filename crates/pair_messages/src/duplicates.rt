@@ -1,7 +1,7 @@
 //! Names that stand twice.
 
 ghost use Rattle.std.specs.Prelude.{◌≡◌, [], IfOk};
-ghost use Rattle.near_names.specs.Offers.{offered, offered_by};
+ghost use Rattle.diagnostics.specs.Offers.{offered, offered_by};
 
 use crate::declared::{Declared, declared_at};
 use crate::index::PairIndex;

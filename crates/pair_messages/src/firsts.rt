@@ -11,7 +11,7 @@ use crate::stands::Kind;
 use hddl_locate::{action_by, method_by, predicate_by, task_by};
 use hddl_meaning::{At, Source as Side};
 use hddl_scope::{Mention, Numbers, method_names, names_in, predicate_names, task_names, types_in};
-use hddl_tree::{
+use hddl_words::{
     ActionText, DomainText, MethodText, Name, NameGroup, PredicateText, ProblemText, TaskText,
     VariableGroup,
 };

@@ -5,7 +5,7 @@ use crate::phrases::written_type;
 use crate::variables::{Binding, binding_in};
 use crate::walks::is_below;
 use hddl_names::fold;
-use hddl_tree::{Name, Term};
+use hddl_words::{Name, Term};
 use std::alloc::{AllocError, Global};
 
 /// The most declarations of an object that are looked at.

@@ -10,7 +10,7 @@ use crate::known::{Known, known_names};
 use crate::texts::PairTexts;
 use hddl_meaning::Source;
 use hddl_names::fold_to_vec;
-use hddl_tree::{DomainText, Name, NameGroup, ProblemText};
+use hddl_words::{DomainText, Name, NameGroup, ProblemText};
 use indexmap::IndexMap;
 use std::alloc::{AllocError, Global};
 

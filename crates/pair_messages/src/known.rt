@@ -3,12 +3,12 @@
 ghost use Rattle.std.specs.Prelude.{◌≡◌, IfOk, OnOk, fold};
 ghost use Rattle.hddl_meaning.specs.Mentions.{mentions_of, texts, typed_names};
 ghost use Rattle.hddl_meaning.specs.Names.{object_names, with_name};
-ghost use Rattle.near_names.specs.Near.{names_of};
+ghost use Rattle.diagnostics.specs.Near.{names_of};
 ghost use Rattle.pair_messages.specs.Known.{known_types};
 
 use crate::summary::{add_group, add_types};
 use hddl_names::{Names, fold_to_vec};
-use hddl_tree::{DomainText, NameGroup, ProblemText};
+use hddl_words::{DomainText, NameGroup, ProblemText};
 use std::alloc::{AllocError, Global};
 
 /// The names that a pair declares: types with `object`, and constants with objects.

@@ -7,6 +7,7 @@ mod around;
 mod asked;
 mod clashes;
 mod compared;
+mod cycle;
 mod declared;
 mod duplicates;
 mod firsts;

@@ -5,7 +5,7 @@ use crate::index::PairIndex;
 use crate::variables::places_of;
 use diagnostics::Part;
 use hddl_meaning::At;
-use hddl_tree::VariableGroup;
+use hddl_words::VariableGroup;
 use std::alloc::{AllocError, Global};
 
 /// The most parameters of a list.

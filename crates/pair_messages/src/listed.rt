@@ -13,7 +13,7 @@ use crate::stands::InForce;
 use crate::variables::MOST_LOOKED_AT;
 use hddl_names::fold;
 use hddl_scope::{Mention, variables_in};
-use hddl_tree::{Name, SubtaskText, VariableGroup};
+use hddl_words::{Name, SubtaskText, VariableGroup};
 use std::alloc::{AllocError, Global};
 
 /// Whether a typed list has so few variables that all are looked at.

@@ -2,8 +2,8 @@
 
 ghost use Rattle.std.specs.Prelude.{◌≡◌, [], IfOk, IfSome};
 ghost use Rattle.std.specs.List.{All};
-ghost use Rattle.near_names.specs.Near.{names_of};
-ghost use Rattle.near_names.specs.Offers.{offered, offered_by};
+ghost use Rattle.diagnostics.specs.Near.{names_of};
+ghost use Rattle.diagnostics.specs.Offers.{offered, offered_by};
 ghost use Rattle.pair_messages.specs.Offers.{declared_of_kind, IsNearest};
 
 use crate::firsts::first_method;
@@ -14,7 +14,7 @@ use crate::remarks::{ask, help};
 use crate::stands::Kind;
 use diagnostics::{Part, Remark};
 use hddl_names::fold;
-use hddl_tree::MethodText;
+use hddl_words::MethodText;
 use std::alloc::{AllocError, Global};
 
 /// The message for a name of a kind that isn't declared.

@@ -1,15 +1,15 @@
 //! The declared names that are nearest to one that isn't declared.
 
 ghost use Rattle.std.specs.Prelude.{◌≡◌, ◌++◌, IfOk, OnOk, filter_map, map, slice_get, true};
-ghost use Rattle.near_names.specs.Near.{names_of};
+ghost use Rattle.diagnostics.specs.Near.{names_of};
 ghost use Rattle.std.specs.List.{All};
 ghost use Rattle.hddl_meaning.specs.Mentions.{folded};
 ghost use Rattle.pair_messages.specs.Offers.{declared_of_kind, names_of_kind, nearest_in, IsNearest};
 
 use crate::stands::Kind;
+use diagnostics::nearest;
 use hddl_names::fold;
-use hddl_tree::{ActionText, DomainText, PredicateText, TaskText};
-use near_names::nearest;
+use hddl_words::{ActionText, DomainText, PredicateText, TaskText};
 use std::alloc::{AllocError, Global};
 
 /// The most work that is spent on near names: the bytes of a word times those of the names that it is compared with,

@@ -3,8 +3,8 @@
 ghost use Rattle.std.specs.Prelude.{◌≡◌, ◌++◌, ℕ, List, IfOk, IfSome, OnOk};
 ghost use Rattle.std.specs.List.{All};
 ghost use Rattle.hddl_meaning.specs.Mentions.{folded, IsIn};
-ghost use Rattle.near_names.specs.Near.{names_of};
-ghost use Rattle.near_names.specs.Offers.{name_in, named, offered, offered_by};
+ghost use Rattle.diagnostics.specs.Near.{names_of};
+ghost use Rattle.diagnostics.specs.Offers.{name_in, named, offered, offered_by};
 ghost use Rattle.pair_messages.specs.declared.firsts.Sort.TheVariants as sort_of;
 ghost use Rattle.pair_messages.specs.Firsts.{listed as listed_note, IsFirstNote, IsNoteAt, StandsOn};
 ghost use Rattle.pair_messages.specs.Notes.{IsFirst, IsTwin};
@@ -16,10 +16,9 @@ use crate::phrases::{declared_here, declared_with};
 use crate::stands::Use;
 use crate::texts::{spot_of, word_of};
 use crate::twins::first_twin;
-use diagnostics::{Note, Part, Remark};
+use diagnostics::{Note, Part, Remark, is_question};
 use hddl_meaning::At;
 use hddl_names::fold;
-use near_names::is_question;
 use std::alloc::{AllocError, Global};
 
 /// A note at a place of a pair.

@@ -4,8 +4,8 @@ ghost use Rattle.std.specs.Prelude.{◌≡◌, List, [], ◌∷◌, IfOk, IfSome
 ghost use Rattle.std.specs.List.{All};
 ghost use Rattle.hddl_meaning.specs.Mentions.{folded, IsIn, Text};
 ghost use Rattle.hddl_meaning.specs.Names.{object_names};
-ghost use Rattle.near_names.specs.Near.{names_of};
-ghost use Rattle.near_names.specs.Offers.{offered, offered_by};
+ghost use Rattle.diagnostics.specs.Near.{names_of};
+ghost use Rattle.diagnostics.specs.Offers.{offered, offered_by};
 ghost use Rattle.pair_messages.specs.Offers.{variable_texts, AreNearest, AreWritten, IsNearest, IsVariableOf, MayBeObject};
 ghost use Rattle.pair_messages.specs.Stands.{in_force};
 

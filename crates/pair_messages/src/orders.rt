@@ -4,8 +4,8 @@ ghost use Rattle.std.specs.Prelude.{◌≡◌, [], ◌++◌, IfOk, IfSome, OnOk,
 ghost use Rattle.std.specs.List.{All};
 ghost use Rattle.hddl_meaning.specs.Items.{label_mentions, ordering_names};
 ghost use Rattle.hddl_meaning.specs.Mentions.{IsIn, texts};
-ghost use Rattle.near_names.specs.Near.{names_of};
-ghost use Rattle.near_names.specs.Offers.{begins_question, offered, offered_by};
+ghost use Rattle.diagnostics.specs.Near.{names_of};
+ghost use Rattle.diagnostics.specs.Offers.{begins_question, offered, offered_by};
 ghost use Rattle.pair_messages.specs.Offers.{label_text, label_texts, IsForLabel, IsForOrdering, IsNearest};
 ghost use Rattle.pair_messages.specs.Stands.{IsNetworkIn, IsNetworkOf, IsSectionOf};
 
@@ -15,11 +15,10 @@ use crate::near::{may_offer, nearest_within};
 use crate::phrases::{Section, plain, section_parts};
 use crate::remarks::{fact, help};
 use crate::texts::word_of;
-use diagnostics::{Part, Remark};
+use diagnostics::{Part, Remark, did_you_mean, push_names};
 use hddl_locate::{method_by, ordering_by};
 use hddl_meaning::{At, Source as Side};
-use hddl_tree::{Name, NetworkText};
-use near_names::{did_you_mean, push_names};
+use hddl_words::{Name, NetworkText};
 use std::alloc::{AllocError, Global};
 
 /// The most labels that are listed.

@@ -6,7 +6,7 @@ ghost use Rattle.pair_messages.specs.Stands.{section_parameters};
 
 use crate::variables::MOST_LOOKED_AT;
 use diagnostics::Part;
-use hddl_tree::{ActionText, HtnText, MethodText, Name, Variable, VariableGroup};
+use hddl_words::{ActionText, HtnText, MethodText, Name, Variable, VariableGroup};
 use std::alloc::{AllocError, Global};
 use std::str;
 

@@ -14,7 +14,7 @@ use crate::notes::{offered_notes, twin_notes, use_notes};
 use crate::stands::{Stand, Use, stand_of};
 use diagnostics::{Note, Remark};
 use hddl_meaning::{At, CheckFault};
-use hddl_tree::Term;
+use hddl_words::Term;
 use std::alloc::{AllocError, Global};
 
 /// The notes for a term that isn't declared.

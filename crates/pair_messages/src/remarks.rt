@@ -1,11 +1,10 @@
 //! Remarks of a diagnostic.
 
 ghost use Rattle.std.specs.Prelude.{◌≡◌, IfOk};
-ghost use Rattle.near_names.specs.Near.{names_of};
-ghost use Rattle.near_names.specs.Offers.{offered, offered_by};
+ghost use Rattle.diagnostics.specs.Near.{names_of};
+ghost use Rattle.diagnostics.specs.Offers.{offered, offered_by};
 
-use diagnostics::{Part, Remark, RemarkKind};
-use near_names::did_you_mean;
+use diagnostics::{Part, Remark, RemarkKind, did_you_mean};
 use std::alloc::{AllocError, Global};
 
 /// One remark.

@@ -13,7 +13,7 @@ use crate::texts::word_of;
 use crate::types::{cycle_label, cycle_message, type_message};
 use diagnostics::Part;
 use hddl_meaning::{At, CheckFault};
-use hddl_tree::Term;
+use hddl_words::Term;
 use std::alloc::{AllocError, Global};
 
 /// A message of two parts.

@@ -11,7 +11,7 @@ use hddl_locate::{
     term_place,
 };
 use hddl_meaning::{At, Source as Side};
-use hddl_tree::{
+use hddl_words::{
     ActionText, AtomText, Condition, DomainText, EqualityText, MethodText, NetworkText,
     ProblemText, Term, VariableGroup,
 };

@@ -9,7 +9,7 @@ ghost use Rattle.pair_messages.specs.Counts.{domain_counts, literal_count, liter
 use crate::phrases::{plain, push_count};
 use diagnostics::Part;
 use hddl_names::{Names, fold_to_vec};
-use hddl_tree::{Condition, DomainText, Name, NameGroup, ProblemText};
+use hddl_words::{Condition, DomainText, Name, NameGroup, ProblemText};
 use std::alloc::{AllocError, Global};
 
 /// Adds a name, unless it is there.

@@ -8,7 +8,7 @@ ghost use Rattle.pair_messages.specs.Heads.{word_from};
 
 use diagnostics::{Source, Spot};
 use hddl_meaning::{At, CheckFault, Source as Side};
-use hddl_tree::{DomainText, ProblemText};
+use hddl_words::{DomainText, ProblemText};
 
 /// A domain, with a problem or alone. A domain alone has an empty problem's tree.
 #[derive(Clone, Copy, Drop)]

@@ -4,8 +4,8 @@ ghost use Rattle.std.specs.Prelude.{◌≡◌, List, [], IfOk, OnOk, false};
 ghost use Rattle.std.specs.List.{All};
 ghost use Rattle.hddl_meaning.specs.Mentions.{IsIn, Text};
 ghost use Rattle.hddl_meaning.specs.Names.{type_names};
-ghost use Rattle.near_names.specs.Near.{names_of};
-ghost use Rattle.near_names.specs.Offers.{begins_question, offered, offered_by};
+ghost use Rattle.diagnostics.specs.Near.{names_of};
+ghost use Rattle.diagnostics.specs.Offers.{begins_question, offered, offered_by};
 ghost use Rattle.pair_messages.specs.Offers.{AreNearest, AreWritten, IsNearest};
 
 use crate::index::PairIndex;
@@ -14,8 +14,7 @@ use crate::near::{folds_to, may_offer, nearest_among};
 use crate::phrases::plain;
 use crate::remarks::{ask, help};
 use crate::walks::cycle_through;
-use diagnostics::{Part, Remark};
-use near_names::push_names;
+use diagnostics::{Part, Remark, push_names};
 use std::alloc::{AllocError, Global};
 
 /// The most types that are listed.

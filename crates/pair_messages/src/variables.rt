@@ -3,13 +3,13 @@
 ghost use Rattle.std.specs.Prelude.{◌≡◌, List, ◌++◌, IfOk, OnOk, map, true};
 ghost use Rattle.std.specs.List.{All};
 ghost use Rattle.hddl_meaning.specs.Mentions.{folded, Text};
-ghost use Rattle.near_names.specs.Near.{names_of};
+ghost use Rattle.diagnostics.specs.Near.{names_of};
 ghost use Rattle.pair_messages.specs.Bindings.{AreAllIn, IsBindingIn, group_texts, variables_in};
 ghost use Rattle.pair_messages.specs.Offers.{variable_texts};
 ghost use Rattle.pair_messages.specs.Stands.{in_force};
 
 use crate::stands::InForce;
-use hddl_tree::{Name, Variable, VariableGroup};
+use hddl_words::{Name, Variable, VariableGroup};
 use std::alloc::{AllocError, Global};
 
 /// The most variables of a typed list that are looked at. A list of more than 32 is a fault, but for a compound task's.

@@ -4,7 +4,7 @@ use crate::index::{PairIndex, Type};
 use crate::phrases::written_type;
 use crate::variables::is_same;
 use hddl_names::fold;
-use hddl_tree::Name;
+use hddl_words::Name;
 use std::alloc::{AllocError, Global};
 
 /// The most types of a way that are looked at, and the most parents of each.

@@ -2,7 +2,7 @@
 use Rattle.std.proofs.Common.{◌≡◌, ℕ, zero, suc, ◌+◌, ◌<◌, ◌≤◌, List, [], ◌∷◌, ◌++◌, length, get_or, drop, min, refl, sym, ap, ap₂, ◌∙◌, arith}
 use Rattle.std.proofs.lemmas.List.{append_assoc, append-nil}
 use Rattle.htn_model.specs.PlanFile.{ActionLine}
-use Rattle.plan_reasons.specs.declared.run.Change.{Change}
+use Rattle.plan_causes.specs.declared.run.Change.{Change}
 use Rattle.picture_html.specs.Changes.{action_row, action_rows}
 
 -- what is left after one item

@@ -5,17 +5,17 @@ use Rattle.std.specs.Fmt.{decimal}
 use Rattle.std.specs.Str.{bytes_eq}
 use Rattle.std.proofs.lemmas.Bool.{cases_lt, eqb-true}
 use Rattle.htn_model.specs.PlanFile.{ActionLine, PlanFile, Word}
-use Rattle.plan_reasons.specs.Facts.{words_of}
-use Rattle.plan_reasons.specs.declared.run.Change.{Change}
-use Rattle.plan_reasons.specs.declared.run.Fact.{Fact}
-use Rattle.plan_reasons.specs.declared.run.Run.{Run}
-use Rattle.text_places.specs.Shown.{shown}
+use Rattle.plan_causes.specs.Facts.{words_of}
+use Rattle.plan_causes.specs.declared.run.Change.{Change}
+use Rattle.plan_causes.specs.declared.run.Fact.{Fact}
+use Rattle.plan_causes.specs.declared.run.Run.{Run}
+use Rattle.diagnostics.specs.Shown.{shown}
 use Rattle.diagnostics.specs.Tame.{is_tame}
 use Rattle.plan_picture.specs.declared.picture.Picture.{Picture}
 use Rattle.plan_picture.specs.Rows.{Row}
 use Rattle.picture_text.specs.declared.caption.Caption.{Caption}
 use Rattle.picture_text.specs.declared.caption.Mark.{Mark}
-use Rattle.plan_forest.specs.Forest.{lists_of}
+use Rattle.plan_text.specs.Forest.{lists_of}
 use Rattle.picture_text.specs.declared.detail.Setting.{Setting}
 use Rattle.picture_text.specs.declared.detail.Condition.{Condition}
 use Rattle.picture_text.specs.declared.detail.Detail.{Detail}

@@ -2,10 +2,10 @@
 use Rattle.std.specs.Prelude.{ℕ, suc, List, [], ◌∷◌, ◌++◌, codes, Option, Some, None}
 use Rattle.std.specs.List.{flat_map}
 use Rattle.htn_model.specs.PlanFile.{ActionLine, PlanFile, Word}
-use Rattle.plan_reasons.specs.Facts.{words_of}
-use Rattle.plan_reasons.specs.declared.run.Change.{Change}
-use Rattle.plan_reasons.specs.declared.run.Fact.{Fact}
-use Rattle.plan_reasons.specs.declared.run.Run.{Run}
+use Rattle.plan_causes.specs.Facts.{words_of}
+use Rattle.plan_causes.specs.declared.run.Change.{Change}
+use Rattle.plan_causes.specs.declared.run.Fact.{Fact}
+use Rattle.plan_causes.specs.declared.run.Run.{Run}
 use Rattle.picture_html.specs.Label.{between, clean, name_text, spaced}
 
 -- words with a blank between any two

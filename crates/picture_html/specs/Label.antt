@@ -3,7 +3,7 @@ use Rattle.std.specs.Prelude.{ℕ, zero, suc, nat_eq, if◌then◌else◌, List,
 use Rattle.std.specs.List.{flat_map}
 use Rattle.std.specs.Fmt.{decimal}
 use Rattle.htn_model.specs.PlanFile.{Word}
-use Rattle.text_places.specs.Shown.{shown}
+use Rattle.diagnostics.specs.Shown.{shown}
 use Rattle.picture_text.specs.declared.caption.Mark.{Mark}
 use Rattle.picture_text.specs.Lines.{Line, action, task}
 use Rattle.picture_svg.specs.Escape.{escape}

@@ -3,7 +3,7 @@ use Rattle.std.specs.Prelude.{ℕ, Bool, false, List, [], ◌++◌, codes, Optio
 use Rattle.std.specs.List.{flat_map, list_any}
 use Rattle.std.specs.Option.{is_some}
 use Rattle.htn_model.specs.PlanFile.{Word}
-use Rattle.plan_forest.specs.Forest.{lists_of}
+use Rattle.plan_text.specs.Forest.{lists_of}
 use Rattle.picture_text.specs.declared.detail.Setting.{Setting}
 use Rattle.picture_text.specs.declared.detail.Condition.{Condition}
 use Rattle.picture_text.specs.declared.detail.Detail.{Detail}

@@ -7,7 +7,7 @@ ghost use Rattle.picture_html.specs.Label.{spaced};
 
 use crate::escape::say_clean;
 use crate::label::{say_between, say_name};
-use plan_reasons::{Change, Fact, Run};
+use plan_causes::{Change, Fact, Run};
 use plan_text::{ActionLine, PlanFile};
 use std::alloc::AllocError;
 

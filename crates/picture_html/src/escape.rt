@@ -4,8 +4,8 @@ ghost use Rattle.std.specs.Prelude.{◌≡◌, ◌++◌, OnOk};
 ghost use Rattle.picture_svg.specs.Escape as markup;
 ghost use Rattle.picture_html.specs.Label as spec;
 
+use diagnostics::shown;
 use std::alloc::AllocError;
-use text_places::shown;
 
 /// A byte, or its name.
 pub(crate) fn say_byte(out: &mut Vec<u8>, byte: u8) -> Result<(), AllocError>

@@ -1,7 +1,7 @@
 //! What is said of a plan beside its forest.
 
 use picture_text::Detail;
-use plan_reasons::Run;
+use plan_causes::Run;
 
 /// What is said of a plan beside its forest.
 #[derive(Clone, Copy)]

@@ -3,7 +3,7 @@
 ghost use Rattle.std.specs.Prelude.{◌≡◌, ◌++◌, option_map, OnOk};
 ghost use Rattle.std.specs.List.{flat_map, list_any};
 ghost use Rattle.picture_html.specs.Tip as spec;
-ghost use Rattle.plan_forest.specs.Forest.{lists_of};
+ghost use Rattle.plan_text.specs.Forest.{lists_of};
 
 use crate::escape::say_clean;
 use picture_text::{Condition, Detail, Setting, say_moment};

@@ -4,8 +4,8 @@ ghost use Rattle.std.specs.Prelude.{◌≡◌, ◌++◌, OnOk};
 ghost use Rattle.picture_html.specs.Why as spec;
 
 use crate::escape::say_byte;
+use diagnostics::shown;
 use std::alloc::AllocError;
-use text_places::shown;
 
 /// A byte as it is shown, and a line feed as it is.
 fn line_byte(byte: u8) -> u8

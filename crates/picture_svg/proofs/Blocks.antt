@@ -2,7 +2,7 @@
 use Rattle.std.proofs.Common.{◌≡◌, ℕ, ◌+◌, ◌*◌, ◌<◌, ◌≤◌, Bool, List, [], ◌∷◌, ◌++◌, length, get_or, Option, Some, inl, inr, refl, sym, ap, subst, arith}
 use Rattle.htn_model.specs.PlanFile.{IsIn}
 use Rattle.htn_model.proofs.Ascending.{in_left, in_right, in_split, in_map}
-use Rattle.plan_forest.proofs.Adding.{get_in}
+use Rattle.plan_text.proofs.Adding.{get_in}
 use Rattle.plan_picture.specs.Firsts.{lines_of}
 use Rattle.plan_picture.specs.Rows.{Row, siblings, with_bar, child_rows, ArePreorder, none, next}
 use Rattle.plan_picture.proofs.Ahead.{sibling_lines, are_among}

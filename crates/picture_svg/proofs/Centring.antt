@@ -2,7 +2,7 @@
 use Rattle.std.proofs.Common.{◌≡◌, ℕ, zero, suc, ◌+◌, ◌-◌, ◌/◌, ◌<◌, ◌≤◌, List, [], ◌∷◌, length, get_or, set, drop, inl, inr, refl, sym, ap₂, ◌∙◌, subst, arith}
 use Rattle.std.proofs.lemmas.List.{get_or-set_same, get_or-set_other}
 use Rattle.htn_model.specs.PlanFile.{IsIn, IsWithoutRepeats}
-use Rattle.plan_forest.proofs.Adding.{get_in}
+use Rattle.plan_text.proofs.Adding.{get_in}
 use Rattle.plan_picture.specs.declared.row.Row.{Row as DeclaredRow}
 use Rattle.plan_picture.specs.Rows.{Row}
 use Rattle.plan_picture.specs.Firsts.{AreAfter, lines_of}

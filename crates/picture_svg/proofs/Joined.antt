@@ -2,7 +2,7 @@
 use Rattle.std.proofs.Common.{◌≡◌, ℕ, ◌+◌, ◌*◌, ◌<◌, ◌≤◌, max, List, [], ◌∷◌, length, get_or, map, Some, None, ◌⊎◌, inl, inr, refl, sym, ap, ◌∙◌, subst, arith}
 use Rattle.std.proofs.lemmas.Bool.{cases_lt}
 use Rattle.htn_model.specs.PlanFile.{IsIn}
-use Rattle.plan_forest.proofs.Adding.{get_in}
+use Rattle.plan_text.proofs.Adding.{get_in}
 use Rattle.plan_picture.specs.declared.picture.Picture.{Picture}
 use Rattle.plan_picture.specs.Firsts.{lines_of}
 use Rattle.plan_picture.specs.Picture.{IsPictureOf}

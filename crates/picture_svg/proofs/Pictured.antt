@@ -2,9 +2,9 @@
 use Rattle.std.proofs.Common.{◌≡◌, ℕ, ◌+◌, ◌<◌, List, length, Global, sym, ap, subst, arith}
 use Rattle.std.specs.Prelude.{Vec}
 use Rattle.htn_model.specs.PlanFile.{ActionLine, DecompositionLine, IsIn, IsWithoutRepeats}
-use Rattle.plan_forest.specs.Forest.{lists_of}
-use Rattle.plan_forest.specs.Reached.{children_at}
-use Rattle.plan_forest.proofs.Bridged.{line_count}
+use Rattle.plan_text.specs.Forest.{lists_of}
+use Rattle.plan_text.specs.Reached.{children_at}
+use Rattle.plan_text.proofs.Bridged.{line_count}
 use Rattle.plan_picture.specs.declared.picture.Picture.{Picture}
 use Rattle.plan_picture.specs.declared.row.Row.{Row as DeclaredRow}
 use Rattle.plan_picture.specs.Firsts.{AreAfter, lines_of}

@@ -3,7 +3,7 @@ use Rattle.std.proofs.Common.{◌≡◌, ◌≢◌, ℕ, ◌+◌, ◌-◌, ◌*�
 use Rattle.std.proofs.lemmas.Bool.{cases_lt, lt-ltb, le-ltb}
 use Rattle.htn_model.specs.PlanFile.{IsIn, IsWithoutRepeats}
 use Rattle.htn_model.proofs.Ascending.{in_mapped}
-use Rattle.plan_forest.specs.Forest.{lists_of}
+use Rattle.plan_text.specs.Forest.{lists_of}
 use Rattle.plan_picture.specs.declared.picture.Picture.{Picture}
 use Rattle.plan_picture.specs.Firsts.{lines_of}
 use Rattle.plan_picture.specs.Picture.{IsPictureOf}

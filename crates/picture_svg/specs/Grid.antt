@@ -1,8 +1,8 @@
 -- The numbers by which a picture is laid out. From left to right come the problem, the tasks in columns by how many lines
 -- they are below, and all actions in one last column. From the top down come the places of the lines without children.
 use Rattle.std.specs.Prelude.{◌≡◌, ℕ, ◌+◌, ◌*◌, ◌/◌, ◌<◌, ◌&&◌, Bool, not, nat_lt, nat_eq, max, if◌then◌else◌, List, [], ◌∷◌, length, get_or}
-use Rattle.plan_forest.specs.Forest.{lists_of}
-use Rattle.plan_forest.specs.Reached.{children_at}
+use Rattle.plan_text.specs.Forest.{lists_of}
+use Rattle.plan_text.specs.Reached.{children_at}
 use Rattle.plan_picture.specs.declared.picture.Picture.{Picture}
 use Rattle.plan_picture.specs.Rows.{Row}
 use Rattle.plan_picture.specs.Seen.{seen_all}

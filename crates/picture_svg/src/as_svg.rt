@@ -9,7 +9,7 @@ ghost use Rattle.picture_text.specs.SeenLine.{seen_line};
 ghost use Rattle.picture_text.specs.Text as text_spec;
 ghost use Rattle.picture_svg.specs.Svg as spec;
 ghost use Rattle.picture_svg.specs.Shapes.{path};
-ghost use Rattle.text_places.specs.Shown as shown_spec;
+ghost use Rattle.diagnostics.specs.Shown as shown_spec;
 
 use crate::escape::say_escaped;
 use crate::layout::{Area, Edge, Layout, layout_of};

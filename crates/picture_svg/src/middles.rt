@@ -2,8 +2,8 @@
 
 ghost use Rattle.std.specs.Prelude.{◌≡◌, ℕ, ◌+◌, ◌<◌, get_or, IfOk};
 ghost use Rattle.htn_model.specs.PlanFile.{IsIn, IsWithoutRepeats};
-ghost use Rattle.plan_forest.specs.Forest.{lists_of};
-ghost use Rattle.plan_forest.specs.Reached as reached;
+ghost use Rattle.plan_text.specs.Forest.{lists_of};
+ghost use Rattle.plan_text.specs.Reached as reached;
 ghost use Rattle.plan_picture.specs.Firsts.{AreAfter, lines_of};
 ghost use Rattle.plan_picture.specs.Seen.{seen_all};
 ghost use Rattle.picture_svg.specs.Grid as spec;

@@ -7,9 +7,9 @@ use Rattle.serde_json.specs.Data.{Data, array}
 use Rattle.serde_json.specs.Find.{get}
 use Rattle.serde_json.specs.View.{items_of}
 use Rattle.diagnostics.specs.Json.{Named, object_of, array_of, count}
-use Rattle.plan_forest.specs.Forest.{lists_of}
-use Rattle.plan_forest.specs.Reached.{children_at}
-use Rattle.plan_forest.proofs.Bridged.{line_count}
+use Rattle.plan_text.specs.Forest.{lists_of}
+use Rattle.plan_text.specs.Reached.{children_at}
+use Rattle.plan_text.proofs.Bridged.{line_count}
 use Rattle.plan_picture.specs.declared.row.Row.{Row as DeclaredRow}
 use Rattle.plan_picture.specs.Rows.{Row}
 use Rattle.plan_picture.specs.Firsts.{lines_of}

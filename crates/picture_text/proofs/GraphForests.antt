@@ -6,11 +6,11 @@ use Rattle.std.proofs.lemmas.Bool.{cases_lt, lt-ltb, le-ltb}
 use Rattle.std.proofs.lemmas.List.{append_assoc, append_cancel_left, append_cancel_right}
 use Rattle.std.proofs.lemmas.List.Folds.{list_all-append}
 use Rattle.htn_model.specs.PlanFile.{Word, ActionLine, DecompositionLine, PlanFile, IsIn, IsWithoutRepeats, decomposition_ids, defined_ids}
-use Rattle.text_places.specs.Shown.{shown}
+use Rattle.diagnostics.specs.Shown.{shown}
 use Rattle.plan_text.specs.PlanFile.{IsActionLine, IsDecompositionLine, IsPlanFile}
-use Rattle.plan_forest.specs.Forest.{lists_of}
-use Rattle.plan_forest.specs.Reached.{children_at}
-use Rattle.plan_forest.proofs.Listed.{one_number, action_id_at, decomposition_id_at, past_actions}
+use Rattle.plan_text.specs.Forest.{lists_of}
+use Rattle.plan_text.specs.Reached.{children_at}
+use Rattle.plan_text.proofs.Listed.{one_number, action_id_at, decomposition_id_at, past_actions}
 use Rattle.plan_picture.specs.declared.row.Row.{Row as DeclaredRow}
 use Rattle.plan_picture.specs.Rows.{root_rows, ArePreorder}
 use Rattle.plan_picture.specs.Firsts.{lines_of}

@@ -5,7 +5,7 @@ use Rattle.std.specs.Fmt.{decimal, digit_glyph}
 use Rattle.std.proofs.lemmas.Bool.{cases_Bool}
 use Rattle.std.proofs.lemmas.Bool.Decides.{nat_tests}
 use Rattle.std.proofs.lemmas.List.{append_assoc}
-use Rattle.text_places.specs.Shown.{shown}
+use Rattle.diagnostics.specs.Shown.{shown}
 use Rattle.picture_text.specs.Dot.{escape, words_of, position, method, label_rest, quoted_rest}
 use Rattle.picture_text.specs.Lines.{Line, action, task}
 use Rattle.picture_text.specs.Tame.{AreTame, past_quote}

@@ -9,7 +9,7 @@ use Rattle.std.proofs.lemmas.Bool.Decides.{nat_tests}
 use Rattle.std.proofs.lemmas.Fmt.{decimal_is_IsNumeral_wide}
 use Rattle.std.proofs.lemmas.List.{append_assoc, append_cancel_left}
 use Rattle.htn_model.specs.PlanWord.{IsName, is_name_byte, is_printable, is_blank}
-use Rattle.text_places.specs.Shown.{shown}
+use Rattle.diagnostics.specs.Shown.{shown}
 use Rattle.htn_model.specs.PlanFile.{Word}
 use Rattle.picture_text.specs.Words.{spaced, task_words}
 use Rattle.picture_text.specs.Tame.{AreTame}

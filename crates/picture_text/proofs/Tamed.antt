@@ -7,7 +7,7 @@ use Rattle.std.proofs.lemmas.Bool.{cases_Bool}
 use Rattle.std.proofs.lemmas.Bool.Decides.{nat_tests}
 use Rattle.std.proofs.lemmas.List.Folds.{list_all-append}
 use Rattle.htn_model.specs.PlanFile.{Word}
-use Rattle.text_places.specs.Shown.{shown}
+use Rattle.diagnostics.specs.Shown.{shown}
 use Rattle.diagnostics.specs.Tame.{is_tame}
 use Rattle.picture_text.specs.declared.caption.Caption.{Caption}
 use Rattle.picture_text.specs.declared.caption.Mark.{Mark}
@@ -16,7 +16,7 @@ use Rattle.plan_picture.specs.declared.row.Row.{Row as DeclaredRow}
 use Rattle.picture_text.specs.declared.as_text.Glyphs.{Glyphs}
 use Rattle.picture_text.specs.declared.as_text.Glyphs.TheVariants.{Unicode, Ascii}
 use Rattle.plan_picture.specs.Rows.{Row}
-use Rattle.plan_forest.specs.Forest.{lists_of}
+use Rattle.plan_text.specs.Forest.{lists_of}
 use Rattle.picture_text.specs.declared.detail.Setting.{Setting}
 use Rattle.picture_text.specs.declared.detail.Condition.{Condition}
 use Rattle.picture_text.specs.declared.detail.Detail.{Detail}

@@ -7,12 +7,12 @@ use Rattle.std.proofs.lemmas.Bool.{cases_Bool, cases_lt, lt-ltb, le-ltb, eqb-tru
 use Rattle.std.proofs.lemmas.List.{append_assoc, append-nil, append_cancel_left, length-append}
 use Rattle.htn_model.specs.PlanFile.{ActionLine, DecompositionLine, PlanFile, IsIn, IsForest, action_ids, decomposition_ids, defined_ids}
 use Rattle.htn_model.proofs.Ascending.{in_split}
-use Rattle.text_places.specs.Shown.{shown}
+use Rattle.diagnostics.specs.Shown.{shown}
 use Rattle.plan_text.specs.PlanFile.{IsActionLine, IsDecompositionLine, IsPlanFile}
-use Rattle.plan_forest.specs.Forest.{lists_of}
-use Rattle.plan_forest.specs.Reached.{children_at}
-use Rattle.plan_forest.proofs.Bridged.{line_count}
-use Rattle.plan_forest.proofs.Walked.{at_most}
+use Rattle.plan_text.specs.Forest.{lists_of}
+use Rattle.plan_text.specs.Reached.{children_at}
+use Rattle.plan_text.proofs.Bridged.{line_count}
+use Rattle.plan_text.proofs.Walked.{at_most}
 use Rattle.plan_picture.specs.declared.picture.Picture.{Picture}
 use Rattle.plan_picture.specs.declared.row.Row.{Row as DeclaredRow}
 use Rattle.plan_picture.specs.Rows.{Row, max_bars, siblings, with_bar, child_rows, root_rows, ArePreorder, none, next}

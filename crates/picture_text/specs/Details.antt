@@ -3,8 +3,8 @@ use Rattle.std.specs.Prelude.{ℕ, zero, suc, ◌-◌, nat_lt, if◌then◌else�
 use Rattle.std.specs.List.{flat_map}
 use Rattle.std.specs.Fmt.{decimal}
 use Rattle.htn_model.specs.PlanFile.{Word}
-use Rattle.text_places.specs.Shown.{shown}
-use Rattle.plan_forest.specs.Forest.{lists_of}
+use Rattle.diagnostics.specs.Shown.{shown}
+use Rattle.plan_text.specs.Forest.{lists_of}
 use Rattle.picture_text.specs.declared.detail.Setting.{Setting}
 use Rattle.picture_text.specs.declared.detail.Condition.{Condition}
 use Rattle.picture_text.specs.declared.detail.Detail.{Detail}

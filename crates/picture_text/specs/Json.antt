@@ -2,12 +2,12 @@
 use Rattle.std.specs.Prelude.{ℕ, List, [], ◌∷◌, ◌++◌, length, get_or, map, codes, Option, Some, None}
 use Rattle.std.specs.List.{flat_map}
 use Rattle.htn_model.specs.PlanFile.{Word, PlanFile}
-use Rattle.text_places.specs.Shown.{shown}
+use Rattle.diagnostics.specs.Shown.{shown}
 use Rattle.serde_json.specs.Data.{Data, null, string}
 use Rattle.serde_json.specs.Written.{compact_text}
 use Rattle.diagnostics.specs.Json.{Named, object_of, array_of, count}
-use Rattle.plan_forest.specs.Forest.{lists_of}
-use Rattle.plan_forest.specs.Reached.{children_at}
+use Rattle.plan_text.specs.Forest.{lists_of}
+use Rattle.plan_text.specs.Reached.{children_at}
 use Rattle.picture_text.specs.declared.caption.Caption.{Caption}
 use Rattle.plan_picture.specs.declared.picture.Picture.{Picture}
 use Rattle.plan_picture.specs.Rows.{Row}

@@ -1,8 +1,8 @@
 -- What a picture shows of a file: its forest.
 use Rattle.std.specs.Prelude.{◌≡◌, ◌≢◌, ℕ, List, ◌∷◌, length, map, Option, None}
 use Rattle.htn_model.specs.PlanFile.{PlanFile}
-use Rattle.plan_forest.specs.Forest.{lists_of}
-use Rattle.plan_forest.specs.Reached.{children_at}
+use Rattle.plan_text.specs.Forest.{lists_of}
+use Rattle.plan_text.specs.Reached.{children_at}
 use Rattle.plan_picture.specs.declared.picture.Picture.{Picture}
 use Rattle.plan_picture.specs.Picture.{IsPictureOf}
 use Rattle.plan_text.specs.PlanFile.{IsPlanFile}

@@ -3,14 +3,14 @@ use Rattle.std.specs.Prelude.{ℕ, zero, suc, ◌-◌, Bool, true, false, nat_eq
 use Rattle.std.specs.List.{flat_map}
 use Rattle.std.specs.Fmt.{decimal}
 use Rattle.htn_model.specs.PlanFile.{ActionLine, DecompositionLine, PlanFile}
-use Rattle.text_places.specs.Shown.{shown}
+use Rattle.diagnostics.specs.Shown.{shown}
 use Rattle.picture_text.specs.declared.caption.Caption.{Caption}
 use Rattle.picture_text.specs.declared.caption.Mark.{Mark}
 use Rattle.plan_picture.specs.declared.picture.Picture.{Picture}
 use Rattle.picture_text.specs.declared.as_text.Glyphs.{Glyphs}
 use Rattle.picture_text.specs.declared.as_text.Glyphs.TheVariants.{Unicode, Ascii}
-use Rattle.plan_forest.specs.Forest.{lists_of}
-use Rattle.plan_forest.specs.Reached.{children_at}
+use Rattle.plan_text.specs.Forest.{lists_of}
+use Rattle.plan_text.specs.Reached.{children_at}
 use Rattle.plan_picture.specs.Rows.{Row, is_end}
 use Rattle.picture_text.specs.declared.detail.Setting.{Setting}
 use Rattle.picture_text.specs.declared.detail.Condition.{Condition}

@@ -2,11 +2,11 @@
 
 ghost use Rattle.std.specs.Prelude.{◌≡◌, ◌++◌, Some, map, codes, IfOk, OnOk};
 ghost use Rattle.std.specs.List.{flat_map};
-ghost use Rattle.plan_forest.specs.Forest.{lists_of};
+ghost use Rattle.plan_text.specs.Forest.{lists_of};
 ghost use Rattle.picture_text.specs.Dot as spec;
 ghost use Rattle.picture_text.specs.Lines as lines;
 ghost use Rattle.picture_text.specs.SeenLine.{seen_line};
-ghost use Rattle.text_places.specs.Shown as shown_spec;
+ghost use Rattle.diagnostics.specs.Shown as shown_spec;
 
 use crate::caption::Caption;
 use crate::line::{Line, id_at, line_at};

@@ -3,13 +3,13 @@
 ghost use Rattle.std.specs.Prelude.{◌≡◌, ◌∷◌, ◌++◌, [], IsUtf8, Some, codes, get_or, map, option_map, string_bytes, IfOk, OnOk};
 ghost use Rattle.std.specs.List.{flat_map};
 ghost use Rattle.diagnostics.specs.Json.{with_members, array_of, count, object_of, IsReadAs};
-ghost use Rattle.plan_forest.specs.Forest.{lists_of};
+ghost use Rattle.plan_text.specs.Forest.{lists_of};
 ghost use Rattle.picture_text.specs.Json as spec;
 ghost use Rattle.plan_picture.specs.Seen.{seen};
 ghost use Rattle.picture_text.specs.SeenLine.{seen_line};
 ghost use Rattle.serde_json.specs.Data.{string};
 ghost use Rattle.serde_json.specs.View.{view, members_view};
-ghost use Rattle.text_places.specs.Shown as shown_spec;
+ghost use Rattle.diagnostics.specs.Shown as shown_spec;
 
 use crate::caption::Caption;
 use crate::detail::{Condition, Detail, Setting, detail_at};

@@ -4,7 +4,7 @@ ghost use Rattle.std.specs.Prelude.{◌≡◌, ◌++◌, option_map, OnOk};
 ghost use Rattle.std.specs.List.{flat_map};
 ghost use Rattle.picture_text.specs.Details as spec;
 ghost use Rattle.picture_text.specs.Words.{spaced};
-ghost use Rattle.plan_forest.specs.Forest.{lists_of};
+ghost use Rattle.plan_text.specs.Forest.{lists_of};
 
 use crate::words::{say, say_number};
 use std::alloc::AllocError;

@@ -3,14 +3,14 @@
 ghost use Rattle.std.specs.Prelude.{◌≡◌, ◌++◌, ◌-◌, length, map, replicate, OnOk};
 ghost use Rattle.std.specs.List.{flat_map};
 ghost use Rattle.std.specs.Fmt.{decimal};
-ghost use Rattle.text_places.specs.Shown as shown_spec;
+ghost use Rattle.diagnostics.specs.Shown as shown_spec;
 ghost use Rattle.picture_text.specs.Words as spec;
 
 use crate::caption::{Caption, Mark};
+use diagnostics::shown;
 use itoa::Buffer;
 use plan_text::Word;
 use std::alloc::AllocError;
-use text_places::shown;
 
 /// Words, of which each byte is written as it is shown.
 pub fn say(out: &mut Vec<u8>, words: &[u8]) -> Result<(), AllocError>

@@ -3,7 +3,7 @@ use Rattle.std.proofs.Common.{◌≡◌, ℕ, zero, suc, ◌+◌, ◌<◌, ◌�
 use Rattle.std.proofs.lemmas.Bool.{cases_lt}
 use Rattle.htn_model.specs.State.{State}
 use Rattle.htn_model.specs.Problem.{GroundTask, Problem, perform_action}
-use Rattle.plan_run.specs.Run.{run_tasks}
+use Rattle.plan_lines.specs.Run.{run_tasks}
 
 -- a run comes to nothing where one of its tasks can't be carried out when it comes
 pub no_run : (problem : Problem) (state : State) (tasks : List GroundTask) (i : ℕ) (here : State) (g : GroundTask)

@@ -3,11 +3,11 @@ use Rattle.std.proofs.Common.{◌≡◌, ℕ, ◌+◌, ◌<◌, ◌≤◌, Bool,
 use Rattle.std.proofs.lemmas.List.{length-take-le, map-append, take-take, take_all, take_more}
 use Rattle.htn_model.specs.Literal.{Literal}
 use Rattle.htn_model.specs.Problem.{GroundTask, Problem}
-use Rattle.htn_state.specs.Views.{literal_of, literals_of}
-use Rattle.htn_state.specs.declared.literal.Literal.{Literal as Program}
-use Rattle.plan_run.specs.Run.{run_tasks, IsHistoryOf}
-use Rattle.plan_run.specs.Turns.{History, literal_truth, literals_truth}
-use Rattle.plan_run.proofs.Going.{same_literal, same_literals}
+use Rattle.htn_task.specs.Literals.{literal_of, literals_of}
+use Rattle.htn_task.specs.declared.literal.Literal.{Literal as Program}
+use Rattle.plan_lines.specs.Run.{run_tasks, IsHistoryOf}
+use Rattle.plan_lines.specs.Turns.{History, literal_truth, literals_truth}
+use Rattle.plan_lines.proofs.Going.{same_literal, same_literals}
 use Rattle.plan_causes.specs.declared.standing.Standing.{Standing}
 use Rattle.plan_causes.specs.declared.standing.Standing.TheVariants.{Holds, False, FalseSince}
 use Rattle.plan_causes.specs.Causes.{AreStandings, EndsWith, IsSoAfter, StandFor, Stands, StandsAfter, StandsIn}

@@ -4,8 +4,8 @@ use Rattle.htn_model.specs.Atom.{Atom}
 use Rattle.htn_model.specs.State.{State, contains}
 use Rattle.htn_model.specs.Literal.{Action, Literal, atom, equality, holds, literal_holds}
 use Rattle.htn_model.specs.Problem.{GroundTask, Problem}
-use Rattle.plan_run.specs.Run.{run_tasks, IsFailing}
-use Rattle.plan_run.specs.Turns.{History, literal_truth}
+use Rattle.plan_lines.specs.Run.{run_tasks, IsFailing}
+use Rattle.plan_lines.specs.Turns.{History, literal_truth}
 use Rattle.plan_causes.specs.declared.standing.Standing.{Standing}
 use Rattle.plan_causes.specs.declared.standing.Standing.TheVariants.{Holds, False, FalseSince}
 use Rattle.plan_causes.specs.declared.cause.RunCause.{RunCause}

@@ -1,2 +1,4 @@
 pub mod Causes
 pub mod Structure
+pub mod Reasons
+pub mod Facts

@@ -3,13 +3,13 @@
 ghost use Rattle.std.specs.Prelude.{◌≡◌, length, take, slice_get, Some, IfOk};
 ghost use Rattle.htn_model.specs.Grounding.{problem_of};
 ghost use Rattle.plan_causes.specs.Causes.{IsRunCause, StandFor, StandsIn};
-ghost use Rattle.plan_run.specs.Run.{IsFailing, IsHistoryOf};
-ghost use Rattle.plan_run.specs.Turns.{IsHistory};
+ghost use Rattle.plan_lines.specs.Run.{IsFailing, IsHistoryOf};
+ghost use Rattle.plan_lines.specs.Turns.{IsHistory};
 
 use crate::standing::{Standing, standings_in};
 use htn_ground::{GroundTask, action_of, goal_literals};
 use htn_task::Task;
-use plan_run::{Outcome, Turns, run};
+use plan_lines::{Outcome, Turns, run};
 use std::alloc::{AllocError, Global};
 
 /// Why the run of ground tasks fails, or that it doesn't.

@@ -2,13 +2,12 @@
 
 ghost use Rattle.std.specs.Prelude.{◌≡◌, IfOk};
 ghost use Rattle.htn_model.specs.Grounding.{problem_of};
-ghost use Rattle.htn_state.specs.Views.{literal_of};
+ghost use Rattle.htn_task.specs.Literals.{literal_of};
 ghost use Rattle.plan_causes.specs.Causes as spec;
 ghost use Rattle.plan_causes.specs.Causes.{is_setter, IsNextSetter};
 
 use htn_ground::{GroundTask, action_of};
-use htn_state::{Action, Literal};
-use htn_task::Task;
+use htn_task::{Action, Literal, Task};
 use std::alloc::{AllocError, Global};
 
 /// Whether an action makes a literal true.

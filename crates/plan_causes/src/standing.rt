@@ -1,12 +1,12 @@
 //! The truth of literals in a gap of a run, and since when.
 
 ghost use Rattle.std.specs.Prelude.{IfOk};
-ghost use Rattle.htn_state.specs.Views.{literal_of, literals_of};
+ghost use Rattle.htn_task.specs.Literals.{literal_of, literals_of};
 ghost use Rattle.plan_causes.specs.Causes.{AreStandings, StandsIn};
-ghost use Rattle.plan_run.specs.Turns.{IsHistory};
+ghost use Rattle.plan_lines.specs.Turns.{IsHistory};
 
-use htn_state::Literal;
-use plan_run::Turns;
+use htn_task::Literal;
+use plan_lines::Turns;
 use std::alloc::{AllocError, Global};
 
 /// The truth of a literal after some actions of a run, and since when it is false.

@@ -6,7 +6,7 @@ use Rattle.htn_model.specs.Literal.{Literal}
 use Rattle.htn_model.specs.Task.{Task}
 use Rattle.plan_causes.specs.declared.standing.Standing.{Standing}
 use Rattle.plan_findings.specs.Falsities.{IsFalsityIf}
-use Rattle.plan_reasons.specs.declared.literals.FalseLiteral.{FalseLiteral}
+use Rattle.plan_causes.specs.declared.literals.FalseLiteral.{FalseLiteral}
 
 suc_more : {X Y : Type 0} (xs : List X) (ys : List Y) (i : ℕ) (x : X) (y : Y) → i < length xs → i < length ys → zip (take (suc i) xs) ys ≡ zip (take i xs) ys ++ (get_or xs i x, get_or ys i y) ∷ []
 suc_more [] ys i x y less more = absurd (omega arith)

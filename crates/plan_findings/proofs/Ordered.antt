@@ -5,8 +5,8 @@ use Rattle.std.specs.Ordering.{is_lt}
 use Rattle.std.specs.declared.cmp.Ordering.{Ordering}
 use Rattle.std.proofs.lemmas.List.{get_or-map, length-map}
 use Rattle.plan_findings.specs.Runs.{words_cmp}
-use Rattle.plan_reasons.specs.Facts.{words_of}
-use Rattle.plan_reasons.specs.declared.run.Fact.{Fact}
+use Rattle.plan_causes.specs.Facts.{words_of}
+use Rattle.plan_causes.specs.declared.run.Fact.{Fact}
 
 -- facts that are sorted by an order are sorted by the same order of their words
 pub sorted_words : (cmp : Fact → Fact → Ordering) → ((f g : Fact) → cmp f g ≡ words_cmp (words_of f) (words_of g)) → (facts : List Fact) → IsSorted cmp facts → IsSorted words_cmp (map words_of facts)

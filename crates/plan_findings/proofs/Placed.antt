@@ -3,8 +3,8 @@ use Rattle.std.proofs.Common.{rules, ◌≡◌, ◌∙◌, ◌⊎◌, ℕ, ◌+�
 use Rattle.std.specs.List.{flat_map}
 use Rattle.std.proofs.lemmas.Grind.{flat_map-append}
 use Rattle.std.proofs.lemmas.List.{map_more}
-use Rattle.hddl_tree.specs.declared.condition.Condition.{Condition, Forall, the_lemmas}
-use Rattle.hddl_tree.specs.declared.term.VariableGroup.{VariableGroup}
+use Rattle.hddl_words.specs.declared.condition.Condition.{Condition, Forall, the_lemmas}
+use Rattle.hddl_words.specs.declared.term.VariableGroup.{VariableGroup}
 use Rattle.htn_model.specs.PlanFile.{IsIn}
 use Rattle.htn_model.proofs.Ascending.{in_left, in_right, in_split}
 use Rattle.plan_findings.specs.Conditions.{AddsAmong, AreAmong, places_in, places_of}

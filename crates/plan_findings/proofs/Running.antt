@@ -9,9 +9,9 @@ use Rattle.htn_model.specs.Problem.{GroundTask, Problem, perform_action}
 use Rattle.htn_model.specs.State.{State}
 use Rattle.htn_model.specs.Task.{Task}
 use Rattle.plan_findings.specs.Runs.{AreChangesOf, AreFirstChanges, IsChange, IsChangeBy, IsChangeIn, IsChangeOf}
-use Rattle.plan_reasons.specs.declared.run.Change.{Change}
-use Rattle.plan_run.specs.Run.{IsFailing, IsHistoryOf, run_tasks}
-use Rattle.plan_run.specs.Turns.{History}
+use Rattle.plan_causes.specs.declared.run.Change.{Change}
+use Rattle.plan_lines.specs.Run.{IsFailing, IsHistoryOf, run_tasks}
+use Rattle.plan_lines.specs.Turns.{History}
 
 -- ## One task more
 

@@ -15,9 +15,9 @@ use Rattle.plan_causes.specs.declared.cause.RunCause.TheVariants as run
 use Rattle.plan_causes.specs.declared.standing.Standing.{Standing}
 use Rattle.plan_findings.specs.Falsities.{AreFalsities}
 use Rattle.plan_findings.specs.Words.{bracketed}
-use Rattle.plan_reasons.specs.declared.cause.Cause.{Cause}
-use Rattle.plan_reasons.specs.declared.cause.Cause.TheVariants as cause
-use Rattle.plan_reasons.specs.declared.cause.FailedAction.{FailedAction}
+use Rattle.plan_causes.specs.declared.reason.Cause.{Cause}
+use Rattle.plan_causes.specs.declared.reason.Cause.TheVariants as cause
+use Rattle.plan_causes.specs.declared.reason.FailedAction.{FailedAction}
 
 -- what the words of an action line name
 abbrev pub action_task : Naming → ActionLine → Option GroundTask

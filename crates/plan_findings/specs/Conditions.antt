@@ -1,10 +1,10 @@
 -- Where the literals of a precondition or a goal are written.
 use Rattle.std.specs.Prelude.{◌≡◌, ℕ, List, [], ◌∷◌, ◌++◌, map}
 use Rattle.std.specs.List.{flat_map}
-use Rattle.hddl_tree.specs.declared.condition.Condition.{Condition, fold-Condition}
-use Rattle.hddl_tree.specs.declared.condition.Condition.TheOpen.{Condition-F}
-use Rattle.hddl_tree.specs.declared.term.Term.{Term}
-use Rattle.hddl_tree.specs.declared.term.Term.TheVariants.{Variable, Object}
+use Rattle.hddl_words.specs.declared.condition.Condition.{Condition, fold-Condition}
+use Rattle.hddl_words.specs.declared.condition.Condition.TheOpen.{Condition-F}
+use Rattle.hddl_words.specs.declared.term.Term.{Term}
+use Rattle.hddl_words.specs.declared.term.Term.TheVariants.{Variable, Object}
 use Rattle.htn_model.specs.PlanFile.{IsIn}
 
 -- where a term stands

@@ -7,7 +7,7 @@ use Rattle.htn_model.specs.Task.{Task}
 use Rattle.plan_causes.specs.declared.standing.Standing.{Standing}
 use Rattle.plan_causes.specs.declared.standing.Standing.TheVariants.{Holds, False, FalseSince}
 use Rattle.plan_findings.specs.Words.{literal_text}
-use Rattle.plan_reasons.specs.declared.literals.FalseLiteral.{FalseLiteral}
+use Rattle.plan_causes.specs.declared.literals.FalseLiteral.{FalseLiteral}
 
 -- whether a literal that stands so is false
 abbrev pub is_false : Standing → Bool

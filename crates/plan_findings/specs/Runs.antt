@@ -14,12 +14,12 @@ use Rattle.htn_model.specs.Problem.{GroundTask, perform_action}
 use Rattle.htn_model.specs.State.{State, atoms_of, contains, difference}
 use Rattle.htn_model.specs.Task.{Task}
 use Rattle.plan_findings.specs.Words.{predicate_name}
-use Rattle.plan_reasons.specs.Facts.{words_of}
-use Rattle.plan_reasons.specs.declared.run.Change.{Change}
-use Rattle.plan_reasons.specs.declared.run.Fact.{Fact}
-use Rattle.plan_reasons.specs.declared.run.Run.{Run}
-use Rattle.plan_run.specs.Run.{IsFailing, run_tasks}
-use Rattle.plan_run.specs.Turns.{History, truth}
+use Rattle.plan_causes.specs.Facts.{words_of}
+use Rattle.plan_causes.specs.declared.run.Change.{Change}
+use Rattle.plan_causes.specs.declared.run.Fact.{Fact}
+use Rattle.plan_causes.specs.declared.run.Run.{Run}
+use Rattle.plan_lines.specs.Run.{IsFailing, run_tasks}
+use Rattle.plan_lines.specs.Turns.{History, truth}
 
 -- ## Facts
 

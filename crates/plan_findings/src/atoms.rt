@@ -3,12 +3,11 @@
 ghost use Rattle.std.specs.Prelude.{◌≡◌, ◌++◌, ◌∷◌, [], IfOk, OnOk, false, map};
 ghost use Rattle.std.specs.List.{flat_map};
 ghost use Rattle.htn_ground.specs.Naming as naming;
-ghost use Rattle.htn_state.specs.Views.{literal_of};
+ghost use Rattle.htn_task.specs.Literals.{literal_of};
 ghost use Rattle.plan_findings.specs.Words as spec;
 ghost use Rattle.plan_findings.specs.Words.{spaced};
 
-use htn_state::{Atom, Literal};
-use htn_task::Task;
+use htn_task::{Atom, Literal, Task};
 use plan_text::{ActionLine, Word};
 use std::alloc::{AllocError, Global};
 

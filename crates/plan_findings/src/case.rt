@@ -1,6 +1,6 @@
 //! A plan that is judged.
 
-use hddl_tree::{DomainText, ProblemText};
+use hddl_words::{DomainText, ProblemText};
 use htn_task::Task;
 use plan_text::PlanFile;
 

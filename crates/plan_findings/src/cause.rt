@@ -3,7 +3,7 @@
 ghost use Rattle.std.specs.Prelude.{◌≡◌, IfOk, Some, option_and_then, slice_get};
 ghost use Rattle.htn_model.specs.Grounding.{problem_of};
 ghost use Rattle.htn_model.specs.Literal as model;
-ghost use Rattle.plan_reasons.specs.Causes.{AreOnce};
+ghost use Rattle.plan_causes.specs.Reasons.{AreOnce};
 ghost use Rattle.plan_findings.specs.Causes as spec;
 ghost use Rattle.plan_findings.specs.Causes.{IsRunReason, IsCauseOf, IsStructureReason};
 ghost use Rattle.plan_findings.specs.Falsities.{AreFalsities};
@@ -16,10 +16,11 @@ use crate::literals::{Written, false_literals, initial_for, is_false};
 use crate::reached::unreached_id;
 use crate::tasks::action_tasks;
 use htn_ground::{GroundTask, action_of, goal_literals};
-use htn_state::{Action, Literal};
-use htn_task::Task;
-use plan_causes::{RunCause, Standing, WrongIds, next_setter, run_cause, wrong_ids};
-use plan_reasons::{Cause, FailedAction, FalseLiteral};
+use htn_task::{Action, Literal, Task};
+use plan_causes::{
+    Cause, FailedAction, FalseLiteral, RunCause, Standing, WrongIds, next_setter, run_cause,
+    wrong_ids,
+};
 use plan_text::PlanFile;
 use std::alloc::{AllocError, Global};
 

@@ -5,7 +5,7 @@ ghost use Rattle.plan_findings.specs.Conditions as spec;
 ghost use Rattle.plan_findings.specs.Conditions.{AddsAmong, AreAmong};
 
 use hddl_names::fold;
-use hddl_tree::{Condition, Name, ProblemText, Term, VariableGroup};
+use hddl_words::{Condition, Name, ProblemText, Term, VariableGroup};
 use htn_task::Task;
 use indexmap::IndexMap;
 use std::alloc::{AllocError, Global};

@@ -6,7 +6,7 @@ ghost use Rattle.htn_task.specs.Formulas.{formula_of};
 ghost use Rattle.plan_findings.specs.Steps as spec;
 
 use htn_task::{Formula, FormulaList, Task};
-use plan_reasons::Counts;
+use plan_causes::Counts;
 use plan_text::{DecompositionLine, PlanFile};
 
 /// Whether a formula is an equality outside every `forall`.

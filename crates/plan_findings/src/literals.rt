@@ -3,18 +3,16 @@
 ghost use Rattle.std.specs.Prelude.{◌≡◌, IfOk};
 ghost use Rattle.std.specs.List.{AllZip, flat_map, zip};
 ghost use Rattle.std.specs.Option.{option_to_list};
-ghost use Rattle.htn_state.specs.Views.{literal_of, literals_of};
+ghost use Rattle.htn_task.specs.Literals.{literal_of, literals_of};
 ghost use Rattle.plan_findings.specs.Falsities as spec;
 ghost use Rattle.plan_findings.specs.Falsities.{AreFalsities, IsFalsity, IsFalsityIf};
 
 use crate::atoms::{core_text, literal_text, predicate_name};
 use crate::conditions::initial_places;
-use hddl_tree::ProblemText;
-use htn_state::{Atom, Literal};
-use htn_task::Task;
+use hddl_words::ProblemText;
+use htn_task::{Atom, Literal, Task};
 use indexmap::IndexMap;
-use plan_causes::Standing;
-use plan_reasons::{FalseLiteral, Sign};
+use plan_causes::{FalseLiteral, Sign, Standing};
 use std::alloc::{AllocError, Global};
 
 fn sign_of(literal: &Literal) -> Sign {

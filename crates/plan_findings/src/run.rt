@@ -7,17 +7,16 @@ ghost use Rattle.htn_model.specs.State as model;
 ghost use Rattle.plan_findings.specs.Causes.{tasks_of};
 ghost use Rattle.plan_findings.specs.Runs as spec;
 ghost use Rattle.plan_findings.specs.Runs.{AreChangesOf, AreFacts, AreFirstChanges, IsChangeBy, IsChangeIn, IsRunOf};
-ghost use Rattle.plan_reasons.specs.Facts.{words_of};
-ghost use Rattle.plan_run.specs.Run.{IsFailing, IsHistoryOf, run_tasks};
-ghost use Rattle.plan_run.specs.Turns.{IsHistory, truth};
+ghost use Rattle.plan_causes.specs.Facts.{words_of};
+ghost use Rattle.plan_lines.specs.Run.{IsFailing, IsHistoryOf, run_tasks};
+ghost use Rattle.plan_lines.specs.Turns.{IsHistory, truth};
 
 use crate::atoms::{object_name, predicate_name};
 use crate::tasks::action_tasks;
 use htn_ground::{GroundTask, action_of};
-use htn_state::{Action, Atom, Literal};
-use htn_task::Task;
-use plan_reasons::{Change, Fact, Run};
-use plan_run::{Outcome, Turns, run};
+use htn_task::{Action, Atom, Literal, Task};
+use plan_causes::{Change, Fact, Run};
+use plan_lines::{Outcome, Turns, run};
 use plan_text::PlanFile;
 use std::alloc::{AllocError, Global};
 

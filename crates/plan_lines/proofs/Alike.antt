@@ -9,7 +9,7 @@ use Rattle.htn_model.specs.Schema.{AtomSchema, Formula, NetworkSchema, literal}
 use Rattle.htn_model.specs.Task.{Task}
 use Rattle.htn_ground.specs.Shown.{AreShown}
 use Rattle.htn_ground.proofs.Unshown.{network_same}
-use Rattle.plan_run.specs.Turns.{History}
+use Rattle.plan_lines.specs.Turns.{History}
 use Rattle.plan_lines.specs.Fitting.{MayHold, StepsMayHold}
 use Rattle.plan_lines.specs.Found.{AreAlike, AreEverTrue}
 use Rattle.plan_lines.proofs.Left.{length_push}

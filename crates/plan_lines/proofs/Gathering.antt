@@ -8,7 +8,7 @@ use Rattle.htn_model.specs.Instances.{Conditions}
 use Rattle.htn_model.specs.PlanFile.{IsIn}
 use Rattle.htn_model.specs.Schema.{AtomSchema}
 use Rattle.htn_model.specs.Task.{Task, objects_of}
-use Rattle.plan_run.specs.Turns.{History}
+use Rattle.plan_lines.specs.Turns.{History}
 use Rattle.plan_lines.specs.Allowed.{HasInstanceWith, IsInstanceWith}
 use Rattle.plan_lines.specs.Found.{AreAlike, AreFound, AreShownFilled, MayFit}
 use Rattle.plan_lines.specs.Given.{Extends}

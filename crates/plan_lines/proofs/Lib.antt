@@ -1,3 +1,11 @@
+pub mod Truths
+pub mod Touched
+pub mod Setting
+pub mod Going
+pub mod Running
+pub mod Listing
+pub mod Seeded
+pub mod Slotted
 pub mod Times
 pub mod Narrowed
 pub mod Left
@@ -10,3 +18,6 @@ pub mod Positive
 pub mod Listed
 pub mod Joined
 pub mod Valued
+pub mod Firsts
+pub mod Naming
+pub mod Acting

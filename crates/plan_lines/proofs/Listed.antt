@@ -11,7 +11,7 @@ use Rattle.htn_model.specs.Problem.{GroundTask, Network}
 use Rattle.htn_model.specs.Schema.{Formula, NetworkSchema}
 use Rattle.htn_model.specs.Task.{MethodSchema, Task}
 use Rattle.htn_model.specs.Verdict.{subtasks}
-use Rattle.plan_run.specs.Turns.{History}
+use Rattle.plan_lines.specs.Turns.{History}
 use Rattle.plan_lines.specs.Allowed.{IsInstanceWith}
 use Rattle.plan_lines.specs.Fitting.{AreToFit, StepsMayHold}
 use Rattle.plan_lines.specs.Found.{AreValuesToFit, IsFor}

@@ -4,7 +4,7 @@ use Rattle.std.specs.List.{All}
 use Rattle.htn_model.specs.Literal.{Literal, atom}
 use Rattle.htn_model.specs.PlanFile.{IsIn}
 use Rattle.htn_model.specs.Problem.{Child, GroundTask, Network, precondition}
-use Rattle.plan_run.specs.Turns.{History, truth}
+use Rattle.plan_lines.specs.Turns.{History, truth}
 use Rattle.plan_lines.specs.Lines.{HasSubtasks}
 
 -- whether a literal may ever hold: a positive one only where its atom is true in some gap

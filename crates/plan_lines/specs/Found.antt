@@ -5,7 +5,7 @@ use Rattle.htn_model.specs.PlanFile.{IsIn}
 use Rattle.htn_model.specs.Problem.{GroundTask}
 use Rattle.htn_model.specs.Schema.{AtomSchema, Formula, NetworkSchema}
 use Rattle.htn_model.specs.Task.{MethodSchema, Task}
-use Rattle.plan_run.specs.Turns.{History, IsEverTrue}
+use Rattle.plan_lines.specs.Turns.{History, IsEverTrue}
 use Rattle.plan_lines.specs.Allowed.{IsInstanceWith}
 use Rattle.plan_lines.specs.Fitting.{StepsMayHold}
 use Rattle.plan_lines.specs.Left.{Fill}

@@ -1,3 +1,7 @@
+pub mod Turns
+pub mod Run
+pub mod EverTrue
+pub mod Slots
 pub mod Given
 pub mod Left
 pub mod Allowed
@@ -5,3 +9,5 @@ pub mod Lines
 pub mod Fitting
 pub mod Found
 pub mod Values
+pub mod First
+pub mod Words

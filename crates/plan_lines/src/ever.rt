@@ -6,10 +6,10 @@ ghost use Rattle.plan_lines.specs.Found.{AreEverTrue, MayFit};
 ghost use Rattle.plan_lines.specs.Given.{Extends};
 
 use crate::completion::meets_so_far;
+use crate::ever_true::EverTrue;
 use crate::given::atom_of;
 use htn_ground::Conditions;
 use htn_task::{AtomSchema, Formula, FormulaList, Task};
-use plan_run::EverTrue;
 use std::alloc::{AllocError, Global};
 
 /// What is asked of the values of an instance, beside its subtasks.

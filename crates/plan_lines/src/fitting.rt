@@ -6,6 +6,7 @@ ghost use Rattle.plan_lines.specs.Found.{AreValuesToFit, IsFor};
 ghost use Rattle.plan_lines.specs.Lines.{IsInitial, IsNamedInstance};
 
 use crate::children::{Children, count_children};
+use crate::ever_true::EverTrue;
 use crate::given::bind_all;
 use crate::instances::no_values;
 use crate::matching::values_to_fit;
@@ -15,7 +16,6 @@ use htn_ground::{
     method_instance,
 };
 use htn_task::{FormulaList, MethodSchema, Task};
-use plan_run::EverTrue;
 use plan_text::Word;
 use std::alloc::{AllocError, Global};
 

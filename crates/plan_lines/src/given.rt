@@ -6,8 +6,7 @@ ghost use Rattle.plan_lines.specs.Given as spec;
 ghost use Rattle.plan_lines.specs.Given.{Extends, Narrows};
 
 use htn_ground::{GroundTask, ObjectList};
-use htn_state::Atom;
-use htn_task::{AtomSchema, TaskSchema, Term};
+use htn_task::{Atom, AtomSchema, TaskSchema, Term};
 use std::alloc::{AllocError, Global};
 
 /// The object that a term stands for, if it has one.

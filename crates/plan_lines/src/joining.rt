@@ -3,7 +3,7 @@ ghost use Rattle.std.specs.Prelude.{◌≡◌, ◌≤◌, ◌<◌, ℕ, List, If
 ghost use Rattle.htn_model.specs.Instances as model;
 ghost use Rattle.htn_model.specs.PlanFile.{IsIn};
 ghost use Rattle.htn_model.specs.Schema.{AtomSchema as Wanted};
-ghost use Rattle.plan_run.specs.Turns.{IsEverTrue};
+ghost use Rattle.plan_lines.specs.Turns.{IsEverTrue};
 ghost use Rattle.plan_lines.specs.Allowed.{IsInstanceWith};
 ghost use Rattle.plan_lines.specs.Found.{AreAlike, AreFound, MayFit};
 ghost use Rattle.plan_lines.specs.Given.{Extends};
@@ -11,11 +11,10 @@ ghost use Rattle.plan_lines.specs.Given.{Extends};
 use crate::completing::push_completions;
 use crate::completion::meets_so_far;
 use crate::ever::{Search, may_be_true};
+use crate::ever_true::EverTrue;
 use crate::given::{bind_all, object_of};
 use htn_ground::ObjectList;
-use htn_state::Atom;
-use htn_task::{AtomSchema, Term};
-use plan_run::EverTrue;
+use htn_task::{Atom, AtomSchema, Term};
 use std::alloc::{AllocError, Global};
 
 /// Whether a term has no object yet. No promise rests on this but that of speed.

@@ -6,12 +6,12 @@ ghost use Rattle.plan_lines.specs.Left.{Fill};
 
 use crate::children::Children;
 use crate::ever::{Search, is_ruled_out, positive_atoms};
+use crate::ever_true::EverTrue;
 use crate::instances::references;
 use crate::joining::push_joined;
 use crate::search::{is_used_up, matched, settle};
 use htn_ground::{Conditions, ObjectList, shown_parameters};
 use htn_task::{FormulaList, NetworkSchema, Task, TaskSchema};
-use plan_run::EverTrue;
 use std::alloc::{AllocError, Global};
 
 /// Appends values of instances, with those that are given, of which the tasks that are left are those of the schemas.

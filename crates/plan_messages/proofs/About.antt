@@ -5,12 +5,12 @@ use Rattle.std.proofs.lemmas.Bool.{eq-eqb, eqb-true}
 use Rattle.htn_model.specs.PlanFile.{IsIn}
 use Rattle.diagnostics.specs.declared.diagnostic.Where.{Where}
 use Rattle.diagnostics.specs.declared.diagnostic.Where.TheVariants.{Text, Place}
-use Rattle.plan_spots.specs.Mentions.{IsMention}
-use Rattle.plan_spots.specs.Sightings.{places_of, seen_of, sighting_of}
-use Rattle.plan_spots.specs.Spots.{IsOnLine}
-use Rattle.plan_spots.specs.declared.mentions.Mention.{Mention}
-use Rattle.plan_spots.specs.declared.placed_plan.PlacedPlan.{PlacedPlan}
-use Rattle.plan_spots.proofs.OneLine.{on_through}
+use Rattle.plan_messages.specs.Mentions.{IsMention}
+use Rattle.plan_messages.specs.Sightings.{places_of, seen_of, sighting_of}
+use Rattle.plan_messages.specs.Spots.{IsOnLine}
+use Rattle.plan_messages.specs.declared.mentions.Mention.{Mention}
+use Rattle.plan_messages.specs.declared.placed_plan.PlacedPlan.{PlacedPlan}
+use Rattle.plan_messages.proofs.OneLine.{on_through}
 use Rattle.plan_messages.specs.Numbers.{HasSightings, IsSightingOf}
 use Rattle.plan_messages.specs.Places.{IsOnLineOf, IsOnLineWith, IsPlaceOf}
 

@@ -3,9 +3,9 @@ use Rattle.std.proofs.Common.{◌≡◌, ◌∙◌, ℕ, ◌+◌, ◌<◌, List,
 use Rattle.std.proofs.lemmas.Grind.{flat_map-append}
 use Rattle.std.proofs.lemmas.List.{map-append, take_more}
 use Rattle.diagnostics.specs.declared.diagnostic.Remark.{Remark}
-use Rattle.near_names.specs.Offers.{named}
+use Rattle.diagnostics.specs.Offers.{named}
 use Rattle.plan_messages.specs.Explanation.{named_in, texts_of}
-use Rattle.plan_reasons.specs.declared.literals.FalseLiteral.{FalseLiteral}
+use Rattle.plan_causes.specs.declared.literals.FalseLiteral.{FalseLiteral}
 
 -- a remark more that names a literal more
 pub others_step : (others : List FalseLiteral) (i : ℕ) (x : FalseLiteral) (before old new more : List Remark) (r : Remark) → i < length others → x ≡ get_or others i x

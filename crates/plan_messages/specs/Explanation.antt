@@ -7,14 +7,14 @@ use Rattle.diagnostics.specs.declared.diagnostic.Remark.{Remark}
 use Rattle.hddl_meaning.specs.declared.fault.Source.TheVariants as side
 use Rattle.pair_messages.specs.Counts.{numbers_of}
 use Rattle.pair_messages.specs.Heads as pair
-use Rattle.near_names.specs.Offers.{named}
+use Rattle.diagnostics.specs.Offers.{named}
 use Rattle.plan_causes.specs.declared.structure.WrongIds.{WrongIds}
-use Rattle.plan_reasons.specs.declared.cause.Cause.{Cause}
-use Rattle.plan_reasons.specs.declared.cause.Cause.TheVariants as cause
-use Rattle.plan_reasons.specs.declared.cause.FailedAction.{FailedAction}
-use Rattle.plan_reasons.specs.declared.literals.FalseLiteral.{FalseLiteral}
-use Rattle.plan_spots.specs.Mentions.{defined_at, listed_at}
-use Rattle.plan_spots.specs.declared.placed_plan.PlacedPlan.{PlacedPlan}
+use Rattle.plan_causes.specs.declared.reason.Cause.{Cause}
+use Rattle.plan_causes.specs.declared.reason.Cause.TheVariants as cause
+use Rattle.plan_causes.specs.declared.reason.FailedAction.{FailedAction}
+use Rattle.plan_causes.specs.declared.literals.FalseLiteral.{FalseLiteral}
+use Rattle.plan_messages.specs.Mentions.{defined_at, listed_at}
+use Rattle.plan_messages.specs.declared.placed_plan.PlacedPlan.{PlacedPlan}
 use Rattle.plan_messages.specs.Errors.{IsError}
 use Rattle.plan_messages.specs.Places.{IsOnLineOf, IsOnLineWith}
 use Rattle.plan_messages.specs.declared.texts.PlanTexts.{PlanTexts}

@@ -1,3 +1,6 @@
+pub mod Mentions
+pub mod Sightings
+pub mod Spots
 pub mod Errors
 pub mod Explanation
 pub mod Numbers

@@ -2,8 +2,8 @@
 use Rattle.std.specs.Prelude.{◌≡◌, ℕ, List, Option, Some, None}
 use Rattle.std.specs.List.{AllZip}
 use Rattle.plan_messages.specs.Places.{IsPlaceOf}
-use Rattle.plan_spots.specs.declared.placed_plan.PlacedPlan.{PlacedPlan}
-use Rattle.plan_spots.specs.declared.sighting.Sighting.{Sighting}
+use Rattle.plan_messages.specs.declared.placed_plan.PlacedPlan.{PlacedPlan}
+use Rattle.plan_messages.specs.declared.sighting.Sighting.{Sighting}
 
 -- the places are on lines of the number, and there is none only where it has no line
 abbrev pub IsSightingOf : PlacedPlan → List (ℕ × ℕ) → ℕ → Option Sighting → Type 0

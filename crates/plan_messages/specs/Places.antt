@@ -3,8 +3,8 @@ use Rattle.std.specs.Prelude.{◌≡◌, ℕ, List, Option, Some, None}
 use Rattle.htn_model.specs.PlanFile.{IsIn}
 use Rattle.diagnostics.specs.declared.diagnostic.Where.{Where}
 use Rattle.diagnostics.specs.declared.diagnostic.Where.TheVariants.{Text, Place}
-use Rattle.plan_spots.specs.Spots.{IsOnLine, IsSpotOn}
-use Rattle.plan_spots.specs.declared.placed_plan.PlacedPlan.{PlacedPlan}
+use Rattle.plan_messages.specs.Spots.{IsOnLine, IsSpotOn}
+use Rattle.plan_messages.specs.declared.placed_plan.PlacedPlan.{PlacedPlan}
 
 -- a word on the line of a place, or the plan as a whole where there is no place
 abbrev pub IsOnLineOf : PlacedPlan → Option ℕ → Where → Type 0

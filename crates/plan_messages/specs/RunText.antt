@@ -3,11 +3,11 @@ use Rattle.std.specs.Prelude.{ℕ, ◌-◌, ◌==◌, ◌&&◌, if◌then◌else
 use Rattle.std.specs.Fmt.{decimal}
 use Rattle.std.specs.List.{flat_map, fold, join_by, zip}
 use Rattle.htn_model.specs.PlanFile.{ActionLine, PlanFile, Word}
-use Rattle.plan_reasons.specs.Facts.{words_of}
-use Rattle.plan_reasons.specs.declared.run.Change.{Change}
-use Rattle.plan_reasons.specs.declared.run.Fact.{Fact}
-use Rattle.plan_reasons.specs.declared.run.Run.{Run}
-use Rattle.text_places.specs.Shown.{shown}
+use Rattle.plan_causes.specs.Facts.{words_of}
+use Rattle.plan_causes.specs.declared.run.Change.{Change}
+use Rattle.plan_causes.specs.declared.run.Fact.{Fact}
+use Rattle.plan_causes.specs.declared.run.Run.{Run}
+use Rattle.diagnostics.specs.Shown.{shown}
 use Rattle.plan_messages.specs.declared.lines.Columns.{Columns}
 
 -- ## Facts

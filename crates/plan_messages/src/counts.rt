@@ -5,7 +5,7 @@ ghost use Rattle.pair_messages.specs.Counts.{numbers_of};
 
 use diagnostics::Part;
 use pair_messages::push_count;
-use plan_reasons::Counts;
+use plan_causes::Counts;
 use std::alloc::{AllocError, Global};
 
 /// The line that counts the nodes of the solution of a valid plan file: actions, decomposed tasks, precondition steps,

@@ -2,14 +2,14 @@
 
 ghost use Rattle.std.specs.Prelude.{◌≡◌, ◌∷◌, [], IfOk};
 ghost use Rattle.plan_messages.specs.Explanation.{Explains};
-ghost use Rattle.plan_reasons.specs.Causes.{AreOnce};
+ghost use Rattle.plan_causes.specs.Reasons.{AreOnce};
 
 use crate::run_errors::{action_error, goal_errors};
 use crate::single::{arrangement_error, instance_error};
 use crate::structure::structure_errors;
 use crate::texts::PlanTexts;
 use diagnostics::Diagnostic;
-use plan_reasons::Cause;
+use plan_causes::Cause;
 use std::alloc::{AllocError, Global};
 
 /// An error alone.

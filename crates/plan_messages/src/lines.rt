@@ -3,15 +3,15 @@
 ghost use Rattle.std.specs.Prelude.{◌≡◌, ◌++◌, ◌∷◌, IfOk, OnOk, length, map, max};
 ghost use Rattle.std.specs.Fmt.{decimal};
 ghost use Rattle.std.specs.List.{flat_map, fold, zip};
-ghost use Rattle.plan_reasons.specs.Facts.{words_of};
-ghost use Rattle.text_places.specs.Shown as places;
+ghost use Rattle.plan_causes.specs.Facts.{words_of};
+ghost use Rattle.diagnostics.specs.Shown as places;
 ghost use Rattle.plan_messages.specs.RunText as spec;
 
+use diagnostics::shown;
 use itoa::Buffer;
-use plan_reasons::{Change, Fact, Run};
+use plan_causes::{Change, Fact, Run};
 use plan_text::{ActionLine, PlanFile, Word};
 use std::alloc::{AllocError, Global};
-use text_places::shown;
 
 /// The most columns that actions are padded to, so that one long line doesn't lengthen all others.
 const MOST_PADDED: usize = 60;

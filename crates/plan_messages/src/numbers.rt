@@ -4,9 +4,11 @@ ghost use Rattle.std.specs.Prelude.{IfOk};
 ghost use Rattle.htn_model.specs.PlanFile.{IsWithoutRepeats};
 ghost use Rattle.plan_messages.specs.Numbers.{HasSightings};
 ghost use Rattle.plan_messages.specs.Places.{IsPlaceOf};
-ghost use Rattle.plan_spots.specs.Mentions.{defined_at, listed_at};
+ghost use Rattle.plan_messages.specs.Mentions.{defined_at, listed_at};
 
-use plan_spots::{PlacedPlan, Sighting, definitions, listings, sightings};
+use crate::mentions::{definitions, listings};
+use crate::placed_plan::PlacedPlan;
+use crate::sighting::{Sighting, sightings};
 use std::alloc::{AllocError, Global};
 
 /// Where lines begin with numbers.

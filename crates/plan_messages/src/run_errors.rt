@@ -3,7 +3,7 @@
 ghost use Rattle.std.specs.Prelude.{◌≡◌, ◌∷◌, [], ◌++◌, List, IfOk, OnOk, drop, take};
 ghost use Rattle.std.specs.List.{AllZip};
 ghost use Rattle.diagnostics.specs.declared.diagnostic.Remark as spec;
-ghost use Rattle.near_names.specs.Offers.{named};
+ghost use Rattle.diagnostics.specs.Offers.{named};
 ghost use Rattle.plan_messages.specs.Explanation.{IsActionError, IsGoalError, named_in, texts_of};
 
 use crate::errors::error;
@@ -11,7 +11,7 @@ use crate::saying::Saying;
 use crate::since::{say_next, say_since};
 use crate::texts::{PlanTexts, action_place, in_domain, in_problem, words_or_whole};
 use diagnostics::{Diagnostic, Part, Where};
-use plan_reasons::{FailedAction, FalseLiteral};
+use plan_causes::{FailedAction, FalseLiteral};
 use std::alloc::{AllocError, Global};
 
 /// How many actions were carried out before.

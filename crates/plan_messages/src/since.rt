@@ -2,10 +2,9 @@
 
 use crate::saying::Saying;
 use crate::texts::{PlanTexts, action_place, in_problem};
+use crate::words::word_from;
 use diagnostics::{Part, Spot};
-use plan_causes::Standing;
-use plan_reasons::{FalseLiteral, Sign};
-use plan_spots::word_from;
+use plan_causes::{FalseLiteral, Sign, Standing};
 use plan_text::{ActionLine, Word};
 use std::alloc::{AllocError, Global};
 use std::str;

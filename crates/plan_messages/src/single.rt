@@ -5,9 +5,9 @@ ghost use Rattle.plan_messages.specs.Explanation.{IsArrangementError, IsInstance
 
 use crate::errors::plain_error;
 use crate::numbers::number_place;
+use crate::placed_plan::PlacedPlan;
 use crate::texts::{root_place, word_or_whole, words_or_whole};
 use diagnostics::Diagnostic;
-use plan_spots::PlacedPlan;
 use std::alloc::{AllocError, Global};
 
 /// The error of a line that has no instance; without a number of the root line.

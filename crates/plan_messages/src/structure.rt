@@ -8,15 +8,17 @@ ghost use Rattle.pair_messages.specs.Counts.{numbers_of};
 ghost use Rattle.plan_messages.specs.Explanation.{ExplainsStructure, IsNumberError};
 ghost use Rattle.plan_messages.specs.Numbers.{HasSightings, IsSightingOf};
 ghost use Rattle.plan_messages.specs.Places.{IsPlaceOf};
-ghost use Rattle.plan_spots.specs.Mentions.{defined_at, listed_at};
-ghost use Rattle.plan_spots.specs.declared.placed_plan.PlacedPlan as spec;
+ghost use Rattle.plan_messages.specs.Mentions.{defined_at, listed_at};
+ghost use Rattle.plan_messages.specs.declared.placed_plan.PlacedPlan as spec;
 
 use crate::errors::error;
 use crate::numbers::{defined, listed};
+use crate::placed_plan::PlacedPlan;
+use crate::sighting::Sighting;
 use crate::texts::word_or_whole;
+use crate::words::word_from;
 use diagnostics::{Diagnostic, Note, Part};
 use plan_causes::WrongIds;
-use plan_spots::{PlacedPlan, Sighting, word_from};
 use std::alloc::{AllocError, Global};
 
 /// What is wrong with the number of a line.

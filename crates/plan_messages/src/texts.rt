@@ -4,10 +4,11 @@ ghost use Rattle.std.specs.Prelude.{◌≡◌, slice_get};
 ghost use Rattle.pair_messages.specs.Heads.{IsSpotAt, problem_text};
 ghost use Rattle.plan_messages.specs.Places.{IsOnLineOf};
 
+use crate::placed_plan::PlacedPlan;
+use crate::words::{word_from, words_from};
 use diagnostics::{Spot, Where};
 use hddl_meaning::Source;
 use pair_messages::{At, PairTexts, spot_of};
-use plan_spots::{PlacedPlan, word_from, words_from};
 
 /// A domain, a problem and a plan, as texts and as they were read.
 #[derive(Clone, Copy, Drop)]

@@ -2,9 +2,9 @@
 use Rattle.std.proofs.Common.{◌≡◌, ℕ, suc, ◌+◌, ◌<◌, List, [], ◌∷◌, length, get_or, Vec, Option, None, inl, inr, sym, ap, ◌∙◌, subst, arith}
 use Rattle.std.proofs.lemmas.List.{length-map}
 use Rattle.htn_model.specs.PlanFile.{PlanFile, IsIn, defined_ids}
-use Rattle.plan_forest.specs.Forest.{Forest, IsForestOf, lists_of}
-use Rattle.plan_forest.specs.Reached.{children_at, IsReachedFrom, a_root, a_child}
-use Rattle.plan_forest.proofs.Listed.{as_many_lists}
+use Rattle.plan_text.specs.Forest.{Forest, IsForestOf, lists_of}
+use Rattle.plan_text.specs.Reached.{children_at, IsReachedFrom, a_root, a_child}
+use Rattle.plan_text.proofs.Listed.{as_many_lists}
 use Rattle.plan_picture.specs.Below.{IsFirstAction}
 use Rattle.plan_picture.specs.Picture.{IsDrawing}
 use Rattle.plan_picture.specs.Order.{AreDrawn, AreAllDrawn}

@@ -7,12 +7,12 @@ use Rattle.htn_model.specs.Problem.{GroundTask}
 use Rattle.htn_model.specs.PlanFile.{Word, PlanFile, Naming, IsIn, defined_ids}
 use Rattle.htn_model.specs.Fits.{PlanTree, action_at, decomposition, PlanTrees, no_plans, plan}
 use Rattle.htn_model.proofs.Planted.{IsWithin, AreWithin}
-use Rattle.plan_forest.specs.Forest.{Forest, IsForestOf}
-use Rattle.plan_forest.specs.Reached.{children_at, IsReachedFrom}
-use Rattle.plan_forest.specs.Plans.{trees_of, method_at, tree_within, tree_at, AreTasks, AreTrees}
-use Rattle.plan_forest.proofs.Listed.{as_many_lists, children_numbers, of_number, line_there}
-use Rattle.plan_forest.proofs.Bridged.{line_count, forest_reaches}
-use Rattle.plan_forest.proofs.Planting.{forests_are_trees}
+use Rattle.plan_text.specs.Forest.{Forest, IsForestOf}
+use Rattle.plan_text.specs.Reached.{children_at, IsReachedFrom}
+use Rattle.plan_text.specs.Plans.{trees_of, method_at, tree_within, tree_at, AreTasks, AreTrees}
+use Rattle.plan_text.proofs.Listed.{as_many_lists, children_numbers, of_number, line_there}
+use Rattle.plan_text.proofs.Bridged.{line_count, forest_reaches}
+use Rattle.plan_text.proofs.Planting.{forests_are_trees}
 use Rattle.plan_picture.proofs.Ahead.{Ends}
 
 -- ## Trees within a depth

@@ -5,10 +5,10 @@ use Rattle.std.proofs.lemmas.List.{map-append}
 use Rattle.std.specs.List.{flat_map}
 use Rattle.htn_model.specs.PlanFile.{PlanFile, DecompositionLine, IsIn, IsWithoutRepeats, defined_ids, listed_ids, all_children}
 use Rattle.htn_model.proofs.Ascending.{in_map, in_mapped}
-use Rattle.plan_forest.specs.Forest.{Forest, IsForestOf}
-use Rattle.plan_forest.specs.Numbers.{AreNumbersOf, AreNumbersOfChildren}
-use Rattle.plan_forest.specs.Reached.{children_at, IsReachedFrom, a_root, a_child}
-use Rattle.plan_forest.proofs.Bridged.{forest_lists_once, line_count}
+use Rattle.plan_text.specs.Forest.{Forest, IsForestOf}
+use Rattle.plan_text.specs.Numbers.{AreNumbersOf, AreNumbersOfChildren}
+use Rattle.plan_text.specs.Reached.{children_at, IsReachedFrom, a_root, a_child}
+use Rattle.plan_text.proofs.Bridged.{forest_lists_once, line_count}
 use Rattle.plan_picture.specs.Order.{AreDrawn, AreAllDrawn}
 use Rattle.plan_picture.specs.Rows.{Row, with_bar, child_rows, root_rows, ArePreorder, none, next}
 use Rattle.plan_picture.specs.Firsts.{lines_of}

@@ -5,7 +5,7 @@ use Rattle.std.proofs.lemmas.List.{append-nil, append_assoc, drop_more, drop_all
 use Rattle.std.specs.List.{All}
 use Rattle.std.proofs.lemmas.List.Sorted.{All-permutation}
 use Rattle.htn_model.specs.PlanFile.{IsIn}
-use Rattle.plan_forest.specs.Reached.{children_at}
+use Rattle.plan_text.specs.Reached.{children_at}
 use Rattle.plan_picture.specs.Order.{is_some, refilled, AreDrawn, AreAllDrawn}
 
 in_get : (lines : List ℕ) (k d : ℕ) → k < length lines → IsIn (get_or lines k d) lines

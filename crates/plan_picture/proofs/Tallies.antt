@@ -3,7 +3,7 @@ use Rattle.std.proofs.Common.{◌≡◌, ℕ, zero, suc, ◌+◌, ◌-◌, ◌<�
 use Rattle.std.proofs.lemmas.Bool.{cases_Bool, eqb-true, eq-eqb}
 use Rattle.std.proofs.lemmas.List.Sorted.{length_permutation, sum_by-IsPermutation}
 use Rattle.htn_model.specs.PlanFile.{IsIn, IsWithoutRepeats}
-use Rattle.plan_forest.specs.Reached.{children_at}
+use Rattle.plan_text.specs.Reached.{children_at}
 use Rattle.plan_picture.specs.Order.{is_some, refilled, AreDrawn, AreAllDrawn}
 
 -- one, if two numbers are the same

@@ -1,6 +1,6 @@
 -- A small forest: the actions 0 and 1, task 2 with the children 3 and 0, and task 3 with the child 1.
 use Rattle.std.specs.Prelude.{ℕ, Bool, true, false, List, [], ◌∷◌, Option, Some, None}
-use Rattle.plan_forest.specs.Reached.{children_at}
+use Rattle.plan_text.specs.Reached.{children_at}
 use Rattle.plan_picture.specs.Rows.{Row}
 
 -- the children as they are listed

@@ -1,8 +1,8 @@
 -- The picture of a plan file.
 use Rattle.std.specs.Prelude.{◌≡◌, ℕ, ◌<◌, List, length, Option}
 use Rattle.htn_model.specs.PlanFile.{PlanFile, defined_ids}
-use Rattle.plan_forest.specs.Forest.{Forest, IsForestOf, lists_of}
-use Rattle.plan_forest.specs.Reached.{children_at}
+use Rattle.plan_text.specs.Forest.{Forest, IsForestOf, lists_of}
+use Rattle.plan_text.specs.Reached.{children_at}
 use Rattle.plan_picture.specs.declared.picture.Picture.{Picture}
 use Rattle.plan_picture.specs.Below.{IsFirstAction}
 use Rattle.plan_picture.specs.Order.{AreDrawn, AreAllDrawn}

@@ -3,8 +3,8 @@
 ghost use Rattle.std.specs.Prelude.{◌≡◌, ℕ, ◌+◌, ◌<◌, [], length, get_or, None, map, IfOk};
 ghost use Rattle.std.specs.List.{All};
 ghost use Rattle.htn_model.specs.PlanFile.{IsIn};
-ghost use Rattle.plan_forest.specs.Forest.{lists_of};
-ghost use Rattle.plan_forest.specs.Reached as reached;
+ghost use Rattle.plan_text.specs.Forest.{lists_of};
+ghost use Rattle.plan_text.specs.Reached as reached;
 ghost use Rattle.plan_picture.specs.Below.{IsFirstAction};
 ghost use Rattle.plan_picture.specs.Firsts.{AreAfter, earlier as earlier_of, lines_of};
 ghost use Rattle.plan_picture.specs.Seen.{seen_all};

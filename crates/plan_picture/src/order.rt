@@ -1,7 +1,7 @@
 //! Siblings in the order in which they are drawn.
 
 ghost use Rattle.std.specs.Prelude.{◌≡◌, [], get_or, filter, None, IfOk};
-ghost use Rattle.plan_forest.specs.Forest.{lists_of};
+ghost use Rattle.plan_text.specs.Forest.{lists_of};
 ghost use Rattle.plan_picture.specs.Order as spec;
 ghost use Rattle.plan_picture.specs.Order.{AreDrawn, AreAllDrawn};
 

@@ -2,15 +2,14 @@
 
 ghost use Rattle.std.specs.Prelude.{◌≡◌, length, MatchOption, IfOk};
 ghost use Rattle.htn_model.specs.PlanFile.{IsForest};
-ghost use Rattle.plan_forest.specs.Forest.{IsForestOf, lists_of};
+ghost use Rattle.plan_text.specs.Forest.{IsForestOf, lists_of};
 ghost use Rattle.plan_picture.specs.Picture.{IsPictureOf};
 
 use crate::firsts::firsts_of;
 use crate::order::{all_drawn, drawn};
 use crate::row::Row;
 use crate::walk::rows_of;
-use plan_forest::{Forest, forest_of};
-use plan_text::PlanFile;
+use plan_text::{Forest, PlanFile, forest_of};
 use std::alloc::{AllocError, Global};
 
 /// The forest that the lines of a plan file are, as it is drawn. Lines are known by their numbers.

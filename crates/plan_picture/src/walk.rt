@@ -2,8 +2,8 @@
 
 ghost use Rattle.std.specs.Prelude.{◌≡◌, ◌+◌, ◌≤◌, ◌<◌, ◌^◌, [], ◌++◌, length, map, reverse, None, Some, OnOk, IfOk};
 ghost use Rattle.std.specs.List.{All};
-ghost use Rattle.plan_forest.specs.Forest.{lists_of};
-ghost use Rattle.plan_forest.specs.Reached as reached;
+ghost use Rattle.plan_text.specs.Forest.{lists_of};
+ghost use Rattle.plan_text.specs.Reached as reached;
 ghost use Rattle.plan_picture.specs.Rows.{ArePreorder, child_rows, root_rows, rows_within, siblings, with_bar};
 ghost use Rattle.plan_picture.specs.Seen.{seen, seen_all};
 

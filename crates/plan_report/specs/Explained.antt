@@ -27,10 +27,10 @@ use Rattle.plan_findings.specs.Causes.{IsRunReason, IsStructureReason, tasks_of}
 use Rattle.plan_findings.specs.Runs.{IsRunOf}
 use Rattle.plan_findings.specs.Steps.{takes_step}
 use Rattle.pair_messages.specs.Counts.{numbers_of}
-use Rattle.plan_reasons.specs.declared.cause.Cause.TheVariants as cause
-use Rattle.plan_reasons.specs.declared.cause.Cause.{Cause}
+use Rattle.plan_causes.specs.declared.reason.Cause.TheVariants as cause
+use Rattle.plan_causes.specs.declared.reason.Cause.{Cause}
 use Rattle.plan_report.specs.Shorter.{IsShorter}
-use Rattle.plan_reasons.specs.declared.run.Run.{Run}
+use Rattle.plan_causes.specs.declared.run.Run.{Run}
 use Rattle.plan_report.specs.declared.report.ReportStyle.{ReportStyle}
 
 -- ## Verdicts

@@ -1,8 +1,8 @@
 -- Causes of which only the first numbers are shown.
 use Rattle.std.specs.Prelude.{◌≡◌, ℕ, ◌+◌, ◌-◌, ◌^◌, min, length, take}
 use Rattle.plan_causes.specs.declared.structure.WrongIds.{WrongIds}
-use Rattle.plan_reasons.specs.declared.cause.Cause.{Cause}
-use Rattle.plan_reasons.specs.declared.cause.Cause.TheVariants as cause
+use Rattle.plan_causes.specs.declared.reason.Cause.{Cause}
+use Rattle.plan_causes.specs.declared.reason.Cause.TheVariants as cause
 
 -- of the numbers with which something is wrong, one list after the other, the first ones
 pub record AreFirst (most : ℕ) (all first : WrongIds) : Type 0 where

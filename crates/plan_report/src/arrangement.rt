@@ -5,11 +5,11 @@ use crate::reason::{Mark, Reason};
 use crate::spots::{in_domain, in_problem, root_word, whole_line, word_at};
 use crate::unmet::{literal_place, method_of, texts_of, unmet_reason, with_texts};
 use crate::words::{bracketed, words_of};
-use hddl_tree::SubtaskText;
-use htn_state::Literal;
+use hddl_words::SubtaskText;
+use htn_task::Literal;
 use htn_verify::room_cause;
 use plan_findings::PlanCase;
-use plan_spots::PlacedPlan;
+use plan_messages::PlacedPlan;
 use room_causes::{Conflict, Node, OrderConflict};
 use std::alloc::{AllocError, Global};
 

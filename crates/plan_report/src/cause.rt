@@ -1,6 +1,6 @@
 //! Causes of lines without an instance.
 
-use line_causes::WordsCause;
+use plan_lines::WordsCause;
 
 /// Why a line of a plan file has no instance.
 #[derive(Clone, Copy, PartialEq, Eq, Debug)]

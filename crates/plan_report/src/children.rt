@@ -5,9 +5,9 @@ use crate::reason::{Mark, Reason};
 use crate::spots::{in_domain, in_problem, root_word, word_at};
 use crate::words::{bracketed, words_of};
 use hddl_names::fold;
-use hddl_tree::{AtomText, MethodText, SubtaskText, Term};
+use hddl_words::{AtomText, MethodText, SubtaskText, Term};
 use plan_findings::PlanCase;
-use plan_spots::PlacedPlan;
+use plan_messages::PlacedPlan;
 use plan_text::Word;
 use std::alloc::{AllocError, Global};
 

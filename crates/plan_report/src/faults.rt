@@ -4,7 +4,7 @@ ghost use Rattle.std.specs.Prelude.{◌≡◌, IfOk};
 ghost use Rattle.plan_report.specs.Explained as spec;
 
 use diagnostics::{Diagnostic, Part, Remark, RemarkKind, Severity, Source, Spot, Where};
-use plan_spots::{word_from, words_from};
+use plan_messages::{word_from, words_from};
 use plan_text::PlanFault;
 use std::alloc::{AllocError, Global};
 

@@ -16,6 +16,5 @@ mod spots;
 mod unmet;
 mod words;
 
-pub use plan_messages::{PairTexts, PlanTexts};
-pub use plan_spots::PlacedPlan;
+pub use plan_messages::{PairTexts, PlacedPlan, PlanTexts};
 pub use report::{ReportStyle, explain, explain_fault};

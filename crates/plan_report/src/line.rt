@@ -8,12 +8,11 @@ use crate::schemas::{listed, meant, method_named, methods_of};
 use crate::search::{action_line_cause, decomposition_cause, root_cause};
 use crate::spots::in_domain;
 use crate::words::{words_of, words_reason};
-use hddl_tree::MethodText;
-use line_causes::WordsCause;
+use hddl_words::MethodText;
 use plan_findings::PlanCase;
-use plan_forest::Forest;
-use plan_spots::PlacedPlan;
-use plan_text::{DecompositionLine, PlanFile};
+use plan_lines::WordsCause;
+use plan_messages::PlacedPlan;
+use plan_text::{DecompositionLine, Forest, PlanFile};
 use std::alloc::{AllocError, Global};
 
 /// The number of the line with an id.

@@ -1,7 +1,7 @@
 //! Reports of why a plan has its verdict.
 
 ghost use Rattle.std.specs.Prelude.{◌≡◌, IfOk, IfSome};
-ghost use Rattle.plan_reasons.specs.Causes.{AreOnce};
+ghost use Rattle.plan_causes.specs.Reasons.{AreOnce};
 ghost use Rattle.diagnostics.specs.declared.format.Format.TheVariants as format;
 ghost use Rattle.plan_report.specs.Explained as spec;
 
@@ -16,12 +16,10 @@ use diagnostics::{
 };
 use htn_task::Task;
 use htn_verify::Verdict;
+use plan_causes::Cause;
 use plan_findings::{PlanCase, counts_of, run_of, run_reason, structure_reason};
-use plan_forest::forest_of;
-use plan_messages::{PairTexts, PlanTexts, counts_line, explanation, run_lines};
-use plan_reasons::Cause;
-use plan_spots::PlacedPlan;
-use plan_text::{PlanFault, PlanFile};
+use plan_messages::{PairTexts, PlacedPlan, PlanTexts, counts_line, explanation, run_lines};
+use plan_text::{PlanFault, PlanFile, forest_of};
 use std::alloc::{AllocError, Global};
 
 /// How an explanation is written.

@@ -1,9 +1,9 @@
 //! Sections of the domain by the words of a plan, and names that are near to a word.
 
 use crate::message::Message;
+use diagnostics::nearest;
 use hddl_names::fold;
-use hddl_tree::{ActionText, DomainText, MethodText, Name, TaskText, VariableGroup};
-use near_names::nearest;
+use hddl_words::{ActionText, DomainText, MethodText, Name, TaskText, VariableGroup};
 use plan_text::Word;
 use std::alloc::{AllocError, Global};
 

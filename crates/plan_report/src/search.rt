@@ -1,15 +1,13 @@
 //! The search for the cause of a line without an instance. What it finds is not proved; of action lines it is the
-//! proved cause of `line_causes`.
+//! proved cause of `plan_lines`.
 
 use crate::cause::LineCause;
 use crate::words::words_of;
 use htn_ground::GroundTask;
 use htn_task::{MethodSchema, Task, TaskSchema};
-use line_causes::{WordsCause, action_cause, typed_task};
 use plan_findings::PlanCase;
-use plan_forest::Forest;
-use plan_lines::{AllowedValues, Names, task_named};
-use plan_text::Word;
+use plan_lines::{AllowedValues, Names, WordsCause, action_cause, task_named, typed_task};
+use plan_text::{Forest, Word};
 use std::alloc::{AllocError, Global};
 
 /// The tasks of some lines, or the first place at which the words of a line name none, and why.

@@ -1,11 +1,10 @@
 //! Causes of which only the first numbers are shown.
 
 ghost use Rattle.std.specs.Prelude.{◌≡◌, ◌-◌, length, take};
-ghost use Rattle.plan_reasons.specs.Causes.{AreOnce};
+ghost use Rattle.plan_causes.specs.Reasons.{AreOnce};
 ghost use Rattle.plan_report.specs.Shorter as spec;
 
-use plan_causes::WrongIds;
-use plan_reasons::Cause;
+use plan_causes::{Cause, WrongIds};
 
 /// Cuts a list behind its first numbers, and returns how many more there may be behind it.
 fn cut(numbers: &mut Vec<u64>, most: usize) -> usize

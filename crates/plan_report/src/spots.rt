@@ -2,7 +2,7 @@
 
 use crate::reason::Mark;
 use diagnostics::Role;
-use plan_spots::{PlacedPlan, word_from, words_from};
+use plan_messages::{PlacedPlan, word_from, words_from};
 
 /// Where a line begins, by its number: the action lines first, and then the decomposition lines.
 fn line_place(plan: &PlacedPlan<'_>, line: usize) -> usize {

@@ -6,10 +6,10 @@ use crate::reason::Reason;
 use crate::schemas::{listed, method_named};
 use crate::spots::{in_domain, whole_line, word_at};
 use crate::words::bracketed;
-use hddl_tree::MethodText;
-use htn_state::Literal;
+use hddl_words::MethodText;
+use htn_task::Literal;
 use plan_findings::{PlanCase, action_tasks, literal_core, literal_text, precondition_places};
-use plan_run::{Outcome, run};
+use plan_lines::{Outcome, run};
 use room_causes::Unmet;
 use std::alloc::{AllocError, Global};
 

@@ -4,10 +4,10 @@ use crate::message::Message;
 use crate::reason::{Mark, Reason};
 use crate::schemas::{action_named, meant, parameter_at, task_named};
 use crate::spots::{in_domain, word_at};
-use hddl_tree::{DomainText, ProblemText, VariableGroup};
-use line_causes::WordsCause;
+use hddl_words::{DomainText, ProblemText, VariableGroup};
 use plan_findings::PlanCase;
-use plan_spots::PlacedPlan;
+use plan_lines::WordsCause;
+use plan_messages::PlacedPlan;
 use plan_text::Word;
 use std::alloc::{AllocError, Global};
 

@@ -1,7 +1,7 @@
 -- How many of a network's children are subtasks.
 use Rattle.std.proofs.Common.{◌≡◌, ℕ, suc, ◌+◌, ◌≤◌, ◌<◌, List, [], ◌∷◌, length, get_or, drop, refl, ap, ◌∙◌, sym, arith, length-drop, drop-cons}
 use Rattle.htn_model.specs.Problem as model
-use Rattle.htn_state.specs.declared.literal.LiteralList.{LiteralList}
+use Rattle.htn_task.specs.declared.literal.LiteralList.{LiteralList}
 use Rattle.htn_model.specs.Fits.{subtask_positions}
 use Rattle.htn_ground.specs.Views.{children_of}
 use Rattle.htn_ground.specs.declared.child.Child.{Child}

@@ -17,7 +17,7 @@ use crate::matching::Choices;
 use crate::memo::Memo;
 use crate::rooms::{Finish, Question};
 use htn_ground::{Child, GroundTask, Instance};
-use htn_state::LiteralList;
+use htn_task::LiteralList;
 
 /// How early everything below a line can have finished.
 pub(crate) fn line_finish<L: PlanLines>(lines: &L, memo: &Memo, line: usize, start: usize) -> Finish

@@ -2,7 +2,7 @@
 ghost use Rattle.std.specs.Prelude.{◌≡◌, ◌≤◌, ◌<◌, IfOk};
 
 use htn_ground::{GroundTask, Instance};
-use htn_state::LiteralList;
+use htn_task::LiteralList;
 use std::alloc::AllocError;
 use std::borrow::CowSlice;
 

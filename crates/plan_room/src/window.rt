@@ -11,7 +11,7 @@ ghost use Rattle.plan_room.specs.Windows.{HoldsWithin, IsLastBetter, StepsHold};
 use crate::lines::PlanLines;
 use crate::rooms::Finish;
 use htn_ground::{Child, Instance};
-use htn_state::LiteralList;
+use htn_task::LiteralList;
 
 /// Gaps from a first to a last one.
 #[derive(Clone, Copy)]

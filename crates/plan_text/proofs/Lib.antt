@@ -17,3 +17,9 @@ pub mod Taken
 pub mod WrittenCuts
 pub mod WrittenLines
 pub mod Placed
+pub mod Adding
+pub mod Listed
+pub mod Reaching
+pub mod Walked
+pub mod Bridged
+pub mod Planting

@@ -11,3 +11,7 @@ pub mod Seen
 pub mod Sink
 pub mod Written
 pub mod Places
+pub mod Numbers
+pub mod Reached
+pub mod Forest
+pub mod Plans

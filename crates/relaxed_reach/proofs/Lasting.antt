@@ -12,7 +12,7 @@ use Rattle.htn_model.proofs.Steps.{Decomposes, Executes, chosen}
 use Rattle.htn_model.proofs.Regrown.{choice_within}
 use Rattle.task_graph.specs.Barred.{is_barred, is_barred_by}
 use Rattle.tree_sizes.specs.Measure.{is_as_at_first}
-use Rattle.heuristic.proofs.Bounds.{live_choice}
+use Rattle.tree_sizes.proofs.Bounds.{live_choice}
 use Rattle.tree_sizes.proofs.Bounded.{states_last}
 use Rattle.tree_sizes.proofs.Lasting.{agreed, alive_literals}
 use Rattle.relaxed_reach.specs.Facts.{is_within}

@@ -15,8 +15,7 @@ ghost use Rattle.relaxed_reach.specs.Tables.{facts_of, reach_of};
 
 use crate::reach::RelaxedReach;
 use htn_ground::{Child, GroundTask, Instance, distinct_initials};
-use htn_state::Action;
-use htn_task::Task;
+use htn_task::{Action, Task};
 use std::alloc::{AllocError, Global};
 use task_graph::TaskGraph;
 

@@ -2,11 +2,11 @@
 ghost use Rattle.std.specs.Prelude.{◌≡◌, ◌||◌};
 ghost use Rattle.std.specs.List.{list_all};
 ghost use Rattle.htn_model.specs.State.{contains};
-ghost use Rattle.htn_state.specs.Views.{literal_of, literals_of};
+ghost use Rattle.htn_task.specs.Literals.{literal_of, literals_of};
 ghost use Rattle.relaxed_reach.specs.Facts.{are_possible, has_effects, is_possible, is_within, may_fail};
 ghost use Rattle.relaxed_reach.specs.Tables.{facts_of, is_fluent};
 
-use htn_state::{Action, Atom, Literal, State};
+use htn_task::{Action, Atom, Literal, State};
 
 /// The fluent atoms that may become true, and those that are true in each reachable state.
 pub(crate) struct FactSets {

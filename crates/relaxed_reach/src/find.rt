@@ -6,8 +6,7 @@
 use crate::facts::FactSets;
 use crate::reach::Marks;
 use htn_ground::{Child, GroundTask, distinct_initials};
-use htn_state::{Action, Atom, Literal, State};
-use htn_task::Task;
+use htn_task::{Action, Atom, Literal, State, Task};
 use indexmap::IndexSet;
 use std::alloc::{AllocError, Global};
 use std::mem;

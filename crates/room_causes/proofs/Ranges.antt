@@ -6,8 +6,8 @@ use Rattle.std.proofs.lemmas.Bool.{both_ways}
 use Rattle.std.proofs.lemmas.Option.{slice_get-map, slice_get_read}
 use Rattle.htn_model.specs.Literal.{Literal, holds, literal_holds}
 use Rattle.htn_model.specs.State.{State}
-use Rattle.htn_state.specs.Views.{literal_of, literals_of}
-use Rattle.htn_state.specs.declared.literal.Literal.{Literal as Read}
+use Rattle.htn_task.specs.Literals.{literal_of, literals_of}
+use Rattle.htn_task.specs.declared.literal.Literal.{Literal as Read}
 use Rattle.plan_room.specs.Lines.{Lines, IsNextGap}
 use Rattle.room_causes.specs.Nodes.{IsFalseLiteral}
 

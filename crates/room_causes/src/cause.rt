@@ -1,7 +1,7 @@
 //! Causes as data.
 
 use htn_ground::ObjectList;
-use htn_state::LiteralList;
+use htn_task::LiteralList;
 
 /// Why the lines of a plan file have no room in the whole plan.
 #[derive(Drop)]

@@ -1,6 +1,6 @@
 //! Preconditions that hold in no gap of a range.
 ghost use Rattle.std.specs.Prelude.{◌≡◌, ◌≤◌, ◌∷◌, [], ⊤, Some, IfOk, MatchOption, slice_get};
-ghost use Rattle.htn_state.specs.Views.{literal_of};
+ghost use Rattle.htn_task.specs.Literals.{literal_of};
 ghost use Rattle.htn_model.specs.Problem.{precondition};
 ghost use Rattle.plan_room.specs.Frames.{IsLine};
 ghost use Rattle.room_causes.specs.Conflicts.{IsUnmet, IsUnmetIn};
@@ -9,7 +9,7 @@ ghost use Rattle.room_causes.specs.Nodes.{IsFalseLiteral};
 use crate::cause::Unmet;
 use crate::instances::{instance_at, instances_of};
 use htn_ground::{Child, Instance, ObjectList};
-use htn_state::{Literal, LiteralList};
+use htn_task::{Literal, LiteralList};
 use plan_room::PlanLines;
 use std::alloc::{AllocError, Global};
 

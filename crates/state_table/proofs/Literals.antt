@@ -4,8 +4,8 @@ use Rattle.std.specs.Bool.{beq}
 use Rattle.std.proofs.lemmas.List.Folds.{list_all-map, list_all_more}
 use Rattle.htn_model.specs.State.{State}
 use Rattle.htn_model.specs.Literal.{holds, literal_holds}
-use Rattle.htn_state.specs.Views.{literal_of, literals_of}
-use Rattle.htn_state.specs.declared.literal.Literal.{Literal}
+use Rattle.htn_task.specs.Literals.{literal_of, literals_of}
+use Rattle.htn_task.specs.declared.literal.Literal.{Literal}
 
 -- the first literals hold where those before hold and the last does
 pub holds_more : (s : State) (literals : List Literal) (i : ℕ) (d : Literal) → i < length literals

@@ -4,7 +4,7 @@ ghost use Rattle.htn_model.specs.Atom.{Atom as ModelAtom};
 ghost use Rattle.htn_model.specs.State.{contains};
 ghost use Rattle.state_table.specs.Table.{IsTable, IsLater, is_fluent, is_fluent_by};
 
-use htn_state::{Atom, State};
+use htn_task::{Atom, State};
 use indexmap::IndexSet;
 use std::alloc::{AllocError, Global};
 use std::marker::Model;

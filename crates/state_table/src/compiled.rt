@@ -3,7 +3,7 @@ ghost use Rattle.std.specs.Prelude.{◌≡◌, ◌&&◌, not, ℕ, Bool, List, t
 ghost use Rattle.std.specs.List.{list_all};
 ghost use Rattle.htn_model.specs.Literal.{holds, after, Literal as ModelLiteral, Action as ModelAction};
 ghost use Rattle.htn_model.specs.Problem.{AreChanged};
-ghost use Rattle.htn_state.specs.Views.{literals_of};
+ghost use Rattle.htn_task.specs.Literals.{literals_of};
 ghost use Rattle.state_table.specs.Bits.{has};
 ghost use Rattle.state_table.specs.Table.{Table, IsTable, IsLater, IsSetOf, is_changed, is_fluent, state_of};
 ghost use Rattle.state_table.specs.Compiled.{all_hold, AreCompiled, AreNumbers, IsCompiled, is_met};
@@ -11,7 +11,7 @@ ghost use Rattle.state_table.specs.Compiled.{all_hold, AreCompiled, AreNumbers, 
 use crate::atom_table::AtomTable;
 use crate::bit_state::BitState;
 use crate::literal::CompiledLiteral;
-use htn_state::{Action, Atom, Literal};
+use htn_task::{Action, Atom, Literal};
 use std::alloc::{AllocError, Global};
 
 /// A conjunction of literals by the numbers of its fluent atoms. Static atoms and equalities are decided.

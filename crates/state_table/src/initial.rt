@@ -7,7 +7,7 @@ ghost use Rattle.state_table.specs.Table.{IsTable, IsLater, IsSetOf, is_fluent, 
 
 use crate::atom_table::AtomTable;
 use crate::bit_state::BitState;
-use htn_state::{Atom, State};
+use htn_task::{Atom, State};
 use std::alloc::{AllocError, Global};
 
 /// The numbers of the fluent ones among some atoms, each of which gets one if it has none.

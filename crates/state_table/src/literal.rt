@@ -2,13 +2,13 @@
 ghost use Rattle.std.specs.Prelude.{◌≡◌, ℕ, List, IfOk, OnOk};
 ghost use Rattle.std.specs.Bool.{beq};
 ghost use Rattle.htn_model.specs.State.{contains};
-ghost use Rattle.htn_state.specs.Views.{literal_of};
+ghost use Rattle.htn_task.specs.Literals.{literal_of};
 ghost use Rattle.state_table.specs.Bits.{has};
 ghost use Rattle.state_table.specs.Compiled.{is_met, IsCompiledLiteral};
 ghost use Rattle.state_table.specs.Table.{Table, IsLater, state_of};
 
 use crate::atom_table::AtomTable;
-use htn_state::{Atom, Literal};
+use htn_task::{Atom, Literal};
 use std::alloc::AllocError;
 
 /// A literal by the number of its fluent atom. Static atoms and equalities are decided.

@@ -9,7 +9,7 @@ use crate::decomposition::Decomposition;
 use crate::grounding::Grounding;
 use crate::node_id::NodeId;
 use htn_ground::{Child, GroundTask};
-use htn_state::Action;
+use htn_task::Action;
 use indexmap::IndexSet;
 use std::alloc::{AllocError, Global};
 

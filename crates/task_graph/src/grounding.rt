@@ -6,8 +6,7 @@ ghost use Rattle.task_graph.specs.Barred.{is_barred_by};
 ghost use Rattle.task_graph.specs.Graph.{grounding_of};
 
 use htn_ground::{Child, action_of};
-use htn_state::Action;
-use htn_task::Task;
+use htn_task::{Action, Task};
 use std::alloc::{AllocError, Global};
 
 /// What is known of a node by itself.

@@ -8,7 +8,7 @@ use Rattle.htn_model.specs.Instances.{methods_of}
 use Rattle.htn_model.specs.Task.{Task, IsWellTyped}
 use Rattle.htn_model.proofs.Grounded.{tasks_are_grounded}
 use Rattle.htn_ground.specs.Distinct.{distinct, live_methods}
-use Rattle.htn_answer.proofs.Words.{slice_get-map_back}
+use Rattle.htn_net.proofs.Words.{slice_get-map_back}
 use Rattle.htn_net.specs.Listed.{listed_methods}
 use Rattle.htn_net.proofs.Listed.{listed_instances, listed_method}
 

@@ -11,8 +11,8 @@ use Rattle.htn_model.specs.Grounding.{problem_of}
 use Rattle.htn_model.specs.Machine.{Choice, Config, result_of}
 use Rattle.htn_model.specs.Problem.{Child, IsGrounded, Problem}
 use Rattle.htn_model.specs.Task.{Task}
-use Rattle.htn_answer.specs.Machine.{IsOwn}
-use Rattle.htn_answer.proofs.Words.{done_from}
+use Rattle.htn_net.specs.Machine.{IsOwn}
+use Rattle.htn_net.proofs.Words.{done_from}
 use Rattle.htn_net.specs.Laws.{listing_lawful}
 use Rattle.htn_net.specs.Listed.{choose_listed, listing_machine}
 use Rattle.htn_net.proofs.Listed.{numbered}
@@ -24,7 +24,7 @@ use Rattle.tree_sizes.specs.Measure.{IsLowerMeasure, estimate}
 use Rattle.tree_sizes.specs.Sizes.{out_of_reach, size_of}
 use Rattle.tree_sizes.specs.declared.tree_sizes.TreeSizes.{TreeSizes}
 use Rattle.tree_sizes.proofs.Lasting.{agreeing}
-use Rattle.heuristic.specs.Heuristic.{IsEstimate}
+use Rattle.tree_sizes.specs.Heuristic.{IsEstimate}
 use Rattle.network_needs.specs.Needs.{may_end, Outlook}
 use Rattle.network_needs.specs.Rows.{outlook_of}
 use Rattle.needs_table.specs.Prospects.{ProspectsHold, may_be_reached, may_end_reached, outlook_by, prospects_bound}

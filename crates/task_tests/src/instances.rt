@@ -7,8 +7,7 @@ use htn_ground::{
     live_methods_of, methods_of,
 };
 use htn_order::Order;
-use htn_state::{Literal, State};
-use htn_task::Task;
+use htn_task::{Literal, State, Task};
 use std::alloc::Global;
 use std::test::Fail;
 

@@ -1,9 +1,9 @@
 //! Plan files of solutions, as they are written.
 
+use htn_ground::Solution;
 use htn_plan::{Sink, file_of, write_plan};
 use htn_search::{Answer, Bounds, NoGate, search};
 use htn_task::Task;
-use htn_tree::Solution;
 use std::alloc::Global;
 use std::sync::Wait;
 use std::test::Fail;

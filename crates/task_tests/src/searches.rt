@@ -5,9 +5,9 @@ use crate::pairs::{
     TWO_METHODS,
 };
 use crate::questions::{Question, answer_of};
+use htn_ground::{Node, Solution};
 use htn_search::{Bounds, Found, NoGate, SearchFault, find_word, finishes, rebuild};
 use htn_task::Task;
-use htn_tree::{Node, Solution};
 use std::alloc::{AllocError, Global};
 use std::sync::Wait;
 use std::test::Fail;

@@ -1,7 +1,7 @@
 //! States: those of atoms, and those after actions.
 
 use crate::instances::atoms_text;
-use htn_state::{Action, Atom, LiteralList, State};
+use htn_task::{Action, Atom, LiteralList, State};
 use std::alloc::{AllocError, Global};
 use std::test::Fail;
 

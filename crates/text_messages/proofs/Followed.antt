@@ -6,7 +6,7 @@ use Rattle.std.proofs.lemmas.Bool.{and_parts, not-true}
 use Rattle.std.proofs.lemmas.Option.{get_or_from_slice_get, same_Some, slice_get-map, slice_get_within}
 use Rattle.std.proofs.lemmas.List.{map_push, take_more}
 use Rattle.std.proofs.lemmas.List.Elements.{All-nil, All-cons, All-contains, All-push, All-take, All-weaker, Contains-append_left, Contains-get_or, Contains-push, Contains-push_cases}
-use Rattle.near_names.specs.Near.{distance_of, indices_from, is_nearer, is_nearest, may_be_meant, names_of, nearest_of}
+use Rattle.diagnostics.specs.Near.{distance_of, indices_from, is_nearer, is_nearest, may_be_meant, names_of, nearest_of}
 use Rattle.diagnostics.specs.declared.diagnostic.Role.{Role}
 use Rattle.text_messages.specs.Following.{HasFollowing, IsNearestKeyword, MayFollow, keywords}
 use Rattle.text_messages.specs.Near.{ArePicked}

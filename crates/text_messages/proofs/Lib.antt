@@ -3,3 +3,4 @@ pub mod Continued
 pub mod Leading
 pub mod Twins
 pub mod Followed
+pub mod Units

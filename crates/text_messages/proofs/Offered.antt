@@ -4,7 +4,7 @@ use Rattle.std.specs.List.{flat_map}
 use Rattle.std.proofs.lemmas.Grind.{flat_map-append}
 use Rattle.std.proofs.lemmas.List.{map-append}
 use Rattle.diagnostics.specs.declared.diagnostic.Remark.{Remark}
-use Rattle.near_names.specs.Offers.{messages, offered, offered_by}
+use Rattle.diagnostics.specs.Offers.{messages, offered, offered_by}
 
 -- one remark more
 pub offered_more : (remarks : List Remark) (r : Remark) → offered (remarks ++ r ∷ []) ≡ offered remarks ++ offered_by r.message.items

@@ -4,12 +4,12 @@ use Rattle.std.specs.List.{All, take_while}
 use Rattle.hddl_words.specs.Word.{is_word_byte}
 use Rattle.hddl_words.specs.declared.fault.TextFault.{TextFault}
 use Rattle.hddl_words.specs.declared.fault.TextFault.TheVariants.{Expected, Unsupported}
-use Rattle.hddl_tree.specs.declared.domain.DomainText.{DomainText}
-use Rattle.hddl_tree.specs.declared.problem.ProblemText.{ProblemText}
+use Rattle.hddl_words.specs.declared.domain.DomainText.{DomainText}
+use Rattle.hddl_words.specs.declared.problem.ProblemText.{ProblemText}
 use Rattle.hddl_text.specs.Grammar.{DerivesDomain, DerivesProblem}
 use Rattle.hddl_text.specs.Spelling.{FaultAt, Spells}
-use Rattle.near_names.specs.Near.{distance_of, is_nearer, may_be_meant}
-use Rattle.near_names.specs.Offers.{offered}
+use Rattle.diagnostics.specs.Near.{distance_of, is_nearer, may_be_meant}
+use Rattle.diagnostics.specs.Offers.{offered}
 use Rattle.diagnostics.specs.declared.diagnostic.Remark.{Remark}
 use Rattle.diagnostics.specs.declared.diagnostic.Role.{Role}
 use Rattle.diagnostics.specs.declared.diagnostic.Role.TheVariants as role

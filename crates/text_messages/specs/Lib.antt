@@ -3,3 +3,4 @@ pub mod Spots
 pub mod Following
 pub mod Notes
 pub mod Near
+pub mod Columns

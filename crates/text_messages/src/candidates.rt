@@ -1,7 +1,7 @@
 //! The words that may stand at a place of a text.
 
 ghost use Rattle.std.specs.Prelude.{◌≡◌, ◌+◌, true, IfOk, MatchOption};
-ghost use Rattle.near_names.specs.Near.{names_of};
+ghost use Rattle.diagnostics.specs.Near.{names_of};
 ghost use Rattle.hddl_words.specs.declared.fault.TextFault.TheVariants as fault_of;
 ghost use Rattle.hddl_text.specs.Grammar.{DerivesDomain, DerivesProblem};
 ghost use Rattle.hddl_text.specs.Spelling.{FaultAt};

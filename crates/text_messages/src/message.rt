@@ -2,8 +2,8 @@
 
 ghost use Rattle.std.specs.Prelude.{◌≡◌, ◌≢◌, [], IfOk, OnOk};
 ghost use Rattle.std.specs.List.{All};
-ghost use Rattle.near_names.specs.Near.{names_of};
-ghost use Rattle.near_names.specs.Offers.{offered};
+ghost use Rattle.diagnostics.specs.Near.{names_of};
+ghost use Rattle.diagnostics.specs.Offers.{offered};
 ghost use Rattle.text_messages.specs.Following.{OffersMeant};
 ghost use Rattle.text_messages.specs.Notes.{IsNote};
 ghost use Rattle.text_messages.specs.Messages as spec;

@@ -2,8 +2,8 @@
 
 ghost use Rattle.std.specs.Prelude.{◌≡◌, [], IfOk, OnOk};
 ghost use Rattle.std.specs.List.{All};
-ghost use Rattle.near_names.specs.Near.{names_of};
-ghost use Rattle.near_names.specs.Offers.{offered};
+ghost use Rattle.diagnostics.specs.Near.{names_of};
+ghost use Rattle.diagnostics.specs.Offers.{offered};
 ghost use Rattle.text_messages.specs.Following.{IsNearestKeyword, MayBeMeant};
 ghost use Rattle.text_messages.specs.Near.{ArePicked};
 
@@ -12,9 +12,8 @@ use crate::grammar::is_keyword;
 use crate::instead::instead_of;
 use crate::spots::run_at;
 use crate::words::{index_at, open_after, words_or_none};
-use diagnostics::{Remark, RemarkKind, Role, Source};
+use diagnostics::{Remark, RemarkKind, Role, Source, did_you_mean, is_question, nearest};
 use hddl_words::TextFault;
-use near_names::{did_you_mean, is_question, nearest};
 use std::alloc::{AllocError, Global};
 
 /// How many brackets are open before a place.

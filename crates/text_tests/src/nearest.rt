@@ -1,6 +1,6 @@
 //! Nearest names.
 
-use near_names::nearest;
+use diagnostics::nearest;
 use std::alloc::AllocError;
 
 #[test]

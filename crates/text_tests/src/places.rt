@@ -1,8 +1,8 @@
 //! Tests of places.
 
+use diagnostics::{Lines, Position};
 use std::alloc::AllocError;
 use std::process::Abort;
-use text_places::{Lines, Position};
 
 /// Whether a place has this line and column, and they lead back to it.
 fn stands_at(lines: &Lines<'_>, place: usize, line: usize, column: usize) -> bool {

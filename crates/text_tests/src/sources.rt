@@ -1,8 +1,7 @@
 //! Texts with the names of their files.
 
-use diagnostics::{Role, Source};
+use diagnostics::{Lines, Role, Source};
 use std::alloc::{AllocError, Global};
-use text_places::Lines;
 
 pub(crate) fn source_of<'a>(
     alloc: Global,

@@ -2,7 +2,7 @@
 
 use crate::answers::{Reader, expect_run};
 use hddl_text::{Condition, DomainText, ProblemText, Term, TextFault, read_domain, read_problem};
-use hddl_tree::{LiteralText, MethodText, NetworkText};
+use hddl_words::{LiteralText, MethodText, NetworkText};
 use std::alloc::{AllocError, Global};
 use std::process::Abort;
 

@@ -13,8 +13,8 @@ use Rattle.htn_model.proofs.Exhaustion.{chosen_agrees}
 use Rattle.htn_model.proofs.Splices.{split_at}
 use Rattle.htn_model.proofs.Steps.{Decomposes, Executes, chosen}
 use Rattle.htn_model.proofs.Regrown.{choice_within}
-use Rattle.heuristic.specs.Heuristic.{AreDeadEnds}
-use Rattle.heuristic.proofs.Bounds.{fewer, live_choice}
+use Rattle.tree_sizes.specs.Heuristic.{AreDeadEnds}
+use Rattle.tree_sizes.proofs.Bounds.{fewer, live_choice}
 use Rattle.tree_sizes.specs.Measure.{IsLowerMeasure, StatesLast, estimate, is_as_at_first, lower_bound, MeasuresAreBounds}
 use Rattle.task_graph.specs.Barred.{is_barred_by}
 use Rattle.tree_sizes.proofs.Lasting.{agreed, agreeing, alive_literals}

@@ -1,3 +1,4 @@
+pub mod Bounds
 pub mod Lasting
 pub mod Bounded
 pub mod Measured

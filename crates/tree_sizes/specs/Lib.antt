@@ -1,2 +1,3 @@
+pub mod Heuristic
 pub mod Measure
 pub mod Sizes

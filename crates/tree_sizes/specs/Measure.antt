@@ -8,7 +8,7 @@ use Rattle.htn_model.specs.Literal.{Literal}
 use Rattle.htn_model.specs.Problem.{Child, precondition, action, task, GroundTask, IsGrounded, Network, Problem}
 use Rattle.htn_model.specs.Machine.{Config}
 use Rattle.htn_model.specs.Exhaustion.{is_dead, live_step}
-use Rattle.heuristic.specs.Heuristic.{IsEstimate}
+use Rattle.tree_sizes.specs.Heuristic.{IsEstimate}
 use Rattle.task_graph.specs.Barred.{is_barred}
 
 -- a node takes a number itself, and a compound task no more than that and what the nodes of any of its instances take,

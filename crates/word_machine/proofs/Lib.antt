@@ -14,3 +14,5 @@ pub mod Numbered
 pub mod Diving
 pub mod Keeping
 pub mod Aside
+pub mod Certified
+pub mod Counted

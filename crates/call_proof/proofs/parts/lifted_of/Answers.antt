@@ -1,6 +1,6 @@
 use Rattle.std.proofs.Common.{◌≡◌, ◌∙◌, ℕ, Some, slice_get, sym, ap}
 use Rattle.htn_model.specs.State.{State}
-use Rattle.call_frames.specs.Frame.{lift}
+use Rattle.call_rules.specs.Frame.{lift}
 use Rattle.state_table.specs.Table.{IsTable, state_of}
 use Rattle.call_proof.specs.Masks.{frame_of}
 use Rattle.call_nodes.specs.Nodes.{state_at}

@@ -1,6 +1,6 @@
 use Rattle.std.proofs.Common.{◌≡◌, ℕ, Some, slice_get}
 use Rattle.state_table.specs.Table.{IsTable}
-use Rattle.call_frames.specs.Framed.{IsPart}
+use Rattle.call_rules.specs.Framed.{IsPart}
 use Rattle.call_nodes.specs.Nodes.{state_at}
 use Rattle.call_nodes.proofs.Leading.{some_so}
 use Rattle.call_proof.specs.Parts.{frame_at, masks_of}

@@ -3,7 +3,7 @@ use Rattle.std.proofs.lemmas.Option.{get_or_from_slice_get, slice_get-get_or, sl
 use Rattle.std.proofs.lemmas.List.{length-map}
 use Rattle.htn_model.specs.Grounding.{problem_of}
 use Rattle.htn_model.specs.Problem.{Child}
-use Rattle.call_frames.specs.Local.{IsFrameOf}
+use Rattle.call_rules.specs.Local.{IsFrameOf}
 use Rattle.htn_ground.specs.Views.{child_view}
 use Rattle.state_table.specs.Table.{Table}
 use Rattle.call_proof.specs.Masks.{frame_of}

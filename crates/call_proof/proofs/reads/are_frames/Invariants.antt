@@ -1,7 +1,7 @@
 use Rattle.std.proofs.Common.{◌≡◌, ◌<◌, ℕ, Some, map, slice_get}
 use Rattle.htn_model.specs.Grounding.{problem_of}
 use Rattle.htn_model.specs.Problem.{Child}
-use Rattle.call_frames.specs.Local.{IsFrameOf}
+use Rattle.call_rules.specs.Local.{IsFrameOf}
 use Rattle.htn_ground.specs.Views.{child_view}
 use Rattle.call_proof.specs.Parts.{frame_at, masks_of}
 use Rattle.call_proof.proofs.reads.are_frames.Given as goal

@@ -1,8 +1,8 @@
 use Rattle.std.proofs.Common.{◌≡◌, drop}
 use Rattle.std.specs.List.{list_all}
-use Rattle.call_frames.specs.Local.{is_literal_in}
-use Rattle.htn_state.specs.Views.{literal_of}
-use Rattle.htn_state.specs.declared.literal.Literal.{Literal}
+use Rattle.call_rules.specs.Local.{is_literal_in}
+use Rattle.htn_task.specs.Literals.{literal_of}
+use Rattle.htn_task.specs.declared.literal.Literal.{Literal}
 use Rattle.call_proof.specs.Masks.{frame_of}
 use Rattle.call_proof.proofs.reads.are_literals_in.Given as goal
 

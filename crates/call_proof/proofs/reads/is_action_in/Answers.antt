@@ -1,8 +1,8 @@
 use Rattle.std.proofs.Common.{◌≡◌, ◌∙◌, true, List, sym, subst}
 use Rattle.std.proofs.lemmas.List.Folds.{list_all-map}
 use Rattle.htn_model.specs.Literal.{Action, Literal}
-use Rattle.call_frames.specs.Local.{are_literals_in, is_literal_in, IsActionIn}
-use Rattle.htn_state.specs.Views.{literal_of}
+use Rattle.call_rules.specs.Local.{are_literals_in, is_literal_in, IsActionIn}
+use Rattle.htn_task.specs.Literals.{literal_of}
 use Rattle.call_proof.specs.Masks.{frame_of}
 use Rattle.call_proof.proofs.NodeFrames.{all_in}
 use Rattle.call_proof.proofs.reads.is_action_in.Goals as goal

@@ -3,10 +3,10 @@ use Rattle.std.proofs.lemmas.List.Folds.{list_all-map}
 use Rattle.std.proofs.lemmas.Option.{same_Some}
 use Rattle.htn_model.specs.Grounding.{problem_of}
 use Rattle.htn_model.specs.Literal.{Action, Literal}
-use Rattle.call_frames.specs.Local.{are_literals_in, is_literal_in, IsActionIn, IsFrameOf}
+use Rattle.call_rules.specs.Local.{are_literals_in, is_literal_in, IsActionIn, IsFrameOf}
 use Rattle.htn_ground.specs.Views.{child_view}
 use Rattle.htn_ground.specs.declared.child.Child.{Child as Node}
-use Rattle.htn_state.specs.Views.{literal_of}
+use Rattle.htn_task.specs.Literals.{literal_of}
 use Rattle.call_proof.specs.Masks.{frame_of}
 use Rattle.call_proof.proofs.reads.is_node_in.Goals as goal
 

@@ -1,6 +1,6 @@
 use Rattle.std.proofs.Common.{Global, Vec, ◌≡◌, ◌∙◌, [], ℕ, List, Option, map, get_or, IfSome, ap, subst}
 use Rattle.state_table.specs.Table.{IsTable}
-use Rattle.call_frames.specs.Framed.{IsPart}
+use Rattle.call_rules.specs.Framed.{IsPart}
 use Rattle.call_table.specs.declared.call.Exit.{Exit}
 use Rattle.call_nodes.specs.Nodes.{state_at}
 use Rattle.call_proof.specs.Parts.{exit_at, exit_in, frame_at, masks_of}

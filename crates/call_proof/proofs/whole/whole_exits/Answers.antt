@@ -1,5 +1,5 @@
 use Rattle.std.proofs.Common.{Option, ◌≡◌, ◌∙◌, ℕ, List, map, get_or, IfSome, ap, subst}
-use Rattle.call_frames.specs.Frame.{lift}
+use Rattle.call_rules.specs.Frame.{lift}
 use Rattle.state_table.specs.Table.{IsTable, state_of}
 use Rattle.call_proof.specs.Masks.{frame_of}
 use Rattle.call_table.specs.declared.call.Exit.{Exit}

@@ -1,5 +1,5 @@
 use Rattle.std.proofs.Common.{◌≡◌, ◌++◌, take, map}
-use Rattle.text_places.specs.Shown.{shown}
+use Rattle.diagnostics.specs.Shown.{shown}
 use Rattle.diagnostics.proofs.ink.say.Given as goal
 
 -- the bytes so far

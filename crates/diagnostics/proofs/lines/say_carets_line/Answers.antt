@@ -1,6 +1,6 @@
 use Rattle.std.proofs.Common.{◌≡◌, List, ◌++◌, ap, ◌∙◌}
 use Rattle.std.specs.Prelude.{codes, replicate}
-use Rattle.text_places.specs.Shown as shown
+use Rattle.diagnostics.specs.Shown as shown
 use Rattle.diagnostics.specs.declared.ink.Style.TheVariants.{Rule}
 use Rattle.diagnostics.specs.Ink.{Ink, written, opened, closed, said, ended, styled}
 use Rattle.diagnostics.specs.Parts.{label_inks}

@@ -3,9 +3,9 @@ use Rattle.std.proofs.lemmas.List.{take_all}
 use Rattle.htn_model.specs.Schema as model
 use Rattle.htn_task.specs.Formulas as task
 use Rattle.htn_task.specs.Formulas.{formulas_view}
-use Rattle.hddl_tree.specs.declared.condition.Condition as condition
-use Rattle.hddl_tree.specs.declared.condition.Condition.{Condition, Forall}
-use Rattle.hddl_tree.specs.declared.term.VariableGroup.{VariableGroup}
+use Rattle.hddl_words.specs.declared.condition.Condition as condition
+use Rattle.hddl_words.specs.declared.condition.Condition.{Condition, Forall}
+use Rattle.hddl_words.specs.declared.term.VariableGroup.{VariableGroup}
 use Rattle.hddl_meaning.specs.Mentions.{Text}
 use Rattle.hddl_meaning.specs.Building.{formula_of, types_of, variables_of}
 use Rattle.hddl_build.specs.InForce.{fits}

@@ -1,7 +1,7 @@
 use Rattle.std.proofs.Common.{◌≡◌, ◌∙◌, List, not, ap, ap₂}
-use Rattle.hddl_tree.specs.declared.condition.Condition.{Condition}
-use Rattle.hddl_tree.specs.declared.condition.LiteralText.{LiteralText}
-use Rattle.hddl_tree.specs.declared.term.VariableGroup.{VariableGroup}
+use Rattle.hddl_words.specs.declared.condition.Condition.{Condition}
+use Rattle.hddl_words.specs.declared.condition.LiteralText.{LiteralText}
+use Rattle.hddl_words.specs.declared.term.VariableGroup.{VariableGroup}
 use Rattle.hddl_meaning.specs.Mentions.{Text}
 use Rattle.hddl_meaning.specs.Building.{effects_of, formulas_of, types_of, variables_of}
 use Rattle.hddl_build.proofs.schema.action_in.Goals as goal

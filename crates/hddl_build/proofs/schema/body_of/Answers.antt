@@ -1,5 +1,5 @@
 use Rattle.std.proofs.Common.{◌∙◌, List, ap, map}
-use Rattle.hddl_tree.specs.declared.condition.EqualityText.{EqualityText}
+use Rattle.hddl_words.specs.declared.condition.EqualityText.{EqualityText}
 use Rattle.hddl_meaning.specs.Building.{equality_of}
 use Rattle.hddl_build.proofs.schema.body_of.Goals as goal
 

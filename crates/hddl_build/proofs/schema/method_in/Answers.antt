@@ -1,6 +1,6 @@
 use Rattle.std.proofs.Common.{◌≡◌, ◌∙◌, List, ap, ap₂, sym, subst, map}
-use Rattle.hddl_tree.specs.declared.condition.Condition.{Condition}
-use Rattle.hddl_tree.specs.declared.term.VariableGroup.{VariableGroup}
+use Rattle.hddl_words.specs.declared.condition.Condition.{Condition}
+use Rattle.hddl_words.specs.declared.term.VariableGroup.{VariableGroup}
 use Rattle.hddl_meaning.specs.Mentions.{Text}
 use Rattle.hddl_meaning.specs.Building.{IsMethodOf, IsNetworkOf, equality_of, formulas_of, subtask_of, types_of, variables_of}
 use Rattle.hddl_build.proofs.schema.method_in.Goals as goal

@@ -2,7 +2,7 @@ use Rattle.std.proofs.Common.{◌≡◌, ◌∙◌, List, ℕ, [], ap, ap₂, sy
 use Rattle.std.proofs.lemmas.List.{take_all}
 use Rattle.htn_model.specs.Atom.{Atom}
 use Rattle.htn_model.specs.Instances.{value_of}
-use Rattle.hddl_tree.specs.declared.term.Term.{Term}
+use Rattle.hddl_words.specs.declared.term.Term.{Term}
 use Rattle.hddl_meaning.specs.Mentions.{Text, folded}
 use Rattle.hddl_meaning.specs.Names.{number_in}
 use Rattle.hddl_meaning.specs.Building.{term_of}

@@ -4,7 +4,7 @@ use Rattle.htn_model.specs.State.{set_of}
 use Rattle.htn_model.specs.Instances.{ground_atom}
 use Rattle.htn_model.specs.Task as model
 use Rattle.htn_task.specs.contracts.task.TaskParts.{the_view}
-use Rattle.hddl_tree.specs.declared.domain.DomainText.{DomainText}
+use Rattle.hddl_words.specs.declared.domain.DomainText.{DomainText}
 use Rattle.hddl_meaning.specs.Mentions.{Text}
 use Rattle.hddl_meaning.specs.Names.{object_names, type_names}
 use Rattle.hddl_meaning.specs.Building.{Vocabulary, IsMethodOf, IsNetworkOf, action_of, atom_of, compound_of, equality_of, formulas_of, predicate_of, types_of, variables_of, vocabulary_of}

@@ -1,7 +1,7 @@
 use Rattle.std.proofs.Common.{◌∙◌, List, ap, map, subst}
 use Rattle.std.specs.List.{AllZip}
-use Rattle.hddl_tree.specs.declared.domain.ActionText.{ActionText}
-use Rattle.hddl_tree.specs.declared.domain.MethodText.{MethodText}
+use Rattle.hddl_words.specs.declared.domain.ActionText.{ActionText}
+use Rattle.hddl_words.specs.declared.domain.MethodText.{MethodText}
 use Rattle.hddl_meaning.specs.Building.{IsMethodOf, action_of}
 use Rattle.hddl_build.proofs.task.schemas_of.Goals as goal
 

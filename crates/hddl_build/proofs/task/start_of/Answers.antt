@@ -1,8 +1,8 @@
 use Rattle.std.proofs.Common.{◌∙◌, List, [], ap, map}
 use Rattle.htn_model.specs.State.{set_of}
 use Rattle.htn_model.specs.Instances.{ground_atom}
-use Rattle.hddl_tree.specs.declared.condition.Condition.{Condition}
-use Rattle.hddl_tree.specs.declared.term.AtomText.{AtomText}
+use Rattle.hddl_words.specs.declared.condition.Condition.{Condition}
+use Rattle.hddl_words.specs.declared.term.AtomText.{AtomText}
 use Rattle.hddl_meaning.specs.Building.{atom_of, formulas_of}
 use Rattle.hddl_build.proofs.task.start_of.Goals as goal
 

@@ -1,5 +1,5 @@
 use Rattle.std.proofs.Common.{◌∙◌, ap, subst}
-use Rattle.hddl_tree.specs.declared.term.NameGroup.{NameGroup}
+use Rattle.hddl_words.specs.declared.term.NameGroup.{NameGroup}
 use Rattle.std.proofs.Common.{List}
 use Rattle.hddl_meaning.specs.Mentions.{typed_names}
 use Rattle.hddl_check.specs.Cycles.{CycleFails}

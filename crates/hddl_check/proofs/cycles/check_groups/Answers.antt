@@ -1,7 +1,7 @@
 use Rattle.std.proofs.Common.{refl, ap, map, subst, sym, List}
 use Rattle.std.proofs.lemmas.List.{take_all}
 use Rattle.hddl_words.specs.Names.{Name}
-use Rattle.hddl_tree.specs.declared.term.NameGroup.{NameGroup}
+use Rattle.hddl_words.specs.declared.term.NameGroup.{NameGroup}
 use Rattle.hddl_meaning.specs.Mentions.{IsIn, typed_names}
 use Rattle.hddl_names.specs.Cycles.{typed_name}
 use Rattle.hddl_check.specs.Cycles.{CycleFails}

@@ -1,6 +1,6 @@
 use Rattle.std.proofs.Common.{◌∙◌, ◌++◌, subst, List, map}
-use Rattle.hddl_tree.specs.declared.domain.TaskText.{TaskText}
-use Rattle.hddl_tree.specs.declared.domain.ActionText.{ActionText}
+use Rattle.hddl_words.specs.declared.domain.TaskText.{TaskText}
+use Rattle.hddl_words.specs.declared.domain.ActionText.{ActionText}
 use Rattle.hddl_meaning.specs.Mentions.{Mention, mention_of}
 use Rattle.hddl_uses.specs.Contexts.{Fails, PassedOver}
 use Rattle.hddl_scope.specs.Findings.{Adds}

@@ -1,5 +1,5 @@
 use Rattle.std.proofs.Common.{◌∙◌, ap, subst, List}
-use Rattle.hddl_tree.specs.declared.term.VariableGroup.{VariableGroup}
+use Rattle.hddl_words.specs.declared.term.VariableGroup.{VariableGroup}
 use Rattle.hddl_meaning.specs.Items.{most_parameters}
 use Rattle.hddl_meaning.specs.Mentions.{mentions_of, typed_variables}
 use Rattle.hddl_uses.specs.Contexts.{Fails, PassedOver}

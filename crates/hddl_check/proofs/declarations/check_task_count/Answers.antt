@@ -1,5 +1,5 @@
 use Rattle.std.proofs.Common.{◌∙◌, ap, subst, List, map, append-nil}
-use Rattle.hddl_tree.specs.declared.domain.TaskText.{TaskText}
+use Rattle.hddl_words.specs.declared.domain.TaskText.{TaskText}
 use Rattle.hddl_meaning.specs.Items.{most_declarations}
 use Rattle.hddl_meaning.specs.Mentions.{Mention, mention_of}
 use Rattle.hddl_uses.specs.Contexts.{Fails, PassedOver}

@@ -1,5 +1,5 @@
 use Rattle.std.proofs.Common.{◌∙◌, ap, List, map}
-use Rattle.hddl_tree.specs.declared.domain.ActionText.{ActionText}
+use Rattle.hddl_words.specs.declared.domain.ActionText.{ActionText}
 use Rattle.hddl_meaning.specs.Mentions.{Mention, mention_of}
 use Rattle.hddl_check.proofs.declarations.check_task_names.Goals as goal
 

@@ -1,5 +1,5 @@
 use Rattle.std.proofs.Common.{ap, refl, List}
-use Rattle.hddl_tree.specs.declared.term.VariableGroup.{VariableGroup}
+use Rattle.hddl_words.specs.declared.term.VariableGroup.{VariableGroup}
 use Rattle.hddl_meaning.specs.Mentions.{typed_variables}
 use Rattle.hddl_uses.specs.Parts.{type_parts}
 use Rattle.std.proofs.lemmas.List.{take_all}

@@ -1,5 +1,5 @@
 use Rattle.std.proofs.Common.{◌⊎◌, subst}
-use Rattle.hddl_tree.specs.declared.domain.DomainText.{DomainText}
+use Rattle.hddl_words.specs.declared.domain.DomainText.{DomainText}
 use Rattle.hddl_uses.specs.Known.{AreKnown}
 use Rattle.hddl_scope.specs.Findings.{Adds}
 use Rattle.hddl_check.specs.Faults.{PairFails}

@@ -1,6 +1,6 @@
 use Rattle.std.proofs.Common.{◌≡◌, ◌∙◌, ◌++◌, ap, subst, List, map}
-use Rattle.hddl_tree.specs.declared.term.VariableGroup.{VariableGroup}
-use Rattle.hddl_tree.specs.declared.condition.LiteralText.{LiteralText}
+use Rattle.hddl_words.specs.declared.term.VariableGroup.{VariableGroup}
+use Rattle.hddl_words.specs.declared.condition.LiteralText.{LiteralText}
 use Rattle.hddl_meaning.specs.Uses.{Variable, parameters_of, schema_of_action}
 use Rattle.hddl_uses.specs.Contexts.{Fails, PassedInside, PassedOver}
 use Rattle.hddl_scope.specs.Findings.{AddsAny}

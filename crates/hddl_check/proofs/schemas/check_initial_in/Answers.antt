@@ -1,6 +1,6 @@
 use Rattle.std.proofs.Common.{◌≡◌, ◌∙◌, ◌++◌, ap, List, map}
-use Rattle.hddl_tree.specs.declared.term.VariableGroup.{VariableGroup}
-use Rattle.hddl_tree.specs.declared.network.SubtaskText.{SubtaskText}
+use Rattle.hddl_words.specs.declared.term.VariableGroup.{VariableGroup}
+use Rattle.hddl_words.specs.declared.network.SubtaskText.{SubtaskText}
 use Rattle.std.specs.List.{flat_map}
 use Rattle.hddl_meaning.specs.Uses.{Variable, parameters_of, sides, subtasks_in, constraints_in}
 use Rattle.hddl_uses.specs.Contexts.{Fails, PassedOver}

@@ -1,5 +1,5 @@
 use Rattle.std.proofs.Common.{[], List, ap, map, subst}
-use Rattle.hddl_tree.specs.declared.term.AtomText.{AtomText}
+use Rattle.hddl_words.specs.declared.term.AtomText.{AtomText}
 use Rattle.hddl_meaning.specs.Uses.{Use, schema_of_states}
 use Rattle.hddl_uses.specs.Contexts.{Fails, PassedInside, PassedOver}
 use Rattle.hddl_scope.specs.Findings.{AddsAny}

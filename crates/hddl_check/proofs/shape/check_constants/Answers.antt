@@ -1,6 +1,6 @@
 use Rattle.std.proofs.Common.{◌∙◌, [], ap, refl, sym, subst, List}
 use Rattle.std.specs.List.{flat_map}
-use Rattle.hddl_tree.specs.declared.term.NameGroup.{NameGroup}
+use Rattle.hddl_words.specs.declared.term.NameGroup.{NameGroup}
 use Rattle.hddl_meaning.specs.Mentions.{Mention, mention_of, mentions_of, typed_names}
 use Rattle.hddl_meaning.specs.Names.{optional_mention}
 use Rattle.hddl_meaning.specs.declared.fault.Source.{Source}

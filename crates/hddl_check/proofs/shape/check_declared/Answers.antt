@@ -1,5 +1,5 @@
 use Rattle.std.proofs.Common.{◌++◌, ◌∷◌, ap, List, map}
-use Rattle.hddl_tree.specs.declared.term.NameGroup.{NameGroup}
+use Rattle.hddl_words.specs.declared.term.NameGroup.{NameGroup}
 use Rattle.hddl_meaning.specs.Mentions.{Mention, mention_of, typed_names}
 use Rattle.hddl_uses.specs.Contexts.{Fails, PassedOver}
 use Rattle.hddl_uses.specs.Parts.{Part, Types, Objects, type_parts}

@@ -1,5 +1,5 @@
 use Rattle.std.proofs.Common.{◌∙◌, ap, List, map}
-use Rattle.hddl_tree.specs.declared.domain.MethodText.{MethodText}
+use Rattle.hddl_words.specs.declared.domain.MethodText.{MethodText}
 use Rattle.hddl_meaning.specs.Mentions.{mention_of}
 use Rattle.hddl_uses.specs.Contexts.{Fails, PassedOver}
 use Rattle.hddl_check.specs.TextParts.{name_parts}

@@ -1,5 +1,5 @@
 use Rattle.std.proofs.Common.{◌++◌, ap, List}
-use Rattle.hddl_tree.specs.declared.term.NameGroup.{NameGroup}
+use Rattle.hddl_words.specs.declared.term.NameGroup.{NameGroup}
 use Rattle.hddl_meaning.specs.Mentions.{typed_names}
 use Rattle.hddl_meaning.specs.Uses.{schema_of_network, schema_of_states}
 use Rattle.hddl_uses.specs.Contexts.{Fails, PassedOver}

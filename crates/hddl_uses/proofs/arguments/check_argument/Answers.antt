@@ -1,5 +1,5 @@
 use Rattle.std.proofs.Common.{OnOk, subst, sym}
-use Rattle.hddl_tree.specs.declared.term.Term.{Term}
+use Rattle.hddl_words.specs.declared.term.Term.{Term}
 use Rattle.hddl_scope.specs.Findings.{Adds}
 use Rattle.hddl_uses.specs.Contexts.{ArgumentFails}
 use Rattle.hddl_uses.proofs.arguments.check_argument.Goals as goal

@@ -1,6 +1,6 @@
 use Rattle.std.proofs.Common.{◌≡◌, ◌∙◌, Some, None, ap, is_some, refl, sym, true≢false}
 use Rattle.std.specs.List.{position}
-use Rattle.hddl_tree.specs.declared.term.Term.TheVariants as term
+use Rattle.hddl_words.specs.declared.term.Term.TheVariants as term
 use Rattle.hddl_meaning.specs.Mentions.{folded}
 use Rattle.hddl_meaning.specs.Names.{is_same_text, object_names}
 use Rattle.hddl_meaning.specs.Items.{IsMissing}

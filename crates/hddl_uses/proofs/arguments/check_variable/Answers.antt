@@ -1,5 +1,5 @@
 use Rattle.std.proofs.Common.{◌≡◌, ◌∙◌, ap, is_some, refl, sym}
-use Rattle.hddl_tree.specs.declared.term.Term.TheVariants as term
+use Rattle.hddl_words.specs.declared.term.Term.TheVariants as term
 use Rattle.hddl_meaning.specs.Mentions.{folded}
 use Rattle.hddl_meaning.specs.Names.{object_names}
 use Rattle.hddl_meaning.specs.declared.fault.CheckFault.TheVariants.{UnknownName}

@@ -1,5 +1,5 @@
 use Rattle.std.proofs.Common.{◌≡◌, ◌∙◌, Some, None, ap, is_some, option_map, refl, subst, sym, true≢false}
-use Rattle.hddl_tree.specs.declared.term.Term.TheVariants as term
+use Rattle.hddl_words.specs.declared.term.Term.TheVariants as term
 use Rattle.hddl_meaning.specs.Mentions.{folded}
 use Rattle.hddl_meaning.specs.Names.{object_names}
 use Rattle.hddl_meaning.specs.Uses.{Variable}

@@ -1,5 +1,5 @@
 use Rattle.std.proofs.Common.{◌↔◌, ◌∙◌, IsTrue, Bool, subst, sym}
-use Rattle.hddl_tree.specs.declared.domain.DomainText.{DomainText}
+use Rattle.hddl_words.specs.declared.domain.DomainText.{DomainText}
 use Rattle.hddl_meaning.specs.Types.{IsBelow}
 use Rattle.hddl_meaning.specs.Items.{MayStand, ShareSubtype}
 use Rattle.hddl_names.specs.TypeNumbers.{type_at}

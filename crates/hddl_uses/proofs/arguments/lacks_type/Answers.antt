@@ -1,7 +1,7 @@
 use Rattle.std.proofs.Common.{◌≡◌, ◌∙◌, ◌<◌, ◌↔◌, IsTrue, ℕ, [], All, Contains, get_or, length, subst, sym, MatchOption, Option, Some, Bor}
 use Rattle.std.proofs.Math.Logic.{∥∥₁_elim}
-use Rattle.hddl_tree.specs.declared.domain.DomainText.{DomainText}
-use Rattle.hddl_tree.specs.declared.problem.ProblemText.{ProblemText}
+use Rattle.hddl_words.specs.declared.domain.DomainText.{DomainText}
+use Rattle.hddl_words.specs.declared.problem.ProblemText.{ProblemText}
 use Rattle.hddl_meaning.specs.Names.{type_names}
 use Rattle.hddl_names.specs.Members.{AreDeclaredTypes}
 use Rattle.hddl_names.specs.Reach.{Reaches}

@@ -2,7 +2,7 @@ use Rattle.std.proofs.Common.{◌≡◌, ◌⊎◌, ◌++◌, ◌∷◌, ◌∙�
 use Rattle.std.proofs.lemmas.List.{take_all}
 use Rattle.std.proofs.lemmas.Result.{IfOk-weaker}
 use Rattle.std.specs.List.{flat_map}
-use Rattle.hddl_tree.specs.declared.condition.Condition.{Forall}
+use Rattle.hddl_words.specs.declared.condition.Condition.{Forall}
 use Rattle.hddl_meaning.specs.Mentions.{Mention, mentions_of, typed_variables}
 use Rattle.hddl_meaning.specs.Uses.{quantified_of, sides, Variable}
 use Rattle.hddl_meaning.specs.Items.{most_parameters, most_variables, variable_mentions}

@@ -1,5 +1,5 @@
 use Rattle.std.proofs.Common.{List, [], map, subst}
-use Rattle.hddl_tree.specs.declared.domain.PredicateText.{PredicateText}
+use Rattle.hddl_words.specs.declared.domain.PredicateText.{PredicateText}
 use Rattle.hddl_meaning.specs.Items.{signature}
 use Rattle.hddl_uses.specs.Tables.{IsTableOf}
 use Rattle.hddl_uses.proofs.declared.predicates_of.Goals as goal

@@ -1,6 +1,6 @@
 use Rattle.std.proofs.Common.{List, [], ◌++◌, map, subst}
-use Rattle.hddl_tree.specs.declared.domain.ActionText.{ActionText}
-use Rattle.hddl_tree.specs.declared.domain.TaskText.{TaskText}
+use Rattle.hddl_words.specs.declared.domain.ActionText.{ActionText}
+use Rattle.hddl_words.specs.declared.domain.TaskText.{TaskText}
 use Rattle.hddl_meaning.specs.Items.{signature}
 use Rattle.hddl_uses.specs.Tables.{IsTableOf}
 use Rattle.hddl_uses.proofs.declared.tasks_of.Goals as goal

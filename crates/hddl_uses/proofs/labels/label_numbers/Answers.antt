@@ -1,7 +1,7 @@
 use Rattle.std.proofs.Common.{◌∙◌, ap, sym, cond, is_some, Some, None, Bool}
 use Rattle.std.specs.List.{position}
 use Rattle.std.proofs.lemmas.List.{take_all}
-use Rattle.hddl_tree.specs.declared.network.SubtaskText.{SubtaskText}
+use Rattle.hddl_words.specs.declared.network.SubtaskText.{SubtaskText}
 use Rattle.hddl_meaning.specs.Networks.{is_text}
 use Rattle.hddl_uses.proofs.Labelling.{position_next}
 use Rattle.hddl_uses.proofs.labels.label_numbers.Goals as goal

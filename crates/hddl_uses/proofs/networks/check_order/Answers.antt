@@ -1,6 +1,6 @@
 use Rattle.std.proofs.Common.{◌∙◌, ap}
 use Rattle.std.specs.List.{flat_map, position}
-use Rattle.hddl_tree.specs.declared.network.SubtaskText.{SubtaskText}
+use Rattle.hddl_words.specs.declared.network.SubtaskText.{SubtaskText}
 use Rattle.hddl_meaning.specs.Networks.{is_text}
 use Rattle.hddl_uses.specs.Labels.{IsNumbering, IsUnknownLabel, names_of}
 use Rattle.hddl_scope.proofs.Adding.{Adds-both, Adds-list}

@@ -1,7 +1,7 @@
 use Rattle.std.proofs.Common.{◌≡◌, ◌≤◌, ◌∙◌, List, Some, ap, arith, length, map, refl, subst, sym}
 use Rattle.std.proofs.lemmas.List.{length-map}
-use Rattle.hddl_tree.specs.Places.{place_of}
-use Rattle.hddl_tree.specs.declared.network.SubtaskText.{SubtaskText}
+use Rattle.hddl_words.specs.Places.{place_of}
+use Rattle.hddl_words.specs.declared.network.SubtaskText.{SubtaskText}
 use Rattle.hddl_meaning.specs.Mentions.{Mention, folded}
 use Rattle.hddl_meaning.specs.Items.{most_subtasks, subtask_mentions, IsPast}
 use Rattle.hddl_meaning.specs.declared.fault.CheckFault.TheVariants.{TooMany}

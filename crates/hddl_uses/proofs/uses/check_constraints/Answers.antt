@@ -1,7 +1,7 @@
 use Rattle.std.proofs.Common.{◌∙◌, List, ap, map, refl, sym}
 use Rattle.std.proofs.lemmas.List.{take_all}
 use Rattle.std.specs.List.{flat_map}
-use Rattle.hddl_tree.specs.declared.condition.EqualityText.{EqualityText}
+use Rattle.hddl_words.specs.declared.condition.EqualityText.{EqualityText}
 use Rattle.hddl_meaning.specs.Uses.{sides}
 use Rattle.hddl_uses.specs.Contexts.{Fails, PassedOver}
 use Rattle.hddl_uses.specs.Parts.{Part, Side}

@@ -1,6 +1,6 @@
 use Rattle.std.proofs.Common.{map, refl}
 use Rattle.std.proofs.lemmas.List.{take_all}
-use Rattle.hddl_tree.specs.declared.condition.LiteralText.{LiteralText}
+use Rattle.hddl_words.specs.declared.condition.LiteralText.{LiteralText}
 use Rattle.hddl_meaning.specs.Uses.{Use}
 use Rattle.hddl_meaning.specs.declared.fault.CheckFault.{CheckFault}
 use Rattle.hddl_uses.specs.Contexts.{Fails, PassedOver}

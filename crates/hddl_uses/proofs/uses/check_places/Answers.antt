@@ -1,5 +1,5 @@
 use Rattle.std.proofs.Common.{List, subst}
-use Rattle.hddl_tree.specs.declared.term.Term.{Term}
+use Rattle.hddl_words.specs.declared.term.Term.{Term}
 use Rattle.hddl_scope.specs.Findings.{Adds}
 use Rattle.hddl_uses.specs.Contexts.{AnyArgumentFails}
 use Rattle.hddl_scope.proofs.Adding.{Adds-both}

@@ -1,5 +1,5 @@
 use Rattle.std.proofs.Common.{◌≡◌, ◌∙◌, List, [], MatchOption, Option, Bor, Some, ap, map, subst, sym, take}
-use Rattle.hddl_tree.specs.declared.term.Term.{Term}
+use Rattle.hddl_words.specs.declared.term.Term.{Term}
 use Rattle.hddl_meaning.specs.Mentions.{IsIn, Text, folded}
 use Rattle.hddl_meaning.specs.Uses.{Variable}
 use Rattle.hddl_meaning.specs.Items.{IsMissing, Signature, declaration_in}

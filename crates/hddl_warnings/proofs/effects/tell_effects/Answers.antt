@@ -2,7 +2,7 @@ use Rattle.std.proofs.Common.{◌∙◌, subst}
 use Rattle.std.proofs.lemmas.List.{take_all}
 use Rattle.hddl_warnings.specs.Tells.{Tells}
 use Rattle.hddl_warnings.specs.Warnings.{IsOpposed}
-use Rattle.hddl_tree.specs.declared.domain.ActionText.{ActionText}
+use Rattle.hddl_words.specs.declared.domain.ActionText.{ActionText}
 use Rattle.hddl_warnings.proofs.Telling.{AnyTold-none, AnyTold-next}
 use Rattle.hddl_warnings.proofs.Opposed.{AnyOpposed}
 use Rattle.hddl_warnings.proofs.effects.tell_effects.Goals as goal

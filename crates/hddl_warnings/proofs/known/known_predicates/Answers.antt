@@ -2,7 +2,7 @@ use Rattle.std.proofs.Common.{subst}
 use Rattle.hddl_meaning.specs.Mentions.{folded}
 use Rattle.hddl_warnings.specs.Known.{Learns}
 use Rattle.hddl_warnings.specs.Used.{name_text}
-use Rattle.hddl_tree.specs.declared.term.AtomText.{AtomText}
+use Rattle.hddl_words.specs.declared.term.AtomText.{AtomText}
 use Rattle.hddl_warnings.proofs.Knowing.{Knows-next-seen}
 use Rattle.hddl_warnings.proofs.known.known_predicates.Goals as goal
 

@@ -1,8 +1,8 @@
 use Rattle.std.proofs.Common.{◌∙◌, subst, sym}
 use Rattle.std.proofs.lemmas.List.{take_all}
 use Rattle.hddl_warnings.specs.Tells.{Tells}
-use Rattle.hddl_tree.specs.declared.domain.ActionText.{ActionText}
-use Rattle.hddl_tree.specs.declared.domain.MethodText.{MethodText}
+use Rattle.hddl_words.specs.declared.domain.ActionText.{ActionText}
+use Rattle.hddl_words.specs.declared.domain.MethodText.{MethodText}
 use Rattle.hddl_meaning.specs.Uses.{schema_of_action, schema_of_method}
 use Rattle.hddl_warnings.proofs.Telling.{AnyTold-none, AnyTold-next}
 use Rattle.hddl_warnings.proofs.Schemas.{InActions, InMethods, UnusedIn, all_parameters}

@@ -1,6 +1,6 @@
 use Rattle.std.proofs.Common.{◌≡◌, ◌++◌, ◌∷◌, [], List, map, ap, refl, subst, ◌∙◌, take}
 use Rattle.std.proofs.lemmas.List.{map-append, take_all}
-use Rattle.hddl_tree.specs.declared.term.VariableGroup.{VariableGroup}
+use Rattle.hddl_words.specs.declared.term.VariableGroup.{VariableGroup}
 use Rattle.hddl_warnings.specs.Parts.{AddsEach, groups}
 use Rattle.hddl_warnings.proofs.Folding.{Adds-equality, Adds-forall, Adds-literal, AddsEach-next, push_two}
 use Rattle.hddl_warnings.proofs.parts.+push_condition.Goals as goal

@@ -3,7 +3,7 @@ use Rattle.std.specs.List.{flat_map}
 use Rattle.std.proofs.lemmas.List.{take_all}
 use Rattle.htn_model.specs.Literal.{Literal}
 use Rattle.htn_model.specs.Instances.{assignments, domains_of, literals_in}
-use Rattle.htn_state.specs.Views.{literals_of}
+use Rattle.htn_task.specs.Literals.{literals_of}
 use Rattle.htn_task.specs.declared.formula.Formula.{Formula}
 use Rattle.htn_task.specs.Formulas.{formula_of, formulas_view}
 use Rattle.htn_ground.proofs.Bodies.{literals-bodies, view-ForAll}

@@ -1,7 +1,7 @@
 use Rattle.std.proofs.Common.{◌≡◌, ◌++◌, take}
 use Rattle.std.specs.List.{flat_map}
 use Rattle.htn_model.specs.Instances.{literals_in}
-use Rattle.htn_state.specs.Views.{literals_of}
+use Rattle.htn_task.specs.Literals.{literals_of}
 use Rattle.htn_task.specs.Formulas.{formulas_view}
 use Rattle.htn_ground.proofs.literals.+push_literals.Given as goal
 

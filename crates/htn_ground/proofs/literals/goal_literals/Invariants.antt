@@ -1,6 +1,6 @@
 use Rattle.std.proofs.Common.{◌≡◌, [], take}
 use Rattle.htn_model.specs.Instances as model
-use Rattle.htn_state.specs.Views.{literals_of}
+use Rattle.htn_task.specs.Literals.{literals_of}
 use Rattle.htn_task.specs.Formulas.{formulas_view}
 use Rattle.htn_ground.proofs.literals.goal_literals.Given as goal
 

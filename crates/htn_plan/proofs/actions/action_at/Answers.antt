@@ -1,5 +1,5 @@
 use Rattle.std.proofs.Common.{◌∙◌, Some, ap}
-use Rattle.htn_tree.specs.Trees.{node_of}
+use Rattle.htn_ground.specs.Trees.{node_of}
 use Rattle.htn_model.specs.Numbered.{is_leaf}
 use Rattle.htn_plan.proofs.Forests.{compound_seen, leaf_seen, step_seen}
 use Rattle.htn_plan.proofs.actions.action_at.Goals as goal

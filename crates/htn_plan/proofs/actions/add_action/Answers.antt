@@ -1,5 +1,5 @@
 use Rattle.std.proofs.Common.{◌∙◌, length, sym, subst, ap₂}
-use Rattle.htn_tree.specs.Trees.{number_of, nodes_view, solution_of}
+use Rattle.htn_ground.specs.Trees.{number_of, nodes_view, solution_of}
 use Rattle.htn_model.specs.Numbered.{is_leaf}
 use Rattle.htn_model.specs.Tree.{node_at, nodes_of}
 use Rattle.htn_plan.specs.Ids.{IsNumbered}

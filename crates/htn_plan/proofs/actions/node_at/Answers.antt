@@ -1,6 +1,6 @@
 use Rattle.std.proofs.Common.{◌+◌, ◌∙◌, Some, drop, sym, ap, slice_index_or}
 use Rattle.std.proofs.lemmas.List.{drop_more, drop_all}
-use Rattle.htn_tree.specs.Trees.{node_of, nodes_view}
+use Rattle.htn_ground.specs.Trees.{node_of, nodes_view}
 use Rattle.htn_model.specs.Tree.{child_at, node_at, node_below, nodes_of}
 use Rattle.htn_plan.proofs.Forests.{below_first, below_later}
 use Rattle.htn_plan.proofs.actions.node_at.Goals as goal

@@ -1,5 +1,5 @@
 use Rattle.std.proofs.Common.{◌≡◌, drop, Some}
-use Rattle.htn_tree.specs.Trees.{Numbering, node_of, nodes_view}
+use Rattle.htn_ground.specs.Trees.{Numbering, node_of, nodes_view}
 use Rattle.htn_model.specs.Tree.{node_at, node_below, nodes_of}
 use Rattle.htn_plan.proofs.actions.node_at.Given as goal
 

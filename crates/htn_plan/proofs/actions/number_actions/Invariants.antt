@@ -1,4 +1,4 @@
-use Rattle.htn_tree.specs.Trees.{solution_of}
+use Rattle.htn_ground.specs.Trees.{solution_of}
 use Rattle.htn_plan.specs.Ids.{AreNumbered}
 use Rattle.htn_plan.proofs.actions.number_actions.Given as goal
 

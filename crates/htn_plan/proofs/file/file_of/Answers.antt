@@ -1,5 +1,5 @@
 use Rattle.std.proofs.Common.{subst, sym, ◌≡◌, ◌+◌, ◌∙◌, [], length, ap, arith}
-use Rattle.htn_tree.specs.Trees.{number_of, nodes_view, solution_of}
+use Rattle.htn_ground.specs.Trees.{number_of, nodes_view, solution_of}
 use Rattle.htn_model.specs.Tree.{AreTrees, nodes_of}
 use Rattle.htn_plan.specs.Gathered.{Gathered, somes}
 use Rattle.htn_plan.specs.Ids.{id_of}

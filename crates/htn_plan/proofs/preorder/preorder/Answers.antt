@@ -1,5 +1,5 @@
 use Rattle.std.proofs.Common.{◌≡◌, ◌<◌, List, [], ◌∷◌, ◌++◌, ◌∙◌, length, append_assoc, append-nil, refl, sym, ap, arith}
-use Rattle.htn_tree.specs.Trees.{Numbering, node_of}
+use Rattle.htn_ground.specs.Trees.{Numbering, node_of}
 use Rattle.htn_plan.specs.Ids.{id_of}
 use Rattle.htn_plan.specs.Items.{levels_of, numbered_items}
 use Rattle.htn_plan.specs.Preorder.{items}

@@ -1,5 +1,5 @@
 use Rattle.std.proofs.Common.{◌≡◌, ◌++◌, []}
-use Rattle.htn_tree.specs.Trees.{Numbering, nodes_view}
+use Rattle.htn_ground.specs.Trees.{Numbering, nodes_view}
 use Rattle.htn_model.specs.Tree.{nodes_of}
 use Rattle.htn_plan.specs.Ids.{id_of}
 use Rattle.htn_plan.specs.Items.{levels_of, numbered_items}

@@ -1,6 +1,6 @@
 use Rattle.std.proofs.Common.{◌≡◌, List, [], ◌∷◌, ◌∙◌, refl, sym, ap}
-use Rattle.htn_tree.specs.declared.node.Node.{Node}
-use Rattle.htn_tree.specs.Trees.{Numbering, nodes_view}
+use Rattle.htn_ground.specs.declared.node.Node.{Node}
+use Rattle.htn_ground.specs.Trees.{Numbering, nodes_view}
 use Rattle.htn_plan.specs.Preorder.{action, task}
 use Rattle.htn_model.specs.Tree.{leaf, step, nodes_of}
 use Rattle.htn_plan.specs.Ids.{id_of}

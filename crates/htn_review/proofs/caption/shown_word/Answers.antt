@@ -1,6 +1,6 @@
 use Rattle.std.proofs.Common.{◌≡◌, ◌∙◌, map, sym, subst}
 use Rattle.std.specs.Str.{IsUtf8}
-use Rattle.text_places.specs.Shown.{shown}
+use Rattle.diagnostics.specs.Shown.{shown}
 use Rattle.htn_review.proofs.ShownWords.{words_utf8}
 use Rattle.htn_review.proofs.caption.shown_word.Goals as goal
 

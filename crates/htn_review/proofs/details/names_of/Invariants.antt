@@ -1,5 +1,5 @@
 use Rattle.std.proofs.Common.{◌≡◌, take}
-use Rattle.plan_forest.specs.Forest.{lists_of}
+use Rattle.plan_text.specs.Forest.{lists_of}
 use Rattle.htn_review.specs.Details.{names_of}
 use Rattle.htn_review.proofs.details.names_of.Given as goal
 

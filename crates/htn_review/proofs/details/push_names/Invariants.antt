@@ -1,5 +1,5 @@
 use Rattle.std.proofs.Common.{◌≡◌, ◌++◌, map, take}
-use Rattle.plan_forest.specs.Forest.{lists_of}
+use Rattle.plan_text.specs.Forest.{lists_of}
 use Rattle.htn_review.proofs.details.push_names.Given as goal
 
 abbrev pub invariant-loop-variable : goal.invariant-loop-variable

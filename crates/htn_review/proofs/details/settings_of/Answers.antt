@@ -6,7 +6,7 @@ use Rattle.hddl_names.proofs.Vectors.{list_any-map}
 use Rattle.htn_ground.specs.Naming.{object_name}
 use Rattle.htn_task.specs.Views.{term_of, terms_of}
 use Rattle.plan_findings.proofs.Falses.{get_map}
-use Rattle.plan_forest.specs.Forest.{lists_of}
+use Rattle.plan_text.specs.Forest.{lists_of}
 use Rattle.htn_review.specs.Details.{is_parameter, seen_setting}
 use Rattle.htn_review.proofs.Detailed.{one_hidden, one_shown}
 use Rattle.htn_review.proofs.details.settings_of.Goals as goal

@@ -1,7 +1,7 @@
 use Rattle.std.proofs.Common.{◌≡◌, map, take}
 use Rattle.std.specs.List.{enumerate_from, flat_map}
 use Rattle.htn_task.specs.Views.{terms_of}
-use Rattle.plan_forest.specs.Forest.{lists_of}
+use Rattle.plan_text.specs.Forest.{lists_of}
 use Rattle.htn_review.specs.Details.{seen_setting, setting_if}
 use Rattle.htn_review.proofs.details.settings_of.Given as goal
 

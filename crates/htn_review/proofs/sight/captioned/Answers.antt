@@ -1,6 +1,6 @@
 use Rattle.std.proofs.Common.{◌++◌, ◌∙◌, ap, map}
 use Rattle.std.specs.Prelude.{codes}
-use Rattle.text_places.specs.Shown.{shown}
+use Rattle.diagnostics.specs.Shown.{shown}
 use Rattle.htn_review.proofs.sight.captioned.Goals as goal
 
 pub picture_bytes-requires-clause-caption : goal.picture_bytes-requires-clause-caption

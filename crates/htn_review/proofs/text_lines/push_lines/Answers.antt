@@ -1,6 +1,6 @@
 use Rattle.std.proofs.Common.{◌∙◌, ap, arith, get_or, length, min}
-use Rattle.text_places.specs.Places.{position}
-use Rattle.text_places.specs.declared.position.Position.{Position}
+use Rattle.diagnostics.specs.Places.{position}
+use Rattle.diagnostics.specs.declared.position.Position.{Position}
 use Rattle.htn_review.proofs.TextLines.{line_more, same_line}
 use Rattle.htn_review.proofs.text_lines.push_lines.Goals as goal
 

@@ -1,5 +1,5 @@
 use Rattle.std.proofs.Common.{◌≡◌, ◌++◌, map, take}
-use Rattle.text_places.specs.Places.{position}
+use Rattle.diagnostics.specs.Places.{position}
 use Rattle.htn_review.proofs.text_lines.push_lines.Given as goal
 
 abbrev pub invariant-loop-place : goal.invariant-loop-place

@@ -3,7 +3,7 @@ use Rattle.htn_model.specs.Grounding.{problem_of}
 use Rattle.htn_model.specs.Instances.{initials}
 use Rattle.htn_model.specs.Machine.{Finishes}
 use Rattle.htn_model.specs.Tree.{nodes_of}
-use Rattle.htn_tree.specs.Trees.{number_of, solution_of}
+use Rattle.htn_ground.specs.Trees.{number_of, solution_of}
 use Rattle.htn_search.specs.Rebuilt.{IsSolutionOf}
 use Rattle.htn_search.proofs.Closing.{initial_number_is}
 use Rattle.htn_search.proofs.Finishing.{finishes_onward, is_initial, no_initial, stands_there}

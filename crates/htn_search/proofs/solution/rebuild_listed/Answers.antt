@@ -5,7 +5,7 @@ use Rattle.htn_model.specs.Instance.{Instance}
 use Rattle.htn_model.specs.Instances.{initials}
 use Rattle.htn_model.specs.Machine.{start}
 use Rattle.htn_model.specs.Tree.{nodes_of}
-use Rattle.htn_tree.specs.Trees.{number_of, solution_of}
+use Rattle.htn_ground.specs.Trees.{number_of, solution_of}
 use Rattle.htn_net.specs.Listed.{listing_machine}
 use Rattle.htn_search.specs.Rebuilt.{IsSolutionOf}
 use Rattle.htn_search.specs.Told.{told, told_word}

@@ -1,5 +1,5 @@
 use Rattle.std.proofs.Common.{sym, subst}
-use Rattle.htn_tree.specs.Trees.{solution_of}
+use Rattle.htn_ground.specs.Trees.{solution_of}
 use Rattle.htn_model.specs.Grounding.{problem_of}
 use Rattle.htn_model.proofs.Grounded.{tasks_are_grounded}
 use Rattle.word_machine.specs.Answer.{IsAnswer, IsLeastFinishing}
@@ -8,7 +8,7 @@ use Rattle.htn_net.specs.Listed.{listing_machine}
 use Rattle.htn_search.specs.Rebuilt.{IsSolutionOf}
 use Rattle.htn_search.specs.Told.{told_word}
 use Rattle.word_machine.specs.declared.found.Found.TheVariants.{None, Unsolvable}
-use Rattle.htn_answer.proofs.Answers.{answered}
+use Rattle.htn_net.proofs.Answers.{answered}
 use Rattle.htn_search.proofs.Answering.{plan_answers, none_answers, unsolvable_answers}
 use Rattle.htn_search.proofs.Told.{told_answer, told_solution}
 use Rattle.htn_search.proofs.solve.answer_from.Goals as goal

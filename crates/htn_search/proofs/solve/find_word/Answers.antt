@@ -1,5 +1,5 @@
 use Rattle.std.proofs.Common.{◌≡◌, sym, subst}
-use Rattle.htn_answer.proofs.Answers.{answered, exact}
+use Rattle.htn_net.proofs.Answers.{answered, exact}
 use Rattle.htn_model.specs.Grounding.{problem_of}
 use Rattle.htn_model.proofs.Grounded.{tasks_are_grounded}
 use Rattle.word_machine.specs.Answer.{IsAnswer, IsEnding, IsLeastFinishing}

@@ -6,7 +6,7 @@ use Rattle.htn_model.specs.Instances.{initials}
 use Rattle.htn_model.specs.Levels.{is_done}
 use Rattle.htn_model.specs.Literal.{holds}
 use Rattle.htn_model.specs.Machine.{Finishes, FinishesFrom, result_of, step_by}
-use Rattle.htn_answer.proofs.Words.{done_from, done_back}
+use Rattle.htn_net.proofs.Words.{done_from, done_back}
 use Rattle.htn_net.specs.Choices.{chosen_of}
 use Rattle.htn_search.proofs.Finishing.{one_onward, one_back, stuck, no_initial, is_initial, finishes_back, finishes_onward}
 use Rattle.htn_search.proofs.solve.finishes.Goals as goal

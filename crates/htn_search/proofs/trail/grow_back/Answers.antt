@@ -1,6 +1,6 @@
 use Rattle.std.proofs.Common.{◌≡◌, ◌+◌, ◌≤◌, length, reverse, sym, ap, ◌∙◌, subst}
 use Rattle.std.proofs.lemmas.List.{length-map, length-reverse}
-use Rattle.htn_tree.specs.Trees.{Numbering, node_of, nodes_view}
+use Rattle.htn_ground.specs.Trees.{Numbering, node_of, nodes_view}
 use Rattle.htn_search.specs.Trail.{before_moves, count_before, AreWithin}
 use Rattle.htn_search.proofs.Moves.{before_last, length_before, within_last}
 use Rattle.htn_search.proofs.trail.grow_back.Goals as goal

@@ -1,5 +1,5 @@
 use Rattle.std.proofs.Common.{◌≡◌, [], length, reverse, vec_len}
-use Rattle.htn_tree.specs.Trees.{Numbering, nodes_view}
+use Rattle.htn_ground.specs.Trees.{Numbering, nodes_view}
 use Rattle.htn_search.specs.Trail.{AreWithin, before_moves}
 use Rattle.htn_search.proofs.trail.grow_back.Given as goal
 

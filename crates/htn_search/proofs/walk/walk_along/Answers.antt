@@ -2,7 +2,7 @@ use Rattle.std.proofs.Common.{◌≡◌, ◌+◌, ◌∷◌, [], get_or, drop, s
 use Rattle.std.proofs.lemmas.List.{drop_more, drop_all}
 use Rattle.htn_model.specs.Grounding.{problem_of}
 use Rattle.htn_model.proofs.Grounded.{tasks_are_grounded}
-use Rattle.htn_tree.specs.Trees.{number_of}
+use Rattle.htn_ground.specs.Trees.{number_of}
 use Rattle.htn_search.specs.Places.{open_places, places_view}
 use Rattle.htn_search.specs.Walk.{recorded}
 use Rattle.htn_search.proofs.Way.{IsUnderWay, way_begins, walk_on}

@@ -1,6 +1,6 @@
 use Rattle.std.proofs.Common.{◌≡◌, drop}
 use Rattle.htn_model.specs.Grounding.{problem_of}
-use Rattle.htn_tree.specs.Trees.{number_of}
+use Rattle.htn_ground.specs.Trees.{number_of}
 use Rattle.htn_search.specs.Places.{open_places, places_view}
 use Rattle.htn_search.proofs.Way.{IsUnderWay}
 use Rattle.htn_search.proofs.walk.walk_along.Given as goal

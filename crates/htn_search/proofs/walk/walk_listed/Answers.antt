@@ -4,7 +4,7 @@ use Rattle.htn_model.specs.Grounding.{problem_of}
 use Rattle.htn_model.specs.Machine.{FinishesFrom, start}
 use Rattle.htn_model.proofs.Grounded.{tasks_are_grounded}
 use Rattle.htn_net.specs.Listed.{number_of}
-use Rattle.htn_tree.specs.Trees as trees
+use Rattle.htn_ground.specs.Trees as trees
 use Rattle.htn_search.specs.Places.{open_places, places_view}
 use Rattle.htn_search.specs.Told.{FinishesListed, told}
 use Rattle.htn_search.specs.Walk.{recorded}

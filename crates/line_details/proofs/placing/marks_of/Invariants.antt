@@ -1,5 +1,5 @@
 use Rattle.std.proofs.Common.{◌≡◌, length, take}
-use Rattle.plan_forest.specs.Reached.{AreMet}
+use Rattle.plan_text.specs.Reached.{AreMet}
 use Rattle.line_details.proofs.placing.marks_of.Given as goal
 
 abbrev pub invariant-loop-position : goal.invariant-loop-position

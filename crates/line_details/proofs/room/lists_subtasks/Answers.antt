@@ -2,7 +2,7 @@ use Rattle.std.proofs.Common.{IfSome, ◌∙◌, subst, sym}
 use Rattle.htn_ground.specs.Views.{children_of}
 use Rattle.htn_model.specs.Fits.{subtask_positions}
 use Rattle.htn_model.specs.PlanFile.{IsRearrangementOf}
-use Rattle.plan_forest.specs.Reached.{AreMet}
+use Rattle.plan_text.specs.Reached.{AreMet}
 use Rattle.line_details.proofs.Seen.{listed_once}
 use Rattle.line_details.proofs.room.lists_subtasks.Goals as goal
 

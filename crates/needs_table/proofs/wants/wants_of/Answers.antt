@@ -1,7 +1,7 @@
 use Rattle.std.proofs.Common.{List, [], refl, subst, sym, take}
 use Rattle.std.proofs.lemmas.List.{take_all}
-use Rattle.htn_state.specs.Views.{literals_of}
-use Rattle.htn_state.specs.declared.literal.Literal.{Literal}
+use Rattle.htn_task.specs.Literals.{literals_of}
+use Rattle.htn_task.specs.declared.literal.Literal.{Literal}
 use Rattle.state_table.proofs.States.{later_itself, later_more}
 use Rattle.needs_table.specs.Kept.{AreWants}
 use Rattle.needs_table.specs.declared.wants.Want.{Want}

@@ -1,5 +1,5 @@
 use Rattle.std.proofs.Common.{take}
-use Rattle.htn_state.specs.Views.{literals_of}
+use Rattle.htn_task.specs.Literals.{literals_of}
 use Rattle.state_table.specs.Table.{IsLater}
 use Rattle.needs_table.specs.Kept.{AreWants}
 use Rattle.needs_table.proofs.wants.wants_of.Given as goal

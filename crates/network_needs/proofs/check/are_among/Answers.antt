@@ -1,6 +1,6 @@
 use Rattle.std.proofs.Common.{◌∙◌, Contains, sym}
-use Rattle.htn_state.specs.Views.{literal_of, literals_of}
-use Rattle.htn_state.specs.declared.literal.Literal.{Literal}
+use Rattle.htn_task.specs.Literals.{literal_of, literals_of}
+use Rattle.htn_task.specs.declared.literal.Literal.{Literal}
 use Rattle.network_needs.proofs.Lists.{all_more, all_taken}
 use Rattle.network_needs.proofs.Within.{contains_equal}
 use Rattle.network_needs.proofs.check.are_among.Goals as goal

@@ -1,5 +1,5 @@
 use Rattle.std.proofs.Common.{All, Contains, take}
-use Rattle.htn_state.specs.Views.{literal_of, literals_of}
+use Rattle.htn_task.specs.Literals.{literal_of, literals_of}
 use Rattle.network_needs.proofs.check.are_among.Given as goal
 
 abbrev pub invariant-loop-literal : goal.invariant-loop-literal

@@ -1,7 +1,7 @@
 use Rattle.std.proofs.Common.{◌≡◌, ◌∙◌, Some, ap, length, refl, slice_get, sym}
 use Rattle.std.proofs.lemmas.List.Elements.{All-weaker}
 use Rattle.std.proofs.lemmas.Option.{slice_get_read}
-use Rattle.near_names.specs.Offers.{offered}
+use Rattle.diagnostics.specs.Offers.{offered}
 use Rattle.pair_messages.specs.declared.stands.Stand.TheVariants as stand
 use Rattle.pair_messages.specs.Offers.{IsForStand, IsForTermUse}
 use Rattle.pair_messages.specs.Stands.{in_force}

@@ -5,7 +5,7 @@ use Rattle.std.proofs.lemmas.Result.{IfOk-weaker}
 use Rattle.diagnostics.specs.declared.diagnostic.Remark.{Remark}
 use Rattle.hddl_meaning.specs.declared.fault.CheckFault.{CheckFault}
 use Rattle.hddl_meaning.specs.declared.fault.CheckFault.TheVariants as fault
-use Rattle.near_names.specs.Offers.{offered}
+use Rattle.diagnostics.specs.Offers.{offered}
 use Rattle.pair_messages.specs.Offers.{MayBeMeant, OffersMeant}
 use Rattle.pair_messages.proofs.Questions.{all_of_none}
 use Rattle.pair_messages.proofs.advice.remarks_of.Goals as goal

@@ -1,6 +1,6 @@
 use Rattle.std.proofs.Common.{subst, sym}
 use Rattle.std.specs.List.{All}
-use Rattle.near_names.specs.Offers.{offered}
+use Rattle.diagnostics.specs.Offers.{offered}
 use Rattle.pair_messages.specs.declared.stands.Stand.{Stand}
 use Rattle.pair_messages.specs.Offers.{IsForStand}
 use Rattle.pair_messages.proofs.advice.stand_remarks.Goals as goal

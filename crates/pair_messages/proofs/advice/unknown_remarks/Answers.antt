@@ -1,7 +1,7 @@
 use Rattle.std.proofs.Common.{IfSome, Option, subst}
 use Rattle.std.proofs.lemmas.List.Elements.{All-weaker}
 use Rattle.hddl_meaning.specs.declared.fault.CheckFault.TheVariants as fault
-use Rattle.near_names.specs.Offers.{offered}
+use Rattle.diagnostics.specs.Offers.{offered}
 use Rattle.pair_messages.specs.declared.stands.Stand.{Stand}
 use Rattle.pair_messages.specs.Offers.{IsForStand, MayBeMeant}
 use Rattle.pair_messages.specs.Stands.{StandsAt}

@@ -1,7 +1,7 @@
 use Rattle.std.proofs.Common.{subst}
 use Rattle.std.specs.List.{All}
 use Rattle.hddl_meaning.specs.Names.{type_names}
-use Rattle.near_names.specs.Offers.{offered}
+use Rattle.diagnostics.specs.Offers.{offered}
 use Rattle.pair_messages.specs.Offers.{IsNearest}
 use Rattle.pair_messages.proofs.advice.unknown_type_remarks.Goals as goal
 

@@ -1,5 +1,5 @@
 use Rattle.std.proofs.Common.{ℕ, IfSome, subst, sym}
-use Rattle.hddl_tree.specs.declared.network.NetworkText.{NetworkText}
+use Rattle.hddl_words.specs.declared.network.NetworkText.{NetworkText}
 use Rattle.hddl_meaning.specs.Items.{networks_in}
 use Rattle.hddl_meaning.specs.Mentions.{IsIn}
 use Rattle.hddl_meaning.specs.declared.fault.Source.{Source}

@@ -1,5 +1,5 @@
 use Rattle.std.specs.List.{All}
-use Rattle.hddl_tree.specs.declared.network.NetworkText.{NetworkText}
+use Rattle.hddl_words.specs.declared.network.NetworkText.{NetworkText}
 use Rattle.pair_messages.specs.Notes.{IsAsked}
 use Rattle.pair_messages.proofs.asked.picked.Given as goal
 

@@ -1,5 +1,5 @@
 use Rattle.std.proofs.Common.{IfSome, subst, sym}
-use Rattle.hddl_tree.specs.declared.term.Term.{Term}
+use Rattle.hddl_words.specs.declared.term.Term.{Term}
 use Rattle.pair_messages.specs.Notes.{IsArgument}
 use Rattle.pair_messages.specs.Stands.{in_force}
 use Rattle.pair_messages.proofs.compared.argument_at.Goals as goal

@@ -1,5 +1,5 @@
 use Rattle.std.proofs.Common.{◌≡◌, take}
-use Rattle.near_names.specs.Near.{names_of}
+use Rattle.diagnostics.specs.Near.{names_of}
 use Rattle.pair_messages.proofs.known.texts_in.Given as goal
 
 abbrev pub invariant-loop-number : goal.invariant-loop-number

@@ -2,7 +2,7 @@ use Rattle.std.proofs.Common.{◌≡◌, ◌∙◌, [], IfSome, Option, subst}
 use Rattle.std.specs.declared.alloc.Global.{Global}
 use Rattle.std.specs.declared.vec.Vec.{Vec}
 use Rattle.diagnostics.specs.declared.diagnostic.Part.{Part}
-use Rattle.near_names.specs.Offers.{offered_by}
+use Rattle.diagnostics.specs.Offers.{offered_by}
 use Rattle.pair_messages.specs.Offers.{IsNearest, declared_of_kind}
 use Rattle.pair_messages.proofs.Questions.{all_of_none}
 use Rattle.pair_messages.proofs.names.name_remarks.Goals as goal

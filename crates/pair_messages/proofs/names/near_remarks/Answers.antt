@@ -1,6 +1,6 @@
 use Rattle.std.proofs.Common.{◌∙◌, ap}
 use Rattle.std.proofs.lemmas.List.Elements.{All-same}
-use Rattle.near_names.specs.Near.{names_of}
+use Rattle.diagnostics.specs.Near.{names_of}
 use Rattle.pair_messages.specs.Offers.{IsNearest, declared_of_kind}
 use Rattle.pair_messages.proofs.Questions.{all_of_none}
 use Rattle.pair_messages.proofs.names.near_remarks.Goals as goal

@@ -1,7 +1,7 @@
 use Rattle.std.proofs.Common.{map, subst, sym}
 use Rattle.std.specs.List.{All}
 use Rattle.hddl_meaning.specs.Mentions.{folded}
-use Rattle.near_names.specs.Near.{names_of}
+use Rattle.diagnostics.specs.Near.{names_of}
 use Rattle.pair_messages.specs.Offers.{IsNearest}
 use Rattle.pair_messages.proofs.Nearest.{nearest_all}
 use Rattle.pair_messages.proofs.near.nearest_within.Goals as goal

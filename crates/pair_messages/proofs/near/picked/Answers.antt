@@ -1,7 +1,7 @@
 use Rattle.std.proofs.Common.{◌++◌, ◌∷◌, [], length, get_or, option_map, refl, ap, sym, ◌∙◌}
 use Rattle.std.proofs.lemmas.List.{map_push}
 use Rattle.std.proofs.lemmas.Option.{slice_get_read}
-use Rattle.near_names.specs.Near.{names_of}
+use Rattle.diagnostics.specs.Near.{names_of}
 use Rattle.pair_messages.proofs.Picks.{slice_get_mapped, slice_get_past, picks_more_some, picks_more_none}
 use Rattle.pair_messages.proofs.near.picked.Goals as goal
 use Rattle.pair_messages.proofs.near.picked.Goals.{in-Some+in_ok-push, in_default}

@@ -1,5 +1,5 @@
 use Rattle.std.proofs.Common.{◌≡◌, filter_map, slice_get, take}
-use Rattle.near_names.specs.Near.{names_of}
+use Rattle.diagnostics.specs.Near.{names_of}
 use Rattle.pair_messages.proofs.near.picked.Given as goal
 
 -- those so far

@@ -1,5 +1,5 @@
 use Rattle.std.specs.List.{All}
-use Rattle.near_names.specs.Near.{names_of}
+use Rattle.diagnostics.specs.Near.{names_of}
 use Rattle.pair_messages.specs.Firsts.{IsFirstNote}
 use Rattle.pair_messages.proofs.notes.first_notes.Given as goal
 

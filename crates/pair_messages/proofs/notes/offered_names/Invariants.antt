@@ -1,6 +1,6 @@
 use Rattle.std.proofs.Common.{◌≡◌, take}
-use Rattle.near_names.specs.Near.{names_of}
-use Rattle.near_names.specs.Offers.{offered}
+use Rattle.diagnostics.specs.Near.{names_of}
+use Rattle.diagnostics.specs.Offers.{offered}
 use Rattle.pair_messages.proofs.notes.offered_names.Given as goal
 
 -- those so far

@@ -1,7 +1,7 @@
 use Rattle.std.proofs.Common.{◌∙◌, ap, subst, sym}
 use Rattle.hddl_meaning.specs.Names.{object_names}
-use Rattle.near_names.specs.Near.{names_of}
-use Rattle.near_names.specs.Offers.{offered}
+use Rattle.diagnostics.specs.Near.{names_of}
+use Rattle.diagnostics.specs.Offers.{offered}
 use Rattle.pair_messages.specs.Offers.{AreWritten}
 use Rattle.pair_messages.proofs.Meant.{written_are}
 use Rattle.pair_messages.proofs.objects.ask_objects.Goals as goal

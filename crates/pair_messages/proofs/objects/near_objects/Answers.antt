@@ -1,6 +1,6 @@
 use Rattle.std.proofs.Common.{◌≡◌, ◌∙◌, ap, subst, sym}
 use Rattle.hddl_meaning.specs.Names.{object_names}
-use Rattle.near_names.specs.Near.{names_of}
+use Rattle.diagnostics.specs.Near.{names_of}
 use Rattle.pair_messages.specs.Offers.{AreNearest, nearest_in}
 use Rattle.pair_messages.proofs.Meant.{found_are}
 use Rattle.pair_messages.proofs.objects.near_objects.Goals as goal

@@ -1,7 +1,7 @@
 use Rattle.std.proofs.Common.{◌∙◌, ap, map, subst}
 use Rattle.std.specs.List.{All}
 use Rattle.hddl_meaning.specs.Mentions.{folded}
-use Rattle.near_names.specs.Near.{names_of}
+use Rattle.diagnostics.specs.Near.{names_of}
 use Rattle.pair_messages.specs.Offers.{IsNearest}
 use Rattle.pair_messages.proofs.objects.near_variables.Goals as goal
 

@@ -2,7 +2,7 @@ use Rattle.std.proofs.Common.{◌∙◌, ◌∷◌, [], ℕ, List, IfSome, Optio
 use Rattle.std.specs.Borrow.{Bor}
 use Rattle.std.proofs.lemmas.List.Elements.{All-cons, All-nil, All-same, All-weaker}
 use Rattle.hddl_meaning.specs.Names.{object_names}
-use Rattle.near_names.specs.Offers.{offered}
+use Rattle.diagnostics.specs.Offers.{offered}
 use Rattle.pair_messages.specs.Offers.{IsNearest, IsVariableOf, MayBeObject}
 use Rattle.pair_messages.specs.Stands.{in_force}
 use Rattle.pair_messages.proofs.objects.object_remarks.Goals as goal

@@ -1,4 +1,4 @@
-use Rattle.near_names.specs.Near.{names_of}
+use Rattle.diagnostics.specs.Near.{names_of}
 use Rattle.pair_messages.proofs.Questions.{name_at}
 use Rattle.pair_messages.proofs.objects.written_objects.Goals as goal
 

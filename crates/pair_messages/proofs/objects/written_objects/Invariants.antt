@@ -1,4 +1,4 @@
-use Rattle.near_names.specs.Near.{names_of}
+use Rattle.diagnostics.specs.Near.{names_of}
 use Rattle.pair_messages.specs.Offers.{AreWritten}
 use Rattle.pair_messages.proofs.objects.written_objects.Given as goal
 

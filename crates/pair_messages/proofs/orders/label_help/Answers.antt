@@ -3,7 +3,7 @@ use Rattle.std.specs.List.{All}
 use Rattle.std.proofs.lemmas.List.Elements.{All-same}
 use Rattle.hddl_meaning.specs.Items.{label_mentions}
 use Rattle.hddl_meaning.specs.Mentions.{folded, texts}
-use Rattle.near_names.specs.Near.{names_of}
+use Rattle.diagnostics.specs.Near.{names_of}
 use Rattle.pair_messages.specs.Offers.{IsNearest}
 use Rattle.pair_messages.proofs.Folded.{labels_folded}
 use Rattle.pair_messages.proofs.Questions.{all_of_none}

@@ -1,6 +1,6 @@
 use Rattle.std.proofs.Common.{◌≡◌, take}
 use Rattle.std.specs.List.{flat_map}
-use Rattle.near_names.specs.Near.{names_of}
+use Rattle.diagnostics.specs.Near.{names_of}
 use Rattle.pair_messages.specs.Offers.{label_text}
 use Rattle.pair_messages.proofs.orders.labels_in.Given as goal
 

@@ -1,4 +1,4 @@
-use Rattle.near_names.proofs.Asking.{list_of}
+use Rattle.diagnostics.proofs.Asking.{list_of}
 use Rattle.pair_messages.proofs.orders.list_labels.Goals as goal
 
 pub returns : goal.returns

@@ -7,7 +7,7 @@ use Rattle.diagnostics.specs.declared.diagnostic.Part.{Part}
 use Rattle.hddl_meaning.specs.Items.{label_mentions}
 use Rattle.hddl_meaning.specs.Mentions.{texts}
 use Rattle.pair_messages.specs.Offers.{IsForOrdering, IsNearest}
-use Rattle.near_names.specs.Offers.{offered_by}
+use Rattle.diagnostics.specs.Offers.{offered_by}
 use Rattle.pair_messages.proofs.Standing.{some_map}
 use Rattle.pair_messages.proofs.orders.ordering_help.Goals as goal
 

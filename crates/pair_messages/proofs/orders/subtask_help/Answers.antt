@@ -4,7 +4,7 @@ use Rattle.std.specs.declared.vec.Vec.{Vec}
 use Rattle.std.proofs.lemmas.List.Elements.{All-weaker}
 use Rattle.diagnostics.specs.declared.diagnostic.Part.{Part}
 use Rattle.pair_messages.specs.Offers.{IsForLabel, IsForOrdering}
-use Rattle.near_names.specs.Offers.{offered_by}
+use Rattle.diagnostics.specs.Offers.{offered_by}
 use Rattle.pair_messages.proofs.Standing.{some_map}
 use Rattle.pair_messages.proofs.orders.subtask_help.Goals as goal
 

@@ -4,7 +4,7 @@ use Rattle.std.specs.declared.alloc.Global.{Global}
 use Rattle.std.specs.declared.vec.Vec.{Vec}
 use Rattle.std.proofs.lemmas.List.Elements.{All-same}
 use Rattle.diagnostics.specs.declared.diagnostic.Part.{Part}
-use Rattle.near_names.specs.Offers.{offered_by}
+use Rattle.diagnostics.specs.Offers.{offered_by}
 use Rattle.pair_messages.specs.Offers.{IsForLabel}
 use Rattle.pair_messages.proofs.orders.subtask_remarks.Goals as goal
 

@@ -7,7 +7,7 @@ use Rattle.std.proofs.lemmas.Result.{IfOk-weaker}
 use Rattle.diagnostics.specs.declared.diagnostic.Note.{Note}
 use Rattle.hddl_meaning.specs.declared.fault.CheckFault.{CheckFault}
 use Rattle.hddl_meaning.specs.declared.fault.CheckFault.TheVariants as fault
-use Rattle.near_names.specs.Offers.{offered}
+use Rattle.diagnostics.specs.Offers.{offered}
 use Rattle.pair_messages.specs.declared.firsts.Sort.TheVariants as sort
 use Rattle.pair_messages.specs.Firsts.{IsFirstNote, IsNoteAt}
 use Rattle.pair_messages.specs.Notes.{AreNotes, IsNote, IsTwin}

@@ -1,5 +1,5 @@
 use Rattle.std.proofs.Common.{◌∙◌, ap}
-use Rattle.near_names.specs.Offers.{offered}
+use Rattle.diagnostics.specs.Offers.{offered}
 use Rattle.pair_messages.proofs.Questions.{none_offered}
 use Rattle.pair_messages.proofs.remarks.ask.Goals as goal
 

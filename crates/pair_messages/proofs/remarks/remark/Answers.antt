@@ -1,6 +1,6 @@
 use Rattle.std.proofs.Common.{◌∙◌, ◌∷◌, [], ◌++◌, ap}
 use Rattle.diagnostics.specs.declared.diagnostic.Remark.{Remark}
-use Rattle.near_names.specs.Offers.{offered}
+use Rattle.diagnostics.specs.Offers.{offered}
 use Rattle.pair_messages.proofs.Questions.{one_offered}
 use Rattle.pair_messages.proofs.remarks.remark.Goals as goal
 

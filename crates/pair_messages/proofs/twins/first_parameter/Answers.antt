@@ -1,5 +1,5 @@
 use Rattle.std.proofs.Common.{◌≡◌, List, Some, IfSome, subst}
-use Rattle.hddl_tree.specs.declared.term.VariableGroup.{VariableGroup}
+use Rattle.hddl_words.specs.declared.term.VariableGroup.{VariableGroup}
 use Rattle.hddl_meaning.specs.Mentions.{mentions_of, typed_variables}
 use Rattle.pair_messages.specs.Notes.{first_place, name_lists}
 use Rattle.pair_messages.specs.Stands.{section_parameters}

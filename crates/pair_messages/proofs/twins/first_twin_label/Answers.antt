@@ -1,6 +1,6 @@
 use Rattle.std.proofs.Common.{◌≡◌, List, Some, IfSome, subst}
 use Rattle.std.specs.List.{flat_map}
-use Rattle.hddl_tree.specs.declared.network.SubtaskText.{SubtaskText}
+use Rattle.hddl_words.specs.declared.network.SubtaskText.{SubtaskText}
 use Rattle.hddl_meaning.specs.Items.{label_mentions}
 use Rattle.hddl_meaning.specs.Names.{optional_mention}
 use Rattle.pair_messages.specs.Notes.{first_place, name_lists}

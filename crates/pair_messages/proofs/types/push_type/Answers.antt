@@ -1,6 +1,6 @@
 use Rattle.std.proofs.Common.{subst, sym}
 use Rattle.hddl_meaning.specs.Mentions.{IsIn}
-use Rattle.near_names.specs.Near.{names_of}
+use Rattle.diagnostics.specs.Near.{names_of}
 use Rattle.pair_messages.specs.Offers.{AreWritten}
 use Rattle.pair_messages.proofs.Questions.{written_more}
 use Rattle.pair_messages.proofs.types.push_type.Goals as goal

@@ -1,7 +1,7 @@
 use Rattle.std.proofs.Common.{[], List, subst, sym}
 use Rattle.std.specs.Borrow.{Bor}
 use Rattle.std.proofs.lemmas.List.Elements.{All-nil, All-same}
-use Rattle.hddl_tree.specs.declared.term.VariableGroup.{VariableGroup}
+use Rattle.hddl_words.specs.declared.term.VariableGroup.{VariableGroup}
 use Rattle.hddl_meaning.specs.Mentions.{IsIn}
 use Rattle.pair_messages.specs.Bindings.{AreAllIn, IsBindingIn, group_texts}
 use Rattle.pair_messages.specs.Offers.{variable_texts}

@@ -2,7 +2,7 @@ use Rattle.std.proofs.Common.{◌++◌, ◌∙◌, ◌≤◌, List, ap, length, 
 use Rattle.std.specs.Borrow.{Bor}
 use Rattle.std.specs.List.{flat_map}
 use Rattle.std.proofs.lemmas.List.{take_all}
-use Rattle.hddl_tree.specs.declared.term.VariableGroup.{VariableGroup}
+use Rattle.hddl_words.specs.declared.term.VariableGroup.{VariableGroup}
 use Rattle.hddl_meaning.specs.Mentions.{folded}
 use Rattle.pair_messages.specs.Bindings.{variables_in}
 use Rattle.pair_messages.specs.Stands.{section_parameters}

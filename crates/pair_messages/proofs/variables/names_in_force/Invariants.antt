@@ -1,6 +1,6 @@
 use Rattle.std.proofs.Common.{◌≡◌, ◌++◌, take}
 use Rattle.std.specs.List.{flat_map}
-use Rattle.near_names.specs.Near.{names_of}
+use Rattle.diagnostics.specs.Near.{names_of}
 use Rattle.pair_messages.specs.Bindings.{variables_in}
 use Rattle.pair_messages.specs.Stands.{section_parameters}
 use Rattle.pair_messages.proofs.variables.names_in_force.Given as goal

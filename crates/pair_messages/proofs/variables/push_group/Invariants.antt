@@ -1,5 +1,5 @@
 use Rattle.std.proofs.Common.{◌≡◌, ◌++◌, map, take}
-use Rattle.near_names.specs.Near.{names_of}
+use Rattle.diagnostics.specs.Near.{names_of}
 use Rattle.pair_messages.proofs.variables.push_group.Given as goal
 
 abbrev pub invariant-loop-variable : goal.invariant-loop-variable

@@ -1,5 +1,5 @@
 use Rattle.std.proofs.Common.{ℕ, ◌++◌, ap, ◌∙◌}
-use Rattle.text_places.specs.Shown.{shown}
+use Rattle.diagnostics.specs.Shown.{shown}
 use Rattle.picture_text.proofs.Writes.{each_more}
 use Rattle.picture_svg.specs.Escape.{escape}
 use Rattle.picture_html.proofs.escape.say_clean.Goals as goal

@@ -1,5 +1,5 @@
 use Rattle.std.proofs.Common.{◌≡◌, ℕ, List, [], ◌∷◌, ◌++◌, map, refl, sym, ap, subst}
-use Rattle.text_places.specs.Shown.{shown}
+use Rattle.diagnostics.specs.Shown.{shown}
 use Rattle.picture_svg.specs.Escape.{escape, escaped, IsText}
 use Rattle.picture_html.specs.Label.{clean}
 use Rattle.picture_html.specs.Why.{clean_lines, line_byte}

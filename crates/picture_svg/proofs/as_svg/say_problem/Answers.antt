@@ -1,6 +1,6 @@
 use Rattle.std.proofs.Common.{◌≡◌, ◌++◌, codes, map, ap, ◌∙◌, subst}
 use Rattle.std.specs.Result.{OnOk}
-use Rattle.text_places.specs.Shown.{shown}
+use Rattle.diagnostics.specs.Shown.{shown}
 use Rattle.picture_svg.specs.Shapes.{two_lines}
 use Rattle.picture_svg.proofs.as_svg.say_problem.Goals as goal
 

@@ -1,6 +1,6 @@
 use Rattle.std.proofs.Common.{◌≡◌, ◌+◌, ◌≤◌, length, get_or, take, drop}
-use Rattle.plan_forest.specs.Forest.{lists_of}
-use Rattle.plan_forest.specs.Reached as reached
+use Rattle.plan_text.specs.Forest.{lists_of}
+use Rattle.plan_text.specs.Reached as reached
 use Rattle.plan_picture.specs.Seen.{seen_all}
 use Rattle.picture_svg.specs.Grid as spec
 use Rattle.picture_svg.proofs.middles.middles_of.Given as goal

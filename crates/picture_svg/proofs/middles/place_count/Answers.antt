@@ -1,6 +1,6 @@
 use Rattle.std.proofs.Common.{ap, ◌∙◌, arith}
-use Rattle.plan_forest.specs.Forest.{lists_of}
-use Rattle.plan_forest.specs.Reached.{children_at}
+use Rattle.plan_text.specs.Forest.{lists_of}
+use Rattle.plan_text.specs.Reached.{children_at}
 use Rattle.picture_svg.specs.Grid.{own_places}
 use Rattle.picture_svg.proofs.Rows.{places_more, places_few}
 use Rattle.picture_svg.proofs.middles.place_count.Goals as goal

@@ -1,7 +1,7 @@
 use Rattle.std.proofs.Common.{◌≡◌, ◌++◌, List, [], ℕ, codes, map, ap, ap₂, ◌∙◌}
 use Rattle.std.specs.List.{flat_map}
-use Rattle.text_places.specs.Shown.{shown}
-use Rattle.plan_forest.specs.Forest.{lists_of}
+use Rattle.diagnostics.specs.Shown.{shown}
+use Rattle.plan_text.specs.Forest.{lists_of}
 use Rattle.plan_picture.specs.declared.row.Row.{Row}
 use Rattle.picture_text.specs.Dot.{head, node, edge, edges}
 use Rattle.picture_text.specs.Lines.{line_at, id_at}

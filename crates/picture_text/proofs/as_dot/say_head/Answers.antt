@@ -1,6 +1,6 @@
 use Rattle.std.proofs.Common.{◌++◌, codes, map, ap}
 use Rattle.std.proofs.lemmas.Result.{IfOk-equal}
-use Rattle.text_places.specs.Shown.{shown}
+use Rattle.diagnostics.specs.Shown.{shown}
 use Rattle.picture_text.specs.Dot.{quoted, layout, node_style, edge_style, head}
 use Rattle.picture_text.proofs.Writes.{adds, last, seven}
 use Rattle.picture_text.proofs.as_dot.say_head.Goals as goal

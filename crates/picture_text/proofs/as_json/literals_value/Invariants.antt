@@ -1,5 +1,5 @@
 use Rattle.std.proofs.Common.{◌≡◌, map, take}
-use Rattle.plan_forest.specs.Forest.{lists_of}
+use Rattle.plan_text.specs.Forest.{lists_of}
 use Rattle.serde_json.specs.View.{view}
 use Rattle.picture_text.specs.Json.{word_json}
 use Rattle.picture_text.proofs.as_json.literals_value.Given as goal

@@ -1,6 +1,6 @@
 use Rattle.std.proofs.Common.{◌≡◌, map, option_map, take}
 use Rattle.std.specs.List.{flat_map}
-use Rattle.plan_forest.specs.Forest.{lists_of}
+use Rattle.plan_text.specs.Forest.{lists_of}
 use Rattle.serde_json.specs.View.{view}
 use Rattle.picture_text.specs.Json.{row_json}
 use Rattle.plan_picture.specs.Seen.{seen}

@@ -1,6 +1,6 @@
 use Rattle.std.proofs.Common.{length, subst, sym, ap, ◌∙◌}
 use Rattle.htn_model.specs.Grounding.{problem_of}
-use Rattle.plan_run.specs.Turns.{literals_truth}
+use Rattle.plan_lines.specs.Turns.{literals_truth}
 use Rattle.plan_causes.specs.Causes.{AreStandings, StandsIn}
 use Rattle.plan_causes.proofs.Standings.{ends_with, standings_at_end}
 use Rattle.plan_causes.proofs.cause.at_end.Goals as goal

@@ -1,6 +1,6 @@
 use Rattle.std.proofs.Common.{◌≡◌, None, Some, sym, subst, ◌∙◌, take}
 use Rattle.htn_model.specs.Grounding.{problem_of}
-use Rattle.plan_run.specs.Run.{IsOutcome}
+use Rattle.plan_lines.specs.Run.{IsOutcome}
 use Rattle.plan_causes.proofs.Failing.{no_run}
 use Rattle.plan_causes.proofs.cause.run_up_to.Goals as goal
 

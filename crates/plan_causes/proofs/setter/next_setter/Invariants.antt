@@ -1,6 +1,6 @@
 use Rattle.std.proofs.Common.{◌≡◌, ◌≤◌, ◌<◌, ℕ, false}
 use Rattle.htn_model.specs.Grounding.{problem_of}
-use Rattle.htn_state.specs.Views.{literal_of}
+use Rattle.htn_task.specs.Literals.{literal_of}
 use Rattle.plan_causes.specs.Causes.{is_setter}
 use Rattle.plan_causes.proofs.setter.next_setter.Given as goal
 

@@ -1,5 +1,5 @@
 use Rattle.std.proofs.Common.{◌+◌, ◌∷◌, [], ◌++◌, take, sym, ap, subst}
-use Rattle.htn_state.specs.Views.{literal_of, literals_of}
+use Rattle.htn_task.specs.Literals.{literal_of, literals_of}
 use Rattle.plan_causes.specs.Causes.{AreStandings, StandsIn}
 use Rattle.plan_causes.proofs.Standings.{literal_more, stands_more}
 use Rattle.plan_causes.proofs.standing.standings_in.Goals as goal

@@ -1,5 +1,5 @@
 use Rattle.std.proofs.Common.{map, take}
-use Rattle.htn_state.specs.Views.{literals_of}
+use Rattle.htn_task.specs.Literals.{literals_of}
 use Rattle.plan_causes.specs.Causes.{AreStandings, StandsIn}
 use Rattle.plan_causes.proofs.standing.standings_in.Given as goal
 

@@ -1,6 +1,6 @@
 use Rattle.std.proofs.Common.{◌≡◌, ◌∙◌, ℕ, List, ap, subst, sym, take}
 use Rattle.std.proofs.lemmas.List.{take_all}
-use Rattle.hddl_tree.specs.declared.condition.Condition.{Condition}
+use Rattle.hddl_words.specs.declared.condition.Condition.{Condition}
 use Rattle.plan_findings.specs.Conditions.{AddsAmong, AreAmong, places_in, places_of}
 use Rattle.plan_findings.proofs.Placed.{among_more, places_of_forall, wider_added}
 use Rattle.plan_findings.proofs.conditions.+push_places.Goals as goal

@@ -1,7 +1,7 @@
 use Rattle.std.proofs.Common.{rules, ◌≡◌, ◌∙◌, ℕ, ◌+◌, ◌<◌, ◌≤◌, ap, arith, get_or, length, min, subst, sym, take}
 use Rattle.std.specs.List.{AllZip, zip}
 use Rattle.std.proofs.lemmas.List.{length-map}
-use Rattle.htn_state.specs.Views.{literal_of, literals_of}
+use Rattle.htn_task.specs.Literals.{literal_of, literals_of}
 use Rattle.plan_findings.specs.Falsities.{IsFalsityIf}
 use Rattle.plan_findings.proofs.Falses.{falsity_more, get_map, zip_all}
 use Rattle.plan_findings.proofs.literals.falsities.Goals as goal

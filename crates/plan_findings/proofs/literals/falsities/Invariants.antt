@@ -1,6 +1,6 @@
 use Rattle.std.proofs.Common.{take}
 use Rattle.std.specs.List.{AllZip, zip}
-use Rattle.htn_state.specs.Views.{literals_of}
+use Rattle.htn_task.specs.Literals.{literals_of}
 use Rattle.plan_findings.specs.Falsities.{IsFalsityIf}
 use Rattle.plan_findings.proofs.literals.falsities.Given as goal
 

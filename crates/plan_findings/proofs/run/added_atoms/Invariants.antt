@@ -1,6 +1,6 @@
 use Rattle.std.proofs.Common.{◌≡◌, map, not, take}
 use Rattle.std.specs.List.{filter}
-use Rattle.plan_run.specs.Turns.{truth}
+use Rattle.plan_lines.specs.Turns.{truth}
 use Rattle.plan_findings.proofs.run.added_atoms.Given as goal
 
 abbrev pub invariant-loop-atom : goal.invariant-loop-atom

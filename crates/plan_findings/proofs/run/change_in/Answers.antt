@@ -1,6 +1,6 @@
 use Rattle.std.proofs.Common.{◌∙◌, Bool, List, ap, map, subst}
 use Rattle.htn_model.specs.Atom.{Atom}
-use Rattle.plan_run.specs.Turns.{truth}
+use Rattle.plan_lines.specs.Turns.{truth}
 use Rattle.plan_findings.specs.Runs.{AreFacts}
 use Rattle.plan_findings.proofs.Differing.{added_are, deleted_are}
 use Rattle.plan_findings.proofs.run.change_in.Goals as goal

@@ -1,6 +1,6 @@
 use Rattle.std.proofs.Common.{◌≡◌, ◌∙◌, List, arith, length, subst, sym}
 use Rattle.plan_findings.proofs.Running.{AreSoFar, change_in_run, changes_more, no_changes_yet}
-use Rattle.plan_reasons.specs.declared.run.Change.{Change}
+use Rattle.plan_causes.specs.declared.run.Change.{Change}
 use Rattle.plan_findings.proofs.run.changes_of.Goals as goal
 
 pub loop-gap-init : goal.loop-gap-init

@@ -1,7 +1,7 @@
 use Rattle.std.proofs.Common.{◌≡◌, ◌&&◌, map, not, take}
 use Rattle.std.specs.List.{filter}
 use Rattle.htn_model.specs.State.{contains}
-use Rattle.plan_run.specs.Turns.{truth}
+use Rattle.plan_lines.specs.Turns.{truth}
 use Rattle.plan_findings.proofs.run.deleted_atoms.Given as goal
 
 abbrev pub invariant-loop-atom : goal.invariant-loop-atom

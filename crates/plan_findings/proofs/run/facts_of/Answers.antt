@@ -7,7 +7,7 @@ use Rattle.std.proofs.lemmas.List.{take_all}
 use Rattle.std.proofs.lemmas.List.Sorted.{IsPermutation-map}
 use Rattle.htn_model.specs.Atom.{Atom}
 use Rattle.htn_model.specs.PlanFile.{Word}
-use Rattle.plan_reasons.specs.Facts.{words_of}
+use Rattle.plan_causes.specs.Facts.{words_of}
 use Rattle.plan_findings.specs.Runs.{fact_words}
 use Rattle.plan_findings.proofs.Ordered.{sorted_words}
 use Rattle.plan_findings.proofs.run.facts_of.Goals as goal

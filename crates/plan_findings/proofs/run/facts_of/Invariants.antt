@@ -1,5 +1,5 @@
 use Rattle.std.proofs.Common.{◌≡◌, map, take}
-use Rattle.plan_reasons.specs.Facts.{words_of}
+use Rattle.plan_causes.specs.Facts.{words_of}
 use Rattle.plan_findings.specs.Runs.{fact_words}
 use Rattle.plan_findings.proofs.run.facts_of.Given as goal
 

@@ -1,8 +1,8 @@
 use Rattle.std.proofs.Common.{◌≡◌, None, subst}
 use Rattle.htn_model.specs.Grounding.{problem_of}
 use Rattle.plan_causes.proofs.Failing.{no_run}
-use Rattle.plan_run.specs.Run.{IsOutcome, run_tasks}
-use Rattle.plan_run.specs.declared.course.Outcome.{Outcome}
+use Rattle.plan_lines.specs.Run.{IsOutcome, run_tasks}
+use Rattle.plan_lines.specs.declared.course.Outcome.{Outcome}
 use Rattle.plan_findings.proofs.run.first_changes.Goals as goal
 
 pub returns-in-Fails : goal.returns-in-Fails

@@ -4,7 +4,7 @@ use Rattle.htn_model.specs.Instances.{ground_atom}
 use Rattle.htn_model.specs.PlanFile.{IsIn}
 use Rattle.htn_model.specs.Schema.{AtomSchema}
 use Rattle.htn_task.specs.declared.term.AtomSchema as declared
-use Rattle.plan_run.specs.Turns.{IsEverTrue}
+use Rattle.plan_lines.specs.Turns.{IsEverTrue}
 use Rattle.plan_lines.specs.Given.{Extends}
 use Rattle.plan_lines.proofs.Gathering.{in_mapped}
 use Rattle.plan_lines.proofs.Searched.{if_some}

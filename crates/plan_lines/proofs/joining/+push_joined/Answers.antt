@@ -4,7 +4,7 @@ use Rattle.htn_model.specs.Instances.{ground_atom, value_of}
 use Rattle.htn_model.specs.PlanFile.{IsIn}
 use Rattle.htn_model.specs.Schema.{AtomSchema}
 use Rattle.htn_ground.specs.declared.object_list.ObjectList.{ObjectList}
-use Rattle.htn_state.specs.declared.atom.Atom as atoms
+use Rattle.htn_task.specs.declared.atom.Atom as atoms
 use Rattle.htn_task.specs.Views.{terms_of}
 use Rattle.htn_task.specs.declared.term.AtomSchema as declared
 use Rattle.plan_lines.specs.Allowed.{IsInstanceWith, meets_so_far}

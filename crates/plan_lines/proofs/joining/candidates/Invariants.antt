@@ -1,7 +1,7 @@
 use Rattle.std.proofs.Common.{List, map, ℕ}
 use Rattle.htn_model.specs.Instances.{ground_atom}
 use Rattle.htn_model.specs.PlanFile.{IsIn}
-use Rattle.plan_run.specs.Turns.{IsEverTrue}
+use Rattle.plan_lines.specs.Turns.{IsEverTrue}
 use Rattle.plan_lines.specs.Given.{Extends}
 use Rattle.plan_lines.proofs.joining.candidates.Given as goal
 

@@ -1,7 +1,7 @@
 use Rattle.std.proofs.Common.{subst, sym}
 use Rattle.std.specs.List.{AllZip}
 use Rattle.plan_messages.specs.Explanation.{Explains, IsGoalError}
-use Rattle.plan_reasons.specs.Causes.{AreOnce}
+use Rattle.plan_causes.specs.Reasons.{AreOnce}
 use Rattle.plan_messages.proofs.explained.explanation.Goals as goal
 
 pub structure_errors-requires : goal.structure_errors-requires

@@ -1,6 +1,6 @@
 use Rattle.std.proofs.Common.{◌≡◌, ◌++◌, ◌∷◌, map, take}
 use Rattle.std.specs.List.{flat_map}
-use Rattle.text_places.specs.Shown.{shown}
+use Rattle.diagnostics.specs.Shown.{shown}
 use Rattle.plan_messages.proofs.lines.push_arguments.Given as goal
 
 abbrev pub invariant-loop-word : goal.invariant-loop-word

@@ -1,5 +1,5 @@
 use Rattle.std.proofs.Common.{◌≡◌, ◌++◌, map, take}
-use Rattle.text_places.specs.Shown.{shown}
+use Rattle.diagnostics.specs.Shown.{shown}
 use Rattle.plan_messages.proofs.lines.push_shown.Given as goal
 
 abbrev pub invariant-loop-byte : goal.invariant-loop-byte

@@ -1,7 +1,7 @@
 use Rattle.std.proofs.Common.{subst, sym}
 use Rattle.plan_messages.specs.Numbers.{HasSightings}
-use Rattle.plan_spots.specs.Mentions.{defined_at}
-use Rattle.plan_spots.specs.Mentions.{IsMention}
+use Rattle.plan_messages.specs.Mentions.{defined_at}
+use Rattle.plan_messages.specs.Mentions.{IsMention}
 use Rattle.std.specs.List.{AllZip}
 use Rattle.plan_messages.proofs.About.{all_sighted}
 use Rattle.plan_messages.proofs.numbers.defined.Goals as goal

@@ -1,5 +1,5 @@
 use Rattle.std.proofs.Common.{◌∙◌, ◌∷◌, ◌++◌, ap, subst, sym, take}
-use Rattle.near_names.specs.Offers.{named}
+use Rattle.diagnostics.specs.Offers.{named}
 use Rattle.plan_messages.specs.Explanation.{named_in, texts_of}
 use Rattle.plan_messages.specs.Places.{IsOnLineOf}
 use Rattle.plan_messages.proofs.Names.{all_named}

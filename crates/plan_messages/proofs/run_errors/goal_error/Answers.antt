@@ -1,7 +1,7 @@
 use Rattle.std.proofs.Common.{◌∙◌, ap, subst, sym, Some}
 use Rattle.hddl_meaning.specs.declared.fault.Source.TheVariants as side
 use Rattle.pair_messages.specs.Heads.{IsAbout}
-use Rattle.near_names.specs.Offers.{named}
+use Rattle.diagnostics.specs.Offers.{named}
 use Rattle.plan_messages.proofs.run_errors.goal_error.Goals as goal
 
 pub returns : goal.returns

@@ -1,5 +1,5 @@
 use Rattle.std.proofs.Common.{subst, sym}
-use Rattle.plan_spots.specs.Mentions.{defined_at}
+use Rattle.plan_messages.specs.Mentions.{defined_at}
 use Rattle.plan_messages.specs.Places.{IsOnLineWith}
 use Rattle.plan_messages.proofs.About.{placed_about}
 use Rattle.plan_messages.proofs.single.line_error.Goals as goal

@@ -1,7 +1,7 @@
 use Rattle.std.proofs.Common.{◌∙◌, ap, length, subst, sym}
 use Rattle.std.proofs.lemmas.Slice.Zip.{AllZip-long}
 use Rattle.plan_messages.specs.Numbers.{HasSightings, IsSightingOf}
-use Rattle.plan_spots.specs.Mentions.{defined_at}
+use Rattle.plan_messages.specs.Mentions.{defined_at}
 use Rattle.plan_messages.proofs.structure.defined_errors.Goals as goal
 
 pub number_errors-requires : goal.number_errors-requires

@@ -2,7 +2,7 @@ use Rattle.std.proofs.Common.{◌∙◌, ◌++◌, ap, subst, sym}
 use Rattle.std.specs.List.{AllZip}
 use Rattle.htn_model.specs.PlanFile.{IsWithoutRepeats}
 use Rattle.plan_messages.specs.Explanation.{IsNumberError}
-use Rattle.plan_spots.specs.Mentions.{defined_at, listed_at}
+use Rattle.plan_messages.specs.Mentions.{defined_at, listed_at}
 use Rattle.plan_messages.proofs.structure.structure_errors.Goals as goal
 
 pub defined_errors-requires : goal.defined_errors-requires

@@ -1,9 +1,9 @@
 use Rattle.std.proofs.Common.{◌<◌, ◌≤◌, ◌+◌, ◌-◌, [], cond, length, get_or, take, None, sym, ap, subst, ◌∙◌}
 use Rattle.std.proofs.lemmas.Bool.{lt-ltb}
 use Rattle.std.proofs.lemmas.List.{take_more, take_all}
-use Rattle.plan_forest.proofs.Adding.{get_in}
-use Rattle.plan_forest.specs.Forest.{lists_of}
-use Rattle.plan_forest.specs.Reached.{children_at}
+use Rattle.plan_text.proofs.Adding.{get_in}
+use Rattle.plan_text.specs.Forest.{lists_of}
+use Rattle.plan_text.specs.Reached.{children_at}
 use Rattle.plan_picture.specs.Below.{IsLeast, IsFirstAction}
 use Rattle.plan_picture.specs.Firsts.{earlier}
 use Rattle.plan_picture.proofs.Earliest.{IsBelowOne, below_none, below_more, first_of_children, first_of_action}

@@ -1,6 +1,6 @@
 use Rattle.std.proofs.Common.{take}
-use Rattle.plan_forest.specs.Forest.{lists_of}
-use Rattle.plan_forest.specs.Reached.{children_at}
+use Rattle.plan_text.specs.Forest.{lists_of}
+use Rattle.plan_text.specs.Reached.{children_at}
 use Rattle.plan_picture.specs.Below.{IsLeast}
 use Rattle.plan_picture.proofs.Earliest.{IsBelowOne}
 use Rattle.plan_picture.proofs.firsts.first_of.Given as goal

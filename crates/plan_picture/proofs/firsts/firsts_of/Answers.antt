@@ -1,9 +1,9 @@
 use Rattle.std.proofs.Common.{◌≡◌, ◌<◌, ◌+◌, ◌-◌, ◌∷◌, length, get_or, drop, None, sym, ap₂, subst, ◌∙◌, arith}
 use Rattle.std.proofs.lemmas.List.{drop_more, length-set}
 use Rattle.htn_model.specs.PlanFile.{IsIn}
-use Rattle.plan_forest.proofs.Adding.{get_in}
-use Rattle.plan_forest.specs.Forest.{lists_of}
-use Rattle.plan_forest.specs.Reached.{children_at}
+use Rattle.plan_text.proofs.Adding.{get_in}
+use Rattle.plan_text.specs.Forest.{lists_of}
+use Rattle.plan_text.specs.Reached.{children_at}
 use Rattle.plan_picture.specs.Below.{IsFirstAction}
 use Rattle.plan_picture.specs.Firsts.{lines_of}
 use Rattle.plan_picture.specs.Seen.{seen_all}

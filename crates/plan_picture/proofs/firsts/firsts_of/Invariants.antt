@@ -1,7 +1,7 @@
 use Rattle.std.proofs.Common.{◌≡◌, ℕ, ◌+◌, ◌≤◌, length, drop, get_or, None}
 use Rattle.htn_model.specs.PlanFile.{IsIn}
-use Rattle.plan_forest.specs.Forest.{lists_of}
-use Rattle.plan_forest.specs.Reached.{children_at}
+use Rattle.plan_text.specs.Forest.{lists_of}
+use Rattle.plan_text.specs.Reached.{children_at}
 use Rattle.plan_picture.specs.Below.{IsFirstAction}
 use Rattle.plan_picture.specs.Firsts.{lines_of}
 use Rattle.plan_picture.specs.Seen.{seen_all}

@@ -1,6 +1,6 @@
 use Rattle.std.proofs.Common.{◌≡◌, ◌<◌, ◌+◌, ◌++◌, ◌∷◌, [], ℕ, List, length, get_or, take, None, sym, ap, subst, ◌∙◌}
 use Rattle.std.proofs.lemmas.List.{take_more, map-append}
-use Rattle.plan_forest.specs.Forest.{lists_of}
+use Rattle.plan_text.specs.Forest.{lists_of}
 use Rattle.plan_picture.specs.Order.{AreDrawn, AreAllDrawn}
 use Rattle.plan_picture.proofs.Ordered.{one_list_more}
 use Rattle.plan_picture.proofs.order.all_drawn.Goals as goal

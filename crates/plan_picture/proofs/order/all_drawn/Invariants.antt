@@ -1,5 +1,5 @@
 use Rattle.std.proofs.Common.{take, get_or, None}
-use Rattle.plan_forest.specs.Forest.{lists_of}
+use Rattle.plan_text.specs.Forest.{lists_of}
 use Rattle.plan_picture.specs.Order.{AreAllDrawn}
 use Rattle.plan_picture.proofs.order.all_drawn.Given as goal
 

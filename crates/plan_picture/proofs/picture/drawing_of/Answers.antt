@@ -1,7 +1,7 @@
 use Rattle.std.proofs.Common.{ℕ, length, get_or, None, refl, sym, ap, ◌∙◌}
 use Rattle.htn_model.specs.PlanFile.{defined_ids}
-use Rattle.plan_forest.specs.Forest.{lists_of}
-use Rattle.plan_forest.proofs.Listed.{as_many_lists}
+use Rattle.plan_text.specs.Forest.{lists_of}
+use Rattle.plan_text.proofs.Listed.{as_many_lists}
 use Rattle.plan_picture.specs.Seen.{seen_all}
 use Rattle.plan_picture.proofs.Drawing.{listed_ready, first_rows, after_ready, lines_ready, found_ready, drawn_ready, second_rows, is_drawing, drawn_at, all_drawn_at}
 use Rattle.plan_picture.proofs.picture.drawing_of.Goals as goal

@@ -1,5 +1,5 @@
 use Rattle.std.proofs.Common.{◌≡◌, take}
-use Rattle.plan_forest.specs.Forest.{lists_of}
+use Rattle.plan_text.specs.Forest.{lists_of}
 use Rattle.plan_picture.proofs.picture.listed_children.Given as goal
 
 -- those so far

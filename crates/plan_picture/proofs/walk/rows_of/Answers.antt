@@ -1,7 +1,7 @@
 use Rattle.std.proofs.Common.{◌≡◌, ◌+◌, ◌++◌, [], length, reverse, None, sym, ap, subst, ◌∙◌, arith}
 use Rattle.std.proofs.lemmas.List.{length-map, length_push}
-use Rattle.plan_forest.specs.Forest.{lists_of}
-use Rattle.plan_forest.specs.Reached.{children_at}
+use Rattle.plan_text.specs.Forest.{lists_of}
+use Rattle.plan_text.specs.Reached.{children_at}
 use Rattle.plan_picture.specs.Rows.{root_rows, rows_within, child_rows}
 use Rattle.plan_picture.specs.Seen.{seen, seen_all}
 use Rattle.plan_picture.proofs.Waiting.{IsWalk, begun, one_more, more_to_come, is_low}

@@ -1,6 +1,6 @@
 use Rattle.std.proofs.Common.{◌+◌, ◌-◌, length}
-use Rattle.plan_forest.specs.Forest.{lists_of}
-use Rattle.plan_forest.specs.Reached.{children_at}
+use Rattle.plan_text.specs.Forest.{lists_of}
+use Rattle.plan_text.specs.Reached.{children_at}
 use Rattle.plan_picture.specs.Rows.{root_rows, rows_within}
 use Rattle.plan_picture.specs.Seen.{seen_all}
 use Rattle.plan_picture.proofs.Waiting.{IsWalk}

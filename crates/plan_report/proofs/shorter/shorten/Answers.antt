@@ -1,6 +1,6 @@
 use Rattle.std.proofs.Common.{◌≡◌, ℕ, zero, suc, ◌-◌, List, [], ◌∷◌, length, take, subst, sym, inl, inr}
 use Rattle.htn_model.specs.PlanFile.{IsIn, IsWithoutRepeats}
-use Rattle.plan_reasons.specs.Causes.{AreOnce}
+use Rattle.plan_causes.specs.Reasons.{AreOnce}
 use Rattle.plan_report.proofs.shorter.shorten.Goals as goal
 
 -- what is among the first is there

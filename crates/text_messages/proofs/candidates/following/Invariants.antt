@@ -1,5 +1,5 @@
 use Rattle.std.proofs.Common.{take}
-use Rattle.near_names.specs.Near.{names_of}
+use Rattle.diagnostics.specs.Near.{names_of}
 use Rattle.text_messages.specs.Following.{HasFollowing}
 use Rattle.text_messages.proofs.candidates.following.Given as goal
 

@@ -1,6 +1,6 @@
 use Rattle.std.proofs.Common.{◌∙◌, ap, subst, sym}
 use Rattle.std.specs.List.{All}
-use Rattle.near_names.specs.Near.{names_of}
+use Rattle.diagnostics.specs.Near.{names_of}
 use Rattle.text_messages.specs.Following.{MayBeMeant}
 use Rattle.text_messages.proofs.message.text_diagnostic.Goals as goal
 

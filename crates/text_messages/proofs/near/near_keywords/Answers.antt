@@ -1,5 +1,5 @@
 use Rattle.std.proofs.Common.{◌≡◌, ◌∙◌, ap, subst}
-use Rattle.near_names.specs.Near.{names_of, nearest_of}
+use Rattle.diagnostics.specs.Near.{names_of, nearest_of}
 use Rattle.text_messages.specs.Near.{ArePicked}
 use Rattle.text_messages.proofs.Followed.{picked_are}
 use Rattle.text_messages.proofs.near.near_keywords.Goals as goal

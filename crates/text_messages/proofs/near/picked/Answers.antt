@@ -1,6 +1,6 @@
 use Rattle.std.proofs.Common.{◌∙◌, ap, get_or, length, refl, subst, sym}
 use Rattle.std.proofs.lemmas.Option.{slice_get_read}
-use Rattle.near_names.specs.Near.{names_of}
+use Rattle.diagnostics.specs.Near.{names_of}
 use Rattle.text_messages.specs.Near.{ArePicked}
 use Rattle.text_messages.proofs.Followed.{picked_more}
 use Rattle.text_messages.proofs.near.picked.Goals as goal

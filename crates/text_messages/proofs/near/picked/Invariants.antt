@@ -1,4 +1,4 @@
-use Rattle.near_names.specs.Near.{names_of}
+use Rattle.diagnostics.specs.Near.{names_of}
 use Rattle.text_messages.specs.Near.{ArePicked}
 use Rattle.text_messages.proofs.near.picked.Given as goal
 

@@ -1,5 +1,5 @@
 use Rattle.std.proofs.Common.{◌≡◌, []}
-use Rattle.near_names.specs.Offers.{offered}
+use Rattle.diagnostics.specs.Offers.{offered}
 use Rattle.text_messages.proofs.near.without_questions.Given as goal
 
 abbrev pub invariant-loop-remark : goal.invariant-loop-remark

@@ -1,5 +1,5 @@
 use Rattle.std.proofs.Common.{◌∙◌, Option, ℕ, Some, None, ap, cond}
-use Rattle.hddl_tree.specs.declared.network.SubtaskText.{SubtaskText}
+use Rattle.hddl_words.specs.declared.network.SubtaskText.{SubtaskText}
 use Rattle.hddl_meaning.specs.Networks.{is_text}
 use Rattle.hddl_build.specs.Labels.{first_of}
 use Rattle.hddl_build.proofs.Labelled.{position_step}

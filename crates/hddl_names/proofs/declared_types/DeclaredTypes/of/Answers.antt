@@ -1,5 +1,5 @@
 use Rattle.std.proofs.Common.{◌≡◌, ◌∙◌, ap, arith, length}
-use Rattle.hddl_tree.specs.declared.domain.DomainText.{DomainText}
+use Rattle.hddl_words.specs.declared.domain.DomainText.{DomainText}
 use Rattle.hddl_meaning.specs.Building.{Vocabulary}
 use Rattle.hddl_meaning.specs.Names.{type_names, object_names}
 use Rattle.hddl_names.proofs.Typed.{AreDeclared, declared-is, declared-below, declared-types}

@@ -1,6 +1,6 @@
 use Rattle.std.proofs.Common.{◌<◌, ◌∙◌, sym, ap, length, subst}
 use Rattle.std.specs.List.{All}
-use Rattle.hddl_tree.specs.declared.domain.DomainText.{DomainText}
+use Rattle.hddl_words.specs.declared.domain.DomainText.{DomainText}
 use Rattle.hddl_meaning.specs.Names.{type_names}
 use Rattle.hddl_names.specs.Rows.{AreRows}
 use Rattle.hddl_names.specs.TypeNumbers.{numbered_pairs}

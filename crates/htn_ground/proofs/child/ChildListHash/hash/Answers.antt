@@ -2,7 +2,7 @@ use Rattle.std.proofs.Common.{◌∙◌, List, ap}
 use Rattle.std.specs.Hash.{HashWrites}
 use Rattle.std.specs.List.{fold}
 use Rattle.htn_model.specs.Problem.{Child}
-use Rattle.htn_state.proofs.Equal.{slice-map}
+use Rattle.htn_task.proofs.Equal.{slice-map}
 use Rattle.htn_ground.specs.Hashes.{child_hash, children_hash}
 use Rattle.htn_ground.specs.Views.{child_view}
 use Rattle.htn_ground.proofs.child.ChildListHash.hash.Goals as goal

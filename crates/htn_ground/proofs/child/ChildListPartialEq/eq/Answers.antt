@@ -2,7 +2,7 @@ use Rattle.std.proofs.Common.{◌∙◌, List, ap}
 use Rattle.std.specs.Cmp.Lexicographic.{pointwise, pointwise_decides}
 use Rattle.htn_model.specs.Problem.{Child, child_eq}
 use Rattle.htn_model.specs.Equality.{child_eq-decides}
-use Rattle.htn_state.proofs.Equal.{pointwise-map, told}
+use Rattle.htn_task.proofs.Equal.{pointwise-map, told}
 use Rattle.htn_ground.specs.Hashes.{children_eq}
 use Rattle.htn_ground.specs.Views.{child_view, children_of}
 use Rattle.htn_ground.proofs.child.ChildListPartialEq.eq.Goals as goal

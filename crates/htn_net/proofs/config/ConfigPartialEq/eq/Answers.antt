@@ -1,7 +1,7 @@
 use Rattle.std.proofs.Common.{◌≡◌, rules}
 use Rattle.htn_model.specs.Machine.{config_eq}
 use Rattle.htn_model.specs.Equality.{config_eq-decides}
-use Rattle.htn_state.proofs.Equal.{told}
+use Rattle.htn_task.proofs.Equal.{told}
 use Rattle.htn_net.proofs.config.ConfigPartialEq.eq.Goals as goal
 
 pub returns-then-eq-2-clause-same : goal.returns-then-eq-2-clause-same

@@ -3,7 +3,7 @@ use Rattle.htn_model.specs.Grounding.{problem_of}
 use Rattle.htn_model.specs.Problem.{is_compound}
 use Rattle.htn_net.specs.Choices.{chosen_of}
 use Rattle.htn_model.specs.Choice.{splice}
-use Rattle.htn_tree.specs.Trees.{number_of}
+use Rattle.htn_ground.specs.Trees.{number_of}
 use Rattle.htn_search.specs.Places.{child_places, open_places, own_place, places_view}
 use Rattle.htn_search.specs.Trail.{bare, decomposed_by, number_by}
 use Rattle.htn_search.proofs.Closing.{closes, same_bare}

@@ -1,8 +1,8 @@
 use Rattle.std.proofs.Common.{◌≡◌, ◌<◌, ◌-◌, ◌∙◌, Bor, ap, get_or, length, map, subst, sym, arith}
 use Rattle.std.specs.List.{All}
 use Rattle.htn_ground.specs.declared.ground_task.GroundTask as declared
-use Rattle.plan_forest.specs.Plans.{method_at}
-use Rattle.plan_forest.specs.Reached.{children_at}
+use Rattle.plan_text.specs.Plans.{method_at}
+use Rattle.plan_text.specs.Reached.{children_at}
 use Rattle.plan_lines.specs.Fitting.{AreToFit}
 use Rattle.plan_lines.specs.Lines.{IsNamedInstance}
 use Rattle.htn_verify.specs.Tasks.{task_at}

@@ -1,5 +1,5 @@
 use Rattle.std.proofs.Common.{subst}
-use Rattle.plan_run.specs.Turns.{IsNextGap, literals_truth}
+use Rattle.plan_lines.specs.Turns.{IsNextGap, literals_truth}
 use Rattle.htn_verify.proofs.Candidates.{next_same}
 use Rattle.htn_verify.proofs.placed_lines.PlacedLinesPlanLines.next_gap.Goals as goal
 

@@ -1,7 +1,7 @@
 use Rattle.std.proofs.Common.{◌∙◌, List, ap, arith, length, subst, sym}
 use Rattle.std.proofs.lemmas.List.{length-map}
 use Rattle.htn_model.specs.Literal.{Literal}
-use Rattle.htn_state.specs.Views.{literal_of}
+use Rattle.htn_task.specs.Literals.{literal_of}
 use Rattle.state_table.proofs.States.{later_itself}
 use Rattle.needs_table.specs.Kept.{AreWants}
 use Rattle.needs_table.proofs.Noted.{all_wants}

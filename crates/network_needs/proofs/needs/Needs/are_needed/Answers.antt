@@ -1,6 +1,6 @@
 use Rattle.std.proofs.Common.{ℕ}
-use Rattle.htn_state.specs.Views.{literal_of}
-use Rattle.htn_state.specs.declared.literal.Literal.{Literal}
+use Rattle.htn_task.specs.Literals.{literal_of}
+use Rattle.htn_task.specs.declared.literal.Literal.{Literal}
 use Rattle.network_needs.specs.Needs.{IsNeededAt}
 use Rattle.network_needs.specs.Rows.{outlook_of}
 use Rattle.network_needs.proofs.Lists.{all_more, all_taken}

@@ -1,6 +1,6 @@
 use Rattle.std.proofs.Common.{ℕ, All, take}
 use Rattle.htn_ground.specs.Views.{children_of}
-use Rattle.htn_state.specs.Views.{literal_of}
+use Rattle.htn_task.specs.Literals.{literal_of}
 use Rattle.network_needs.specs.Needs.{IsNeededAt}
 use Rattle.network_needs.specs.Rows.{outlook_of}
 use Rattle.network_needs.proofs.needs.Needs.are_needed.Given as goal

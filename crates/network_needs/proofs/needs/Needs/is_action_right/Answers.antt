@@ -1,6 +1,6 @@
 use Rattle.std.proofs.Common.{◌≡◌, rules}
 use Rattle.htn_model.specs.State.{atoms_of}
-use Rattle.htn_state.specs.Views.{literals_of}
+use Rattle.htn_task.specs.Literals.{literals_of}
 use Rattle.network_needs.proofs.Within.{action_right}
 use Rattle.network_needs.proofs.needs.Needs.is_action_right.Goals as goal
 

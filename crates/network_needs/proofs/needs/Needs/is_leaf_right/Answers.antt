@@ -1,8 +1,8 @@
 use Rattle.std.proofs.Common.{◌≡◌, ◌∙◌, List, Contains, Some, ap, sym, subst, rules}
 use Rattle.htn_ground.specs.Views.{child_view}
 use Rattle.htn_ground.specs.declared.child.Child.{Child as Node}
-use Rattle.htn_state.specs.Views.{literals_of}
-use Rattle.htn_state.specs.declared.literal.Literal.{Literal}
+use Rattle.htn_task.specs.Literals.{literals_of}
+use Rattle.htn_task.specs.declared.literal.Literal.{Literal}
 use Rattle.htn_model.specs.Problem.{Child, action}
 use Rattle.task_graph.specs.Graph.{id_of, nodes_of}
 use Rattle.task_graph.proofs.Listed.{action_at}

@@ -2,7 +2,7 @@ use Rattle.std.proofs.Common.{◌∙◌, Contains, sym, subst, arith}
 use Rattle.std.proofs.lemmas.List.{length-map}
 use Rattle.htn_ground.specs.Views.{child_view}
 use Rattle.htn_model.specs.Problem.{Child}
-use Rattle.htn_state.specs.Views.{literal_of, literals_of}
+use Rattle.htn_task.specs.Literals.{literal_of, literals_of}
 use Rattle.network_needs.specs.Rows.{outlook_of}
 use Rattle.network_needs.proofs.Within.{contains_equal, node_at, ungiven_parts}
 use Rattle.network_needs.proofs.needs.Needs.is_needed_at.Goals as goal

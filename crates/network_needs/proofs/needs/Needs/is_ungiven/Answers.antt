@@ -1,5 +1,5 @@
 use Rattle.std.proofs.Common.{◌∙◌, sym, arith}
-use Rattle.htn_state.specs.Views.{literal_of}
+use Rattle.htn_task.specs.Literals.{literal_of}
 use Rattle.network_needs.proofs.Within.{given_by, ungiven_of_none}
 use Rattle.network_needs.proofs.needs.Needs.is_ungiven.Goals as goal
 

@@ -1,5 +1,5 @@
 use Rattle.std.proofs.Common.{◌≡◌, drop}
-use Rattle.htn_state.specs.Views.{literals_of}
+use Rattle.htn_task.specs.Literals.{literals_of}
 use Rattle.relaxed_reach.specs.Facts.{are_possible}
 use Rattle.relaxed_reach.specs.Tables.{facts_of}
 use Rattle.relaxed_reach.proofs.facts.FactSets.are_possible.Given as goal

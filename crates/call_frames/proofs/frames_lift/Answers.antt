@@ -1,6 +1,0 @@
-use Rattle.call_frames.proofs.Closed.{frames_lift}
-use Rattle.call_frames.proofs.Framed.{framed_tables_stand}
-use Rattle.call_frames.proofs.frames_lift.Goals as goal
-
-pub returns : goal.returns
-returns c = record { tables = framed_tables_stand; closed = frames_lift }

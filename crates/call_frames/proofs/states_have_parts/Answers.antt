@@ -1,5 +1,0 @@
-use Rattle.call_frames.proofs.Parts.{states_have_parts}
-use Rattle.call_frames.proofs.states_have_parts.Goals as goal
-
-pub returns : goal.returns
-returns c = states_have_parts

@@ -1,5 +1,0 @@
-use Rattle.call_rules.proofs.Measured.{measures_are_sizes}
-use Rattle.call_rules.proofs.measures_bound.Goals as goal
-
-pub returns : goal.returns
-returns c = measures_are_sizes

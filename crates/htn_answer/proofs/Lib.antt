@@ -1,4 +1,0 @@
-pub mod Words
-pub mod Lawful
-pub mod Answers
-pub mod Fewer

@@ -1,2 +1,0 @@
-pub mod TreeSizes
-pub mod Numbers

@@ -1,6 +1,0 @@
-use Rattle.std.proofs.Common.{arith}
-use Rattle.near_names.proofs.Lowered.{lowered-more}
-use Rattle.near_names.proofs.distance.lowered.Goals as goal
-
-pub loop-byte-preserved : goal.loop-byte-preserved
-loop-byte-preserved c = grind (arith, c.in_ok-push.ensures.bytes, lowered-more c.args.name.now c.loop-byte.byte-index c.loop-byte-test.true, c.loop-byte.invariant, c.to_ascii_lowercase.ensures.value)

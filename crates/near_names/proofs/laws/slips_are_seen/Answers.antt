@@ -1,7 +1,0 @@
-use Rattle.std.proofs.Common.{refl}
-use Rattle.strsim.specs.Edits.{osa_from, osa_row, cost_at}
-use Rattle.near_names.proofs.laws.slips_are_seen.Goals as goal
-
-pub returns : goal.returns
-unfolding osa_from osa_row cost_at
-returns c = record { nearest = refl; none = refl }

@@ -1,6 +1,0 @@
-use Rattle.std.proofs.Common.{◌≡◌, map, take}
-use Rattle.near_names.specs.Near.{names_of, score_of}
-use Rattle.near_names.proofs.offers.scores.Given as goal
-
-abbrev pub invariant-loop-candidate : goal.invariant-loop-candidate
-invariant-loop-candidate l = l.scores.items ≡ map (score_of l.name) (names_of (take l.candidate-index l.candidates))

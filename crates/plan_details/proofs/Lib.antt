@@ -1,9 +1,0 @@
-pub mod Grown
-pub mod Timely
-pub mod Solved
-pub mod Detailed
-pub mod Picked
-pub mod Accepted
-pub mod Spread
-pub mod Certified
-pub mod Worked

@@ -1,3 +1,0 @@
-pub mod Details
-pub mod Certificate
-pub mod Worked

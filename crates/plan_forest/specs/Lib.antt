@@ -1,4 +1,0 @@
-pub mod Numbers
-pub mod Reached
-pub mod Forest
-pub mod Plans

@@ -1,4 +1,0 @@
-use Rattle.plan_run.proofs.ever_true.EverTrue.with_predicate.Goals as goal
-
-pub at-requires : goal.at-requires
-at-requires c = c.self.invariant.as_many

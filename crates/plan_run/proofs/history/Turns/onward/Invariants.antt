@@ -1,7 +1,0 @@
-use Rattle.std.proofs.Common.{take}
-use Rattle.htn_state.specs.Views.{literals_of}
-use Rattle.plan_run.proofs.Going.{HaveMoved}
-use Rattle.plan_run.proofs.history.Turns.onward.Given as goal
-
-abbrev pub invariant-loop-literal : goal.invariant-loop-literal
-invariant-loop-literal l = HaveMoved l.self (literals_of (take l.literal-index l.literals)) l.from l.last l.gap

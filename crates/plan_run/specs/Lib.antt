@@ -1,4 +1,0 @@
-pub mod Turns
-pub mod Run
-pub mod EverTrue
-pub mod Slots

@@ -1,3 +1,0 @@
-pub mod Mentioned
-pub mod OneLine
-pub mod Seeing

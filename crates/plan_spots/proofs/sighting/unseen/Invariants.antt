@@ -1,6 +1,0 @@
-use Rattle.std.proofs.Common.{◌≡◌, [], take}
-use Rattle.plan_spots.specs.Sightings.{seen_of}
-use Rattle.plan_spots.proofs.sighting.unseen.Given as goal
-
-abbrev pub invariant-loop-id : goal.invariant-loop-id
-invariant-loop-id l = l.sightings.items ≡ seen_of (take l.id-index l.ids) []

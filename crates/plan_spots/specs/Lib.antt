@@ -1,3 +1,0 @@
-pub mod Mentions
-pub mod Sightings
-pub mod Spots

@@ -1,4 +1,0 @@
-use Rattle.reach_messages.proofs.goal.+literal_in.Given as goal
-
-abbrev pub decreases-literal_in : goal.decreases-literal_in
-decreases-literal_in l = goal.size-literal_in l

@@ -1,3 +1,0 @@
-pub mod Feeds
-pub mod Ends
-pub mod Parts

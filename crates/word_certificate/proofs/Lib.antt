@@ -1,2 +1,0 @@
-pub mod Certified
-pub mod Counted

@@ -1,2 +1,0 @@
-pub mod Certificate
-pub mod Worked
