@@ -15,7 +15,7 @@ use Rattle.state_table.specs.Numberings.{IsExtension}
 use Rattle.state_table.specs.Table.{IsLater, IsSetOf}
 use Rattle.state_table.proofs.Keys.{at_end, not_any}
 use Rattle.state_table.proofs.States.{later_itself}
-use Rattle.tree_sizes.specs.Sizes.{size_of}
+use Rattle.heuristics.specs.Sizes.{size_of}
 use Rattle.call_table.specs.Lists.{Lists}
 use Rattle.call_nodes.specs.Nodes.{AreMore, AreNodes, IsOperator, children}
 use Rattle.call_nodes.specs.declared.call_nodes.CallNodes.{CallNodes}

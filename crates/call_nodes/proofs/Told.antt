@@ -9,8 +9,8 @@ use Rattle.htn_model.specs.Task.{Task}
 use Rattle.state_table.specs.Table.{is_fluent}
 use Rattle.state_table.proofs.Keys.{one_place}
 use Rattle.state_table.proofs.States.{static_is, told_apart}
-use Rattle.tree_sizes.specs.Measure.{is_as_at_first}
-use Rattle.tree_sizes.proofs.Bounded.{states_last}
+use Rattle.heuristics.specs.Measure.{is_as_at_first}
+use Rattle.heuristics.proofs.SizesBounded.{states_last}
 use Rattle.call_nodes.specs.Nodes.{AreNodes, children, state_at}
 use Rattle.call_nodes.specs.declared.call_nodes.CallNodes.{CallNodes}
 

@@ -15,8 +15,8 @@ use Rattle.htn_ground.specs.Views.{children_of}
 use Rattle.state_table.specs.Compiled.{AreCompiled, IsCompiled}
 use Rattle.state_table.specs.Numberings.{IsExtension}
 use Rattle.state_table.specs.Table.{Table, IsLater, IsSetOf, IsTable, is_changed, is_fluent, state_of}
-use Rattle.tree_sizes.specs.Measure.{IsLowerMeasure}
-use Rattle.tree_sizes.specs.Sizes.{size_of}
+use Rattle.heuristics.specs.Measure.{IsLowerMeasure}
+use Rattle.heuristics.specs.Sizes.{size_of}
 use Rattle.call_table.specs.Lists.{Lists, list_at}
 use Rattle.htn_calls.specs.Ordered.{ordered}
 use Rattle.call_nodes.specs.declared.operator.Operator.{Operator}

@@ -11,8 +11,8 @@ ghost use Rattle.htn_model.specs.Literal.{holds};
 ghost use Rattle.htn_model.specs.Problem as model;
 ghost use Rattle.htn_model.specs.Task as tasks;
 ghost use Rattle.state_table.specs.Table.{IsSetOf, state_of};
-ghost use Rattle.tree_sizes.specs.Measure.{IsLowerMeasure};
-ghost use Rattle.tree_sizes.specs.Sizes.{size_of};
+ghost use Rattle.heuristics.specs.Measure.{IsLowerMeasure};
+ghost use Rattle.heuristics.specs.Sizes.{size_of};
 
 use crate::list_table::ListTable;
 use crate::operator::{Operator, operator_of};
@@ -23,7 +23,7 @@ use htn_task::Task;
 use indexmap::IndexSet;
 use state_table::{AtomTable, BitState, CompiledLiterals, StateTable, initial_state};
 use std::alloc::{AllocError, Global};
-use tree_sizes::TreeSizes;
+use heuristics::TreeSizes;
 
 /// The states and the nodes of a task that were met, by number, with what each node does, and lists of nodes.
 pub struct CallNodes<'a> {

@@ -26,8 +26,8 @@ use Rattle.htn_net.specs.Listed.{listing_machine}
 use Rattle.call_rules.specs.Frame.{Frame}
 use Rattle.call_rules.specs.Local.{are_literals_in, IsFrameOf}
 use Rattle.state_table.specs.Table.{state_of}
-use Rattle.tree_sizes.specs.Measure.{is_as_at_first}
-use Rattle.tree_sizes.specs.Sizes.{size_of}
+use Rattle.heuristics.specs.Measure.{is_as_at_first}
+use Rattle.heuristics.specs.Sizes.{size_of}
 use Rattle.call_rules.specs.Framed.{AreFramedSites}
 use Rattle.call_rules.specs.Measures.{AreMeasuredAtFirst}
 use Rattle.call_rules.proofs.Measured.{measures_are_sizes}

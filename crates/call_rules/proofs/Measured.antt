@@ -10,9 +10,9 @@ use Rattle.htn_model.specs.Problem.{Child, IsGrounded}
 use Rattle.htn_model.specs.Task.{Task}
 use Rattle.htn_model.proofs.Steps.{step_choice}
 use Rattle.word_machine.specs.Machine.{IsStep}
-use Rattle.tree_sizes.proofs.Bounds.{step_of_choice}
-use Rattle.tree_sizes.specs.Measure.{IsLowerMeasure, estimate, is_as_at_first, lower_bound}
-use Rattle.tree_sizes.proofs.Bounded.{states_last, measures_are_bounds}
+use Rattle.heuristics.proofs.SizesBounds.{step_of_choice}
+use Rattle.heuristics.specs.Measure.{IsLowerMeasure, estimate, is_as_at_first, lower_bound}
+use Rattle.heuristics.proofs.SizesBounded.{states_last, measures_are_bounds}
 use Rattle.htn_net.specs.Machine.{is_dead_choice}
 use Rattle.htn_net.specs.Listed.{listing_machine, number_of}
 use Rattle.htn_net.proofs.Listed.{enough}

@@ -3,7 +3,7 @@ use Rattle.std.specs.Prelude.{◌≡◌, ℕ, true}
 use Rattle.htn_model.specs.Grounding.{problem_of}
 use Rattle.htn_model.specs.Problem.{Child, IsGrounded}
 use Rattle.htn_model.specs.Task.{Task}
-use Rattle.tree_sizes.specs.Measure.{IsLowerMeasure, is_as_at_first}
+use Rattle.heuristics.specs.Measure.{IsLowerMeasure, is_as_at_first}
 use Rattle.call_rules.specs.Bounds.{IsKept, IsStepSize}
 
 -- the initial state is such a state, steps lead from such states to such, and from them they lower the sizes of a lower

@@ -6,8 +6,8 @@ use Rattle.htn_model.specs.Grounding.{problem_of}
 use Rattle.htn_model.specs.Task.{Task}
 use Rattle.htn_net.specs.Listed.{listing_machine}
 use Rattle.word_machine.specs.Answer.{IsLeastFinishing}
-use Rattle.tree_sizes.specs.Measure.{IsLowerMeasure}
-use Rattle.tree_sizes.specs.Sizes.{size_of}
+use Rattle.heuristics.specs.Measure.{IsLowerMeasure}
+use Rattle.heuristics.specs.Sizes.{size_of}
 use Rattle.call_nodes.specs.Nodes.{AreNodes}
 use Rattle.call_search.specs.declared.calls.Calls.{Calls}
 use Rattle.call_search.specs.declared.trial.Trial.{Trial}

@@ -4,8 +4,8 @@ ghost use Rattle.call_nodes.specs.Nodes.{AreNodes};
 ghost use Rattle.call_search.specs.Right.{IsRight};
 ghost use Rattle.htn_model.specs.Grounding.{problem_of};
 ghost use Rattle.htn_net.specs.Listed.{listing_machine};
-ghost use Rattle.tree_sizes.specs.Measure.{IsLowerMeasure};
-ghost use Rattle.tree_sizes.specs.Sizes.{size_of};
+ghost use Rattle.heuristics.specs.Measure.{IsLowerMeasure};
+ghost use Rattle.heuristics.specs.Sizes.{size_of};
 ghost use Rattle.word_machine.specs.Answer.{IsLeastFinishing};
 
 use crate::ordered::are_ordered;
@@ -13,7 +13,7 @@ use crate::trial::Trial;
 use call_finder::Progress;
 use htn_task::Task;
 use std::alloc::{AllocError, Global};
-use tree_sizes::TreeSizes;
+use heuristics::TreeSizes;
 
 /// How many configurations a search has at least when a search by calls in frames begins beside it.
 const FIRST: usize = 1_000;

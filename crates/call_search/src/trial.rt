@@ -3,8 +3,8 @@ ghost use Rattle.std.specs.Prelude.{◌≡◌, IfOk, IfSome, OnOk};
 ghost use Rattle.call_nodes.specs.Nodes.{AreNodes};
 ghost use Rattle.htn_net.specs.Listed.{listing_machine};
 ghost use Rattle.htn_model.specs.Grounding.{problem_of};
-ghost use Rattle.tree_sizes.specs.Measure.{IsLowerMeasure};
-ghost use Rattle.tree_sizes.specs.Sizes.{size_of};
+ghost use Rattle.heuristics.specs.Measure.{IsLowerMeasure};
+ghost use Rattle.heuristics.specs.Sizes.{size_of};
 ghost use Rattle.word_machine.specs.Answer.{IsLeastFinishing};
 ghost use Rattle.word_machine.specs.Words.{step_count};
 
@@ -13,7 +13,7 @@ use call_nodes::CallNodes;
 use call_proof::{FramedProposal, Frames, Proposal, is_least};
 use htn_task::Task;
 use std::alloc::{AllocError, Global};
-use tree_sizes::TreeSizes;
+use heuristics::TreeSizes;
 
 /// A search for the least finishing word by calls, which is made in parts.
 #[derive(Drop)]

@@ -12,10 +12,10 @@ use Rattle.htn_task.proofs.term.EqualitySchema.TheSendSync as EqualityShared
 use Rattle.htn_task.proofs.term.TaskSchema.TheSendSync as TaskSchemaShared
 use Rattle.htn_task.proofs.term.Term.TheSendSync as TermShared
 use Rattle.htn_task.proofs.term.TermList.TheSendSync as TermsShared
-use Rattle.needs_table.proofs.prospects.Prospects.TheSendSync as ProspectsShared
-use Rattle.network_needs.proofs.needs.Needs.TheSendSync as NeedsShared
-use Rattle.relaxed_reach.proofs.reach.RelaxedReach.TheSendSync as ReachShared
-use Rattle.tree_sizes.proofs.tree_sizes.TreeSizes.TheSendSync as SizesShared
+use Rattle.heuristics.proofs.prospects.Prospects.TheSendSync as ProspectsShared
+use Rattle.heuristics.proofs.needs.Needs.TheSendSync as NeedsShared
+use Rattle.heuristics.proofs.reach.RelaxedReach.TheSendSync as ReachShared
+use Rattle.heuristics.proofs.tree_sizes.TreeSizes.TheSendSync as SizesShared
 use Rattle.std.proofs.Crossing.{crosses}
 use Rattle.std.proofs.alloc.Global.TheSendSync as GlobalShared
 use Rattle.std.proofs.rt.Memory.TheSendSync as MemoryShared

@@ -23,7 +23,7 @@ use std::alloc::{AllocError, Global};
 use std::sync::Wait;
 use std::thread::Threads;
 use task_machine::{Tables, TaskMachine};
-use tree_sizes::enumerate;
+use heuristics::enumerate;
 use word_machine::{
     Bounds, Effort, Ending, Found, Gate, Machine, NoWatch, SearchFault, Watch, find_word_watched,
 };

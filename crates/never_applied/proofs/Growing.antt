@@ -14,8 +14,8 @@ use Rattle.htn_ground.specs.Distinct.{live_methods}
 use Rattle.htn_ground.specs.Views.{child_view, children_of}
 use Rattle.htn_ground.specs.declared.child.Child.{Child as Node}
 use Rattle.task_graph.specs.Graph.{IsGrown}
-use Rattle.relaxed_reach.specs.Tables.{is_among}
-use Rattle.relaxed_reach.proofs.Lists.{all_more, all_taken}
+use Rattle.heuristics.specs.ReachTables.{is_among}
+use Rattle.heuristics.proofs.ReachLists.{all_more, all_taken}
 use Rattle.task_graph.proofs.Ids.{grown_at, grown_itself, grown_then}
 use Rattle.task_graph.proofs.Sets.{put_among}
 use Rattle.never_applied.specs.Fine.{IsInstanceUsed, IsMore, IsStartUsed, IsTaskUsed}

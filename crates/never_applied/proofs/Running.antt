@@ -13,9 +13,9 @@ use Rattle.htn_model.proofs.Exhaustion.{Agrees, chosen_agrees}
 use Rattle.htn_model.proofs.OneToOne.{followed_of, one_to_one, own_order}
 use Rattle.htn_model.proofs.Onward.{Followed, onward}
 use Rattle.htn_model.proofs.Steps.{Decomposes, Executes, chosen, same_child}
-use Rattle.tree_sizes.proofs.Lasting.{alive_literals}
-use Rattle.relaxed_reach.specs.Facts.{Facts, are_possible, has_effects, is_within}
-use Rattle.relaxed_reach.proofs.Factual.{all_possible, cond_passed, performed_action, within_after}
+use Rattle.heuristics.proofs.StatesLast.{alive_literals}
+use Rattle.heuristics.specs.Facts.{Facts, are_possible, has_effects, is_within}
+use Rattle.heuristics.proofs.Factual.{all_possible, cond_passed, performed_action, within_after}
 use Rattle.never_applied.specs.Solutions.{AllBelow}
 use Rattle.never_applied.proofs.Fronts.{InFront, after_replaced, before_replaced, below_placed, placed_below, stands_so}
 

@@ -24,12 +24,12 @@ use Rattle.task_graph.specs.Barred.{is_barred, is_barred_by}
 use Rattle.task_graph.specs.Graph.{AreBarredActions, IsGraph}
 use Rattle.task_graph.specs.declared.graph.TaskGraph.{TaskGraph}
 use Rattle.task_graph.proofs.Listed.{among_barred}
-use Rattle.relaxed_reach.specs.Facts as relaxed
-use Rattle.relaxed_reach.specs.Facts.{are_possible, has_effects, is_within, may_fail}
-use Rattle.relaxed_reach.specs.Tables.{is_among}
+use Rattle.heuristics.specs.Facts as relaxed
+use Rattle.heuristics.specs.Facts.{are_possible, has_effects, is_within, may_fail}
+use Rattle.heuristics.specs.ReachTables.{is_among}
 use Rattle.htn_model.proofs.Sets.{set_of-Contains}
-use Rattle.relaxed_reach.proofs.Factual.{listed_atom}
-use Rattle.relaxed_reach.proofs.Lists.{all_from}
+use Rattle.heuristics.proofs.Factual.{listed_atom}
+use Rattle.heuristics.proofs.ReachLists.{all_from}
 use Rattle.never_applied.specs.Fine.{AreFine, AreNodesFine, IsActionRight, IsClosed, IsRight, IsTaskRight, IsTaskUsed, facts_of, has_instance, is_barred_node, is_fine, is_known_fine}
 use Rattle.never_applied.specs.Used.{AreUsed, HasMethod, has_method, has_node}
 use Rattle.never_applied.specs.Never.{Applies, AreFindings, IsNeverApplied, IsNeverPerformed, Performs}

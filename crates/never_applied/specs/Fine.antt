@@ -11,9 +11,9 @@ use Rattle.htn_model.specs.Task.{Task}
 use Rattle.htn_model.specs.Tree.{root, Solution, IsSolution}
 use Rattle.htn_ground.specs.Distinct.{distinct, live_methods}
 use Rattle.task_graph.specs.Graph.{IsGrown}
-use Rattle.relaxed_reach.specs.Facts as relaxed
-use Rattle.relaxed_reach.specs.Facts.{are_possible, has_effects, is_within}
-use Rattle.relaxed_reach.specs.Tables.{is_among}
+use Rattle.heuristics.specs.Facts as relaxed
+use Rattle.heuristics.specs.Facts.{are_possible, has_effects, is_within}
+use Rattle.heuristics.specs.ReachTables.{is_among}
 use Rattle.never_applied.specs.Solutions.{InSolutions}
 use Rattle.never_applied.specs.Used.{has_method, has_node}
 use Rattle.never_applied.specs.declared.facts.Facts.{Facts}

@@ -3,7 +3,7 @@ ghost use Rattle.std.specs.Prelude.{◌≡◌, ◌||◌};
 ghost use Rattle.std.specs.List.{list_all};
 ghost use Rattle.htn_model.specs.State.{contains};
 ghost use Rattle.htn_task.specs.Literals.{literal_of, literals_of};
-ghost use Rattle.relaxed_reach.specs.Facts.{are_possible, has_effects, is_possible, is_within, may_fail};
+ghost use Rattle.heuristics.specs.Facts.{are_possible, has_effects, is_possible, is_within, may_fail};
 ghost use Rattle.never_applied.specs.Fine.{facts_of};
 
 use htn_task::{Action, Atom, Literal, State};

@@ -5,7 +5,7 @@ ghost use Rattle.htn_ground.specs.Distinct.{distinct};
 ghost use Rattle.htn_model.specs.Exhaustion.{IsUnsolvable};
 ghost use Rattle.htn_model.specs.Grounding.{problem_of};
 ghost use Rattle.htn_task.specs.Literals.{literals_of};
-ghost use Rattle.relaxed_reach.specs.Facts.{are_possible};
+ghost use Rattle.heuristics.specs.Facts.{are_possible};
 ghost use Rattle.never_applied.specs.Fine.{AreFine, facts_of, is_fine};
 
 use crate::answer::NoPlan;

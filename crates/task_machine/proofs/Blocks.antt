@@ -9,7 +9,7 @@ use Rattle.std.proofs.lemmas.Option.{none-some}
 use Rattle.htn_model.specs.Task.{Task}
 use Rattle.indexmap.specs.IndexSet.{insert_key}
 use Rattle.indexmap.proofs.CallerLemmas.{Contains-insert_key}
-use Rattle.needs_table.specs.declared.prospects.Prospects.{Prospects}
+use Rattle.heuristics.specs.declared.prospects.Prospects.{Prospects}
 use Rattle.network_table.specs.Expansions.{AreInstances, first_free}
 use Rattle.network_table.specs.Networks.{children, expansion_at, IsGrown, IsWhole, Knows}
 use Rattle.network_table.specs.Numbered.{IsWithin, Numbered}
@@ -18,7 +18,7 @@ use Rattle.network_table.specs.declared.expansion.Expansion.{Expansion}
 use Rattle.network_table.specs.declared.table.NetworkTable.{NetworkTable}
 use Rattle.network_table.proofs.Expanding.{all_more, map_two}
 use Rattle.network_table.proofs.Growing.{numbers_stay}
-use Rattle.tree_sizes.specs.declared.tree_sizes.TreeSizes.{TreeSizes}
+use Rattle.heuristics.specs.declared.tree_sizes.TreeSizes.{TreeSizes}
 use Rattle.word_machine.proofs.Diving.{all_inserted}
 use Rattle.task_machine.specs.Blocks.{AreListed, IsFirst, IsListed, IsPart, job_view, listed_for, listed_job, networks_of}
 use Rattle.task_machine.specs.Owned.{AreOwned}

@@ -1,15 +1,15 @@
 -- What the machine's bound from below is by its tables.
 use Rattle.std.proofs.Common.{◌≡◌, ◌∙◌, ◌<◌, ◌≤◌, ℕ, Bool, true, false, not, cond, length, max, sym, ap, ap₂, subst, arith}
 use Rattle.htn_model.specs.Task.{Task}
-use Rattle.needs_table.specs.Kept.{AreKept}
-use Rattle.needs_table.specs.Listed.{AreNoted}
-use Rattle.needs_table.proofs.Kept.{keeps_later}
-use Rattle.needs_table.proofs.Noted.{noted_later}
-use Rattle.needs_table.specs.Prospects.{outlook_by}
-use Rattle.needs_table.specs.declared.prospects.Prospects.{Prospects}
+use Rattle.heuristics.specs.StoredNeeds.{AreKept}
+use Rattle.heuristics.specs.ListedNeeds.{AreNoted}
+use Rattle.heuristics.proofs.StoredNeeds.{keeps_later}
+use Rattle.heuristics.proofs.NotedNeeds.{noted_later}
+use Rattle.heuristics.specs.Prospects.{outlook_by}
+use Rattle.heuristics.specs.declared.prospects.Prospects.{Prospects}
 use Rattle.network_table.specs.Networks.{IsWhole, Knows}
-use Rattle.tree_sizes.specs.Sizes.{out_of_reach}
-use Rattle.tree_sizes.specs.declared.tree_sizes.TreeSizes.{TreeSizes}
+use Rattle.heuristics.specs.Sizes.{out_of_reach}
+use Rattle.heuristics.specs.declared.tree_sizes.TreeSizes.{TreeSizes}
 use Rattle.task_machine.specs.Owned.{AreOwned}
 use Rattle.task_machine.specs.Tables.{AreLater}
 use Rattle.task_machine.specs.declared.tables.Tables.{Tables}

@@ -33,7 +33,7 @@ use Rattle.network_table.specs.declared.expansion.Expansion.TheVariants.{Decompo
 use Rattle.network_table.specs.declared.expansion.Removal.{Removal}
 use Rattle.network_table.proofs.Expanding.{all_more, grown_itself}
 use Rattle.network_table.proofs.Growing.{grown_then, numbers_stay}
-use Rattle.needs_table.specs.declared.table.NeedsTable.{NeedsTable}
+use Rattle.heuristics.specs.declared.needs_table.NeedsTable.{NeedsTable}
 use Rattle.word_machine.specs.Meaning.{IsGrown as MeaningGrown}
 use Rattle.task_machine.specs.Growing.{IsWider, StandFor}
 use Rattle.task_machine.specs.Meaning.{allows, config_in, knows, meaning, point, point_of}

@@ -6,11 +6,11 @@ use Rattle.htn_model.specs.Levels.{is_done}
 use Rattle.htn_model.specs.Machine.{Config}
 use Rattle.htn_model.specs.Task.{Task}
 use Rattle.htn_net.specs.Listed.{listing_machine}
-use Rattle.needs_table.specs.declared.prospects.Prospects.{Prospects}
+use Rattle.heuristics.specs.declared.prospects.Prospects.{Prospects}
 use Rattle.network_table.specs.Networks.{expansion_at}
 use Rattle.network_table.specs.declared.expansion.Expansion.{Expansion}
-use Rattle.tree_sizes.specs.Sizes.{size_of}
-use Rattle.tree_sizes.specs.declared.tree_sizes.TreeSizes.{TreeSizes}
+use Rattle.heuristics.specs.Sizes.{size_of}
+use Rattle.heuristics.specs.declared.tree_sizes.TreeSizes.{TreeSizes}
 use Rattle.word_machine.specs.Meaning.{AreMeasured, AreSuccessors, successors_of}
 use Rattle.word_machine.specs.declared.closed.Measured.{Measured}
 use Rattle.word_machine.specs.declared.closed.Origin.TheVariants.{Step as Stepped}

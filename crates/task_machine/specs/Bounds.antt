@@ -20,15 +20,15 @@ use Rattle.word_machine.specs.Answer.{IsBeyond, measure_of}
 use Rattle.word_machine.specs.declared.measure.Horizon.{Horizon}
 use Rattle.word_machine.specs.declared.measure.Measure.{Measure}
 use Rattle.word_machine.specs.Machine.{IsLawful, IsLowerBound, IsStep}
-use Rattle.tree_sizes.specs.Measure.{IsLowerMeasure, estimate}
-use Rattle.tree_sizes.specs.Sizes.{out_of_reach, size_of}
-use Rattle.tree_sizes.specs.declared.tree_sizes.TreeSizes.{TreeSizes}
-use Rattle.tree_sizes.proofs.Lasting.{agreeing}
-use Rattle.tree_sizes.specs.Heuristic.{IsEstimate}
-use Rattle.network_needs.specs.Needs.{may_end, Outlook}
-use Rattle.network_needs.specs.Rows.{outlook_of}
-use Rattle.needs_table.specs.Prospects.{ProspectsHold, may_be_reached, may_end_reached, outlook_by, prospects_bound}
-use Rattle.needs_table.specs.declared.prospects.Prospects.{Prospects}
+use Rattle.heuristics.specs.Measure.{IsLowerMeasure, estimate}
+use Rattle.heuristics.specs.Sizes.{out_of_reach, size_of}
+use Rattle.heuristics.specs.declared.tree_sizes.TreeSizes.{TreeSizes}
+use Rattle.heuristics.proofs.StatesLast.{agreeing}
+use Rattle.heuristics.specs.Heuristic.{IsEstimate}
+use Rattle.heuristics.specs.Needs.{may_end, Outlook}
+use Rattle.heuristics.specs.Rows.{outlook_of}
+use Rattle.heuristics.specs.Prospects.{ProspectsHold, may_be_reached, may_end_reached, outlook_by, prospects_bound}
+use Rattle.heuristics.specs.declared.prospects.Prospects.{Prospects}
 
 -- the most steps that a plan may have
 abbrev pub most_steps : ℕ

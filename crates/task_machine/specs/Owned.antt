@@ -2,14 +2,14 @@
 use Rattle.std.specs.Prelude.{◌≡◌}
 use Rattle.htn_model.specs.Grounding.{problem_of}
 use Rattle.htn_model.specs.Task.{Task}
-use Rattle.needs_table.specs.Kept.{AreAllKept}
-use Rattle.needs_table.specs.Listed.{AreNoted}
-use Rattle.needs_table.specs.Prospects.{outlook_by}
-use Rattle.needs_table.specs.declared.prospects.Prospects.{Prospects}
+use Rattle.heuristics.specs.StoredNeeds.{AreAllKept}
+use Rattle.heuristics.specs.ListedNeeds.{AreNoted}
+use Rattle.heuristics.specs.Prospects.{outlook_by}
+use Rattle.heuristics.specs.declared.prospects.Prospects.{Prospects}
 use Rattle.network_table.specs.Children.{AreBounds}
 use Rattle.network_table.specs.declared.table.NetworkTable.{NetworkTable}
-use Rattle.tree_sizes.specs.Sizes.{size_of}
-use Rattle.tree_sizes.specs.declared.tree_sizes.TreeSizes.{TreeSizes}
+use Rattle.heuristics.specs.Sizes.{size_of}
+use Rattle.heuristics.specs.declared.tree_sizes.TreeSizes.{TreeSizes}
 use Rattle.task_machine.specs.Tables.{AreTables}
 use Rattle.task_machine.specs.declared.tables.Tables.{Tables}
 

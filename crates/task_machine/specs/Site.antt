@@ -5,8 +5,8 @@ use Rattle.htn_model.specs.Machine.{Config}
 use Rattle.htn_model.specs.Task.{Task}
 use Rattle.network_table.specs.Expansions.{IsKnownRemoval}
 use Rattle.network_table.specs.declared.expansion.Removal.{Removal}
-use Rattle.needs_table.specs.declared.prospects.Prospects.{Prospects}
-use Rattle.tree_sizes.specs.declared.tree_sizes.TreeSizes.{TreeSizes}
+use Rattle.heuristics.specs.declared.prospects.Prospects.{Prospects}
+use Rattle.heuristics.specs.declared.tree_sizes.TreeSizes.{TreeSizes}
 use Rattle.word_machine.specs.Expansion.{IsLeastDone}
 use Rattle.word_machine.specs.Machine.{IsDone, IsLiveStep}
 use Rattle.word_machine.specs.declared.closed.Measured.{Measured}

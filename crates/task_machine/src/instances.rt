@@ -6,14 +6,14 @@ ghost use Rattle.htn_ground.specs.Views.{child_view, children_of};
 ghost use Rattle.network_table.specs.Networks.{IsWhole, Knows, network_at};
 ghost use Rattle.task_machine.specs.Growing.{IsAt, IsWider, StandFor, StandsFor};
 ghost use Rattle.task_machine.specs.Owned.{HasSizes};
-ghost use Rattle.tree_sizes.specs.Sizes.{size_of};
+ghost use Rattle.heuristics.specs.Sizes.{size_of};
 
 use crate::configuration::Configuration;
+use heuristics::TreeSizes;
 use htn_ground::{Child, Instance, distinct_live_methods_of};
 use htn_task::Task;
 use network_table::{Network, NetworkTable};
 use std::alloc::{AllocError, Global};
-use tree_sizes::TreeSizes;
 
 /// How many steps each of some nodes takes at least.
 fn bounds_of(alloc: Global, sizes: &TreeSizes, nodes: &[Child]) -> Result<Vec<u32>, AllocError>

@@ -4,20 +4,19 @@ ghost use Rattle.htn_model.specs.Grounding.{problem_of};
 ghost use Rattle.htn_model.specs.Problem.{IsGrounded};
 ghost use Rattle.htn_net.specs.Grounded.{grounded-prop};
 ghost use Rattle.htn_net.specs.Listed.{listing_machine};
-ghost use Rattle.needs_table.specs.Prospects.{ProspectsHold};
+ghost use Rattle.heuristics.specs.Prospects.{ProspectsHold};
 ghost use Rattle.task_machine.specs.Bounds.{measure-prop, most_steps, prospects-prop};
 ghost use Rattle.task_graph.specs.Graph.{IsGraph};
-ghost use Rattle.tree_sizes.specs.Measure.{IsLowerMeasure};
-ghost use Rattle.tree_sizes.specs.Sizes.{size_of};
+ghost use Rattle.heuristics.specs.Measure.{IsLowerMeasure};
+ghost use Rattle.heuristics.specs.Sizes.{size_of};
 
 use crate::configuration::{Configuration, Reached};
 use crate::tables::Tables;
+use heuristics::{Prospects, TreeSizes};
 use htn_task::Task;
-use needs_table::Prospects;
 use std::alloc::{AllocError, Global};
 use std::thread::Threads;
 use task_graph::TaskGraph;
-use tree_sizes::TreeSizes;
 use word_machine::{Horizon, Machine, Measured};
 
 /// The word machine of a task as a search takes it: from a configuration a rank leads to the next
@@ -80,12 +79,12 @@ impl<'a> Machine for TaskMachine<'a> {
     ghost use Rattle.htn_model.specs.Machine.{Config};
     ghost use Rattle.htn_net.specs.Listed.{listing_machine};
     ghost use Rattle.network_table.specs.Networks.{expansion_at};
-    ghost use Rattle.needs_table.specs.Prospects.{prospects_bound};
+    ghost use Rattle.heuristics.specs.Prospects.{prospects_bound};
     ghost use Rattle.task_machine.specs.Bounds.{BelongsTo, bounded, belonging_lawful, most_steps};
     ghost use Rattle.task_machine.specs.Laws.{one_to_one};
     ghost use Rattle.task_machine.specs.Meaning.{meaning};
     ghost use Rattle.task_machine.specs.Owned.{AreOwned};
-    ghost use Rattle.tree_sizes.specs.Sizes.{size_of};
+    ghost use Rattle.heuristics.specs.Sizes.{size_of};
 
     type Configuration = Configuration;
 

@@ -2,13 +2,13 @@
 ghost use Rattle.std.specs.Prelude.{◌≡◌, ◌<◌, ◌∷◌, ℕ, [], All, IfOk, IfNone, IfSome, IsSome, None, OnOk, length, map};
 ghost use Rattle.htn_model.specs.Grounding.{problem_of};
 ghost use Rattle.htn_model.specs.Task as model;
-ghost use Rattle.needs_table.specs.Kept.{AreKept};
-ghost use Rattle.needs_table.specs.Listed.{AreNoted};
-ghost use Rattle.needs_table.specs.Prospects.{outlook_by};
+ghost use Rattle.heuristics.specs.StoredNeeds.{AreKept};
+ghost use Rattle.heuristics.specs.ListedNeeds.{AreNoted};
+ghost use Rattle.heuristics.specs.Prospects.{outlook_by};
 ghost use Rattle.network_table.specs.Expansions.{first_free};
 ghost use Rattle.network_table.specs.Networks.{children, expansion_at, IsWhole, Knows, network_at};
 ghost use Rattle.htn_net.specs.Listed.{listing_machine};
-ghost use Rattle.tree_sizes.specs.declared.tree_sizes.TreeSizes.{TreeSizes};
+ghost use Rattle.heuristics.specs.declared.tree_sizes.TreeSizes.{TreeSizes};
 ghost use Rattle.task_machine.specs.Owned.{AreOwned, HasSizes};
 ghost use Rattle.task_machine.specs.Meaning.{knows, point};
 ghost use Rattle.task_machine.specs.Tables.{AreExpanded, AreLater, AreTables, IsFirstTask, listed_at, slot};
@@ -18,13 +18,12 @@ use crate::instances::{configurations_of, instances_of, number_networks};
 use crate::listing::{Listing, sources_of};
 use crate::slots::{is_taken, put};
 use crate::tables::Tables;
+use heuristics::{Prospects, TreeSizes};
 use htn_ground::distinct_initials;
 use htn_task::Task;
-use needs_table::Prospects;
 use network_table::{Network, NetworkTable};
 use state_table::initial_state;
 use std::alloc::{AllocError, Global};
-use tree_sizes::TreeSizes;
 
 /// The number of a network's first free compound task.
 pub(crate) fn first_task(networks: &NetworkTable, network: u32) -> Option<u32>

@@ -3,12 +3,12 @@ ghost use Rattle.std.specs.Prelude.{◌≡◌, ◌<◌, ℕ, All, Contains, IfOk
 ghost use Rattle.htn_model.specs.Grounding.{problem_of};
 ghost use Rattle.htn_model.specs.Task as model;
 ghost use Rattle.indexmap.specs.IndexSet.{insert_key};
-ghost use Rattle.needs_table.specs.Kept.{AreKept};
-ghost use Rattle.needs_table.specs.Listed.{AreNoted};
-ghost use Rattle.needs_table.specs.Prospects.{outlook_by};
+ghost use Rattle.heuristics.specs.StoredNeeds.{AreKept};
+ghost use Rattle.heuristics.specs.ListedNeeds.{AreNoted};
+ghost use Rattle.heuristics.specs.Prospects.{outlook_by};
 ghost use Rattle.network_table.specs.Networks.{expansion_at, IsWhole, Knows};
 ghost use Rattle.network_table.specs.declared.table.NetworkTable.{NetworkTable as Networks};
-ghost use Rattle.tree_sizes.specs.declared.tree_sizes.TreeSizes.{TreeSizes};
+ghost use Rattle.heuristics.specs.declared.tree_sizes.TreeSizes.{TreeSizes};
 ghost use Rattle.task_machine.specs.Blocks.{AreListed, HoldsPart, IsFirst, IsListed, IsPart, job_view, listed_job, networks_of};
 ghost use Rattle.task_machine.specs.Owned.{AreOwned, HasSizes};
 ghost use Rattle.task_machine.specs.Tables.{AreExpanded, AreLater, AreTables, slot};
@@ -18,13 +18,12 @@ use crate::listing::Listing;
 use crate::performer::prepare_all_performers;
 use crate::prepare::{first_task, listed};
 use crate::tables::Tables;
+use heuristics::{Prospects, TreeSizes};
 use htn_task::Task;
 use indexmap::IndexSet;
-use needs_table::Prospects;
 use network_table::{Job, NetworkTable};
 use std::alloc::{AllocError, Global};
 use std::thread::Threads;
-use tree_sizes::TreeSizes;
 use workers::{map_indices, workers_for};
 
 /// At most this many networks are expanded together: the list of their first free compound tasks is held until they

@@ -18,8 +18,8 @@ use Rattle.word_machine.specs.Ranks.{IsOwned, IsExpandedBy}
 use Rattle.word_machine.specs.declared.advance.Advanced.{Advanced}
 use Rattle.word_machine.specs.declared.advance.Advanced.TheVariants as advanced
 use Rattle.word_machine.specs.declared.advance.FirstDone.{FirstDone}
-use Rattle.htn_level.specs.declared.level.ExpandedLevel.{ExpandedLevel}
-use Rattle.htn_level.specs.declared.level.ExpandedLevel.TheVariants.{Whole, Done}
+use Rattle.word_machine.specs.declared.workers_level.ExpandedLevel.{ExpandedLevel}
+use Rattle.word_machine.specs.declared.workers_level.ExpandedLevel.TheVariants.{Whole, Done}
 use Rattle.word_machine.proofs.Meanings.{all_at, all_map, same_points, owned_still}
 use Rattle.word_machine.proofs.Expanding.{IsExpansion-none, IsExpansion-append}
 use Rattle.word_machine.proofs.Offering.{offered_still}

@@ -6,9 +6,9 @@ use Rattle.std.proofs.lemmas.List.{length-map}
 use Rattle.std.proofs.lemmas.Option.{slice_get-get_or, slice_get_cases, slice_get_within, same_Some, none-some, get_or_from_slice_get}
 use Rattle.std.proofs.lemmas.List.Elements.{All-append, All-nil}
 use Rattle.std.proofs.lemmas.List.Kept.{AllPairs-from_increasing}
-use Rattle.htn_level.specs.Level.{IsExpandedLevel as IsLevelExpanded}
-use Rattle.htn_level.specs.declared.level.ExpandedLevel.{ExpandedLevel}
-use Rattle.htn_level.specs.declared.level.ExpandedLevel.TheVariants.{Whole, Done}
+use Rattle.word_machine.specs.Level.{IsExpandedLevel as IsLevelExpanded}
+use Rattle.word_machine.specs.declared.workers_level.ExpandedLevel.{ExpandedLevel}
+use Rattle.word_machine.specs.declared.workers_level.ExpandedLevel.TheVariants.{Whole, Done}
 use Rattle.word_machine.specs.declared.closed.Origin.TheVariants.{Step as Stepped}
 use Rattle.word_machine.specs.declared.closed.Measured.{Measured}
 use Rattle.word_machine.specs.declared.closed.Successor.{Successor}

@@ -1,3 +1,9 @@
+pub mod Keeps
+pub mod Passes
+pub mod PieceRanks
+pub mod Pieces
+pub mod Home
+pub mod Slots
 pub mod Places
 pub mod Order
 pub mod Complete

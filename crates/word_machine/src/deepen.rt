@@ -17,7 +17,7 @@ use crate::machine::Machine;
 use crate::measure::{Limits, Measure};
 use crate::search::search;
 use crate::watch::{NoWatch, Watch};
-use htn_level::Gate;
+use crate::work::Gate;
 use std::alloc::Global;
 use std::sync::Wait;
 use std::thread::Threads;

@@ -4,7 +4,7 @@ ghost use Rattle.std.specs.Prelude.{◌≡◌, None};
 ghost use Rattle.word_machine.specs.Answer.{ending_of, found_of};
 ghost use Rattle.word_machine.specs.declared.found.Outcome.TheVariants.{Past};
 
-use htn_level::LevelFault;
+use crate::fault::LevelFault;
 use std::alloc::AllocError;
 use std::convert::From;
 use thiserror::Error;

@@ -7,10 +7,10 @@ ghost use Rattle.word_machine.specs.Meaning.{AreMeasured, IsGrown, contents_at, 
 ghost use Rattle.word_machine.specs.Ranks.{IsOwned};
 ghost use Rattle.word_machine.specs.declared.closed.Origin.{Origin};
 
+use crate::chain::Chain;
 use crate::closed::{Closed, FEW, Fitting, Measured, Origin, Successor};
 use crate::machine::Machine;
 use crate::measure::{Measure, measured};
-use htn_level::Chain;
 use std::alloc::{AllocError, Global};
 use std::thread::Threads;
 use workers::workers_for;

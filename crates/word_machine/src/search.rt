@@ -17,7 +17,7 @@ use crate::measure::{Horizon, Limits, Measure};
 use crate::merge::offer_initials;
 use crate::watch::{NoWatch, Watch};
 use crate::word::read_word;
-use htn_level::Gate;
+use crate::work::Gate;
 use std::alloc::{AllocError, Global};
 use std::hash::Hash;
 use std::sync::Wait;

@@ -1,6 +1,6 @@
 use Rattle.std.proofs.Common.{◌≡◌, ◌∙◌, ap, false, sym}
 use Rattle.std.specs.List.{list_all}
-use Rattle.relaxed_reach.proofs.Lists.{all_more, all_taken}
+use Rattle.heuristics.proofs.ReachLists.{all_more, all_taken}
 use Rattle.never_applied.specs.Fine.{is_fine}
 use Rattle.never_applied.proofs.no_plan.are_all_lost.Goals as goal
 

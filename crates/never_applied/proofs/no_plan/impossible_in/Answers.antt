@@ -2,7 +2,7 @@ use Rattle.std.proofs.Common.{◌≡◌, ◌∙◌, false, subst, sym}
 use Rattle.std.proofs.lemmas.List.Folds.{list_all-map, list_all_at}
 use Rattle.htn_task.specs.Literals.{literal_of}
 use Rattle.htn_task.specs.declared.literal.Literal.{Literal}
-use Rattle.relaxed_reach.specs.Facts.{is_possible}
+use Rattle.heuristics.specs.Facts.{is_possible}
 use Rattle.never_applied.specs.Fine.{facts_of}
 use Rattle.never_applied.proofs.no_plan.impossible_in.Goals as goal
 

@@ -1,6 +1,6 @@
 use Rattle.std.proofs.Common.{◌≡◌, ◌∙◌, All, ap, false, refl, subst, sym}
 use Rattle.std.specs.List.{list_all}
-use Rattle.relaxed_reach.specs.Facts.{are_possible}
+use Rattle.heuristics.specs.Facts.{are_possible}
 use Rattle.never_applied.specs.Fine.{facts_of, is_fine}
 use Rattle.never_applied.proofs.Sound.{goal_lost, starts_lost}
 use Rattle.never_applied.proofs.no_plan.no_plan.Goals as goal

@@ -3,7 +3,7 @@ use Rattle.std.proofs.lemmas.List.{take_all}
 use Rattle.std.proofs.lemmas.Simd.{map-map}
 use Rattle.htn_ground.specs.Views.{child_view}
 use Rattle.htn_ground.specs.declared.child.Child.{Child}
-use Rattle.tree_sizes.specs.Sizes.{size_of}
+use Rattle.heuristics.specs.Sizes.{size_of}
 use Rattle.task_machine.proofs.Wider.{map_take_more}
 use Rattle.task_machine.proofs.instances.bounds_of.Goals as goal
 

@@ -1,6 +1,6 @@
 use Rattle.std.proofs.Common.{subst, sym}
 use Rattle.network_table.specs.Children.{AreBounds}
-use Rattle.tree_sizes.specs.Sizes.{size_of}
+use Rattle.heuristics.specs.Sizes.{size_of}
 use Rattle.task_machine.proofs.Wider.{more_wider, wider_then}
 use Rattle.task_machine.proofs.instances.keep_network.Goals as goal
 

@@ -1,7 +1,7 @@
 use Rattle.std.proofs.Common.{◌∙◌, ap, length}
 use Rattle.std.proofs.lemmas.List.{length-map}
 use Rattle.htn_ground.specs.Views.{child_view, children_of}
-use Rattle.tree_sizes.specs.Sizes.{size_of}
+use Rattle.heuristics.specs.Sizes.{size_of}
 use Rattle.task_machine.proofs.instances.number_network.Goals as goal
 
 pub keep_children-requires-clause-bounded : goal.keep_children-requires-clause-bounded

@@ -4,7 +4,7 @@ use Rattle.indexmap.specs.IndexSet.{insert_key}
 use Rattle.htn_ground.specs.Views.{child_view}
 use Rattle.htn_ground.specs.declared.child.Child.{Child as Node}
 use Rattle.htn_model.specs.Problem.{child_eq}
-use Rattle.tree_sizes.specs.Sizes.{size_of}
+use Rattle.heuristics.specs.Sizes.{size_of}
 use Rattle.call_nodes.specs.Nodes.{children}
 use Rattle.call_nodes.specs.declared.call_nodes.CallNodes.{CallNodes}
 use Rattle.call_nodes.proofs.Keeping.{more_with_node, node_last, number_of_new, with_node}

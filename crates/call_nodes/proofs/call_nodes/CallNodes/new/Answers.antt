@@ -9,7 +9,7 @@ use Rattle.htn_model.specs.State.{State, contains}
 use Rattle.state_table.specs.Compiled.{AreCompiled}
 use Rattle.state_table.specs.Table.{IsSetOf, is_changed, is_fluent, state_of}
 use Rattle.state_table.proofs.States.{later_set, later_state}
-use Rattle.tree_sizes.specs.Sizes.{size_of}
+use Rattle.heuristics.specs.Sizes.{size_of}
 use Rattle.call_nodes.specs.Nodes.{AreAtoms, IsOperator}
 use Rattle.call_nodes.specs.declared.operator.Operator.{Operator}
 use Rattle.call_nodes.proofs.Staying.{atoms_later}

@@ -1,6 +1,6 @@
 use Rattle.std.proofs.Common.{◌≡◌, drop}
 use Rattle.htn_task.specs.Literals.{literals_of}
-use Rattle.relaxed_reach.specs.Facts.{are_possible}
+use Rattle.heuristics.specs.Facts.{are_possible}
 use Rattle.never_applied.specs.Fine.{facts_of}
 use Rattle.never_applied.proofs.facts.Facts.are_possible.Given as goal
 

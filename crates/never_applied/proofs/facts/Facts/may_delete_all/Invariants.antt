@@ -1,7 +1,7 @@
 use Rattle.std.proofs.Common.{◌≡◌, ◌||◌, drop}
 use Rattle.std.specs.List.{list_all}
 use Rattle.htn_model.specs.State.{contains}
-use Rattle.relaxed_reach.specs.Facts.{may_fail}
+use Rattle.heuristics.specs.Facts.{may_fail}
 use Rattle.never_applied.specs.Fine.{facts_of}
 use Rattle.never_applied.proofs.facts.Facts.may_delete_all.Given as goal
 

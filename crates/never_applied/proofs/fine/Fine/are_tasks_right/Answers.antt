@@ -1,5 +1,5 @@
 use Rattle.never_applied.specs.Fine.{IsTaskRight}
-use Rattle.relaxed_reach.proofs.Lists.{all_more, all_taken}
+use Rattle.heuristics.proofs.ReachLists.{all_more, all_taken}
 use Rattle.never_applied.proofs.fine.Fine.are_tasks_right.Goals as goal
 
 pub loop-goal-preserved : goal.loop-goal-preserved

@@ -1,4 +1,4 @@
-use Rattle.relaxed_reach.proofs.Lists.{all_taken}
+use Rattle.heuristics.proofs.ReachLists.{all_taken}
 use Rattle.never_applied.specs.Fine.{IsInstanceUsed}
 use Rattle.never_applied.proofs.Growing.{instances_next, more_then}
 use Rattle.never_applied.proofs.usable.Usable.add_instances.Goals as goal

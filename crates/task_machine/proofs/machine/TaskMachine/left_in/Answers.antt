@@ -1,6 +1,6 @@
 use Rattle.std.proofs.Common.{◌∙◌, ap, sym}
 use Rattle.htn_net.specs.Listed.{listing_machine}
-use Rattle.tree_sizes.specs.Sizes.{size_of}
+use Rattle.heuristics.specs.Sizes.{size_of}
 use Rattle.word_machine.specs.declared.measure.Measure.{Measure}
 use Rattle.task_machine.specs.Bounds.{left_by, own_bound}
 use Rattle.task_machine.specs.Meaning.{config_in}

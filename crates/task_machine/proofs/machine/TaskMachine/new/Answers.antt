@@ -9,9 +9,9 @@ use Rattle.htn_model.proofs.Grounded.{tasks_are_grounded}
 use Rattle.htn_ground.specs.Distinct.{distinct}
 use Rattle.htn_net.specs.Listed.{listed_initials, listing_machine}
 use Rattle.htn_net.proofs.Listed.{distinct_initials}
-use Rattle.needs_table.specs.Prospects.{AreProspects}
-use Rattle.needs_table.proofs.Ending.{prospects_hold}
-use Rattle.tree_sizes.specs.Sizes.{size_of}
+use Rattle.heuristics.specs.Prospects.{AreProspects}
+use Rattle.heuristics.proofs.ProspectsEnding.{prospects_hold}
+use Rattle.heuristics.specs.Sizes.{size_of}
 use Rattle.task_machine.specs.Bounds.{most_steps}
 use Rattle.task_machine.proofs.machine.TaskMachine.new.Goals as goal
 

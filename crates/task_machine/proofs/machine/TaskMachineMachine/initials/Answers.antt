@@ -1,5 +1,5 @@
 use Rattle.std.proofs.Common.{◌∙◌, ap}
-use Rattle.needs_table.specs.declared.table.NeedsTable.{NeedsTable}
+use Rattle.heuristics.specs.declared.needs_table.NeedsTable.{NeedsTable}
 use Rattle.task_machine.proofs.Estimates.{kept_still, noted_still}
 use Rattle.network_table.proofs.Expanding.{all_more, map_all}
 use Rattle.task_machine.specs.Meaning.{knows, point}

@@ -1,8 +1,8 @@
 use Rattle.std.proofs.Common.{◌∙◌, ap, sym}
 use Rattle.htn_model.specs.Grounding.{problem_of}
 use Rattle.htn_net.specs.Listed.{listing_machine}
-use Rattle.needs_table.specs.Prospects.{outlook_by}
-use Rattle.tree_sizes.specs.Sizes.{size_of}
+use Rattle.heuristics.specs.Prospects.{outlook_by}
+use Rattle.heuristics.specs.Sizes.{size_of}
 use Rattle.task_machine.specs.Bounds.{bound_by, own_bound}
 use Rattle.task_machine.specs.Meaning.{config_in, point}
 use Rattle.task_machine.proofs.Estimates.{is_needed}

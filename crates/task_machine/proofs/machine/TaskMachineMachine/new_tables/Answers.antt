@@ -1,7 +1,7 @@
 use Rattle.std.proofs.Common.{◌∙◌, ap, length, sym}
-use Rattle.needs_table.specs.Prospects.{outlook_by}
-use Rattle.needs_table.proofs.Kept.{keeps_none}
-use Rattle.needs_table.proofs.Noted.{noted_none}
+use Rattle.heuristics.specs.Prospects.{outlook_by}
+use Rattle.heuristics.proofs.StoredNeeds.{keeps_none}
+use Rattle.heuristics.proofs.NotedNeeds.{noted_none}
 use Rattle.task_machine.proofs.machine.TaskMachineMachine.new_tables.Goals as goal
 
 pub returns : goal.returns

@@ -1,7 +1,7 @@
 use Rattle.std.proofs.Common.{◌≡◌, All, IsSome, List, subst, sym}
 use Rattle.network_table.specs.Children.{AreBounds}
 use Rattle.network_table.specs.Networks.{expansion_at, Knows}
-use Rattle.tree_sizes.specs.Sizes.{size_of}
+use Rattle.heuristics.specs.Sizes.{size_of}
 use Rattle.task_machine.specs.Blocks.{IsFirst, IsListed, networks_of}
 use Rattle.task_machine.specs.Steps.{live_networks}
 use Rattle.task_machine.specs.declared.prepare_all.Listed.{Listed}

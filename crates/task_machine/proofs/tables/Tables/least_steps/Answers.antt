@@ -1,7 +1,7 @@
 use Rattle.std.proofs.Common.{rules, ◌≡◌, ◌-◌, ◌^◌, arith, length, max, min}
 use Rattle.std.specs.List.{sum_by}
 use Rattle.network_table.specs.Networks.{network_at}
-use Rattle.tree_sizes.specs.Sizes.{size_of}
+use Rattle.heuristics.specs.Sizes.{size_of}
 use Rattle.task_machine.specs.Bounds.{most_steps}
 use Rattle.task_machine.proofs.tables.Tables.least_steps.Goals as goal
 

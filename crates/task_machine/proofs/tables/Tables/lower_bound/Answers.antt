@@ -1,10 +1,10 @@
 use Rattle.std.proofs.Common.{rules, ◌≡◌, ◌∙◌, max, sym}
 use Rattle.htn_model.specs.Grounding.{problem_of}
-use Rattle.network_needs.specs.Needs.{may_end}
-use Rattle.needs_table.specs.Prospects.{outlook_by}
+use Rattle.heuristics.specs.Needs.{may_end}
+use Rattle.heuristics.specs.Prospects.{outlook_by}
 use Rattle.state_table.specs.Table.{state_of}
-use Rattle.tree_sizes.specs.Measure.{estimate}
-use Rattle.tree_sizes.specs.Sizes.{out_of_reach, size_of}
+use Rattle.heuristics.specs.Measure.{estimate}
+use Rattle.heuristics.specs.Sizes.{out_of_reach, size_of}
 use Rattle.task_machine.specs.Bounds.{most_steps}
 use Rattle.task_machine.specs.Meaning.{config_in}
 use Rattle.task_machine.proofs.Estimates.{bound_ending, bound_lost}

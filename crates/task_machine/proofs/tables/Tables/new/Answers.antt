@@ -9,7 +9,7 @@ use Rattle.state_table.proofs.Keys.{numbering_none}
 use Rattle.task_machine.specs.Steps.{live_networks}
 use Rattle.task_machine.specs.Tables.{slot}
 use Rattle.task_machine.proofs.Owned.{atoms_later}
-use Rattle.tree_sizes.specs.Sizes.{size_of}
+use Rattle.heuristics.specs.Sizes.{size_of}
 use Rattle.task_machine.proofs.tables.Tables.new.Goals as goal
 
 pub returns-clause-own : goal.returns-clause-own

@@ -2,7 +2,7 @@ use Rattle.std.proofs.Common.{◌∙◌, ◌++◌, ℕ, List, All, IsSome, ap, a
 use Rattle.std.proofs.lemmas.Bool.{eqb-true}
 use Rattle.std.proofs.lemmas.List.{nil_from_length, take-append-drop}
 use Rattle.std.proofs.lemmas.List.Elements.{All-drop, All-take}
-use Rattle.needs_table.specs.declared.table.NeedsTable.{NeedsTable}
+use Rattle.heuristics.specs.declared.needs_table.NeedsTable.{NeedsTable}
 use Rattle.network_table.specs.Networks.{expansion_at, Knows}
 use Rattle.network_table.specs.declared.table.NetworkTable.{NetworkTable}
 use Rattle.task_machine.proofs.Blocks.{all_ready, prepared_all, prepared_next, prepared_none}

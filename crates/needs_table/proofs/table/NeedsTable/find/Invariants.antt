@@ -1,7 +1,0 @@
-use Rattle.std.proofs.Common.{All}
-use Rattle.needs_table.specs.Found.{IsFound}
-use Rattle.needs_table.proofs.table.NeedsTable.find.Given as goal
-
--- that of the networks so far
-abbrev pub invariant-loop-number : goal.invariant-loop-number
-invariant-loop-number l = All (IsFound l.prospects l.self l.networks) l.found.items

@@ -1,4 +1,0 @@
-pub mod Kept
-pub mod Prospects
-pub mod Listed
-pub mod Found

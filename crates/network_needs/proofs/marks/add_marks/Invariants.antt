@@ -1,9 +1,0 @@
-use Rattle.std.proofs.Common.{◌≤◌, length}
-use Rattle.network_needs.proofs.MarkWords.{AreJoinedBelow}
-use Rattle.network_needs.proofs.marks.add_marks.Given as goal
-
-abbrev pub invariant-loop-k : goal.invariant-loop-k
-invariant-loop-k l = record {
-  count : l.k ≤ length l.marks.items;
-  joined : AreJoinedBelow l.k l.initial.marks.items l.others l.marks.items;
-}

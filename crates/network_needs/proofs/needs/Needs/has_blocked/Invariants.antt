@@ -1,9 +1,0 @@
-use Rattle.std.proofs.Common.{◌≡◌, drop}
-use Rattle.std.specs.List.{list_any}
-use Rattle.htn_ground.specs.Views.{children_of}
-use Rattle.network_needs.specs.Rows.{outlook_of}
-use Rattle.network_needs.proofs.needs.Needs.has_blocked.Given as goal
-
-abbrev pub invariant-loop-child : goal.invariant-loop-child
-invariant-loop-child l =
-    list_any (outlook_of l.self).is_blocked (children_of (drop l.child-index l.children)) ≡ list_any (outlook_of l.self).is_blocked (children_of l.children)

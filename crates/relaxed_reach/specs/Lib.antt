@@ -1,5 +1,0 @@
-pub mod Facts
-pub mod Reach
-pub mod Tables
-pub mod Checked
-pub mod Examples

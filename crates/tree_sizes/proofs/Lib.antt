@@ -1,4 +1,0 @@
-pub mod Bounds
-pub mod Lasting
-pub mod Bounded
-pub mod Measured

@@ -1,7 +1,0 @@
-use Rattle.std.proofs.Common.{◌≡◌, ◌+◌, ◌-◌, ◌^◌, min, take}
-use Rattle.std.specs.List.{sum_by}
-use Rattle.tree_sizes.specs.Sizes.{size_at}
-use Rattle.tree_sizes.proofs.check.size_by.Given as goal
-
-abbrev pub invariant-loop-node : goal.invariant-loop-node
-invariant-loop-node l = l.size ≡ min (1 + sum_by (λ i. size_at l.sizes i.index) (take l.node-index l.decomposition.nodes.items)) (2 ^ 64 - 1)

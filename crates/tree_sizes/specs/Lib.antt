@@ -1,3 +1,0 @@
-pub mod Heuristic
-pub mod Measure
-pub mod Sizes
